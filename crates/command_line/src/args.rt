@@ -1,12 +1,12 @@
 //! The words after a program's name.
 
-ghost use Rattle.std.specs.Fn.{FnOnceReturnsAt};
-ghost use Rattle.std.specs.Prelude.{◌≡◌, ◌≢◌, List, ℕ, [], map, drop, IfOk, IfErr, OnErr, Err};
+ghost use Rattle.std.specs.Prelude.{◌≡◌, ◌≢◌, [], map, drop, IfOk, IfErr, OnErr, Err};
 ghost use Rattle.std.specs.IoError.{error_kind};
 ghost use Rattle.std.specs.String.{string_bytes};
 ghost use Rattle.std.specs.Vec.{vec_items};
 ghost use Rattle.std.specs.Vec.Iter.{into_iter_items};
-ghost use Rattle.std.specs.declared.io.ErrorKind.TheVariants.{InvalidData};
+ghost use Rattle.std.specs.declared.io.ErrorKind.TheVariants.{InvalidData, OutOfMemory};
+ghost use Rattle.command_line.specs.Running.{ReturnsWith};
 
 use std::alloc::{AllocError, Global};
 use std::env::Args;
@@ -22,6 +22,7 @@ pub fn words_of(alloc: Global, args: io::Result<Args>) -> io::Result<Vec<String>
     ensures not_text { IfErr args (λ e. error_kind e ≡ InvalidData → IfOk result (λ words. vec_items words ≡ [])
         × OnErr result ⊥) }
     ensures other { IfErr args (λ e. error_kind e ≢ InvalidData → result ≡ Err e) }
+    ensures memory { IfOk args (λ all. IfErr result (λ e. error_kind e ≡ OutOfMemory)) }
 {
     match args {
         Ok(args) => Ok(after_first(alloc, args)?),
@@ -48,23 +49,27 @@ pub fn lend<'a>(alloc: Global, words: &'a [String]) -> Result<Vec<&'a str>, Allo
     Ok(lent)
 }
 
-/// Does something with the words after a program's name, and answers what that gives.
+/// Does something to a state with the words after a program's name, and answers what that gives.
 ///
-/// They are what [`words_of`] makes of `args`, lent. Memory may be refused.
-pub fn with_words<F: FnOnce(&[&str]) -> u8>(
+/// They are what [`words_of`] makes of `args`, lent. Where memory is refused before, or `args` is another fault, nothing
+/// is done and the state stays as it was.
+pub fn with_words<S, F: FnOnce(&mut S, &[&str]) -> u8>(
     alloc: Global,
     args: io::Result<Args>,
+    state: &mut S,
     act: F,
 ) -> io::Result<u8>
     requires { F.IsAlwaysCallable act }
-    ensures given { IfOk args (λ all. IfOk result (λ status. (words : List _)
-        × (map (λ w. w.now) words ≡ map string_bytes (drop 1 (into_iter_items all)))
-        × FnOnceReturnsAt F.FnOnce act words status)) }
+    ensures given { IfOk args (λ all. IfOk result (λ status. ReturnsWith F.FnOnce act state.old
+        (map string_bytes (drop 1 (into_iter_items all))) status state.new)) }
     ensures not_text { IfErr args (λ e. error_kind e ≡ InvalidData
-        → IfOk result (λ status. FnOnceReturnsAt F.FnOnce act [] status)) }
+        → IfOk result (λ status. ReturnsWith F.FnOnce act state.old [] status state.new)
+        × IfErr result (λ e. error_kind e ≡ OutOfMemory)) }
     ensures other { IfErr args (λ e. error_kind e ≢ InvalidData → result ≡ Err e) }
+    ensures memory { IfOk args (λ all. IfErr result (λ e. error_kind e ≡ OutOfMemory)) }
+    ensures undone { OnErr result (state.new ≡ state.old) }
 {
     let words = words_of(alloc, args)?;
     let lent = lend(alloc, &words)?;
-    Ok(act(&lent))
+    Ok(act(state, &lent))
 }

@@ -5,6 +5,8 @@
 #[cfg(test)]
 mod same;
 #[cfg(test)]
+mod screencat;
+#[cfg(test)]
 mod screendump;
 #[cfg(test)]
 mod screenlive;

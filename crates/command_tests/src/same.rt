@@ -1,4 +1,5 @@
 //! Comparisons: of values, and of what commands write.
+use std::alloc::{AllocError, Global};
 use std::fmt::Debug;
 use std::process::Abort;
 
@@ -36,4 +37,20 @@ pub fn written<'a, C: FnOnce(&mut &'a [u8], &mut Vec<u8>, &mut Vec<u8>) -> u8>(
         same(rt, &words, &left, &input);
     }
     written
+}
+
+/// How many pairs of cells of other colours a row has whose frame would be too long.
+const PAIRS: u32 = 30_000;
+
+/// A program's own update that draws a row of 60,000 cells, each in other colours than the one before it. Its frame takes
+/// at least 36 bytes a cell, 2,160,000 in all.
+pub fn overlong(alloc: Global) -> Result<Vec<u8>, AllocError> {
+    let mut stream = Vec::new(alloc);
+    stream.extend_from_slice(b"\x1b[?2026h")?;
+    for _ in 0..PAIRS {
+        stream.extend_from_slice(b"\x1b[38;2;100;100;100;48;2;100;100;100mx")?;
+        stream.extend_from_slice(b"\x1b[38;2;101;101;101;48;2;101;101;101mx")?;
+    }
+    stream.extend_from_slice(b"\x1b[?2026l")?;
+    Ok(stream)
 }

@@ -1,7 +1,8 @@
 //! Whole commands, byte for byte, and faults of readers and writers in mid-stream.
 
-use crate::same::{Row, same, written};
-use screenrelay_command::command;
+use crate::same::{Row, overlong, same, written};
+use relay_streams::RelayError;
+use screenrelay_command::{command, report_fault};
 use scripted_io::{Few, Narrow, Script, Step};
 use std::alloc::AllocError;
 use std::io::ErrorKind;
@@ -265,5 +266,25 @@ fn writers(rt: HostRuntime) -> Result<(), Fail> {
             (status, taken, flushed, line)
         );
     }
+    Ok(())
+}
+
+// A frame that would be too long: nothing of it is written.
+#[test]
+fn long_frames(rt: HostRuntime) -> Result<(), Fail> {
+    let stream = overlong(rt.alloc())?;
+    let words = ["relay", "1", "60000"];
+    let written = output_of(&rt, &words, &stream, (1, b"screenrelay: frame too long\n"));
+    same(&rt, &words, &written.as_slice(), &b"".as_slice());
+    Ok(())
+}
+
+// An input that has no end takes longer than a test, and so its line is asked for here.
+#[test]
+fn too_many_reads(rt: HostRuntime) -> Result<(), Fail> {
+    let mut told = Vec::new(rt.alloc());
+    let answer = report_fault(&mut told, RelayError::TooManyReads);
+    let wanted = b"screenrelay: too many reads\n".as_slice();
+    assert_eq!(rt; (answer, told.as_slice()), (1, wanted));
     Ok(())
 }

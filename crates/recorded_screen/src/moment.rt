@@ -1,8 +1,9 @@
 //! The screen at a moment of a recording.
 
-ghost use Rattle.std.specs.Prelude.{◌++◌, ◌∷◌, [], ℕ, List, IfOk, OnOk};
+ghost use Rattle.std.specs.Prelude.{◌≡◌, ◌++◌, ◌∷◌, [], ℕ, false, List, Err, IfOk, OnErr, OnOk};
 ghost use Rattle.vt100.specs.Parsing.{ParserStandsAt};
 ghost use Rattle.screen_model.specs.Made.{Act};
+ghost use Rattle.vt100.specs.declared.error.ScreenError.TheVariants.{Memory};
 ghost use Rattle.recorded_screen.specs.Moment.{act_of, acts_until};
 
 use crate::recording::{Change, Event, Size};
@@ -13,7 +14,7 @@ use vt100::{Parser, ScreenError};
 pub const END: u64 = u64::MAX;
 
 /// The terminal at a moment: what the events whose time is at most that do to a new one, in their order, makes its
-/// screen.
+/// screen. It is refused only for memory.
 pub fn terminal_at(
     alloc: Global,
     size: Size,
@@ -21,7 +22,8 @@ pub fn terminal_at(
     events: &[Event],
     moment: u64,
 ) -> Result<Parser<()>, ScreenError>
-    ensures { IfOk result (λ p. ParserStandsAt p size.rows.value size.cols.value capacity (acts_until moment events.now)) }
+    ensures shows { IfOk result (λ p. ParserStandsAt p size.rows.value size.cols.value capacity (acts_until moment events.now)) }
+    ensures memory { OnErr result (result ≡ Err Memory) }
 {
     let mut parser = Parser::new(alloc, size.rows, size.cols, capacity)?;
     play(&mut parser, events, moment)?;
@@ -30,7 +32,10 @@ pub fn terminal_at(
 
 // Does what the events up to a moment do.
 fn play(parser: &mut Parser<()>, events: &[Event], moment: u64) -> Result<(), ScreenError>
-    ensures { OnOk result ((rows cols capacity : ℕ) (acts : List Act) → ParserStandsAt parser.old rows cols capacity acts
+    requires live { parser.old.screen.failed ≡ false }
+    ensures live { OnOk result (parser.new.screen.failed ≡ false) }
+    ensures memory { OnErr result (result ≡ Err Memory) }
+    ensures shows { OnOk result ((rows cols capacity : ℕ) (acts : List Act) → ParserStandsAt parser.old rows cols capacity acts
         → ParserStandsAt parser.new rows cols capacity (acts ++ acts_until moment events.now)) }
 {
     for event in events {
@@ -41,7 +46,10 @@ fn play(parser: &mut Parser<()>, events: &[Event], moment: u64) -> Result<(), Sc
 
 // Does what an event does, unless it comes after a moment.
 fn step(parser: &mut Parser<()>, event: &Event, moment: u64) -> Result<(), ScreenError>
-    ensures { OnOk result ((rows cols capacity : ℕ) (acts : List Act) → ParserStandsAt parser.old rows cols capacity acts
+    requires live { parser.old.screen.failed ≡ false }
+    ensures live { OnOk result (parser.new.screen.failed ≡ false) }
+    ensures memory { OnErr result (result ≡ Err Memory) }
+    ensures shows { OnOk result ((rows cols capacity : ℕ) (acts : List Act) → ParserStandsAt parser.old rows cols capacity acts
         → ParserStandsAt parser.new rows cols capacity (acts ++ acts_until moment (event.now ∷ []))) }
 {
     if event.time > moment {
@@ -52,7 +60,10 @@ fn step(parser: &mut Parser<()>, event: &Event, moment: u64) -> Result<(), Scree
 
 // Does what an event does.
 fn act(parser: &mut Parser<()>, change: &Change) -> Result<(), ScreenError>
-    ensures { OnOk result ((rows cols capacity : ℕ) (acts : List Act) → ParserStandsAt parser.old rows cols capacity acts
+    requires live { parser.old.screen.failed ≡ false }
+    ensures live { OnOk result (parser.new.screen.failed ≡ false) }
+    ensures memory { OnErr result (result ≡ Err Memory) }
+    ensures shows { OnOk result ((rows cols capacity : ℕ) (acts : List Act) → ParserStandsAt parser.old rows cols capacity acts
         → ParserStandsAt parser.new rows cols capacity (acts ++ act_of change.now ∷ [])) }
 {
     match change {

@@ -9,7 +9,7 @@ use Rattle.std.specs.IoError.{error_kind}
 use Rattle.std.specs.declared.io.Error.{Error}
 use Rattle.std.specs.declared.io.ErrorKind.TheVariants.{Interrupted}
 use Rattle.relay_streams.specs.declared.error.RelayError.{RelayError}
-use Rattle.relay_streams.specs.Fill.{FillEnd, Fills, again, more, CountsTo, end_answer, Filled}
+use Rattle.relay_streams.specs.Fill.{FillEnd, Fills, again, more, CountsTo, end_answer, max_reads, Filled}
 
 -- A buffer whose part from len on was read into: its first bytes, those that the read gave, and how many there are.
 pub take_put : (piece buf : List ℕ) (len k n : ℕ) → len ≤ length piece → n ≤ length buf
@@ -69,9 +69,10 @@ module _ {S : Type 0} {step : S → ℕ → Result (List ℕ) Error → S → Ty
   -- the reads have ended
   pub filled : {n : ℕ} {end : FillEnd} (before after : ℕ) (piece : List ℕ) (answer : Result ℕ RelayError)
       → Fills step now left n [] end new → take (length got) piece ≡ got → after ≡ before + (made + n)
-      → CountsTo end after → answer ≡ end_answer end (length got)
+      → (before ≤ max_reads → CountsTo end after) → (max_reads ≤ before → made + n ≡ 0)
+      → answer ≡ end_answer end (length got)
       → Filled step old room before answer new piece after
-  filled {n} {end} before after piece answer f front counted most is = record {
+  filled {n} {end} before after piece answer f front counted most spent is = record {
     made = made + n;
     bytes = got;
     end = end;
@@ -79,5 +80,6 @@ module _ {S : Type 0} {step : S → ℕ → Result (List ℕ) Error → S → Ty
     front = front;
     counted = counted;
     most = most;
+    spent = spent;
     answered = is;
   }

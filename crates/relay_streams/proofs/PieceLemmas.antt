@@ -352,14 +352,14 @@ counted_end _ answer len n count is ok most = absurd (let e = sym is ∙ ok in c
 -- of the room of a full piece
 module _ {S : Type 0} {step : S → ℕ → Result (List ℕ) Error → S → Type 0} {room : ℕ} {now new : S} {before after : ℕ}
     {piece : List ℕ} {answer : Result ℕ RelayError} (given : Filled step now room before answer new piece after)
-    (whole : room ≡ piece_len) where
+    (whole : room ≡ piece_len) (few : before ≤ max_reads) where
   pub filled : Filled step now piece_len before answer new piece after
   filled = subst (λ (r : ℕ). Filled step now r before answer new piece after) whole given
 
   -- reads were made, and there may be more
   pub filled_most : (n : ℕ) → answer ≡ Ok n → (after ≤ max_reads) × (before < after)
   filled_most n ok =
-      let most = counted_end filled.end answer (length filled.bytes) n after filled.answered ok filled.most in
+      let most = counted_end filled.end answer (length filled.bytes) n after filled.answered ok (filled.most few) in
       let made = fills-made S step now piece_len filled.made filled.bytes filled.end new filled.fills (omega arith)
       most.0 in
       (most.1, omega (arith, filled.counted, made))
@@ -387,7 +387,7 @@ module _ {S : Type 0} {step : S → ℕ → Result (List ℕ) Error → S → Ty
   filled_last {old} {past} n ok low d =
       let end = short_end filled.end answer (length filled.bytes) n piece_len filled.answered ok
       (fills-full S step now piece_len filled.made filled.bytes filled.end new filled.fills) low in
-      let most = counted_end filled.end answer (length filled.bytes) n after filled.answered ok filled.most in
+      let most = counted_end filled.end answer (length filled.bytes) n after filled.answered ok (filled.most few) in
       drained S step piece_len old now new before filled.made past (take n piece) Ended (Ok tt) d
       (filled_as n Ended end.0 end.1) (λ no. absurd (cc)) (omega (arith, most.1, filled.counted)) refl
 
@@ -400,7 +400,7 @@ module _ {S : Type 0} {step : S → ℕ → Result (List ℕ) Error → S → Ty
         made = before + filled.made;
         end = filled.end;
         drains = d.further filled.made (take n piece ∷ []) filled.end new (last (filled_as n filled.end refl end.1));
-        most = subst (λ (k : ℕ). CountsTo filled.end k) filled.counted filled.most;
+        most = subst (λ (k : ℕ). CountsTo filled.end k) filled.counted (filled.most few);
         well = end.0;
       }
 
@@ -411,7 +411,7 @@ module _ {S : Type 0} {step : S → ℕ → Result (List ℕ) Error → S → Ty
   filled_fault {old} {past} fault err d =
       let end = fault_end filled.end answer (length filled.bytes) fault filled.answered err in
       drained S step piece_len old now new before filled.made past filled.bytes filled.end (Err fault) d filled.fills
-      end.0 (subst (λ (k : ℕ). CountsTo filled.end k) filled.counted filled.most) end.1
+      end.0 (subst (λ (k : ℕ). CountsTo filled.end k) filled.counted (filled.most few)) end.1
 
 -- the bytes of one piece more
 pub concat-push : (pieces : List (List ℕ)) (piece : List ℕ) → concat (pieces ++ piece ∷ []) ≡ concat pieces ++ piece

@@ -58,7 +58,7 @@ end_answer Failed n = Err Read
 end_answer TooMany n = Err TooManyReads
 
 -- A piece of so much room was filled, after so many reads before: the reads that were made, the bytes that they gave,
--- and how they ended.
+-- and how they ended. There are no more reads in all than may be made, and none where there were so many before.
 pub record Filled {S : Type 0} (step : S → ℕ → Result (List ℕ) Error → S → Type 0) (old : S) (room before : ℕ)
     (answer : Result ℕ RelayError) (new : S) (piece : List ℕ) (after : ℕ) : Type 0 where
   pub made : ℕ
@@ -67,5 +67,6 @@ pub record Filled {S : Type 0} (step : S → ℕ → Result (List ℕ) Error →
   pub fills : Fills step old room made bytes end new
   pub front : take (length bytes) piece ≡ bytes
   pub counted : after ≡ before + made
-  pub most : CountsTo end after
+  pub most : before ≤ max_reads → CountsTo end after
+  pub spent : max_reads ≤ before → made ≡ 0
   pub answered : answer ≡ end_answer end (length bytes)

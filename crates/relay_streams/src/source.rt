@@ -1,9 +1,9 @@
 //! Reading in full pieces.
 
-ghost use Rattle.std.specs.Prelude.{◌≡◌, ℕ, ◌≤◌, List, Option, Result, length};
+ghost use Rattle.std.specs.Prelude.{ℕ, List, Option, Result, length};
 ghost use Rattle.std.specs.Io.{ReadsAtMost};
 ghost use Rattle.std.specs.declared.io.Error.{Error};
-ghost use Rattle.relay_streams.specs.Fill.{Filled, IsReadBy, given, max_reads};
+ghost use Rattle.relay_streams.specs.Fill.{Filled, IsReadBy, given};
 
 use crate::error::RelayError;
 use std::io;
@@ -46,13 +46,12 @@ impl<R: Read> Source for R {
 }
 
 /// Reads until the piece is full or the input ends, and answers how many bytes were read. Reads are counted from those
-/// made before; an interrupted one is tried again.
+/// made before; an interrupted one is tried again. Once there were 2^40, none is made.
 pub fn fill<S: Source>(
     input: &mut S,
     piece: &mut [u8],
     reads: &mut u64,
 ) -> Result<usize, RelayError>
-    requires { reads.old ≤ max_reads }
     ensures { Filled S.gives input.old (length piece.old) reads.old result input.new piece.new reads.new }
 {
     let mut len = 0;

@@ -1,13 +1,21 @@
 //! Far views: what a session's bytes show, wherever they are cut.
-use crate::owners::{Part, first_key, lend, with_far_view};
+use crate::owners::{Part, first_key, lend, new_far_view, new_hub, with_found};
 use crate::same::{same, same_for};
 use crate::seen::{Drawn, Size, check_drawn, count};
-use relay_streams::{far_view, view_of, write_view};
+use relay_streams::{RelayError, far_view, view_of, write_view};
+use std::alloc::Global;
 use std::num::NonZeroU16;
 use std::process::Abort;
 use std::test::Fail;
-use termrelay::{Call, Client, Take};
+use termrelay::{Call, Client, HubError, Take};
 use termview::{CursorStyle, MouseProtocolEncoding, MouseProtocolMode, UntilCleared, View};
+
+/// The key that a new hub gives its second client.
+fn second_key(alloc: Global) -> Result<Client, HubError> {
+    let mut hub = new_hub(alloc, (1, 1))?;
+    hub.attach()?;
+    hub.attach()
+}
 
 /// A frame of 48 bytes, and the beginning of another one.
 const STREAM: &[u8] =
@@ -52,8 +60,20 @@ fn check_shown(
     })
 }
 
-/// All bytes, in one piece.
-const ALL: Part<'_> = (usize::MAX, &[]);
+/// All bytes of the first session, in one piece.
+const ALL: Part<'_> = (0, usize::MAX, &[]);
+
+/// A far view shows this.
+fn check_far(
+    rt: &(impl Abort + AllocGlobal),
+    size: Size,
+    calls: &[Call<'_>],
+    part: Part<'_>,
+    wanted: Shown,
+) -> Result<(), Fail> {
+    let found = new_far_view(rt.alloc(), size, calls, part);
+    with_found(found, |view| check_shown(rt, view, wanted))
+}
 
 /// A size, two streams, and what a far view shows after a frame of each.
 const TWO_FRAMES: &[(Size, &[u8], &[u8], Shown)] = &[
@@ -105,9 +125,7 @@ fn check_two_frames(
     wanted: Shown,
 ) -> Result<(), Fail> {
     let calls = two_frames(key, streams);
-    with_far_view(rt.alloc(), size, &calls, ALL, |view| {
-        check_shown(rt, view, wanted)
-    })
+    check_far(rt, size, &calls, ALL, wanted)
 }
 
 #[test]
@@ -119,14 +137,14 @@ fn far_views(rt: HostRuntime) -> Result<(), Fail> {
     Ok(())
 }
 
-/// A far view of so many bytes, which are cut here, is drawn so.
+/// The far view that was found of so many bytes, which are cut here, is drawn so.
 pub fn check_cut(
-    rt: &(impl Abort + AllocGlobal),
-    calls: &[Call<'_>],
+    rt: &impl Abort,
+    found: Result<Option<View<UntilCleared>>, RelayError>,
     (take, cut): (usize, usize),
     wanted: Drawn,
 ) -> Result<(), Fail> {
-    with_far_view(rt.alloc(), (24, 80), calls, (take, &[cut]), |view| {
+    with_found(found, |view| {
         check_drawn(rt, &(take, cut), view, (0, 13), wanted);
         Ok(())
     })
@@ -147,18 +165,75 @@ fn far_cuts(rt: HostRuntime) -> Result<(), Fail> {
         Call::Pump(key, &[]),
     ];
     for cut in 0..103 {
-        check_cut(&rt, &calls, (102, cut), ("R", 1, (0, 16)))?;
+        let found = new_far_view(rt.alloc(), (24, 80), &calls, (0, 102, &[cut]));
+        check_cut(&rt, found, (102, cut), ("R", 1, (0, 16)))?;
     }
-    check_cut(&rt, &calls, (103, 103), ("G", 2, (0, 18)))
+    let found = new_far_view(rt.alloc(), (24, 80), &calls, (0, 103, &[103]));
+    check_cut(&rt, found, (103, 103), ("G", 2, (0, 18)))
+}
+
+/// A blank screen of two rows.
+const NOTHING: Shown = (b"\n\n", (0, 0), false);
+
+const ABCD: Shown = (b"abcd\nxyz\n", (1, 3), true);
+
+const E: Shown = (b"abce\nx z\n", (1, 1), true);
+
+// Two clients, each of which is sent a frame of another moment.
+#[test]
+fn far_views_of_two(rt: HostRuntime) -> Result<(), Fail> {
+    let keys = [first_key(rt.alloc())?, second_key(rt.alloc())?];
+    let calls = [
+        Call::Attach,
+        Call::Attach,
+        Call::Feed(b"abcdxyz"),
+        Call::Frame(keys[0]),
+        Call::Pump(keys[0], &[]),
+        Call::Feed(b"\x1b[1;4He\x1b[2;2H\x1b[X"),
+        Call::Frame(keys[1]),
+        Call::Pump(keys[1], &[]),
+    ];
+    check_far(&rt, (2, 4), &calls, (0, usize::MAX, &[]), ABCD)?;
+    check_far(&rt, (2, 4), &calls, (1, usize::MAX, &[9]), E)?;
+    check_far(&rt, (2, 4), &calls, (1, 0, &[9]), NOTHING)
+}
+
+// A client ends and another one gets its key, and then all end at a resize. What each was sent stays shown.
+#[test]
+fn far_views_of_one_key(rt: HostRuntime) -> Result<(), Fail> {
+    let key = first_key(rt.alloc())?;
+    let calls = [
+        Call::Attach,
+        Call::Feed(b"abcdxyz"),
+        Call::Frame(key),
+        Call::Pump(key, &[]),
+        Call::Detach(key),
+        Call::Attach,
+        Call::Feed(b"\x1b[1;4He\x1b[2;2H\x1b[X"),
+        Call::Frame(key),
+        Call::Pump(key, &[]),
+        Call::Resize(count(1), count(3)),
+        Call::Attach,
+        Call::Feed(b"\x1b[2J\x1b[Hk"),
+        Call::Frame(key),
+        Call::Pump(key, &[]),
+    ];
+    check_far(&rt, (2, 4), &calls, (0, usize::MAX, &[]), ABCD)?;
+    check_far(&rt, (2, 4), &calls, (0, 0, &[]), NOTHING)?;
+    check_far(&rt, (2, 4), &calls, (1, usize::MAX, &[]), E)?;
+    check_far(
+        &rt,
+        (2, 4),
+        &calls,
+        (2, usize::MAX, &[]),
+        (b"k\n", (0, 1), false),
+    )
 }
 
 // With no bytes a far view is blank, and there is none of a client that wasn't attached.
 #[test]
 fn far_views_of_nothing(rt: HostRuntime) -> Result<(), Fail> {
-    with_far_view(rt.alloc(), (2, 4), &[Call::Attach], (0, &[]), |view| {
-        same(&rt, &view.cursor_position(), &(0, 0));
-        Ok(())
-    })?;
+    check_far(&rt, (2, 4), &[Call::Attach], (0, 0, &[]), NOTHING)?;
     let none = far_view(rt.alloc(), count(2), count(4), &[Call::Attach], 1, 0, &[])?;
     same(&rt, &none.is_none(), &true);
     Ok(())
@@ -175,9 +250,7 @@ fn far_sizes(rt: HostRuntime) -> Result<(), Fail> {
         Call::Frame(key),
         Call::Pump(key, &[]),
     ];
-    with_far_view(rt.alloc(), (2, 4), &calls, ALL, |view| {
-        check_shown(&rt, view, (b"\nb\nc\n\n", (2, 1), false))
-    })
+    check_far(&rt, (2, 4), &calls, ALL, (b"\nb\nc\n\n", (2, 1), false))
 }
 
 fn check_modes(rt: &impl Abort, view: &View<UntilCleared>) {
@@ -206,7 +279,7 @@ fn far_modes(rt: HostRuntime) -> Result<(), Fail> {
         Call::Frame(key),
         Call::Pump(key, &[]),
     ];
-    with_far_view(rt.alloc(), (1, 3), &calls, ALL, |view| {
+    with_found(new_far_view(rt.alloc(), (1, 3), &calls, ALL), |view| {
         check_modes(&rt, view);
         check_drawn(&rt, &"modes", view, (0, 0), ("A", 9, (0, 1)));
         Ok(())

@@ -1,7 +1,7 @@
 //! Tests of `termview`, `termrelay` and `relay_streams`: views by themselves, what a hub answers and owes at each step of
 //! some runs, a program's own updates, the longest frame, writers that fail, clients among others, many clients and long
-//! sides, streams in pieces, what a run logs, frames on their way to a view, the texts of refusals, and calls that find
-//! no memory.
+//! sides, streams in pieces, reads that are counted, what a run logs, frames on their way to a view, the texts of refusals,
+//! and calls that find no memory.
 #![tactic(auto)]
 
 #[cfg(test)]
@@ -24,6 +24,8 @@ mod owners;
 mod pieces;
 #[cfg(test)]
 mod play;
+#[cfg(test)]
+mod readers;
 #[cfg(test)]
 mod refusals;
 #[cfg(test)]

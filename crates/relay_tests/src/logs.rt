@@ -1,5 +1,5 @@
 //! What a run of calls logs.
-use crate::owners::with_log;
+use crate::owners::{new_hub, with_log};
 use crate::runs::BLANK;
 use crate::same::same_for;
 use crate::seen::client_of;
@@ -40,7 +40,7 @@ fn check_log(rt: &impl Abort, log: &Log) {
 
 #[test]
 fn a_writer_fails(rt: HostRuntime) -> Result<(), Fail> {
-    with_log(rt.alloc(), (24, 80), |hub, log| {
+    with_log(rt.alloc(), new_hub(rt.alloc(), (24, 80)), |hub, log| {
         attach_and_fail(&rt, hub, log)?;
         check_log(&rt, log);
         Ok(())

@@ -1,7 +1,7 @@
 //! Many clients on one hub, and the longest sides.
 use crate::owners::{lend, new_hub, with};
 use crate::play::Step::{Attach, Feed, Frame, Pump, Resize, Unknown};
-use crate::play::play;
+use crate::play::{Way, play};
 use crate::same::same_for;
 use crate::seen::take_frame;
 use std::process::Abort;
@@ -79,6 +79,23 @@ fn clients(rt: HostRuntime) -> Result<(), Fail> {
     Ok(())
 }
 
+/// So many clients come, and each is owed nothing.
+fn attach_all(rt: &impl Abort, hub: &mut Hub, number: usize) -> Result<(), Fail> {
+    for index in 0..number {
+        let client = hub.attach()?;
+        same_for(rt, &index, &hub.owed(client).ok(), &Some(b"".as_slice()));
+    }
+    Ok(())
+}
+
+#[test]
+fn many_clients(rt: HostRuntime) -> Result<(), Fail> {
+    with(
+        new_hub(rt.alloc(), (2, 4)),
+        |hub| attach_all(&rt, hub, 5000),
+    )
+}
+
 /// One column or one row of the greatest length, at the size that it has and at others.
 fn check_long_sides(rt: &(impl Abort + AllocGlobal), size: (u16, u16)) -> Result<(), Fail> {
     let steps = &[
@@ -99,7 +116,7 @@ fn check_long_sides(rt: &(impl Abort + AllocGlobal), size: (u16, u16)) -> Result
         Attach,
         Frame(3, Full, Z),
     ];
-    play(rt, size, steps)
+    play(rt, Way::Once, size, steps)
 }
 
 #[test]

@@ -1,5 +1,5 @@
 //! A client among others: what comes of it is the same, whatever is done with the others.
-use crate::owners::{lend, with_log};
+use crate::owners::{lend, new_hub, with_log};
 use crate::same::{same, same_for};
 use crate::seen::client_of;
 use std::process::Abort;
@@ -133,7 +133,7 @@ fn tell_fate(
     deeds: &[Deed],
     own: usize,
 ) -> Result<(), Fail> {
-    with_log(rt.alloc(), (24, 80), |hub, log| {
+    with_log(rt.alloc(), new_hub(rt.alloc(), (24, 80)), |hub, log| {
         run_deeds(hub, log, text, deeds, own)?;
         check_sent(rt, log, own);
         Ok(())

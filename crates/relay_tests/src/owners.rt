@@ -31,38 +31,25 @@ pub fn with<T: Drop, E: Debug + Drop, F: FnOnce(&mut T) -> Result<(), Fail>>(
     lend(made?, check)
 }
 
-/// What this makes, at the second try if the first was refused.
-pub fn retried<T, E: Drop, F: Fn() -> Result<T, E>>(make: F) -> Result<T, E>
-    requires { F.IsAlwaysCallable make }
-{
-    match make() {
-        Ok(made) => Ok(made),
-        Err(_) => make(),
-    }
-}
-
 /// A hub of this size.
 pub fn new_hub(alloc: Global, (rows, cols): Size) -> Result<Hub, HubError> {
-    match Hub::new(alloc, count(rows), count(cols)) {
-        Err(HubError::Memory) => Hub::new(alloc, count(rows), count(cols)),
-        answer => answer,
-    }
+    Hub::new(alloc, count(rows), count(cols))
 }
 
 /// A view of this size that shows nothing.
 pub fn new_view(alloc: Global, (rows, cols): Size) -> Result<View<UntilCleared>, ViewError> {
-    retried(|| View::new(alloc, count(rows), count(cols), UntilCleared::new()))
+    View::new(alloc, count(rows), count(cols), UntilCleared::new())
 }
 
-/// Does this with a hub of this size, and a log.
+/// Does this with a hub, and a log.
 pub fn with_log<F: FnOnce(&mut Hub, &mut Log) -> Result<(), Fail>>(
     alloc: Global,
-    size: Size,
+    made: Result<Hub, HubError>,
     check: F,
 ) -> Result<(), Fail>
     requires { F.IsAlwaysCallable check }
 {
-    let mut hub = new_hub(alloc, size)?;
+    let mut hub = made?;
     let mut log = Log::new(alloc);
     check(&mut hub, &mut log)
 }
@@ -70,38 +57,30 @@ pub fn with_log<F: FnOnce(&mut Hub, &mut Log) -> Result<(), Fail>>(
 /// The key that a new hub gives its first client.
 pub fn first_key(alloc: Global) -> Result<Client, HubError> {
     let mut hub = new_hub(alloc, (1, 1))?;
-    match hub.attach() {
-        Ok(client) => Ok(client),
-        Err(_) => hub.attach(),
-    }
+    hub.attach()
 }
 
-/// How many bytes a far view is given at most, and how they are cut.
-pub type Part<'a> = (usize, &'a [usize]);
+/// Which session of a run a far view is of, how many bytes it is given at most, and how they are cut.
+pub type Part<'a> = (usize, usize, &'a [usize]);
 
-fn new_far_view(
+/// A far view of these calls.
+pub fn new_far_view(
     alloc: Global,
     (rows, cols): Size,
     calls: &[Call<'_>],
-    (take, cuts): Part<'_>,
+    (session, take, cuts): Part<'_>,
 ) -> Result<Option<View<UntilCleared>>, RelayError> {
-    match far_view(alloc, count(rows), count(cols), calls, 0, take, cuts) {
-        Err(RelayError::Memory) => far_view(alloc, count(rows), count(cols), calls, 0, take, cuts),
-        answer => answer,
-    }
+    far_view(alloc, count(rows), count(cols), calls, session, take, cuts)
 }
 
-/// Does this with a far view of the first client of these calls.
-pub fn with_far_view<F: FnOnce(&View<UntilCleared>) -> Result<(), Fail>>(
-    alloc: Global,
-    size: Size,
-    calls: &[Call<'_>],
-    part: Part<'_>,
+/// Does this with the far view that was found.
+pub fn with_found<F: FnOnce(&View<UntilCleared>) -> Result<(), Fail>>(
+    found: Result<Option<View<UntilCleared>>, RelayError>,
     check: F,
 ) -> Result<(), Fail>
     requires { F.IsAlwaysCallable check }
 {
-    match new_far_view(alloc, size, calls, part)? {
+    match found? {
         Some(view) => check(&view),
         None => Err("no view".into()),
     }

@@ -1,7 +1,7 @@
 //! A hub at work: what each call answers, and what each client is owed then.
-//!
-//! A call that found no memory has changed nothing and is made again, but for a feed, after which the hub has failed.
-use crate::owners::{new_hub, retried};
+
+use crate::owners::new_hub;
+use crate::refusals::again::{again, new_hub as new_hub_again};
 use crate::same::same_for;
 use crate::seen::{Size, count, fault_of};
 use crate::sinks::Sink;
@@ -9,8 +9,19 @@ use std::alloc::{AllocError, Global};
 use std::io::ErrorKind;
 use std::process::Abort;
 use std::test::Fail;
-use termrelay::{Answer, Client, Hub, HubError};
+use termrelay::{Answer, Call, Client, Hub, HubError, Log, Reply, Take, run};
 use termview::Color;
+
+/// How the calls are made.
+#[derive(Clone, Copy, Debug, Eq, PartialEq)]
+pub enum Way {
+    /// Each once, and none is refused.
+    Once,
+    /// One that found no memory has changed nothing and is made again, but for a feed, after which the hub has failed.
+    Again,
+    /// So too, and each is made by a run of its own, which is logged.
+    Logged,
+}
 
 /// What is done with a hub, and what has to come of it. Clients are counted in the order of their coming.
 #[derive(Clone, Copy, Debug)]
@@ -43,11 +54,70 @@ struct Place {
     has_ended: bool,
 }
 
-/// A hub, and its clients in the order of their coming.
+/// A hub, the log of its calls, and its clients in the order of their coming.
 #[derive(Drop)]
 struct Stage {
+    way: Way,
     hub: Hub,
+    log: Log,
     places: Vec<Place>,
+}
+
+/// What a call was answered.
+#[derive(Clone, Copy, Debug, Eq, PartialEq)]
+enum Told {
+    Done,
+    Attached(Client),
+    Answered(Answer),
+    Fault(ErrorKind),
+    /// For another reason than a writer's fault.
+    Refused,
+}
+
+fn told_of(reply: &Reply) -> Told {
+    match reply {
+        Reply::Done => Told::Done,
+        Reply::Attached(client) => Told::Attached(*client),
+        Reply::Answered(answer) => Told::Answered(*answer),
+        Reply::Refused(HubError::Write(error)) => Told::Fault(error.kind()),
+        Reply::Refused(_) => Told::Refused,
+    }
+}
+
+fn told_done(answer: Result<(), HubError>) -> Told {
+    match answer {
+        Ok(()) => Told::Done,
+        Err(_) => Told::Refused,
+    }
+}
+
+/// Makes a call on a hub that isn't a pump.
+fn told_by(hub: &mut Hub, call: &Call<'_>) -> Told {
+    match call {
+        Call::Feed(bytes) => told_done(hub.feed(bytes)),
+        Call::Resize(rows, cols) => told_done(hub.resize(*rows, *cols)),
+        Call::Attach => match hub.attach() {
+            Ok(client) => Told::Attached(client),
+            Err(_) => Told::Refused,
+        },
+        Call::Detach(client) => told_done(hub.detach(*client)),
+        Call::Frame(client) => match hub.frame(*client) {
+            Ok(answer) => Told::Answered(answer),
+            Err(_) => Told::Refused,
+        },
+        Call::Pump(..) => Told::Refused,
+    }
+}
+
+/// Makes a call by a run. Where the log has no room nothing is done.
+fn told_by_run(hub: &mut Hub, log: &mut Log, call: &Call<'_>) -> Told {
+    match run(hub, &[*call], log) {
+        Ok(()) => match log.replies().last() {
+            Some(reply) => told_of(reply),
+            None => Told::Refused,
+        },
+        Err(_) => Told::Refused,
+    }
 }
 
 /// The client isn't known, says this answer.
@@ -57,11 +127,6 @@ fn is_unknown<T>(answer: &Result<T, HubError>) -> bool {
 
 /// How many clients come at most.
 const MAX_CLIENTS: usize = 66;
-
-/// Room for so many clients.
-fn no_places(alloc: Global) -> Result<Vec<Place>, AllocError> {
-    retried(|| Vec::with_capacity(alloc, MAX_CLIENTS))
-}
 
 /// What a client has to be owed.
 fn owed(steps: &[Step], place: Place) -> &'static [u8] {
@@ -106,10 +171,29 @@ impl Stage {
         }
     }
 
-    fn attach(&mut self, step: usize) -> Result<(), Fail> {
-        let client = match self.hub.attach() {
-            Ok(client) => client,
-            Err(_) => self.hub.attach()?,
+    fn ask_once(&mut self, call: &Call<'_>) -> Told {
+        match self.way {
+            Way::Once | Way::Again => told_by(&mut self.hub, call),
+            Way::Logged => told_by_run(&mut self.hub, &mut self.log, call),
+        }
+    }
+
+    /// Makes a call. Where it is refused, all clients are owed what they were before.
+    fn ask(&mut self, rt: &impl Abort, steps: &[Step], call: &Call<'_>) -> Told {
+        let told = self.ask_once(call);
+        if told != Told::Refused {
+            return told;
+        }
+        self.check(rt, steps);
+        if self.way == Way::Once {
+            return told;
+        }
+        self.ask_once(call)
+    }
+
+    fn attach(&mut self, rt: &impl Abort, steps: &[Step], step: usize) -> Result<(), Fail> {
+        let Told::Attached(client) = self.ask(rt, steps, &Call::Attach) else {
+            return Err("no client".into());
         };
         self.places.push(Place {
             key: client.key(),
@@ -120,19 +204,18 @@ impl Stage {
         Ok(())
     }
 
-    fn resize(&mut self, rows: u16, cols: u16) -> Result<(), Fail> {
-        if self.hub.resize(count(rows), count(cols)).is_err() {
-            self.hub.resize(count(rows), count(cols))?;
-        }
+    fn resize(&mut self, rt: &impl Abort, steps: &[Step], rows: u16, cols: u16) {
+        let told = self.ask(rt, steps, &Call::Resize(count(rows), count(cols)));
+        same_for(rt, &(rows, cols), &told, &Told::Done);
         for place in self.places.iter_mut() {
             place.has_ended = true;
         }
-        Ok(())
     }
 
-    fn detach(&mut self, index: usize) -> Result<(), Fail> {
+    fn detach(&mut self, rt: &impl Abort, steps: &[Step], index: usize) {
         let place = self.place(index);
-        self.hub.detach(place.client())?;
+        let told = self.ask(rt, steps, &Call::Detach(place.client()));
+        same_for(rt, &index, &told, &Told::Done);
         self.put(
             index,
             Place {
@@ -140,36 +223,58 @@ impl Stage {
                 ..place
             },
         );
-        Ok(())
     }
 
-    /// A client asks for a frame. Where that was refused, all clients are owed what they were before.
-    fn frame(&mut self, rt: &impl Abort, steps: &[Step], index: usize) -> Option<Answer> {
-        let client = self.place(index).client();
-        match self.hub.frame(client) {
-            Ok(answer) => Some(answer),
-            Err(_) => {
-                self.check(rt, steps);
-                self.hub.frame(client).ok()
-            }
+    /// A client asks for a frame and gets this answer.
+    fn frame(&mut self, rt: &impl Abort, steps: &[Step], index: usize, answer: Answer) {
+        let call = Call::Frame(self.place(index).client());
+        let told = self.ask(rt, steps, &call);
+        same_for(rt, &index, &told, &Told::Answered(answer));
+    }
+
+    /// A client is pumped to a writer of such room, and these bytes are wanted.
+    fn pump_to(&mut self, rt: &impl Abort, client: Client, wanted: &'static [u8], room: usize) {
+        let mut sink = Sink { wanted, room };
+        let fault = fault_of(&self.hub.pump(client, &mut sink));
+        let rest = wanted.get(room..).unwrap_or(b"");
+        let wanted_fault = if rest.is_empty() {
+            None
+        } else {
+            Some(ErrorKind::BrokenPipe)
+        };
+        same_for(rt, &client, &(fault, sink.wanted), &(wanted_fault, rest));
+    }
+
+    /// The same by a run, whose log then has the bytes. A fault that was told beforehand is of kind `Other`.
+    fn pump_in_run(&mut self, rt: &impl Abort, index: usize, wanted: &'static [u8], room: usize) {
+        let takes = [Take::Bytes(room), Take::Fault];
+        let call = Call::Pump(self.place(index).client(), &takes);
+        let mut told = self.ask_once(&call);
+        if told == Told::Refused {
+            told = self.ask_once(&call);
         }
+        let wanted_told = if room < wanted.len() {
+            Told::Fault(ErrorKind::Other)
+        } else {
+            Told::Done
+        };
+        let taken = wanted.get(..room).unwrap_or(wanted);
+        let is_logged = match self.log.sessions().get(index) {
+            Some(session) => session.pumped().ends_with(taken),
+            None => false,
+        };
+        same_for(rt, &index, &(told, is_logged), &(wanted_told, true));
     }
 
     fn pump(&mut self, rt: &impl Abort, steps: &[Step], index: usize, room: usize) {
         let place = self.place(index);
-        let client = place.client();
         let wanted = owed(steps, place);
-        let mut sink = Sink { wanted, room };
-        let fault = fault_of(&self.hub.pump(client, &mut sink));
-        let count = room.min(wanted.len());
-        let wanted_fault = if room < wanted.len() {
-            Some(ErrorKind::BrokenPipe)
+        if self.way == Way::Logged {
+            self.pump_in_run(rt, index, wanted, room);
         } else {
-            None
-        };
-        let rest = wanted.get(count..).unwrap_or(b"");
-        same_for(rt, &index, &(fault, sink.wanted), &(wanted_fault, rest));
-        let taken = place.taken.saturating_add(count);
+            self.pump_to(rt, place.client(), wanted, room);
+        }
+        let taken = place.taken.saturating_add(room.min(wanted.len()));
         self.put(index, Place { taken, ..place });
     }
 
@@ -190,10 +295,24 @@ impl Stage {
 
     fn check_shown(&self, rt: &impl Abort, text: &str, cursor: (u16, u16)) -> Result<(), Fail> {
         let screen = self.hub.screen();
-        let contents = retried(|| screen.contents())?;
+        let contents = match screen.contents() {
+            Err(_) if self.way != Way::Once => screen.contents()?,
+            answer => answer?,
+        };
         let shown = (contents.as_str(), screen.cursor_position());
         same_for(rt, &"screen", &shown, &(text, cursor));
         Ok(())
+    }
+
+    /// Feeds the hub. Where that is refused the hub has failed.
+    fn feed(&mut self, rt: &impl Abort, steps: &[Step], bytes: &[u8]) {
+        let told = self.ask(rt, steps, &Call::Feed(bytes));
+        let wanted = if self.hub.screen().failed() && self.way != Way::Once {
+            Told::Refused
+        } else {
+            Told::Done
+        };
+        same_for(rt, &bytes, &told, &wanted);
     }
 
     fn take_all(&mut self, rt: &impl Abort, steps: &[Step]) -> Result<(), Fail> {
@@ -215,15 +334,12 @@ impl Stage {
         step: Step,
     ) -> Result<(), Fail> {
         match step {
-            Step::Feed(bytes) => {
-                let is_refused = self.hub.feed(bytes).is_err();
-                same_for(rt, &step, &is_refused, &self.hub.screen().failed());
-            }
-            Step::Resize(rows, cols) => self.resize(rows, cols)?,
-            Step::Attach => self.attach(number)?,
-            Step::Detach(index) => self.detach(index)?,
+            Step::Feed(bytes) => self.feed(rt, steps, bytes),
+            Step::Resize(rows, cols) => self.resize(rt, steps, rows, cols),
+            Step::Attach => self.attach(rt, steps, number)?,
+            Step::Detach(index) => self.detach(rt, steps, index),
             Step::Frame(index, answer, _) => {
-                same_for(rt, &step, &self.frame(rt, steps, index), &Some(answer));
+                self.frame(rt, steps, index, answer);
                 let place = self.place(index);
                 self.put(
                     index,
@@ -234,9 +350,7 @@ impl Stage {
                     },
                 );
             }
-            Step::NoFrame(index, answer) => {
-                same_for(rt, &step, &self.frame(rt, steps, index), &Some(answer));
-            }
+            Step::NoFrame(index, answer) => self.frame(rt, steps, index, answer),
             Step::Pump(index, room) => self.pump(rt, steps, index, room),
             Step::Unknown(index) => {
                 let client = self.place(index).client();
@@ -252,15 +366,35 @@ impl Stage {
     }
 }
 
-fn new_stage(alloc: Global, size: Size) -> Result<Stage, Fail> {
+/// Room for all clients.
+fn no_places(alloc: Global) -> Result<Vec<Place>, AllocError> {
+    Vec::with_capacity(alloc, MAX_CLIENTS)
+}
+
+fn new_stage(alloc: Global, way: Way, size: Size) -> Result<Stage, Fail> {
+    let places = match way {
+        Way::Once => no_places(alloc)?,
+        Way::Again | Way::Logged => again(|| no_places(alloc))?,
+    };
+    let hub = match way {
+        Way::Once => new_hub(alloc, size)?,
+        Way::Again | Way::Logged => new_hub_again(alloc, size)?,
+    };
     Ok(Stage {
-        places: no_places(alloc)?,
-        hub: new_hub(alloc, size)?,
+        way,
+        hub,
+        log: Log::new(alloc),
+        places,
     })
 }
 
 /// Does the steps with a new hub of this size, as long as it doesn't fail.
-pub fn play(rt: &(impl Abort + AllocGlobal), size: (u16, u16), steps: &[Step]) -> Result<(), Fail> {
-    let mut stage = new_stage(rt.alloc(), size)?;
+pub fn play(
+    rt: &(impl Abort + AllocGlobal),
+    way: Way,
+    size: Size,
+    steps: &[Step],
+) -> Result<(), Fail> {
+    let mut stage = new_stage(rt.alloc(), way, size)?;
     stage.take_all(rt, steps)
 }

@@ -2,6 +2,8 @@
 //! no room, and streams that end. They are refused where the tests run with allocations that fail; else each succeeds
 //! at once.
 
+pub mod again;
+mod examples;
 mod far;
 mod hubs;
 mod owing;

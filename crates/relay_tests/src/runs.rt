@@ -1,8 +1,10 @@
-//! Runs of a hub.
+//! Runs of a hub, each call of which succeeds at once.
 use crate::play::Step::{
     Attach, Color, Detach, Feed, Frame, NoFrame, Pump, Resize, Shows, Unknown,
 };
-use crate::play::{Step, play};
+use crate::play::{Step, Way, play};
+use crate::seen::Size;
+use std::process::Abort;
 use std::test::Fail;
 use termrelay::Answer::{Behind, Difference, Full, Unchanged, Unsure};
 
@@ -14,34 +16,30 @@ pub const BLANK: &[u8] =
 const ALL: usize = usize::MAX;
 
 /// A word is drawn over, and a second client comes late.
-#[test]
-fn a_word_is_drawn_over(rt: HostRuntime) -> Result<(), Fail> {
-    const STEPS: &[Step] = &[
-        Attach,
-        Feed(b"this text is \x1b[31mRED\x1b[m"),
-        Frame(
-            0,
-            Full,
-            b"\x1b[?2026h\x1b[?25h\x1b[m\x1b[H\x1b[Jthis text is \x1b[31mRED\x1b[m\x1b>\x1b[?1l\x1b[?2004l\x1b[?2026l",
-        ),
-        Pump(0, ALL),
-        Color(0, 13, 1),
-        Feed(b"\x1b[3D\x1b[32mGREEN"),
-        Frame(
-            0,
-            Difference,
-            b"\x1b[?2026h\x1b[1;14H\x1b[32mGREEN\x1b[?2026l",
-        ),
-        Color(0, 13, 2),
-        Attach,
-        Frame(
-            1,
-            Full,
-            b"\x1b[?2026h\x1b[?25h\x1b[m\x1b[H\x1b[Jthis text is \x1b[32mGREEN\x1b>\x1b[?1l\x1b[?2004l\x1b[?2026l",
-        ),
-    ];
-    play(&rt, (24, 80), STEPS)
-}
+const DRAWN_OVER: &[Step] = &[
+    Attach,
+    Feed(b"this text is \x1b[31mRED\x1b[m"),
+    Frame(
+        0,
+        Full,
+        b"\x1b[?2026h\x1b[?25h\x1b[m\x1b[H\x1b[Jthis text is \x1b[31mRED\x1b[m\x1b>\x1b[?1l\x1b[?2004l\x1b[?2026l",
+    ),
+    Pump(0, ALL),
+    Color(0, 13, 1),
+    Feed(b"\x1b[3D\x1b[32mGREEN"),
+    Frame(
+        0,
+        Difference,
+        b"\x1b[?2026h\x1b[1;14H\x1b[32mGREEN\x1b[?2026l",
+    ),
+    Color(0, 13, 2),
+    Attach,
+    Frame(
+        1,
+        Full,
+        b"\x1b[?2026h\x1b[?25h\x1b[m\x1b[H\x1b[Jthis text is \x1b[32mGREEN\x1b>\x1b[?1l\x1b[?2004l\x1b[?2026l",
+    ),
+];
 
 /// A size, a stream and the first frame, and then another stream and the next frame.
 type Case = (
@@ -97,8 +95,8 @@ const DIFFERENCES: &[Case] = &[
     ),
 ];
 
-#[test]
-fn differences(rt: HostRuntime) -> Result<(), Fail> {
+/// Two frames, each of which is sent, and nothing is due then.
+pub fn play_differences(rt: &(impl Abort + AllocGlobal), way: Way) -> Result<(), Fail> {
     for (size, first, full, second, difference) in DIFFERENCES {
         let steps = &[
             Attach,
@@ -110,67 +108,55 @@ fn differences(rt: HostRuntime) -> Result<(), Fail> {
             Pump(0, ALL),
             NoFrame(0, Unchanged),
         ];
-        play(&rt, *size, steps)?;
+        play(rt, way, *size, steps)?;
     }
     Ok(())
 }
 
 /// Half a character shows nothing, and a frame doesn't end it.
-#[test]
-fn half_a_character(rt: HostRuntime) -> Result<(), Fail> {
-    const STEPS: &[Step] = &[
-        Attach,
-        Frame(0, Full, BLANK),
-        Pump(0, ALL),
-        Feed(b"\xE4\xB8"),
-        NoFrame(0, Unchanged),
-        Pump(0, 0),
-        Feed(b"\xAD"),
-        Frame(0, Difference, b"\x1b[?2026h\xE4\xB8\xAD\x1b[?2026l"),
-        Pump(0, ALL),
-        Feed(b"a\xC3"),
-        Frame(0, Difference, b"\x1b[?2026ha\x1b[?2026l"),
-        Pump(0, ALL),
-        Feed(b"\xA9"),
-        Frame(0, Difference, b"\x1b[?2026h\xC3\xA9\x1b[?2026l"),
-    ];
-    play(&rt, (2, 4), STEPS)
-}
+const HALF: &[Step] = &[
+    Attach,
+    Frame(0, Full, BLANK),
+    Pump(0, ALL),
+    Feed(b"\xE4\xB8"),
+    NoFrame(0, Unchanged),
+    Pump(0, 0),
+    Feed(b"\xAD"),
+    Frame(0, Difference, b"\x1b[?2026h\xE4\xB8\xAD\x1b[?2026l"),
+    Pump(0, ALL),
+    Feed(b"a\xC3"),
+    Frame(0, Difference, b"\x1b[?2026ha\x1b[?2026l"),
+    Pump(0, ALL),
+    Feed(b"\xA9"),
+    Frame(0, Difference, b"\x1b[?2026h\xC3\xA9\x1b[?2026l"),
+];
 
 /// A wide character has no room on one column.
-#[test]
-fn no_room_for_a_wide_character(rt: HostRuntime) -> Result<(), Fail> {
-    const STEPS: &[Step] = &[
-        Attach,
-        Frame(0, Full, BLANK),
-        Pump(0, ALL),
-        Feed(b"\xE4\xB8\xAD"),
-        NoFrame(0, Unchanged),
-    ];
-    play(&rt, (2, 1), STEPS)
-}
+const NO_ROOM: &[Step] = &[
+    Attach,
+    Frame(0, Full, BLANK),
+    Pump(0, ALL),
+    Feed(b"\xE4\xB8\xAD"),
+    NoFrame(0, Unchanged),
+];
 
 /// A screen that asks for an emoji, and one that doesn't any more.
-#[test]
-fn an_emoji_comes_and_goes(rt: HostRuntime) -> Result<(), Fail> {
-    const STEPS: &[Step] = &[
-        Attach,
-        Feed(b"\xE2\x9D\xA4\xEF\xB8\x8F"),
-        Frame(
-            0,
-            Unsure,
-            b"\x1b[?2026h\x1b[?25h\x1b[m\x1b[H\x1b[J\xE2\x9D\xA4\xEF\xB8\x8F\x1b>\x1b[?1l\x1b[?2004l\x1b[?2026l",
-        ),
-        Pump(0, ALL),
-        Feed(b"\x1b[2J"),
-        Frame(
-            0,
-            Full,
-            b"\x1b[?2026h\x1b[?25h\x1b[m\x1b[H\x1b[J\x1b[2C\x1b[?2026l",
-        ),
-    ];
-    play(&rt, (2, 4), STEPS)
-}
+const EMOJI: &[Step] = &[
+    Attach,
+    Feed(b"\xE2\x9D\xA4\xEF\xB8\x8F"),
+    Frame(
+        0,
+        Unsure,
+        b"\x1b[?2026h\x1b[?25h\x1b[m\x1b[H\x1b[J\xE2\x9D\xA4\xEF\xB8\x8F\x1b>\x1b[?1l\x1b[?2004l\x1b[?2026l",
+    ),
+    Pump(0, ALL),
+    Feed(b"\x1b[2J"),
+    Frame(
+        0,
+        Full,
+        b"\x1b[?2026h\x1b[?25h\x1b[m\x1b[H\x1b[J\x1b[2C\x1b[?2026l",
+    ),
+];
 
 /// A size, a stream, what is shown then, and the first frame.
 const FIRST_FRAMES: &[((u16, u16), &[u8], &str, (u16, u16), &[u8])] = &[
@@ -205,8 +191,8 @@ const FIRST_FRAMES: &[((u16, u16), &[u8], &str, (u16, u16), &[u8])] = &[
     ),
 ];
 
-#[test]
-fn first_frames(rt: HostRuntime) -> Result<(), Fail> {
+/// A stream, and the first frame then.
+pub fn play_first_frames(rt: &(impl Abort + AllocGlobal), way: Way) -> Result<(), Fail> {
     for (size, stream, text, cursor, frame) in FIRST_FRAMES {
         let steps = &[
             Feed(stream),
@@ -214,96 +200,79 @@ fn first_frames(rt: HostRuntime) -> Result<(), Fail> {
             Attach,
             Frame(0, Full, frame),
         ];
-        play(&rt, *size, steps)?;
+        play(rt, way, *size, steps)?;
     }
     Ok(())
 }
 
 /// The writer fails in mid-frame, and the next one gets the rest.
-#[test]
-fn a_writer_fails(rt: HostRuntime) -> Result<(), Fail> {
-    const STEPS: &[Step] = &[
-        Attach,
-        Frame(0, Full, BLANK),
-        Pump(0, 10),
-        Feed(b"x"),
-        NoFrame(0, Behind),
-        Pump(0, 36),
-        Frame(0, Difference, b"\x1b[?2026hx\x1b[?2026l"),
-    ];
-    play(&rt, (24, 80), STEPS)
-}
+const FAULT: &[Step] = &[
+    Attach,
+    Frame(0, Full, BLANK),
+    Pump(0, 10),
+    Feed(b"x"),
+    NoFrame(0, Behind),
+    Pump(0, 36),
+    Frame(0, Difference, b"\x1b[?2026hx\x1b[?2026l"),
+];
 
 /// Every client ends, also where the size stays.
-#[test]
-fn sizes(rt: HostRuntime) -> Result<(), Fail> {
-    const SAME: &[Step] = &[
-        Attach,
-        Resize(24, 80),
-        Unknown(0),
-        Attach,
-        Frame(1, Full, BLANK),
-    ];
-    const HIGHER: &[Step] = &[
-        Feed(b"a\r\nb\r\nc"),
-        Resize(4, 4),
-        Shows("\nb\nc", (2, 1)),
-        Attach,
-        Frame(
-            0,
-            Full,
-            b"\x1b[?2026h\x1b[?25h\x1b[m\x1b[H\x1b[J\r\nb\r\nc\x1b>\x1b[?1l\x1b[?2004l\x1b[?2026l",
-        ),
-    ];
-    play(&rt, (24, 80), SAME)?;
-    play(&rt, (2, 4), HIGHER)
-}
+const SAME: &[Step] = &[
+    Attach,
+    Resize(24, 80),
+    Unknown(0),
+    Attach,
+    Frame(1, Full, BLANK),
+];
+
+const HIGHER: &[Step] = &[
+    Feed(b"a\r\nb\r\nc"),
+    Resize(4, 4),
+    Shows("\nb\nc", (2, 1)),
+    Attach,
+    Frame(
+        0,
+        Full,
+        b"\x1b[?2026h\x1b[?25h\x1b[m\x1b[H\x1b[J\r\nb\r\nc\x1b>\x1b[?1l\x1b[?2004l\x1b[?2026l",
+    ),
+];
 
 /// Clients that never came or have ended are unknown.
-#[test]
-fn clients_end(rt: HostRuntime) -> Result<(), Fail> {
-    const STEPS: &[Step] = &[
-        Unknown(7),
-        Attach,
-        Frame(0, Full, BLANK),
-        Detach(0),
-        Unknown(0),
-        Attach,
-        Frame(1, Full, BLANK),
-        Pump(1, ALL),
-        NoFrame(1, Unchanged),
-        Pump(1, 0),
-    ];
-    play(&rt, (24, 80), STEPS)
-}
+const ENDS: &[Step] = &[
+    Unknown(7),
+    Attach,
+    Frame(0, Full, BLANK),
+    Detach(0),
+    Unknown(0),
+    Attach,
+    Frame(1, Full, BLANK),
+    Pump(1, ALL),
+    NoFrame(1, Unchanged),
+    Pump(1, 0),
+];
 
 /// Each client's frames lead on from its own last one, however many were made at one moment.
-#[test]
-fn bases_are_each_clients_own(rt: HostRuntime) -> Result<(), Fail> {
-    const STEPS: &[Step] = &[
-        Attach,
-        Attach,
-        Attach,
-        Frame(0, Full, BLANK),
-        Frame(1, Full, BLANK),
-        Frame(2, Full, BLANK),
-        Pump(0, ALL),
-        Pump(1, ALL),
-        Pump(2, ALL),
-        Feed(b"x"),
-        Frame(0, Difference, b"\x1b[?2026hx\x1b[?2026l"),
-        Feed(b"y"),
-        Frame(1, Difference, b"\x1b[?2026hxy\x1b[?2026l"),
-        Pump(0, ALL),
-        Frame(0, Difference, b"\x1b[?2026hy\x1b[?2026l"),
-        Frame(2, Difference, b"\x1b[?2026hxy\x1b[?2026l"),
-    ];
-    play(&rt, (24, 80), STEPS)
-}
+const BASES: &[Step] = &[
+    Attach,
+    Attach,
+    Attach,
+    Frame(0, Full, BLANK),
+    Frame(1, Full, BLANK),
+    Frame(2, Full, BLANK),
+    Pump(0, ALL),
+    Pump(1, ALL),
+    Pump(2, ALL),
+    Feed(b"x"),
+    Frame(0, Difference, b"\x1b[?2026hx\x1b[?2026l"),
+    Feed(b"y"),
+    Frame(1, Difference, b"\x1b[?2026hxy\x1b[?2026l"),
+    Pump(0, ALL),
+    Frame(0, Difference, b"\x1b[?2026hy\x1b[?2026l"),
+    Frame(2, Difference, b"\x1b[?2026hxy\x1b[?2026l"),
+];
 
 /// Client number 65 is one like the others: it gets frames of its own, ends alone, and another one comes after it.
-#[test]
-fn client_number_65(rt: HostRuntime) -> Result<(), Fail> {
+pub fn play_client_number_65(rt: &(impl Abort + AllocGlobal), way: Way) -> Result<(), Fail> {
     const X: &[u8] = b"\x1b[?2026h\x1b[?25h\x1b[m\x1b[H\x1b[Jx\x1b>\x1b[?1l\x1b[?2004l\x1b[?2026l";
     let mut steps = [Attach; 75];
     steps[65] = Frame(64, Full, BLANK);
@@ -315,5 +284,45 @@ fn client_number_65(rt: HostRuntime) -> Result<(), Fail> {
     steps[71] = Detach(64);
     steps[72] = Unknown(64);
     steps[74] = Frame(65, Full, X);
-    play(&rt, (24, 80), &steps)
+    play(rt, way, (24, 80), &steps)
+}
+
+/// Sizes, and what is done then.
+const RUNS: &[(Size, &[Step])] = &[
+    ((24, 80), DRAWN_OVER),
+    ((2, 4), HALF),
+    ((2, 1), NO_ROOM),
+    ((2, 4), EMOJI),
+    ((24, 80), FAULT),
+    ((24, 80), SAME),
+    ((2, 4), HIGHER),
+    ((24, 80), ENDS),
+    ((24, 80), BASES),
+];
+
+pub fn play_runs(rt: &(impl Abort + AllocGlobal), way: Way) -> Result<(), Fail> {
+    for (size, steps) in RUNS {
+        play(rt, way, *size, steps)?;
+    }
+    Ok(())
+}
+
+#[test]
+fn runs(rt: HostRuntime) -> Result<(), Fail> {
+    play_runs(&rt, Way::Once)
+}
+
+#[test]
+fn differences(rt: HostRuntime) -> Result<(), Fail> {
+    play_differences(&rt, Way::Once)
+}
+
+#[test]
+fn first_frames(rt: HostRuntime) -> Result<(), Fail> {
+    play_first_frames(&rt, Way::Once)
+}
+
+#[test]
+fn client_number_65(rt: HostRuntime) -> Result<(), Fail> {
+    play_client_number_65(&rt, Way::Once)
 }

@@ -1,6 +1,6 @@
 //! A program's own synchronized updates, which hold frames back.
 use crate::play::Step::{Attach, Feed, Frame, NoFrame, Pump, Resize};
-use crate::play::{Step, play};
+use crate::play::{Step, Way, play};
 use crate::runs::BLANK;
 use std::test::Fail;
 use termrelay::Answer::{Behind, Difference, Full, Held, Unchanged, Unsure};
@@ -63,7 +63,7 @@ const UPDATES: &[&[Step]] = &[
 #[test]
 fn updates(rt: HostRuntime) -> Result<(), Fail> {
     for steps in UPDATES {
-        play(&rt, (2, 4), steps)?;
+        play(&rt, Way::Once, (2, 4), steps)?;
     }
     Ok(())
 }

@@ -1,5 +1,6 @@
 //! Hubs and runs that find no memory.
-use crate::owners::{new_hub, new_view, with, with_log};
+use crate::owners::{with, with_log};
+use crate::refusals::again::{new_hub, new_view};
 use crate::refusals::far::Far;
 use crate::refusals::owing::{HI, attach_and_frame, check_owed, owing};
 use crate::same::same_for;
@@ -205,5 +206,9 @@ fn check_run(rt: &impl Abort, hub: &mut Hub, log: &mut Log) -> Result<(), Fail> 
 /// Where the log has no room the run ends before that call, and the rest can be made as if nothing had been.
 #[test]
 fn a_run(rt: HostRuntime) -> Result<(), Fail> {
-    with_log(rt.alloc(), (2, 4), |hub, log| check_run(&rt, hub, log))
+    with_log(
+        rt.alloc(),
+        new_hub(rt.alloc(), (2, 4)),
+        |hub, log| check_run(&rt, hub, log),
+    )
 }

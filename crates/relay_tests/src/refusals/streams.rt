@@ -2,7 +2,8 @@
 ghost use Rattle.std.specs.Prelude.{⊤};
 
 use crate::far_views::{check_cut, two_frames};
-use crate::owners::{first_key, new_view, retried, with};
+use crate::owners::with;
+use crate::refusals::again::{again, first_key, new_far_view, new_view};
 use crate::same::same_for;
 use crate::seen::{Drawn, cell_of, count};
 use relay_streams::{RelayError, relay, show};
@@ -15,7 +16,7 @@ use vte::ansi::{Handler, OutOfMemory, Processor};
 
 /// Room for so many bytes, made at the second try if the first was refused.
 fn room(alloc: Global, length: usize) -> Result<Vec<u8>, AllocError> {
-    retried(|| Vec::with_capacity(alloc, length))
+    again(|| Vec::with_capacity(alloc, length))
 }
 
 fn check_view(rt: &impl Abort, view: &View<UntilCleared>) {
@@ -49,7 +50,7 @@ impl Handler for Count {
 
 /// A processor, made at the second try if the first was refused.
 fn new_processor(alloc: Global) -> Result<Processor<UntilCleared, Global>, OutOfMemory> {
-    retried(|| Processor::new(alloc, UntilCleared::new()))
+    again(|| Processor::new(alloc, UntilCleared::new()))
 }
 
 #[test]
@@ -71,7 +72,8 @@ fn far_views(rt: HostRuntime) -> Result<(), Fail> {
     let streams: (&[u8], &[u8]) = (b"this text is \x1b[31mRED\x1b[m", b"\x1b[3D\x1b[32mGREEN");
     let calls = two_frames(client, streams);
     for (take, wanted) in TAKEN {
-        check_cut(&rt, &calls, (*take, 50), *wanted)?;
+        let found = new_far_view(rt.alloc(), (24, 80), &calls, (0, *take, &[50]));
+        check_cut(&rt, found, (*take, 50), *wanted)?;
     }
     Ok(())
 }

@@ -27,7 +27,7 @@ returns-in_err-n g c = λ rows cols at.
     let fault = c.in_err-n.field-0.0 in
     let is : c.from_residual.result ≡ Err fault = search rules in
     rw is (unread so_far.past (frames_of rows cols so_far.past) _ fault
-    (filled_fault c.fill.ensures whole fault c.in_err-n.was so_far.read)
+    (filled_fault c.fill.ensures whole so_far.most fault c.in_err-n.was so_far.read)
     (frames-are-relayed rows cols so_far.past at.height at.width (so_far.fits rows cols at))
     (so_far.sent rows cols at))
 
@@ -39,7 +39,7 @@ returns-in_err-turn g c = λ rows cols at.
     let piece : List ℕ = take n c.fill.new.piece in
     let fault = c.in_err-turn.field-0.0 in
     let is : c.from_residual-in_err-turn.result ≡ Err fault = search rules in
-    let begun = filled_begun c.fill.ensures whole n c.in_ok-n.was so_far.read in
+    let begun = filled_begun c.fill.ensures whole so_far.most n c.in_ok-n.was so_far.read in
     rw is (turn-faults g.row.S.Denot g.row.W.Denot g.S.Source.gives g.W.Taker.takes rows cols so_far.past piece
     c.args.client c.turn.new.hub c.args.input.now c.fill.new.input c.args.output.now c.pieces.output
     c.turn.new.output fault at.height at.width begun (so_far.fits rows cols at) (so_far.sent rows cols at)
@@ -57,7 +57,7 @@ returns-then-n-lt-PIECE_LEN g c = λ rows cols at.
     (so_far.sent rows cols at)
     (c.in_ok-turn.ensures rows cols so_far.past (base_of rows cols so_far.past) (so_far.at rows cols at)) in
     sent pieces (frames_of rows cols pieces)
-    (filled_last c.fill.ensures whole n c.in_ok-n.was (omega arith) so_far.read)
+    (filled_last c.fill.ensures whole so_far.most n c.in_ok-n.was (omega arith) so_far.read)
     (frames-are-relayed rows cols pieces at.height at.width goes.0) goes.1
 
 pub pieces-preserved : goal.pieces-preserved
@@ -72,9 +72,9 @@ pieces-preserved g c =
     (so_far.sent rows cols at)
     (c.in_ok-turn.ensures rows cols so_far.past (base_of rows cols so_far.past) (so_far.at rows cols at)) in
     record {
-      most = (filled_most c.fill.ensures whole n c.in_ok-n.was).0;
+      most = (filled_most c.fill.ensures whole so_far.most n c.in_ok-n.was).0;
       past = so_far.past ++ piece ∷ [];
-      read = filled_on c.fill.ensures whole n c.in_ok-n.was (omega arith) so_far.read;
+      read = filled_on c.fill.ensures whole so_far.most n c.in_ok-n.was (omega arith) so_far.read;
       at = λ rows cols at. (goes rows cols at).2;
       fits = λ rows cols at. (goes rows cols at).0;
       sent = λ rows cols at. (goes rows cols at).1;
@@ -83,5 +83,5 @@ pieces-preserved g c =
 pub pieces-smaller : goal.pieces-smaller
 pieces-smaller g c =
     let whole : length c.pieces.piece ≡ piece_len = omega (arith, c.fill.auto.piece) in
-    let most = filled_most c.fill.ensures whole c.in_ok-n.n c.in_ok-n.was in
+    let most = filled_most c.fill.ensures whole c.pieces.invariant.most c.in_ok-n.n c.in_ok-n.was in
     omega (arith, most.0, most.1)

@@ -20,7 +20,7 @@ returns-in_err-n g c =
     let fault = c.in_err-n.field-0.0 in
     let is : c.from_residual.result ≡ Err fault = search rules in
     stopped_so (λ ps. Led c.args.view.now ps c.pieces.view) is
-    (filled_fault c.fill.ensures whole fault c.in_err-n.was so_far.read)
+    (filled_fault c.fill.ensures whole so_far.most fault c.in_err-n.was so_far.read)
 
 pub returns-then-n-lt-PIECE_LEN : goal.returns-then-n-lt-PIECE_LEN
 returns-then-n-lt-PIECE_LEN g c =
@@ -29,7 +29,7 @@ returns-then-n-lt-PIECE_LEN g c =
     let n = c.in_ok-n.n in
     let piece : List ℕ = take n c.fill.new.piece in (
       so_far.past ++ piece ∷ [],
-      filled_last c.fill.ensures whole n c.in_ok-n.was (omega arith) so_far.read,
+      filled_last c.fill.ensures whole so_far.most n c.in_ok-n.was (omega arith) so_far.read,
       led_on c.args.view.now c.pieces.view c.advance.new.self so_far.past piece so_far.led
           (λ parsed hold at. c.advance.ensures.exact parsed hold c.until_cleared_is_exact.ensures at),
     )
@@ -41,9 +41,9 @@ pieces-preserved g c =
     let n = c.in_ok-n.n in
     let piece : List ℕ = take n c.fill.new.piece in
     record {
-      most = (filled_most c.fill.ensures whole n c.in_ok-n.was).0;
+      most = (filled_most c.fill.ensures whole so_far.most n c.in_ok-n.was).0;
       past = so_far.past ++ piece ∷ [];
-      read = filled_on c.fill.ensures whole n c.in_ok-n.was (omega arith) so_far.read;
+      read = filled_on c.fill.ensures whole so_far.most n c.in_ok-n.was (omega arith) so_far.read;
       led = led_on c.args.view.now c.pieces.view c.advance.new.self so_far.past piece so_far.led
           (λ parsed hold at. c.advance.ensures.exact parsed hold c.until_cleared_is_exact.ensures at);
     }
@@ -51,5 +51,5 @@ pieces-preserved g c =
 pub pieces-smaller : goal.pieces-smaller
 pieces-smaller g c =
     let whole : length c.pieces.piece ≡ piece_len = omega (arith, c.fill.auto.piece) in
-    let most = filled_most c.fill.ensures whole c.in_ok-n.n c.in_ok-n.was in
+    let most = filled_most c.fill.ensures whole c.pieces.invariant.most c.in_ok-n.n c.in_ok-n.was in
     omega (arith, most.0, most.1)

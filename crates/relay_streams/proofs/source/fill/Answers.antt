@@ -11,8 +11,9 @@ use Rattle.relay_streams.proofs.source.fill.Goals as goal
 pub reading-init : goal.reading-init
 reading-init g c = record {
   within = omega arith;
-  most = c.requires;
   made = 0;
+  most = λ few. few;
+  spent = λ many. refl;
   counted = omega arith;
   goes_on = begun (length c.args.piece.now - 0) (omega arith);
 }
@@ -22,7 +23,8 @@ returns-then-reads-ge-MAX_READS g c =
     let inv = c.reading.invariant in
     let piece = c.reading.piece in
     filled inv.goes_on c.reading.input c.args.reads.now c.reading.reads piece _ (stopped (omega arith))
-    (front_is piece c.reading.len inv.within) (omega (arith, inv.counted)) (omega (arith, inv.most)) refl
+    (front_is piece c.reading.len inv.within) (omega (arith, inv.counted))
+    (λ few. omega (arith, inv.most few)) (λ many. omega (arith, inv.spent many)) refl
 
 pub returns-in-Ok-eq0 : goal.returns-in-Ok-eq0
 returns-in-Ok-eq0 g c =
@@ -31,7 +33,8 @@ returns-in-Ok-eq0 g c =
     let len = c.reading.len in
     let read = rw (window piece len, c.in-Ok-eq0.field-0-test) at c.in-Ok-eq0.ensures.gives in
     filled inv.goes_on c.give.new.self c.args.reads.now (c.reading.reads + 1) _ _ (ended (omega arith) read)
-    (front_put piece c.give.new.room len _) (omega (arith, inv.counted)) (omega arith)
+    (front_put piece c.give.new.room len _) (omega (arith, inv.counted))
+    (λ few. omega arith) (λ many. omega (arith, inv.counted, many))
     (ap Ok (sym (length-take-le len piece inv.within)))
 
 pub reading-preserved-in-Ok : goal.reading-preserved-in-Ok
@@ -49,8 +52,9 @@ reading-preserved-in-Ok g c =
     let some : take n room ≢ [] = λ none. absurd (omega (arith, bound.1, ap length none, c.in-Ok.n-test)) in
     record {
       within = omega (arith, same, bound.0, whole);
-      most = omega arith;
       made = inv.made + 1;
+      most = λ few. omega arith;
+      spent = λ many. omega (arith, inv.counted, many);
       counted = omega (arith, inv.counted);
       goes_on = rw got (some_more inv.goes_on c.give.new.self _ (take n room) some
           (omega (arith, bound.0, bound.1, whole)) (omega (arith, same, bound.1)) read);
@@ -64,7 +68,7 @@ returns-then-ne g c =
     let read = rw (window piece len) at c.in-Err.ensures.gives in
     filled inv.goes_on c.give.new.self c.args.reads.now (c.reading.reads + 1) _ _
     (failed (omega arith) read (search rules)) (front_put piece c.give.new.room len _) (omega (arith, inv.counted))
-    (omega arith) refl
+    (λ few. omega arith) (λ many. omega (arith, inv.counted, many)) refl
 
 pub reading-preserved : goal.reading-preserved
 reading-preserved g c =
@@ -77,8 +81,9 @@ reading-preserved g c =
     let is : error_kind c.in-Err.error ≡ Interrupted = search rules in
     record {
       within = omega (arith, same, inv.within);
-      most = omega arith;
       made = inv.made + 1;
+      most = λ few. omega arith;
+      spent = λ many. omega (arith, inv.counted, many);
       counted = omega (arith, inv.counted);
       goes_on = rw (same, front_put-len piece room len (length piece - len) inv.within)
           (once_more inv.goes_on c.give.new.self c.in-Err.error (omega arith) read is);
@@ -92,5 +97,6 @@ returns g c =
     let none : length piece - len ≡ 0 = omega arith in
     let last : Fills g.S.Source.gives c.reading.input (length piece - len) 0 [] Full c.reading.input = rw none full in
     filled inv.goes_on c.reading.input c.args.reads.now c.reading.reads piece _ last
-    (front_is piece len inv.within) (omega (arith, inv.counted)) (omega (arith, inv.most))
+    (front_is piece len inv.within) (omega (arith, inv.counted))
+    (λ few. omega (arith, inv.most few)) (λ many. omega (arith, inv.spent many))
     (ap Ok (sym (length-take-le len piece inv.within)))

@@ -7,8 +7,9 @@ use Rattle.relay_streams.proofs.source.fill.Given as goal
 abbrev pub invariant-reading : goal.invariant-reading
 invariant-reading g l = record {
   within : l.len ≤ length l.piece;
-  most : l.reads ≤ max_reads;
   made : ℕ;
+  most : l.fn.reads ≤ max_reads → l.reads ≤ max_reads;
+  spent : max_reads ≤ l.fn.reads → made ≡ 0;
   counted : l.reads ≡ l.fn.reads + made;
   goes_on : GoesOn g.S.Source.gives l.fn.input (length l.fn.piece) l.input (length l.piece - l.len) made
       (take l.len l.piece);

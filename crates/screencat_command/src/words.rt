@@ -2,7 +2,7 @@
 
 ghost use Rattle.std.specs.Prelude.{◌≡◌, map};
 ghost use Rattle.std.specs.Option.{option_map};
-ghost use Rattle.screencat.specs.Words.{sides_of};
+ghost use Rattle.screencat_command.specs.Words.{sides_of};
 
 use command_line::parse_size;
 use std::num::NonZeroU16;

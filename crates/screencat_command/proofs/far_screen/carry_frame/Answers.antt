@@ -2,18 +2,24 @@ use Rattle.std.proofs.Common.{◌≡◌, ℕ, false, List, [], ◌∷◌, ◌++�
 use Rattle.std.specs.List.{concat}
 use Rattle.relay_streams.specs.Frames.{asked}
 use Rattle.relay_streams.proofs.TurnLemmas.{asks, turn-ends}
-use Rattle.screencat.specs.Carried.{Carries}
-use Rattle.screencat.proofs.CarryLemmas.{holds-all}
-use Rattle.screencat.proofs.far_screen.carry_frame.Goals as goal
+use Rattle.screencat_command.specs.Carried.{Carries}
+use Rattle.screencat_command.proofs.CarryLemmas.{holds-all}
+use Rattle.screencat_command.proofs.far_screen.carry_frame.Goals as goal
 
-pub returns : goal.returns
-returns c = λ rows cols past base at.
+pub returns-then-is_overlong : goal.returns-then-is_overlong
+returns-then-is_overlong c = λ rows cols past base at.
+    let made = asks at c.args.piece.now c.feed.new.self c.frame.new.self c.in_ok-answer.answer c.in_ok-feed.ensures
+    c.in_ok-answer.ensures.frames in
+    made.long ∙ sym c.is_overlong.ensures ∙ c.if-is_overlong.true
+
+pub returns-in-Ok : goal.returns-in-Ok
+returns-in-Ok c = λ rows cols past base at.
     let line = c.pump.new.to in
     let owed = (asked rows cols (concat (past ++ c.args.piece.now ∷ [])) base).owed in
     let made = asks at c.args.piece.now c.feed.new.self c.frame.new.self c.in_ok-answer.answer c.in_ok-feed.ensures
     c.in_ok-answer.ensures.frames in
     let turned = turn-ends _ _ c.pump.new.self c.new-line.result line made
-    (sym c.is_overlong.ensures ∙ c.if-is_overlong.false) c.in_ok-pump.ensures in
+    (sym c.is_overlong.ensures ∙ c.if-is_overlong.false) c.in-Ok.ensures in
     let whole : c.deref.result.now ≡ owed =
     c.deref.ensures.value
     ∙ holds-all _ (λ v. Some v.items) c.new-line.result line owed line.items turned.1.0 turned.1.1

@@ -3,7 +3,7 @@ use Rattle.std.specs.List.{concat}
 use Rattle.std.specs.declared.slice.Chunks.{Chunks}
 use Rattle.relay_streams.proofs.ViewLemmas.{not_led, led_on}
 use Rattle.relay_streams.proofs.PieceLemmas.{concat-push}
-use Rattle.screencat.proofs.far_screen.read_line.Goals as goal
+use Rattle.screencat_command.proofs.far_screen.read_line.Goals as goal
 
 pub loop-bytes-init : goal.loop-bytes-init
 loop-bytes-init c = record {

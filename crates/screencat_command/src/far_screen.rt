@@ -1,14 +1,11 @@
 //! A program's screen, carried to a far terminal and printed there.
 
-ghost use Rattle.std.specs.Prelude.{◌≡◌, ℕ, ◌++◌, ◌∷◌, [], List, false, Option, None, OnOk, IfSome};
+ghost use Rattle.std.specs.Prelude.{ℕ, ◌++◌, ◌∷◌, [], List, Option, None, OnOk, IfSome};
 ghost use Rattle.std.specs.List.{concat};
 ghost use Rattle.std.specs.Io.KnownBytes.{Appends};
 ghost use Rattle.terminal_model.specs.Term.{Shown};
-ghost use Rattle.relay_streams.specs.Frames.{answered, asked, is_overlong as overlong};
-ghost use Rattle.relay_streams.specs.Pieces.{Drained, piece_len};
-ghost use Rattle.relay_streams.specs.Sessions.{AreRelayed};
 ghost use Rattle.relay_streams.specs.Turns.{Relaying};
-ghost use Rattle.screencat.specs.Carried.{Carries, IsFarText};
+ghost use Rattle.screencat_command.specs.Carried.{Carried, Carries, Follows, IsFarText, PrintsFar};
 
 use relay_streams::{PIECE_LEN, RelayError, Sink, Source, fill, is_overlong, print_view};
 use std::alloc::Global;
@@ -23,15 +20,18 @@ const STEP: usize = 7;
 /// Reads a program's output to its end, and writes the rows of the screen that it makes, as a far terminal of this size
 /// shows them, with a newline each. Then the output is flushed.
 ///
-/// A frame that would be longer than 2,097,150 bytes is a fault. Nothing is written before the input has ended. What was
-/// written when a fault came stays written.
-pub(crate) fn print_far_screen<S: Source, W: Sink>(
+/// Full pieces of 4,096 bytes are read, by at most 2^40 reads; an interrupted read is tried again and counted. A frame
+/// that would be longer than 2,097,150 bytes is a fault. Nothing is written before the input has ended. What was written
+/// when a fault came stays written.
+pub fn print_far_screen<S: Source, W: Sink>(
     alloc: Global,
     rows: NonZeroU16,
     cols: NonZeroU16,
     input: &mut S,
     output: &mut W,
 ) -> Result<(), RelayError>
+    ensures prints { PrintsFar S.gives W.takes W.flushes rows.value cols.value input.old output.old result input.new
+        output.new }
     ensures text { OnOk result (IfSome (S.left input.old) (λ bytes. (text : List ℕ)
         × IsFarText rows.value cols.value bytes text × Appends (W.contents output.old) (W.contents output.new) text)) }
 {
@@ -50,9 +50,9 @@ fn carry_frames<S: Source>(
     input: &mut S,
     view: &mut View<UntilCleared>,
 ) -> Result<(), RelayError>
-    ensures { OnOk result ((pieces : List (List ℕ)) × Drained S.gives piece_len input.old pieces result input.new
-        × ((rows cols : ℕ) → Relaying rows cols [] None hub.old client → (frames : List (List ℕ))
-        × AreRelayed rows cols pieces frames × Carries view.old (concat frames) view.new)) }
+    ensures { (rows cols : ℕ) → Relaying rows cols [] None hub.old client → (frames : List (List ℕ))
+        × Follows S.gives rows cols input.old frames result input.new
+        × OnOk result (Carries view.old (concat frames) view.new) }
 {
     let mut piece = [0; PIECE_LEN];
     let mut reads = 0;
@@ -73,12 +73,9 @@ fn carry_frame(
     piece: &[u8],
     view: &mut View<UntilCleared>,
 ) -> Result<(), RelayError>
-    ensures { OnOk result ((rows cols : ℕ) (past : List (List ℕ)) (base : Option Shown)
+    ensures { (rows cols : ℕ) (past : List (List ℕ)) (base : Option Shown)
         → Relaying rows cols past base hub.old client
-        → (overlong (answered rows cols (concat (past ++ piece.now ∷ [])) base) ≡ false)
-        × Carries view.old (asked rows cols (concat (past ++ piece.now ∷ [])) base).owed view.new
-        × Relaying rows cols (past ++ piece.now ∷ []) (asked rows cols (concat (past ++ piece.now ∷ [])) base).base hub.new
-        client) }
+        → Carried rows cols (past ++ piece.now ∷ []) base client view.old result view.new hub.new }
 {
     hub.feed(piece)?;
     let answer = hub.frame(client)?;
@@ -86,9 +83,14 @@ fn carry_frame(
         return Err(RelayError::FrameTooLong);
     }
     let mut line = Vec::new(alloc);
-    hub.pump(client, &mut line)?;
-    read_line(view, &line);
-    Ok(())
+    match hub.pump(client, &mut line) {
+        Ok(()) => {
+            read_line(view, &line);
+            Ok(())
+        }
+        // A line in memory takes whatever it finds room for.
+        Err(_) => Err(RelayError::Memory),
+    }
 }
 
 // Gives the view what comes over a line, a few bytes at a time.

@@ -1,7 +1,7 @@
 use Rattle.std.proofs.Common.{◌≡◌, ◌++◌, List, ℕ}
 use Rattle.std.specs.List.{concat}
 use Rattle.relay_streams.specs.Led.{Led}
-use Rattle.screencat.proofs.far_screen.read_line.Given as goal
+use Rattle.screencat_command.proofs.far_screen.read_line.Given as goal
 
 -- the view was given the pieces so far, and the rest follows
 abbrev pub invariant-loop-bytes : goal.invariant-loop-bytes

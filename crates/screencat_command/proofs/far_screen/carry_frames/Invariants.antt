@@ -6,8 +6,8 @@ use Rattle.relay_streams.specs.Pieces.{piece_len}
 use Rattle.relay_streams.specs.Turns.{Relaying}
 use Rattle.relay_streams.proofs.FrameLists.{frames_of, answers_of, base_of}
 use Rattle.relay_streams.proofs.PieceLemmas.{DrainsOn}
-use Rattle.screencat.specs.Carried.{Carries}
-use Rattle.screencat.proofs.far_screen.carry_frames.Given as goal
+use Rattle.screencat_command.specs.Carried.{Carries}
+use Rattle.screencat_command.proofs.far_screen.carry_frames.Given as goal
 
 -- the pieces that were read so far were fed, and their frames, of which none was too long, reached the view
 abbrev pub invariant-pieces : goal.invariant-pieces

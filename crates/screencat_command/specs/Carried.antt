@@ -1,0 +1,78 @@
+-- A program's screen that is carried to a view and printed.
+use Rattle.std.specs.Prelude.{◌≡◌, ℕ, false, true, List, [], ◌∷◌, ◌++◌, Option, Ok, Err, Result, ⊤}
+use Rattle.std.specs.List.{concat}
+use Rattle.std.specs.declared.io.Error.{Error}
+use Rattle.terminal_model.specs.Term.{Shown}
+use Rattle.termview.specs.declared.view.View.{View}
+use Rattle.termview.specs.declared.until_cleared.UntilCleared.{UntilCleared}
+use Rattle.termrelay.specs.Hub.{HubState, as_kept}
+use Rattle.relay_streams.specs.declared.error.RelayError.{RelayError}
+use Rattle.relay_streams.specs.declared.error.RelayError.TheVariants.{Read, Write, Memory, TooManyReads, FrameTooLong}
+use Rattle.relay_streams.specs.Frames.{answered, asked, is_overlong}
+use Rattle.relay_streams.specs.Led.{Led}
+use Rattle.relay_streams.specs.Pieces.{Begun, Drained, piece_len}
+use Rattle.relay_streams.specs.Sessions.{AreRelayed, EndsOverlong, IsRelayText}
+use Rattle.relay_streams.specs.Shown.{IsTextShown, Prints, sized}
+use Rattle.relay_streams.specs.Turns.{Relaying}
+
+-- the view was given these bytes, in some pieces
+pub record Carries (old : View UntilCleared) (bytes : List ℕ) (new : View UntilCleared) : Type 0 where
+  pub pieces : List (List ℕ)
+  pub joined : concat pieces ≡ bytes
+  pub led : Led old pieces new
+
+-- A fresh view of this size was given, in some pieces, what is relayed of a program's output: a frame after each 4,096
+-- bytes, and one at the end. This is the text of what it shows.
+pub record IsFarText (rows cols : ℕ) (input text : List ℕ) : Type 0 where
+  pub pieces : List (List ℕ)
+  pub relayed : IsRelayText rows cols input (concat pieces)
+  pub shown : IsTextShown (sized rows cols) pieces text
+
+-- These pieces have been fed, the last one by this turn, and the client had this base: so the turn is answered. The
+-- frame reached the view, or there was no memory for it, or it would be too long.
+abbrev pub Carried : ℕ → ℕ → List (List ℕ) → Option Shown → ℕ → View UntilCleared → Result (Unit {0}) RelayError
+    → View UntilCleared → HubState as_kept → Type 0
+Carried rows cols pieces base key old (Ok u) new g =
+    (is_overlong (answered rows cols (concat pieces) base) ≡ false)
+    × Carries old (asked rows cols (concat pieces) base).owed new
+    × Relaying rows cols pieces (asked rows cols (concat pieces) base).base g key
+Carried rows cols pieces base key old (Err Memory) new g = ⊤
+Carried rows cols pieces base key old (Err FrameTooLong) new g =
+    is_overlong (answered rows cols (concat pieces) base) ≡ true
+Carried rows cols pieces base key old (Err Read) new g = ⊥
+Carried rows cols pieces base key old (Err Write) new g = ⊥
+Carried rows cols pieces base key old (Err TooManyReads) new g = ⊥
+
+-- From a source pieces are read, and these frames are made of them: so it is answered, and so the source is left.
+pub data Follows {S : Type 0} (gives : S → ℕ → Result (List ℕ) Error → S → Type 0) (rows cols : ℕ) (s : S)
+    : List (List ℕ) → Result (Unit {0}) RelayError → S → Type 0 where
+  -- a read failed, or as many were made as may be
+  unread : {t : S} {frames : List (List ℕ)} (pieces : List (List ℕ)) (rest : List ℕ) (e : RelayError)
+      → Drained gives piece_len s (pieces ++ rest ∷ []) (Err e) t → AreRelayed rows cols pieces frames
+      → Follows gives rows cols s frames (Err e) t
+  -- there was no memory for the last piece or its frame
+  unmade : {t : S} {frames : List (List ℕ)} (pieces : List (List ℕ)) (piece : List ℕ)
+      → Begun gives piece_len s (pieces ++ piece ∷ []) t → AreRelayed rows cols pieces frames
+      → Follows gives rows cols s frames (Err Memory) t
+  -- the frame of the last piece would be too long
+  overlong : {t : S} {frames : List (List ℕ)} (pieces : List (List ℕ)) (piece : List ℕ)
+      → Begun gives piece_len s (pieces ++ piece ∷ []) t → AreRelayed rows cols pieces frames
+      → EndsOverlong rows cols (pieces ++ piece ∷ []) → Follows gives rows cols s frames (Err FrameTooLong) t
+  -- the input was read to its end
+  followed : {t : S} {frames : List (List ℕ)} (pieces : List (List ℕ)) → Drained gives piece_len s pieces (Ok tt) t
+      → AreRelayed rows cols pieces frames → Follows gives rows cols s frames (Ok tt) t
+
+-- From a source and a writer it answers so, and leaves both so. Nothing is written before the input has ended.
+pub data PrintsFar {S W : Type 0} (gives : S → ℕ → Result (List ℕ) Error → S → Type 0)
+    (takes : W → List ℕ → Result ℕ Error → W → Type 0) (flushes : W → Result (Unit {0}) Error → W → Type 0)
+    (rows cols : ℕ) (s : S) (w : W) : Result (Unit {0}) RelayError → S → W → Type 0 where
+  -- there was no memory for the hub, its client or the view: nothing is read
+  refused : PrintsFar gives takes flushes rows cols s w (Err Memory) s w
+  -- a fault came before the input had ended
+  broken : {t : S} (frames : List (List ℕ)) (e : RelayError) → Follows gives rows cols s frames (Err e) t
+      → PrintsFar gives takes flushes rows cols s w (Err e) t w
+  -- a fresh view was given all frames, in some pieces, and what it shows was printed
+  printed : {t : S} {v : W} {answer : Result (Unit {0}) RelayError} (frames pieces : List (List ℕ)) (text : List ℕ)
+      → Follows gives rows cols s frames (Ok tt) t → concat pieces ≡ concat frames
+      → IsTextShown (sized rows cols) pieces text → Prints takes flushes w text answer v
+      → PrintsFar gives takes flushes rows cols s w answer t v

@@ -1,0 +1,66 @@
+//! The command line.
+
+ghost use Rattle.std.specs.Prelude.{◌≡◌, ℕ, List, map, None, IfSome};
+ghost use Rattle.std.specs.Io.KnownBytes.{Appends};
+ghost use Rattle.takers.specs.Pump.{Tells};
+ghost use Rattle.screencat_command.specs.Carried.{IsFarText};
+ghost use Rattle.screencat_command.specs.Command.{CarriesOut, fault_line, usage_line};
+ghost use Rattle.screencat_command.specs.Words.{sides_of};
+
+use crate::far_screen::print_far_screen;
+use crate::words::parse;
+use command_line::{FAULT, SUCCESS, USAGE, report};
+use relay_streams::{RelayError, Source};
+use std::alloc::Global;
+use takers::{Sink, Taker};
+
+/// Runs the program on the words after its name, and answers its exit status.
+///
+/// A fault is told in a line on `errors`: `screencat: read`, `write`, `memory`, `too many reads` or `frame too long`. Any
+/// other command line than `ROWS COLS` gets the usage line there, and then nothing is read or written. Such a line is
+/// written whole, unless a write of it fails or takes nothing; that changes nothing else.
+pub fn command<S: Source, W: Sink, V: Taker>(
+    alloc: Global,
+    words: &[&str],
+    input: &mut S,
+    output: &mut W,
+    errors: &mut V,
+) -> u8
+    ensures usage { sides_of (map (λ w. w.now) words.now) ≡ None → (result ≡ 2) × (input.new ≡ input.old)
+        × (output.new ≡ output.old) × Tells V.takes errors.old usage_line errors.new }
+    ensures does { IfSome (sides_of (map (λ w. w.now) words.now)) (λ sides. CarriesOut S.gives W.takes W.flushes V.takes sides
+        input.old output.old errors.old result input.new output.new errors.new) }
+    ensures done { result ≡ 0 → IfSome (sides_of (map (λ w. w.now) words.now))
+        (λ sides. IfSome (S.left input.old) (λ bytes. (text : List ℕ) × IsFarText sides.rows sides.cols bytes text
+        × Appends (W.contents output.old) (W.contents output.new) text)) }
+{
+    let Some(size) = parse(words) else {
+        report(errors, b"usage: screencat ROWS COLS\n");
+        return USAGE;
+    };
+    match print_far_screen(alloc, size.rows, size.cols, input, output) {
+        Ok(()) => SUCCESS,
+        Err(error) => report_fault(errors, error),
+    }
+}
+
+/// Tells a fault in a line on `errors`, and answers the exit status that goes with it.
+pub fn report_fault<V: Taker>(errors: &mut V, error: RelayError) -> u8
+    ensures status { result ≡ 1 }
+    ensures reports { Tells V.takes errors.old (fault_line error) errors.new }
+{
+    report(errors, fault_line(error));
+    FAULT
+}
+
+fn fault_line(error: RelayError) -> &'static [u8]
+    ensures { result.now ≡ fault_line error }
+{
+    match error {
+        RelayError::Read => b"screencat: read\n",
+        RelayError::Write => b"screencat: write\n",
+        RelayError::Memory => b"screencat: memory\n",
+        RelayError::TooManyReads => b"screencat: too many reads\n",
+        RelayError::FrameTooLong => b"screencat: frame too long\n",
+    }
+}
