@@ -183,7 +183,8 @@ int32_t jeihpal_hub_frame(jeihpal_hub *hub, size_t client);
  * cell, and 1,024 more. UNKNOWN_CLIENT. */
 int32_t jeihpal_hub_owed(jeihpal_hub *hub, size_t client, uint8_t *to, size_t capacity, size_t *length);
 
-/* The first `count` of the bytes that the client is owed were sent. They are owed no longer. UNKNOWN_CLIENT, NOT_OWED. */
+/* The first `count` of the bytes that the client is owed were sent, and are no longer owed. UNKNOWN_CLIENT,
+ * NOT_OWED. */
 int32_t jeihpal_hub_sent(jeihpal_hub *hub, size_t client, size_t count);
 
 /* The size, the cursor and the modes of the program's screen. */
