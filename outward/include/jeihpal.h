@@ -1,0 +1,320 @@
+/* jeihpal.h: terminal screens that arrive whole, for C and C++.
+ *
+ *     program's bytes -> hub -> frames of it for each client ~ any line ~> view (or any terminal) -> the same screen
+ *
+ * Objects. A jeihpal_hub, a jeihpal_view and a jeihpal_screen are one word of the caller's each. A word begins as
+ * JEIHPAL_INIT (all zero) and holds nothing then. A _new call fills it, and first closes what it held. A _close call
+ * frees the object, and the word holds nothing again: closing it twice is fine. The library frees nothing else, and
+ * never before its word is closed. A word may be moved: copied, and the old one forgotten. Two copies in use are an
+ * error of the caller's, and so is a word that is forgotten while it holds something: its memory is never freed.
+ * Nothing but these calls may look into a word.
+ *
+ * Threads. An object stays on the thread that made it, and there is one call on it at a time. Objects share nothing,
+ * so each thread may have its own. jeihpal_abi may be called on any thread. No call waits, reads a file, writes one, or
+ * calls back. Memory comes from malloc, so no call belongs into a signal handler.
+ *
+ * Bytes. A pointer points to as many bytes or objects of the caller's as its call says, for the time of the call alone.
+ * None is ever null, also where its length is 0. None overlaps a word, or what another pointer of the call points to.
+ *
+ * Texts are copied. A call with `to`, `capacity` and `length` copies as much of the front of its bytes as fits into
+ * `to`, and puts into *length how many there are in all. Where *length is greater than `capacity` the caller may ask
+ * again with more room: nothing was lost. There is no zero byte at the end. The rest of `to` is left as it was.
+ *
+ * Answers. 0 and more: done. Less than 0: a refusal, one of enum jeihpal_code, and nothing has changed but what the
+ * call says: neither the object, nor what the pointers point to. Every call on a word but _new and _close can answer
+ * JEIHPAL_CLOSED and JEIHPAL_OTHER_KIND, and says what else it can answer.
+ *
+ * Rows, columns and places are counted from 0; sizes are 1 to 65,535.
+ */
+#ifndef JEIHPAL_H
+#define JEIHPAL_H
+
+#include <stddef.h>
+#include <stdint.h>
+
+#ifdef __cplusplus
+extern "C" {
+#endif
+
+/* The number of this interface. It changes where a call, a struct or a number of an enum does; a new call or number
+ * alone doesn't change it. */
+#define JEIHPAL_ABI 1
+
+/* The number of the library's interface. A caller can compare it with JEIHPAL_ABI. */
+uint32_t jeihpal_abi(void);
+
+/* ---- answers */
+
+enum jeihpal_code {
+    JEIHPAL_OK = 0,
+    JEIHPAL_CLOSED = -1,         /* the word holds nothing */
+    JEIHPAL_OTHER_KIND = -2,     /* it holds another kind of object, as after a cast */
+    JEIHPAL_BAD_SIZE = -3,       /* no rows, or no columns */
+    JEIHPAL_MEMORY = -4,         /* there was no memory */
+    JEIHPAL_FAILED = -5,         /* an earlier call found no memory, and the screen has failed: make a new object */
+    JEIHPAL_UNKNOWN_CLIENT = -6, /* the client has ended, or never was */
+    JEIHPAL_NOT_OWED = -7,       /* fewer bytes are owed */
+    JEIHPAL_NO_CELL = -8         /* the place is outside the screen */
+};
+
+/* What jeihpal_hub_frame answers. From JEIHPAL_FULL on the client is owed a new frame. */
+enum jeihpal_answer {
+    JEIHPAL_UNCHANGED = 0,  /* the screen shows what it did at the client's last frame */
+    JEIHPAL_BEHIND = 1,     /* bytes of the last frame are still owed */
+    JEIHPAL_HELD = 2,       /* the program is in a synchronized update of its own (private mode 2026) */
+    JEIHPAL_TOO_LONG = 3,   /* the frame would be longer than 2,097,150 bytes; never for up to 2,000 cells */
+    JEIHPAL_FULL = 4,       /* the frame leads from any picture */
+    JEIHPAL_DIFFERENCE = 5, /* it leads from the picture of the client's last frame */
+    JEIHPAL_UNSURE = 6      /* as FULL, of a screen that shows U+FE0F, on whose width terminals disagree */
+};
+
+/* ---- words */
+
+typedef struct jeihpal_hub {
+    void *held;
+} jeihpal_hub;
+
+typedef struct jeihpal_view {
+    void *held;
+} jeihpal_view;
+
+typedef struct jeihpal_screen {
+    void *held;
+} jeihpal_screen;
+
+/* A word that holds nothing. */
+#define JEIHPAL_INIT {NULL}
+
+/* ---- what a screen shows */
+
+enum jeihpal_color_kind {
+    JEIHPAL_COLOR_DEFAULT = 0, /* the terminal's own; the other fields are 0 */
+    JEIHPAL_COLOR_INDEXED = 1, /* one of the 256 numbered ones, in red_or_index; the other fields are 0 */
+    JEIHPAL_COLOR_RGB = 2
+};
+
+typedef struct jeihpal_color {
+    uint8_t kind; /* enum jeihpal_color_kind */
+    uint8_t red_or_index;
+    uint8_t green;
+    uint8_t blue;
+} jeihpal_color;
+
+/* Bits of `attributes`. Where both BOLD and DIM are set the text is bold. */
+enum jeihpal_attribute {
+    JEIHPAL_BOLD = 1,
+    JEIHPAL_DIM = 2,
+    JEIHPAL_ITALIC = 4,
+    JEIHPAL_UNDERLINED = 8,
+    JEIHPAL_INVERSE = 16
+};
+
+/* One cell. */
+typedef struct jeihpal_cell {
+    uint8_t text[32];    /* UTF-8: a character and the zero-width ones that joined it; zeros after it */
+    uint8_t length;      /* how many bytes of text there are: 0 where the cell shows nothing */
+    uint8_t width;       /* 1; 2 where the cell takes the next column too; 0 for the second half of such a cell */
+    uint8_t attributes;  /* enum jeihpal_attribute */
+    uint8_t reserved;    /* 0 */
+    jeihpal_color foreground;
+    jeihpal_color background;
+} jeihpal_cell;
+
+enum jeihpal_mouse {
+    JEIHPAL_MOUSE_NONE = 0,
+    JEIHPAL_MOUSE_PRESS = 1,         /* a button going down (xterm's mode 9) */
+    JEIHPAL_MOUSE_PRESS_RELEASE = 2, /* a button going down or up (mode 1000) */
+    JEIHPAL_MOUSE_BUTTON_MOTION = 3, /* and motion while a button is down (mode 1002) */
+    JEIHPAL_MOUSE_ANY_MOTION = 4     /* and any motion (mode 1003) */
+};
+
+enum jeihpal_encoding {
+    JEIHPAL_ENCODING_DEFAULT = 0, /* a byte for each number, as X10 has it */
+    JEIHPAL_ENCODING_UTF8 = 1,    /* xterm's mode 1005 */
+    JEIHPAL_ENCODING_SGR = 2      /* xterm's mode 1006 */
+};
+
+/* Size, cursor and modes. A switch is 0 or 1. */
+typedef struct jeihpal_look {
+    size_t kept;         /* how many rows have scrolled off and are kept; 0 in a hub or a view */
+    size_t scrolled;     /* how many of them are shown, above the others; 0 in a hub or a view */
+    uint16_t rows;
+    uint16_t cols;
+    uint16_t row;        /* the cursor's */
+    uint16_t col;        /* the cursor's; it is `cols` where the next character goes to the next row */
+    uint8_t hidden;      /* the cursor is hidden */
+    uint8_t style;       /* how the cursor looks: the number of DECSCUSR, 0 to 6 */
+    uint8_t mouse;       /* enum jeihpal_mouse */
+    uint8_t encoding;    /* enum jeihpal_encoding */
+    uint8_t keypad;      /* the keypad sends application sequences */
+    uint8_t cursor_keys; /* the cursor keys do */
+    uint8_t paste;       /* pasted text is marked as such (private mode 2004) */
+    uint8_t alternate;   /* the alternate screen is shown; 0 in a view */
+    uint8_t updating;    /* the program is in a synchronized update of its own; 0 in a view */
+    uint8_t failed;      /* the screen has failed; 0 in a view */
+} jeihpal_look;
+
+/* ---- hubs: one program's screen, and clients that are sent frames of it */
+
+/* Makes a hub with a blank screen of this size and without clients. What the word held is closed, also where the call
+ * is refused. BAD_SIZE, MEMORY: the word holds nothing. */
+int32_t jeihpal_hub_new(jeihpal_hub *hub, uint16_t rows, uint16_t cols);
+
+/* Gives the program's next bytes to the screen. They may be cut anywhere. MEMORY: the hub has failed; no frame is made
+ * any more, but what is owed can be sent. FAILED: it had failed before. */
+int32_t jeihpal_hub_feed(jeihpal_hub *hub, const uint8_t *bytes, size_t count);
+
+/* Gives the screen another size, or the same, and ends the program's synchronized update. Every client ends. BAD_SIZE,
+ * MEMORY, FAILED. */
+int32_t jeihpal_hub_resize(jeihpal_hub *hub, uint16_t rows, uint16_t cols);
+
+/* A new client, which has had no frame. Its key goes to *client; the key of a client that has ended may be given again.
+ * MEMORY, FAILED. */
+int32_t jeihpal_hub_attach(jeihpal_hub *hub, size_t *client);
+
+/* The client ends, and what it is owed is gone. UNKNOWN_CLIENT. */
+int32_t jeihpal_hub_detach(jeihpal_hub *hub, size_t client);
+
+/* Asks for a frame for the client, best once it is owed nothing and the program pauses. The answer is one of enum
+ * jeihpal_answer, or a refusal: UNKNOWN_CLIENT, FAILED, MEMORY. */
+int32_t jeihpal_hub_frame(jeihpal_hub *hub, size_t client);
+
+/* The bytes that the client is owed: those of its last frame that weren't sent yet. They are at most 1,024 for each
+ * cell, and 1,024 more. UNKNOWN_CLIENT. */
+int32_t jeihpal_hub_owed(jeihpal_hub *hub, size_t client, uint8_t *to, size_t capacity, size_t *length);
+
+/* The first `count` of the bytes that the client is owed were sent, and are no longer owed. UNKNOWN_CLIENT,
+ * NOT_OWED. */
+int32_t jeihpal_hub_sent(jeihpal_hub *hub, size_t client, size_t count);
+
+/* The size, the cursor and the modes of the program's screen. */
+int32_t jeihpal_hub_look(jeihpal_hub *hub, jeihpal_look *look);
+
+/* The cell at a place of it. NO_CELL. */
+int32_t jeihpal_hub_cell(jeihpal_hub *hub, uint16_t row, uint16_t col, jeihpal_cell *cell);
+
+/* The text of a row of it, as UTF-8, without the empty columns at its end; nothing past the last row. MEMORY. */
+int32_t jeihpal_hub_row_text(jeihpal_hub *hub, uint16_t row, uint8_t *to, size_t capacity, size_t *length);
+
+/* The text of all rows of it, as jeihpal_screen_contents. MEMORY. */
+int32_t jeihpal_hub_contents(jeihpal_hub *hub, uint8_t *to, size_t capacity, size_t *length);
+
+/* Closes the word: what it holds, of any kind, is freed. */
+void jeihpal_hub_close(jeihpal_hub *hub);
+
+/* ---- views: a small far terminal that reads frames */
+
+/* Makes a view of this size that shows nothing. What the word held is closed, also where the call is refused. It takes
+ * all the memory that the view needs, but for texts. BAD_SIZE, MEMORY: the word holds nothing. */
+int32_t jeihpal_view_new(jeihpal_view *view, uint16_t rows, uint16_t cols);
+
+/* Reads the next bytes. They may be cut anywhere. What a frame changes is shown once its last byte was read. */
+int32_t jeihpal_view_advance(jeihpal_view *view, const uint8_t *bytes, size_t count);
+
+/* Shows what is held back: a host calls it where a frame has begun and its end doesn't come. */
+int32_t jeihpal_view_stop(jeihpal_view *view);
+
+/* How many bytes are held back, until the end of a frame or of a synchronized update: at most 2,097,150. */
+int32_t jeihpal_view_held(jeihpal_view *view, size_t *count);
+
+/* The size, the cursor and the modes of what is shown. */
+int32_t jeihpal_view_look(jeihpal_view *view, jeihpal_look *look);
+
+/* The cell at a place. NO_CELL. */
+int32_t jeihpal_view_cell(jeihpal_view *view, uint16_t row, uint16_t col, jeihpal_cell *cell);
+
+/* The text of a row, as UTF-8, without the empty columns at its end; nothing past the last row. MEMORY. */
+int32_t jeihpal_view_row_text(jeihpal_view *view, uint16_t row, uint8_t *to, size_t capacity, size_t *length);
+
+/* Closes the word: what it holds, of any kind, is freed. */
+void jeihpal_view_close(jeihpal_view *view);
+
+/* ---- screens: a terminal's screen from bytes, with the rows that scroll off, and what redraws it */
+
+/* Makes a blank screen of this size that keeps up to `scrollback` rows that scroll off. What the word held is closed,
+ * also where the call is refused. BAD_SIZE, MEMORY: the word holds nothing. */
+int32_t jeihpal_screen_new(jeihpal_screen *screen, uint16_t rows, uint16_t cols, size_t scrollback);
+
+/* Reads the program's next bytes. They may be cut anywhere. MEMORY: the screen has failed; it can still be read, but no
+ * bytes change it any more. FAILED: it had failed before. */
+int32_t jeihpal_screen_process(jeihpal_screen *screen, const uint8_t *bytes, size_t count);
+
+/* Gives the screen another size, or the same, ends the program's synchronized update, and forgets the mark. BAD_SIZE,
+ * FAILED: nothing has changed. MEMORY: the screen has failed. */
+int32_t jeihpal_screen_resize(jeihpal_screen *screen, uint16_t rows, uint16_t cols);
+
+/* Shows the newest `rows` of the kept rows above the others, or all of them where there are fewer. What the calls below
+ * say of cells and texts is read there. FAILED: nothing has changed. MEMORY: the screen has failed. */
+int32_t jeihpal_screen_scroll(jeihpal_screen *screen, size_t rows);
+
+/* The size, the cursor and the modes. */
+int32_t jeihpal_screen_look(jeihpal_screen *screen, jeihpal_look *look);
+
+/* The cell at a place. NO_CELL. */
+int32_t jeihpal_screen_cell(jeihpal_screen *screen, uint16_t row, uint16_t col, jeihpal_cell *cell);
+
+/* The text of a row, as UTF-8, without the empty columns at its end; nothing past the last row. MEMORY. */
+int32_t jeihpal_screen_row_text(jeihpal_screen *screen, uint16_t row, uint8_t *to, size_t capacity, size_t *length);
+
+/* The text of the rows that are shown, as UTF-8: without the empty columns at a row's end, with a newline after each
+ * row that doesn't go on in the next, and without newlines at its own end. MEMORY. */
+int32_t jeihpal_screen_contents(jeihpal_screen *screen, uint8_t *to, size_t capacity, size_t *length);
+
+/* The text from one place up to another. Places past the screen show nothing, and where the end doesn't come after the
+ * start there is none. MEMORY. */
+int32_t jeihpal_screen_contents_between(jeihpal_screen *screen, uint16_t start_row, uint16_t start_col,
+                                        uint16_t end_row, uint16_t end_col, uint8_t *to, size_t capacity,
+                                        size_t *length);
+
+/* The escape sequences that take a terminal of this size to the picture, whatever it showed before. MEMORY. */
+int32_t jeihpal_screen_contents_formatted(jeihpal_screen *screen, uint8_t *to, size_t capacity, size_t *length);
+
+/* Those that also set its modes and its cursor's style, where these are as in a fresh terminal. MEMORY. */
+int32_t jeihpal_screen_state(jeihpal_screen *screen, uint8_t *to, size_t capacity, size_t *length);
+
+/* Keeps a copy of the screen as it is now, its mark, in place of an earlier one. MEMORY: the earlier one stays. */
+int32_t jeihpal_screen_mark(jeihpal_screen *screen);
+
+/* The escape sequences that take a terminal from what the mark shows to what the screen shows. Without a mark they are
+ * those of jeihpal_screen_state. The mark stays. MEMORY. */
+int32_t jeihpal_screen_difference(jeihpal_screen *screen, uint8_t *to, size_t capacity, size_t *length);
+
+/* What a program asks of its terminal beyond drawing. */
+enum jeihpal_request_kind {
+    JEIHPAL_NO_REQUEST = 0,
+    JEIHPAL_BELL = 1,        /* BEL */
+    JEIHPAL_VISUAL_BELL = 2, /* ESC g */
+    JEIHPAL_RESIZE = 3,      /* so many rows and columns, which may be 0 (XTWINOPS 8) */
+    JEIHPAL_ICON_NAME = 4,   /* the name of the window's icon (OSC 0 and 1) */
+    JEIHPAL_TITLE = 5,       /* the window's title (OSC 0 and 2) */
+    JEIHPAL_COPY = 6,        /* letters of clipboards, then data in base64 for them (OSC 52) */
+    JEIHPAL_PASTE = 7        /* letters of clipboards, whose data is asked for (OSC 52 with ?) */
+};
+
+typedef struct jeihpal_request {
+    size_t length;   /* how many bytes of text it has */
+    size_t letters;  /* how many of these, at the front, are letters of clipboards; 0 where the kind has none */
+    size_t dropped;  /* how many requests weren't queued since the screen was made */
+    uint16_t rows;   /* of JEIHPAL_RESIZE, else 0 */
+    uint16_t cols;   /* of JEIHPAL_RESIZE, else 0 */
+    uint8_t kind;    /* enum jeihpal_request_kind */
+} jeihpal_request;
+
+/* At most so many requests wait in a screen's queue, each with a text of at most so many bytes. */
+#define JEIHPAL_MOST_REQUESTS 256
+#define JEIHPAL_MOST_REQUEST_BYTES 1024
+
+/* Takes the oldest request out of the screen's queue, and answers its kind; NO_REQUEST where none waits, and then all
+ * of *request but `dropped` is 0. As much of the text as fits is copied into `to`; where it is longer than `capacity`,
+ * the request stays the oldest of the queue. A request is dropped and counted where as many wait as can, where its text
+ * is too long, and where there is no memory for it. A text is as the program wrote it, and needn't be UTF-8. */
+int32_t jeihpal_screen_request(jeihpal_screen *screen, uint8_t *to, size_t capacity, jeihpal_request *request);
+
+/* Closes the word: what it holds, of any kind, is freed. */
+void jeihpal_screen_close(jeihpal_screen *screen);
+
+#ifdef __cplusplus
+}
+#endif
+
+#endif
