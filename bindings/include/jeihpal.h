@@ -183,7 +183,8 @@ int32_t jeihpal_hub_frame(jeihpal_hub *hub, size_t client);
  * cell, and 1,024 more. UNKNOWN_CLIENT. */
 int32_t jeihpal_hub_owed(jeihpal_hub *hub, size_t client, uint8_t *to, size_t capacity, size_t *length);
 
-/* The first `count` of the bytes that the client is owed were sent. They are owed no longer. UNKNOWN_CLIENT, NOT_OWED. */
+/* The first `count` of the bytes that the client is owed were sent, and are no longer owed. UNKNOWN_CLIENT,
+ * NOT_OWED. */
 int32_t jeihpal_hub_sent(jeihpal_hub *hub, size_t client, size_t count);
 
 /* The size, the cursor and the modes of the program's screen. */
@@ -299,14 +300,14 @@ typedef struct jeihpal_request {
     uint8_t kind;    /* enum jeihpal_request_kind */
 } jeihpal_request;
 
-/* At most so many requests, and so many bytes of their texts, wait in a screen's queue. */
+/* At most so many requests wait in a screen's queue, each with a text of at most so many bytes. */
 #define JEIHPAL_MOST_REQUESTS 256
-#define JEIHPAL_MOST_REQUEST_BYTES 65536
+#define JEIHPAL_MOST_REQUEST_BYTES 1024
 
-/* Takes the oldest request out of the screen's queue, and answers its kind; NO_REQUEST where none waits. As much of its
- * text as fits is copied into `to`. A request whose text is longer than `capacity` stays the oldest in the queue. One
- * that comes while the queue is full, whose text is too long for it, or for which there is no memory, is dropped and
- * counted. Bytes of a text are as the program wrote them, and needn't be UTF-8. */
+/* Takes the oldest request out of the screen's queue, and answers its kind; NO_REQUEST where none waits, and then all
+ * of *request but `dropped` is 0. As much of the text as fits is copied into `to`; where it is longer than `capacity`,
+ * the request stays the oldest of the queue. A request is dropped and counted where as many wait as can, where its text
+ * is too long, and where there is no memory for it. A text is as the program wrote it, and needn't be UTF-8. */
 int32_t jeihpal_screen_request(jeihpal_screen *screen, uint8_t *to, size_t capacity, jeihpal_request *request);
 
 /* Closes the word: what it holds, of any kind, is freed. */

@@ -1,0 +1,9 @@
+pub mod Codes
+pub mod Hubs
+pub mod Looks
+pub mod Objects
+pub mod Requests
+pub mod Screens
+pub mod Taken
+pub mod Texts
+pub mod Views

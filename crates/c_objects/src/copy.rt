@@ -1,0 +1,31 @@
+//! Bytes that go into the caller's memory.
+ghost use Rattle.std.specs.Prelude.{◌≡◌, ◌×◌, length};
+ghost use Rattle.c_objects.specs.Codes.{IsRefusal};
+ghost use Rattle.c_objects.specs.Texts.{with_front, Copies};
+
+use crate::code::{OK, screen_refusal};
+use vt100::ScreenError;
+
+/// Copies as much of the front as fits, and says how many bytes there are in all.
+pub(crate) fn copy_front(from: &[u8], to: &mut [u8], count: &mut usize)
+    ensures bytes { to.new ≡ with_front from.now to.old }
+    ensures count { count.new ≡ length from.now }
+{
+    *count = from.len();
+    let n = from.len().min(to.len());
+    to[..n].copy_from_slice(&from[..n]);
+}
+
+/// Copies a text, if there was memory for it.
+pub(crate) fn copy_text(text: Result<String, ScreenError>, to: &mut [u8], count: &mut usize) -> i32
+    ensures copied { Copies text to.old to.new count.new result }
+    ensures refused { IsRefusal result → (to.new ≡ to.old) × (count.new ≡ count.old) }
+{
+    match text {
+        Ok(text) => {
+            copy_front(text.as_bytes(), to, count);
+            OK
+        }
+        Err(error) => screen_refusal(error),
+    }
+}

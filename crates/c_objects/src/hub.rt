@@ -1,0 +1,240 @@
+//! Hubs.
+ghost use Rattle.std.specs.Prelude.{◌≡◌, ◌×◌, IfOk, IfErr};
+ghost use Rattle.c_objects.specs.Codes.{IsRefusal};
+ghost use Rattle.c_objects.specs.Objects.{HubDoes, HubSays};
+ghost use Rattle.c_objects.specs.Hubs.{IsNewHubOf, IsNoObjectCode, Feeds, Resizes, Attaches, Detaches, Frames, Sends};
+ghost use Rattle.c_objects.specs.Hubs.{Owes, Looks, HasCell, HasRow, HasContents, ShowsCell, ShowsRow, ShowsContents};
+
+use crate::code::{
+    BAD_SIZE, MEMORY, NO_CELL, NOT_OWED, OK, OTHER_KIND, UNKNOWN_CLIENT, code_of, frame_code,
+    refusal_code,
+};
+use crate::copy::{copy_front, copy_text};
+use crate::look::{cell_of, screen_look};
+use crate::object::Object;
+use crate::plain::{CCell, CLook};
+use crate::sent::SoMany;
+use std::alloc::Global;
+use std::num::NonZeroU16;
+use termrelay::{Client, Hub};
+use vt100::Screen;
+
+/// A hub with a blank screen of this size and without clients.
+pub fn new_hub(alloc: Global, rows: u16, cols: u16) -> Result<Box<Object>, i32>
+    ensures new { IfOk result (λ b. IsNewHubOf rows cols b.value) }
+    ensures refused { IfErr result (λ code. IsNoObjectCode rows cols code) }
+{
+    let (Some(rows), Some(cols)) = (NonZeroU16::new(rows), NonZeroU16::new(cols)) else {
+        return Err(BAD_SIZE);
+    };
+    let hub = match Hub::new(alloc, rows, cols) {
+        Ok(hub) => hub,
+        Err(_) => return Err(MEMORY),
+    };
+    match Box::new(alloc, Object::Hub(hub)) {
+        Ok(b) => Ok(b),
+        Err(_) => Err(MEMORY),
+    }
+}
+
+/// Gives the program's next bytes to a hub.
+pub fn feed(object: &mut Object, bytes: &[u8]) -> i32
+    ensures { HubDoes (Feeds bytes.now) object.old result object.new }
+{
+    match object {
+        Object::Hub(hub) => code_of(hub.feed(bytes)),
+        _ => OTHER_KIND,
+    }
+}
+
+fn resize_hub(hub: &mut Hub, rows: u16, cols: u16) -> i32
+    ensures { Resizes rows cols hub.old result hub.new }
+{
+    match (NonZeroU16::new(rows), NonZeroU16::new(cols)) {
+        (Some(rows), Some(cols)) => code_of(hub.resize(rows, cols)),
+        _ => BAD_SIZE,
+    }
+}
+
+/// Gives a hub's screen another size.
+pub fn resize(object: &mut Object, rows: u16, cols: u16) -> i32
+    ensures { HubDoes (Resizes rows cols) object.old result object.new }
+{
+    match object {
+        Object::Hub(hub) => resize_hub(hub, rows, cols),
+        _ => OTHER_KIND,
+    }
+}
+
+fn attach_to(hub: &mut Hub, client: &mut usize) -> i32
+    ensures attached { Attaches client.old client.new hub.old result hub.new }
+    ensures refused { IsRefusal result → client.new ≡ client.old }
+{
+    match hub.attach() {
+        Ok(new) => {
+            *client = new.key();
+            OK
+        }
+        Err(error) => refusal_code(error),
+    }
+}
+
+/// A new client of a hub.
+pub fn attach(object: &mut Object, client: &mut usize) -> i32
+    ensures attached { HubDoes (Attaches client.old client.new) object.old result object.new }
+    ensures refused { IsRefusal result → client.new ≡ client.old }
+{
+    match object {
+        Object::Hub(hub) => attach_to(hub, client),
+        _ => OTHER_KIND,
+    }
+}
+
+/// A client of a hub ends.
+pub fn detach(object: &mut Object, client: usize) -> i32
+    ensures { HubDoes (Detaches client) object.old result object.new }
+{
+    match object {
+        Object::Hub(hub) => code_of(hub.detach(Client::from_key(client))),
+        _ => OTHER_KIND,
+    }
+}
+
+/// Asks a hub for a frame for a client.
+pub fn frame(object: &mut Object, client: usize) -> i32
+    ensures { HubDoes (Frames client) object.old result object.new }
+{
+    match object {
+        Object::Hub(hub) => frame_code(hub.frame(Client::from_key(client))),
+        _ => OTHER_KIND,
+    }
+}
+
+fn copy_owed(hub: &Hub, client: Client, to: &mut [u8], count: &mut usize) -> i32
+    ensures owed { Owes client to.old to.new count.new hub.now result }
+    ensures refused { IsRefusal result → (to.new ≡ to.old) × (count.new ≡ count.old) }
+{
+    match hub.owed(client) {
+        Ok(bytes) => {
+            copy_front(bytes, to, count);
+            OK
+        }
+        Err(_) => UNKNOWN_CLIENT,
+    }
+}
+
+/// Copies what a hub owes a client.
+pub fn owed(object: &Object, client: usize, to: &mut [u8], count: &mut usize) -> i32
+    ensures owed { HubSays (Owes client to.old to.new count.new) object.now result }
+    ensures refused { IsRefusal result → (to.new ≡ to.old) × (count.new ≡ count.old) }
+{
+    match object {
+        Object::Hub(hub) => copy_owed(hub, Client::from_key(client), to, count),
+        _ => OTHER_KIND,
+    }
+}
+
+fn tell_sent(hub: &mut Hub, client: Client, count: usize) -> i32
+    ensures { Sends client count hub.old result hub.new }
+{
+    match hub.owed(client) {
+        Ok(bytes) => {
+            if count > bytes.len() {
+                return NOT_OWED;
+            }
+        }
+        Err(_) => return UNKNOWN_CLIENT,
+    }
+    let mut so_many = SoMany { left: count };
+    // A write that takes nothing ends it, where that isn't all.
+    let _end = hub.pump(client, &mut so_many);
+    OK
+}
+
+/// Tells a hub that so many bytes were sent to a client.
+pub fn sent(object: &mut Object, client: usize, count: usize) -> i32
+    ensures { HubDoes (Sends client count) object.old result object.new }
+{
+    match object {
+        Object::Hub(hub) => tell_sent(hub, Client::from_key(client), count),
+        _ => OTHER_KIND,
+    }
+}
+
+/// Size, cursor and modes of a hub's screen.
+pub fn look(object: &Object, look: &mut CLook) -> i32
+    ensures looks { HubSays (Looks look.new) object.now result }
+    ensures refused { IsRefusal result → look.new ≡ look.old }
+{
+    match object {
+        Object::Hub(hub) => {
+            *look = screen_look(hub.screen());
+            OK
+        }
+        _ => OTHER_KIND,
+    }
+}
+
+/// A cell of a screen.
+pub(crate) fn copy_cell(screen: &Screen, row: u16, col: u16, to: &mut CCell) -> i32
+    ensures cell { ShowsCell screen.now row col to.new result }
+    ensures refused { IsRefusal result → to.new ≡ to.old }
+{
+    match screen.cell(row, col) {
+        Some(cell) => {
+            *to = cell_of(cell);
+            OK
+        }
+        None => NO_CELL,
+    }
+}
+
+/// A cell of a hub's screen.
+pub fn cell(object: &Object, row: u16, col: u16, to: &mut CCell) -> i32
+    ensures cell { HubSays (HasCell row col to.new) object.now result }
+    ensures refused { IsRefusal result → to.new ≡ to.old }
+{
+    match object {
+        Object::Hub(hub) => copy_cell(hub.screen(), row, col, to),
+        _ => OTHER_KIND,
+    }
+}
+
+/// The text of a row of a screen.
+pub(crate) fn copy_row(screen: &Screen, row: u16, to: &mut [u8], count: &mut usize) -> i32
+    ensures text { ShowsRow screen.now row to.old to.new count.new result }
+    ensures refused { IsRefusal result → (to.new ≡ to.old) × (count.new ≡ count.old) }
+{
+    let cols = screen.size().1.get();
+    copy_text(screen.contents_between(row, 0, row, cols), to, count)
+}
+
+/// The text of a row of a hub's screen.
+pub fn row_text(object: &Object, row: u16, to: &mut [u8], count: &mut usize) -> i32
+    ensures text { HubSays (HasRow row to.old to.new count.new) object.now result }
+    ensures refused { IsRefusal result → (to.new ≡ to.old) × (count.new ≡ count.old) }
+{
+    match object {
+        Object::Hub(hub) => copy_row(hub.screen(), row, to, count),
+        _ => OTHER_KIND,
+    }
+}
+
+/// The text of all rows of a screen.
+pub(crate) fn copy_contents(screen: &Screen, to: &mut [u8], count: &mut usize) -> i32
+    ensures text { ShowsContents screen.now to.old to.new count.new result }
+    ensures refused { IsRefusal result → (to.new ≡ to.old) × (count.new ≡ count.old) }
+{
+    copy_text(screen.contents(), to, count)
+}
+
+/// The text of all rows of a hub's screen.
+pub fn contents(object: &Object, to: &mut [u8], count: &mut usize) -> i32
+    ensures text { HubSays (HasContents to.old to.new count.new) object.now result }
+    ensures refused { IsRefusal result → (to.new ≡ to.old) × (count.new ≡ count.old) }
+{
+    match object {
+        Object::Hub(hub) => copy_contents(hub.screen(), to, count),
+        _ => OTHER_KIND,
+    }
+}

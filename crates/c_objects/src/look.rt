@@ -1,0 +1,153 @@
+//! What C is shown of a screen or a view.
+ghost use Rattle.std.specs.Prelude.{◌≡◌};
+ghost use Rattle.c_objects.specs.Looks.{switch, color_of, cell_of, screen_look, view_look};
+ghost use Rattle.c_objects.specs.Looks.{mouse_number, encoding_number, style_number};
+
+use crate::plain::{CCell, CColor, CLook};
+use termview::{UntilCleared, View};
+use vt100::{Cell, Color, CursorStyle, MouseProtocolEncoding, MouseProtocolMode, Screen};
+
+/// 1 where it is so, else 0.
+fn switch(on: bool) -> u8
+    ensures { result ≡ switch on }
+{
+    if on { 1 } else { 0 }
+}
+
+fn color_of(color: Color) -> CColor
+    ensures { result ≡ color_of color }
+{
+    let (kind, red_or_index, green, blue) = match color {
+        Color::Default => (0, 0, 0, 0),
+        Color::Idx(index) => (1, index, 0, 0),
+        Color::Rgb(red, green, blue) => (2, red, green, blue),
+    };
+    CColor {
+        kind,
+        red_or_index,
+        green,
+        blue,
+    }
+}
+
+/// How many columns a cell takes; 0 of the second half of a wide one.
+fn width_of(cell: &Cell) -> u8
+    ensures { result ≡ width_of cell.now }
+{
+    if cell.is_wide_continuation() {
+        0
+    } else if cell.is_wide() {
+        2
+    } else {
+        1
+    }
+}
+
+/// A cell, for C.
+pub(crate) fn cell_of(cell: &Cell) -> CCell
+    ensures { result ≡ cell_of cell.now }
+{
+    let contents = cell.contents().as_bytes();
+    let mut text = [0; 32];
+    let length = contents.len().min(32);
+    text[..length].copy_from_slice(&contents[..length]);
+    let attrs = cell.attrs();
+    CCell {
+        text,
+        length: length as u8,
+        width: width_of(cell),
+        attributes: attrs.mode,
+        reserved: 0,
+        foreground: color_of(attrs.fgcolor),
+        background: color_of(attrs.bgcolor),
+    }
+}
+
+fn mouse_number(mode: MouseProtocolMode) -> u8
+    ensures { result ≡ mouse_number mode }
+{
+    match mode {
+        MouseProtocolMode::None => 0,
+        MouseProtocolMode::Press => 1,
+        MouseProtocolMode::PressRelease => 2,
+        MouseProtocolMode::ButtonMotion => 3,
+        MouseProtocolMode::AnyMotion => 4,
+    }
+}
+
+fn encoding_number(encoding: MouseProtocolEncoding) -> u8
+    ensures { result ≡ encoding_number encoding }
+{
+    match encoding {
+        MouseProtocolEncoding::Default => 0,
+        MouseProtocolEncoding::Utf8 => 1,
+        MouseProtocolEncoding::Sgr => 2,
+    }
+}
+
+/// The number of DECSCUSR that sets the style.
+fn style_number(style: CursorStyle) -> u8
+    ensures { result ≡ style_number style }
+{
+    match style {
+        CursorStyle::Default => 0,
+        CursorStyle::BlinkBlock => 1,
+        CursorStyle::SteadyBlock => 2,
+        CursorStyle::BlinkUnderline => 3,
+        CursorStyle::SteadyUnderline => 4,
+        CursorStyle::BlinkVerticalBar => 5,
+        CursorStyle::SteadyVerticalBar => 6,
+    }
+}
+
+/// Size, cursor and modes of a screen.
+pub(crate) fn screen_look(screen: &Screen) -> CLook
+    ensures { result ≡ screen_look screen.now }
+{
+    let (rows, cols) = screen.size();
+    let (row, col) = screen.cursor_position();
+    CLook {
+        kept: screen.scrollback_len(),
+        scrolled: screen.scrollback(),
+        rows: rows.get(),
+        cols: cols.get(),
+        row,
+        col,
+        hidden: switch(screen.hide_cursor()),
+        style: style_number(screen.cursor_style()),
+        mouse: mouse_number(screen.mouse_protocol_mode()),
+        encoding: encoding_number(screen.mouse_protocol_encoding()),
+        keypad: switch(screen.application_keypad()),
+        cursor_keys: switch(screen.application_cursor()),
+        paste: switch(screen.bracketed_paste()),
+        alternate: switch(screen.alternate_screen()),
+        updating: switch(screen.synchronized_update()),
+        failed: switch(screen.failed()),
+    }
+}
+
+/// Size, cursor and modes of a view.
+pub(crate) fn view_look(view: &View<UntilCleared>) -> CLook
+    ensures { result ≡ view_look view.now }
+{
+    let (rows, cols) = view.size();
+    let (row, col) = view.cursor_position();
+    CLook {
+        kept: 0,
+        scrolled: 0,
+        rows: rows.get(),
+        cols: cols.get(),
+        row,
+        col,
+        hidden: switch(view.hide_cursor()),
+        style: style_number(view.cursor_style()),
+        mouse: mouse_number(view.mouse_protocol_mode()),
+        encoding: encoding_number(view.mouse_protocol_encoding()),
+        keypad: switch(view.application_keypad()),
+        cursor_keys: switch(view.application_cursor()),
+        paste: switch(view.bracketed_paste()),
+        alternate: 0,
+        updating: 0,
+        failed: 0,
+    }
+}

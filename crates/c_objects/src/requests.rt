@@ -1,0 +1,174 @@
+//! What a program asks of its terminal beyond drawing, in a queue.
+ghost use Rattle.std.specs.Prelude.{◌≡◌, ◌∷◌, ◌++◌, [], length, true, false};
+ghost use Rattle.c_objects.specs.Requests.{no_requests, request_of, Queues, Gets, Takes};
+
+use crate::copy::copy_front;
+use crate::plain::CRequest;
+use std::alloc::Global;
+use std::marker::Model;
+use vt100::capture::RowContents;
+use vt100::{Call, Callbacks, Screen};
+
+/// At most so many requests wait.
+const MOST_REQUESTS: usize = 256;
+
+/// At most so many bytes has the text of one.
+const MOST_BYTES: usize = 1024;
+
+/// One request. Its text begins with so many letters of clipboards.
+#[derive(Drop)]
+pub struct Request {
+    kind: u8,
+    rows: u16,
+    cols: u16,
+    letters: usize,
+    text: Vec<u8>,
+}
+
+impl Model for Request {
+    ghost use Rattle.c_objects.specs.Requests.{RequestView};
+
+    ghost Value = { RequestView };
+
+    ghost view = { λ r. record {
+      kind = r.kind;
+      rows = r.rows;
+      cols = r.cols;
+      letters = r.letters;
+      text = r.text.items;
+    } };
+}
+
+/// The requests that wait, the oldest first, and how many weren't queued.
+#[derive(Drop)]
+pub struct Requests {
+    waiting: Vec<Request>,
+    dropped: usize,
+    alloc: Global,
+}
+
+impl Model for Requests {
+    ghost use Rattle.std.specs.Prelude.{◌≤◌, vec_len};
+    ghost use Rattle.c_objects.specs.Requests.{RequestsView};
+
+    ghost Value = { RequestsView };
+
+    ghost view = { λ q. record { waiting = q.waiting.items; dropped = q.dropped } };
+
+    ghost invariant = { λ q. vec_len q.waiting ≤ 256 };
+}
+
+impl Requests {
+    /// None.
+    pub(crate) fn new(alloc: Global) -> Requests
+        ensures { result ≡ no_requests }
+    {
+        Requests {
+            waiting: Vec::new(alloc),
+            dropped: 0,
+            alloc,
+        }
+    }
+
+    /// Queues a request of this kind, where there is room and memory for it, and else counts it.
+    fn queue(&mut self, kind: u8, size: (u16, u16), letters: &[u8], text: &[u8])
+        ensures { Queues self.old (record {
+          kind = kind;
+          rows = size.0;
+          cols = size.1;
+          letters = length letters.now;
+          text = letters.now ++ text.now;
+        }) self.new }
+    {
+        if !self.find_room(kind, size, letters, text) {
+            self.dropped = self.dropped.saturating_add(1);
+        }
+    }
+
+    /// Queues a request, where there is room and memory for it.
+    fn find_room(&mut self, kind: u8, size: (u16, u16), letters: &[u8], text: &[u8]) -> bool
+        ensures queued { result ≡ true → Gets self.old (record {
+          kind = kind;
+          rows = size.0;
+          cols = size.1;
+          letters = length letters.now;
+          text = letters.now ++ text.now;
+        }) self.new }
+        ensures refused { result ≡ false → self.new ≡ self.old }
+    {
+        if self.waiting.len() >= MOST_REQUESTS || letters.len() > MOST_BYTES {
+            return false;
+        }
+        if text.len() > MOST_BYTES - letters.len() {
+            return false;
+        }
+        let mut joined = Vec::new(self.alloc);
+        if joined.extend_from_slice(letters).is_err() || joined.extend_from_slice(text).is_err() {
+            return false;
+        }
+        let request = Request {
+            kind,
+            rows: size.0,
+            cols: size.1,
+            letters: letters.len(),
+            text: joined,
+        };
+        self.waiting.push(request).is_ok()
+    }
+
+    /// Tells of the oldest request, and takes it out where its text fits.
+    pub(crate) fn take(&mut self, to: &mut [u8], told: &mut CRequest) -> i32
+        ensures { Takes to.old to.new told.new self.old result self.new }
+    {
+        let Some(oldest) = self.waiting.first() else {
+            *told = CRequest {
+                length: 0,
+                letters: 0,
+                dropped: self.dropped,
+                rows: 0,
+                cols: 0,
+                kind: 0,
+            };
+            return 0;
+        };
+        let kind = oldest.kind;
+        *told = CRequest {
+            length: oldest.text.len(),
+            letters: oldest.letters,
+            dropped: self.dropped,
+            rows: oldest.rows,
+            cols: oldest.cols,
+            kind,
+        };
+        let mut length = 0;
+        copy_front(&oldest.text, to, &mut length);
+        if length <= to.len() {
+            let _taken = self.waiting.remove(0);
+        }
+        i32::from(kind)
+    }
+}
+
+/// Queues what C can be told of, and leaves the screen as it is.
+impl Callbacks for Requests {
+    ghost use Rattle.c_objects.specs.Requests.{Hears};
+
+    ghost step = { λ c v k d w. Hears c v k d w };
+
+    ghost scrolls = { λ c v a d. c ≡ d };
+
+    fn call(&mut self, _screen: &mut Screen, call: Call<'_>) {
+        match call {
+            Call::AudibleBell => self.queue(1, (0, 0), b"", b""),
+            Call::VisualBell => self.queue(2, (0, 0), b"", b""),
+            Call::Resize(rows, cols) => self.queue(3, (rows, cols), b"", b""),
+            Call::SetWindowIconName(name) => self.queue(4, (0, 0), b"", name),
+            Call::SetWindowTitle(title) => self.queue(5, (0, 0), b"", title),
+            Call::CopyToClipboard(letters, data) => self.queue(6, (0, 0), letters, data),
+            Call::PasteFromClipboard(letters) => self.queue(7, (0, 0), letters, b""),
+            _ => {}
+        }
+    }
+
+    fn on_scroll(&mut self, _contents: RowContents<'_>, _alternate_screen: bool) {}
+}

@@ -1,0 +1,254 @@
+//! Screens.
+ghost use Rattle.std.specs.Prelude.{◌≡◌, ◌×◌, IfOk, IfErr};
+ghost use Rattle.c_objects.specs.Codes.{IsRefusal};
+ghost use Rattle.c_objects.specs.Hubs.{IsNoObjectCode};
+ghost use Rattle.c_objects.specs.Objects.{ScreenDoes, ScreenSays};
+ghost use Rattle.c_objects.specs.Screens.{IsNewScreenOf, Processes, ResizesMarked, ScrollsMarked, Marks, TellsOldest};
+ghost use Rattle.c_objects.specs.Screens.{Looks, HasCell, HasRow, HasContents, HasBetween};
+ghost use Rattle.c_objects.specs.Screens.{HasFormatted, HasState, HasDifference};
+
+use crate::code::{BAD_SIZE, MEMORY, OK, OTHER_KIND, screen_code, screen_refusal};
+use crate::copy::copy_text;
+use crate::hub::{copy_cell, copy_contents, copy_row};
+use crate::look::screen_look;
+use crate::object::{Marked, Object};
+use crate::plain::{CCell, CLook, CRequest};
+use crate::requests::Requests;
+use std::alloc::Global;
+use std::num::NonZeroU16;
+use vt100::Parser;
+
+/// A blank screen of this size that keeps up to so many rows.
+pub fn new_screen(
+    alloc: Global,
+    rows: u16,
+    cols: u16,
+    scrollback: usize,
+) -> Result<Box<Object>, i32>
+    ensures new { IfOk result (λ b. IsNewScreenOf rows cols scrollback b.value) }
+    ensures refused { IfErr result (λ code. IsNoObjectCode rows cols code) }
+{
+    let (Some(rows), Some(cols)) = (NonZeroU16::new(rows), NonZeroU16::new(cols)) else {
+        return Err(BAD_SIZE);
+    };
+    let requests = Requests::new(alloc);
+    let parser = match Parser::new_with_callbacks(alloc, rows, cols, scrollback, requests) {
+        Ok(parser) => parser,
+        Err(_) => return Err(MEMORY),
+    };
+    match Box::new(alloc, Object::Screen(Marked { parser, mark: None })) {
+        Ok(b) => Ok(b),
+        Err(_) => Err(MEMORY),
+    }
+}
+
+fn process_marked(marked: &mut Marked, bytes: &[u8]) -> i32
+    ensures { Processes bytes.now marked.old result marked.new }
+{
+    screen_code(marked.parser.process(bytes))
+}
+
+/// A screen reads the program's next bytes.
+pub fn process(object: &mut Object, bytes: &[u8]) -> i32
+    ensures { ScreenDoes (Processes bytes.now) object.old result object.new }
+{
+    match object {
+        Object::Screen(marked) => process_marked(marked, bytes),
+        _ => OTHER_KIND,
+    }
+}
+
+fn resize_marked(marked: &mut Marked, rows: u16, cols: u16) -> i32
+    ensures { ResizesMarked rows cols marked.old result marked.new }
+{
+    let (Some(rows), Some(cols)) = (NonZeroU16::new(rows), NonZeroU16::new(cols)) else {
+        return BAD_SIZE;
+    };
+    match marked.parser.set_size(rows, cols) {
+        Ok(()) => {
+            marked.mark = None;
+            OK
+        }
+        Err(error) => screen_refusal(error),
+    }
+}
+
+/// Gives a screen another size, and forgets the mark.
+pub fn resize(object: &mut Object, rows: u16, cols: u16) -> i32
+    ensures { ScreenDoes (ResizesMarked rows cols) object.old result object.new }
+{
+    match object {
+        Object::Screen(marked) => resize_marked(marked, rows, cols),
+        _ => OTHER_KIND,
+    }
+}
+
+fn scroll_marked(marked: &mut Marked, rows: usize) -> i32
+    ensures { ScrollsMarked rows marked.old result marked.new }
+{
+    screen_code(marked.parser.screen_mut().set_scrollback(rows))
+}
+
+/// Shows the newest kept rows of a screen above the others.
+pub fn scroll(object: &mut Object, rows: usize) -> i32
+    ensures { ScreenDoes (ScrollsMarked rows) object.old result object.new }
+{
+    match object {
+        Object::Screen(marked) => scroll_marked(marked, rows),
+        _ => OTHER_KIND,
+    }
+}
+
+fn mark_as_now(marked: &mut Marked) -> i32
+    ensures { Marks marked.old result marked.new }
+{
+    match marked.parser.screen().clone() {
+        Ok(screen) => {
+            marked.mark = Some(screen);
+            OK
+        }
+        Err(error) => screen_refusal(error),
+    }
+}
+
+/// Keeps a screen as it is now.
+pub fn mark(object: &mut Object) -> i32
+    ensures { ScreenDoes Marks object.old result object.new }
+{
+    match object {
+        Object::Screen(marked) => mark_as_now(marked),
+        _ => OTHER_KIND,
+    }
+}
+
+fn tell_request(marked: &mut Marked, to: &mut [u8], told: &mut CRequest) -> i32
+    ensures { TellsOldest to.old to.new told.new marked.old result marked.new }
+{
+    marked.parser.callbacks_mut().take(to, told)
+}
+
+/// Takes the oldest request out of a screen's queue.
+pub fn request(object: &mut Object, to: &mut [u8], told: &mut CRequest) -> i32
+    ensures told { ScreenDoes (TellsOldest to.old to.new told.new) object.old result object.new }
+    ensures refused { IsRefusal result → (to.new ≡ to.old) × (told.new ≡ told.old) }
+{
+    match object {
+        Object::Screen(marked) => tell_request(marked, to, told),
+        _ => OTHER_KIND,
+    }
+}
+
+/// Size, cursor and modes of a screen.
+pub fn look(object: &Object, look: &mut CLook) -> i32
+    ensures looks { ScreenSays (Looks look.new) object.now result }
+    ensures refused { IsRefusal result → look.new ≡ look.old }
+{
+    match object {
+        Object::Screen(marked) => {
+            *look = screen_look(marked.parser.screen());
+            OK
+        }
+        _ => OTHER_KIND,
+    }
+}
+
+/// A cell of a screen.
+pub fn cell(object: &Object, row: u16, col: u16, to: &mut CCell) -> i32
+    ensures cell { ScreenSays (HasCell row col to.new) object.now result }
+    ensures refused { IsRefusal result → to.new ≡ to.old }
+{
+    match object {
+        Object::Screen(marked) => copy_cell(marked.parser.screen(), row, col, to),
+        _ => OTHER_KIND,
+    }
+}
+
+/// The text of a row of a screen.
+pub fn row_text(object: &Object, row: u16, to: &mut [u8], count: &mut usize) -> i32
+    ensures text { ScreenSays (HasRow row to.old to.new count.new) object.now result }
+    ensures refused { IsRefusal result → (to.new ≡ to.old) × (count.new ≡ count.old) }
+{
+    match object {
+        Object::Screen(marked) => copy_row(marked.parser.screen(), row, to, count),
+        _ => OTHER_KIND,
+    }
+}
+
+/// The text of all rows of a screen.
+pub fn contents(object: &Object, to: &mut [u8], count: &mut usize) -> i32
+    ensures text { ScreenSays (HasContents to.old to.new count.new) object.now result }
+    ensures refused { IsRefusal result → (to.new ≡ to.old) × (count.new ≡ count.old) }
+{
+    match object {
+        Object::Screen(marked) => copy_contents(marked.parser.screen(), to, count),
+        _ => OTHER_KIND,
+    }
+}
+
+/// The text of a screen from one place up to another.
+pub fn contents_between(
+    object: &Object,
+    start: (u16, u16),
+    end: (u16, u16),
+    to: &mut [u8],
+    count: &mut usize,
+) -> i32
+    ensures text { ScreenSays (HasBetween start end to.old to.new count.new) object.now result }
+    ensures refused { IsRefusal result → (to.new ≡ to.old) × (count.new ≡ count.old) }
+{
+    match object {
+        Object::Screen(marked) => {
+            let screen = marked.parser.screen();
+            copy_text(
+                screen.contents_between(start.0, start.1, end.0, end.1),
+                to,
+                count,
+            )
+        }
+        _ => OTHER_KIND,
+    }
+}
+
+/// What takes a terminal to a screen's picture.
+pub fn contents_formatted(object: &Object, to: &mut [u8], count: &mut usize) -> i32
+    ensures text { ScreenSays (HasFormatted to.old to.new count.new) object.now result }
+    ensures refused { IsRefusal result → (to.new ≡ to.old) × (count.new ≡ count.old) }
+{
+    match object {
+        Object::Screen(marked) => copy_text(marked.parser.screen().contents_formatted(), to, count),
+        _ => OTHER_KIND,
+    }
+}
+
+/// What takes a fresh terminal to all that a screen shows.
+pub fn state(object: &Object, to: &mut [u8], count: &mut usize) -> i32
+    ensures text { ScreenSays (HasState to.old to.new count.new) object.now result }
+    ensures refused { IsRefusal result → (to.new ≡ to.old) × (count.new ≡ count.old) }
+{
+    match object {
+        Object::Screen(marked) => copy_text(marked.parser.screen().state_formatted(), to, count),
+        _ => OTHER_KIND,
+    }
+}
+
+fn copy_difference(marked: &Marked, to: &mut [u8], count: &mut usize) -> i32
+    ensures text { HasDifference to.old to.new count.new marked.now result }
+    ensures refused { IsRefusal result → (to.new ≡ to.old) × (count.new ≡ count.old) }
+{
+    let screen = marked.parser.screen();
+    match &marked.mark {
+        Some(mark) => copy_text(screen.state_diff(mark), to, count),
+        None => copy_text(screen.state_formatted(), to, count),
+    }
+}
+
+/// What takes a terminal from what a screen's mark shows to what the screen shows.
+pub fn difference(object: &Object, to: &mut [u8], count: &mut usize) -> i32
+    ensures text { ScreenSays (HasDifference to.old to.new count.new) object.now result }
+    ensures refused { IsRefusal result → (to.new ≡ to.old) × (count.new ≡ count.old) }
+{
+    match object {
+        Object::Screen(marked) => copy_difference(marked, to, count),
+        _ => OTHER_KIND,
+    }
+}

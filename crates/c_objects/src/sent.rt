@@ -1,0 +1,24 @@
+//! What takes so many bytes.
+ghost use Rattle.std.specs.Prelude.{◌≡◌, ◌≤◌, length};
+ghost use Rattle.c_objects.specs.Taken.{takes_so_many};
+
+use std::io;
+use takers::Taker;
+
+/// Takes as many bytes as are left to take.
+#[derive(Drop)]
+pub(crate) struct SoMany {
+    pub(crate) left: usize,
+}
+
+impl Taker for SoMany {
+    ghost use Rattle.c_objects.specs.Taken.{takes_so_many};
+
+    ghost takes = { λ s bytes answer t. takes_so_many s.left bytes answer t.left };
+
+    fn offer(&mut self, bytes: &[u8]) -> io::Result<usize> {
+        let n = bytes.len().min(self.left);
+        self.left -= n;
+        Ok(n)
+    }
+}

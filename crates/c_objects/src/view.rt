@@ -1,0 +1,142 @@
+//! Views.
+ghost use Rattle.std.specs.Prelude.{◌≡◌, ◌×◌, IfOk, IfErr};
+ghost use Rattle.c_objects.specs.Codes.{IsRefusal};
+ghost use Rattle.c_objects.specs.Hubs.{IsNoObjectCode};
+ghost use Rattle.c_objects.specs.Objects.{ViewDoes, ViewSays};
+ghost use Rattle.c_objects.specs.Views.{IsNewViewOf, Advances, Stops, Holds, Looks, HasCell, HasRow};
+
+use crate::code::{BAD_SIZE, MEMORY, NO_CELL, OK, OTHER_KIND};
+use crate::copy::copy_front;
+use crate::look::{cell_of, view_look};
+use crate::object::Object;
+use crate::plain::{CCell, CLook};
+use std::alloc::Global;
+use std::num::NonZeroU16;
+use termview::{UntilCleared, View};
+
+/// A view of this size that shows nothing.
+pub fn new_view(alloc: Global, rows: u16, cols: u16) -> Result<Box<Object>, i32>
+    ensures new { IfOk result (λ b. IsNewViewOf rows cols b.value) }
+    ensures refused { IfErr result (λ code. IsNoObjectCode rows cols code) }
+{
+    let (Some(rows), Some(cols)) = (NonZeroU16::new(rows), NonZeroU16::new(cols)) else {
+        return Err(BAD_SIZE);
+    };
+    let view = match View::new(alloc, rows, cols, UntilCleared::new()) {
+        Ok(view) => view,
+        Err(_) => return Err(MEMORY),
+    };
+    match Box::new(alloc, Object::View(view)) {
+        Ok(b) => Ok(b),
+        Err(_) => Err(MEMORY),
+    }
+}
+
+/// A view reads the next piece of the stream.
+pub fn advance(object: &mut Object, bytes: &[u8]) -> i32
+    ensures { ViewDoes (Advances bytes.now) object.old result object.new }
+{
+    match object {
+        Object::View(view) => {
+            view.advance(bytes);
+            OK
+        }
+        _ => OTHER_KIND,
+    }
+}
+
+/// A view parses what it holds.
+pub fn stop(object: &mut Object) -> i32
+    ensures { ViewDoes Stops object.old result object.new }
+{
+    match object {
+        Object::View(view) => {
+            view.stop_sync();
+            OK
+        }
+        _ => OTHER_KIND,
+    }
+}
+
+/// How many bytes a view holds.
+pub fn held(object: &Object, count: &mut usize) -> i32
+    ensures holds { ViewSays (Holds count.new) object.now result }
+    ensures refused { IsRefusal result → count.new ≡ count.old }
+{
+    match object {
+        Object::View(view) => {
+            *count = view.sync_bytes_count();
+            OK
+        }
+        _ => OTHER_KIND,
+    }
+}
+
+/// Size, cursor and modes of what a view shows.
+pub fn look(object: &Object, look: &mut CLook) -> i32
+    ensures looks { ViewSays (Looks look.new) object.now result }
+    ensures refused { IsRefusal result → look.new ≡ look.old }
+{
+    match object {
+        Object::View(view) => {
+            *look = view_look(view);
+            OK
+        }
+        _ => OTHER_KIND,
+    }
+}
+
+fn copy_cell(view: &View<UntilCleared>, row: u16, col: u16, to: &mut CCell) -> i32
+    ensures cell { HasCell row col to.new view.now result }
+    ensures refused { IsRefusal result → to.new ≡ to.old }
+{
+    match view.cell(row, col) {
+        Some(cell) => {
+            *to = cell_of(cell);
+            OK
+        }
+        None => NO_CELL,
+    }
+}
+
+/// A cell that a view shows.
+pub fn cell(object: &Object, row: u16, col: u16, to: &mut CCell) -> i32
+    ensures cell { ViewSays (HasCell row col to.new) object.now result }
+    ensures refused { IsRefusal result → to.new ≡ to.old }
+{
+    match object {
+        Object::View(view) => copy_cell(view, row, col, to),
+        _ => OTHER_KIND,
+    }
+}
+
+fn copy_row(
+    alloc: Global,
+    view: &View<UntilCleared>,
+    row: u16,
+    to: &mut [u8],
+    count: &mut usize,
+) -> i32
+    ensures text { HasRow row to.old to.new count.new view.now result }
+    ensures refused { IsRefusal result → (to.new ≡ to.old) × (count.new ≡ count.old) }
+{
+    let mut text = Vec::new(alloc);
+    match view.row_text(row, &mut text) {
+        Ok(()) => {
+            copy_front(&text, to, count);
+            OK
+        }
+        Err(_) => MEMORY,
+    }
+}
+
+/// The text of a row that a view shows.
+pub fn row_text(alloc: Global, object: &Object, row: u16, to: &mut [u8], count: &mut usize) -> i32
+    ensures text { ViewSays (HasRow row to.old to.new count.new) object.now result }
+    ensures refused { IsRefusal result → (to.new ≡ to.old) × (count.new ≡ count.old) }
+{
+    match object {
+        Object::View(view) => copy_row(alloc, view, row, to, count),
+        _ => OTHER_KIND,
+    }
+}
