@@ -42,9 +42,12 @@ class Moment:
         for row, cells in enumerate(self._cells):
             is_same = before is not None and row < len(before._cells) and before._cells[row] == cells
             self.rows.append(before.rows[row] if before and is_same else _row(cells))
-        col = min(look.col, look.cols - 1)
-        wide = self._cells[look.row][col].width or 2
-        self.cursor = None if look.hidden else [look.row, col, wide]
+        self.cursor = None if look.hidden else self._cursor(look.row, min(look.col, look.cols - 1))
+
+    def _cursor(self, row: int, col: int) -> list[int]:
+        """The cursor's row, first column and columns: it covers a wide character, of which it is on one half."""
+        width = self._cells[row][col].width
+        return [row, col, width] if width else [row, col - 1, 2]
 
     def event(self, name: str, before: Moment | None) -> bytes:
         """A server-sent event that takes a page from another moment to this one, or from nothing."""

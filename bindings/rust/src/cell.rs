@@ -93,7 +93,13 @@ impl Cell {
 
     /// All that distinguishes it.
     fn parts(&self) -> (&str, u8, u8, Color, Color) {
-        (self.contents(), self.raw.width, self.raw.attributes, self.fgcolor(), self.bgcolor())
+        (
+            self.contents(),
+            self.raw.width,
+            self.raw.attributes,
+            self.fgcolor(),
+            self.bgcolor(),
+        )
     }
 }
 
@@ -220,8 +226,11 @@ const MODES: [MouseProtocolMode; 5] = [
     MouseProtocolMode::AnyMotion,
 ];
 
-const ENCODINGS: [MouseProtocolEncoding; 3] =
-    [MouseProtocolEncoding::Default, MouseProtocolEncoding::Utf8, MouseProtocolEncoding::Sgr];
+const ENCODINGS: [MouseProtocolEncoding; 3] = [
+    MouseProtocolEncoding::Default,
+    MouseProtocolEncoding::Utf8,
+    MouseProtocolEncoding::Sgr,
+];
 
 impl Look {
     pub(crate) fn of(raw: &RawLook) -> Look {

@@ -71,7 +71,9 @@ impl Hub {
     pub fn new(rows: NonZeroU16, cols: NonZeroU16) -> Result<Hub> {
         // SAFETY, here and below: the word is as the last call left it, and what is lent is lent for the call.
         let fill = |word| unsafe { raw::jeihpal_hub_new(word, rows.get(), cols.get()) };
-        Ok(Hub { object: Object::new(&FUNCTIONS, fill)? })
+        Ok(Hub {
+            object: Object::new(&FUNCTIONS, fill)?,
+        })
     }
 
     /// Gives the program's next bytes to the screen. They may be cut anywhere. After [`Error::Memory`] the hub has
@@ -84,24 +86,31 @@ impl Hub {
 
     /// Gives the screen another size, or the same, and ends the program's synchronized update. Every client ends.
     pub fn resize(&mut self, rows: NonZeroU16, cols: NonZeroU16) -> Result<()> {
-        self.object.call(|word| unsafe { raw::jeihpal_hub_resize(word, rows.get(), cols.get()) }).map(drop)
+        self.object
+            .call(|word| unsafe { raw::jeihpal_hub_resize(word, rows.get(), cols.get()) })
+            .map(drop)
     }
 
     /// A new client, which has had no frame.
     pub fn attach(&mut self) -> Result<Client> {
         let mut key = 0;
-        self.object.call(|word| unsafe { raw::jeihpal_hub_attach(word, &mut key) })?;
+        self.object
+            .call(|word| unsafe { raw::jeihpal_hub_attach(word, &mut key) })?;
         Ok(Client(key))
     }
 
     /// Ends a client; what it is owed is gone.
     pub fn detach(&mut self, client: Client) -> Result<()> {
-        self.object.call(|word| unsafe { raw::jeihpal_hub_detach(word, client.0) }).map(drop)
+        self.object
+            .call(|word| unsafe { raw::jeihpal_hub_detach(word, client.0) })
+            .map(drop)
     }
 
     /// Asks for a frame for a client, best once it is owed nothing and the program pauses.
     pub fn frame(&mut self, client: Client) -> Result<Answer> {
-        let number = self.object.call(|word| unsafe { raw::jeihpal_hub_frame(word, client.0) })?;
+        let number = self
+            .object
+            .call(|word| unsafe { raw::jeihpal_hub_frame(word, client.0) })?;
         Ok(ANSWERS[number as usize])
     }
 
@@ -123,7 +132,9 @@ impl Hub {
 
     /// The first `count` of the bytes that the client is owed were sent. They are owed no longer.
     pub fn sent(&mut self, client: Client, count: usize) -> Result<()> {
-        self.object.call(|word| unsafe { raw::jeihpal_hub_sent(word, client.0, count) }).map(drop)
+        self.object
+            .call(|word| unsafe { raw::jeihpal_hub_sent(word, client.0, count) })
+            .map(drop)
     }
 
     /// Writes what the client is owed. What the writer took is no longer owed, whatever it answers after that.

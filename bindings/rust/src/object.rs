@@ -1,7 +1,9 @@
 //! What hubs, views and screens have in common.
 use crate::cell::{Cell, Look};
 use crate::error::{answer, Result};
-use crate::raw::{self, Close, GetCell, GetLook, GetRowText, GetText, Give, RawCell, RawLook, Word};
+use crate::raw::{
+    self, Close, GetCell, GetLook, GetRowText, GetText, Give, RawCell, RawLook, Word,
+};
 use std::cell::UnsafeCell;
 use std::ptr;
 
@@ -30,11 +32,16 @@ pub(crate) struct Object {
 
 impl Object {
     /// A word that a call fills.
-    pub(crate) fn new(functions: &'static Functions, fill: impl FnOnce(*mut Word) -> i32) -> Result<Object> {
+    pub(crate) fn new(
+        functions: &'static Functions,
+        fill: impl FnOnce(*mut Word) -> i32,
+    ) -> Result<Object> {
         // SAFETY: it may be called at any time.
         let abi = unsafe { raw::jeihpal_abi() };
         assert_eq!(abi, ABI, "libjeihpal.a is of another interface");
-        let word = UnsafeCell::new(Word { held: ptr::null_mut() });
+        let word = UnsafeCell::new(Word {
+            held: ptr::null_mut(),
+        });
         let object = Object { word, functions };
         object.call(fill)?;
         Ok(object)
@@ -48,11 +55,15 @@ impl Object {
     /// Calls a function that reads bytes.
     pub(crate) fn give(&self, function: Give, bytes: &[u8]) -> Result<()> {
         // SAFETY: the word is as the last call left it, and the bytes are lent for the call.
-        self.call(|word| unsafe { function(word, bytes.as_ptr(), bytes.len()) }).map(drop)
+        self.call(|word| unsafe { function(word, bytes.as_ptr(), bytes.len()) })
+            .map(drop)
     }
 
     /// What a call copies out, whole.
-    pub(crate) fn bytes(&self, mut copy: impl FnMut(*mut Word, &mut [u8], &mut usize) -> i32) -> Result<Vec<u8>> {
+    pub(crate) fn bytes(
+        &self,
+        mut copy: impl FnMut(*mut Word, &mut [u8], &mut usize) -> i32,
+    ) -> Result<Vec<u8>> {
         let (mut room, mut length) = (vec![0; 1024], 0);
         loop {
             self.call(|word| copy(word, &mut room, &mut length))?;
@@ -65,7 +76,10 @@ impl Object {
     }
 
     /// What a call copies out, as text.
-    pub(crate) fn text(&self, copy: impl FnMut(*mut Word, &mut [u8], &mut usize) -> i32) -> Result<String> {
+    pub(crate) fn text(
+        &self,
+        copy: impl FnMut(*mut Word, &mut [u8], &mut usize) -> i32,
+    ) -> Result<String> {
         Ok(String::from_utf8(self.bytes(copy)?).expect("the library's texts are UTF-8"))
     }
 
@@ -77,12 +91,15 @@ impl Object {
 
     pub(crate) fn row_text(&self, row: u16) -> Result<String> {
         let function = self.functions.row_text;
-        self.text(|word, to, length| unsafe { function(word, row, to.as_mut_ptr(), to.len(), length) })
+        self.text(|word, to, length| unsafe {
+            function(word, row, to.as_mut_ptr(), to.len(), length)
+        })
     }
 
     pub(crate) fn look(&self) -> Look {
         let mut look = RawLook::default();
-        self.call(|word| unsafe { (self.functions.look)(word, &mut look) }).expect("a look is never refused");
+        self.call(|word| unsafe { (self.functions.look)(word, &mut look) })
+            .expect("a look is never refused");
         Look::of(&look)
     }
 

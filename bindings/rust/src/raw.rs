@@ -67,7 +67,8 @@ pub(crate) type Close = unsafe extern "C" fn(*mut Word);
 pub(crate) type GetLook = unsafe extern "C" fn(*mut Word, *mut RawLook) -> i32;
 pub(crate) type GetCell = unsafe extern "C" fn(*mut Word, u16, u16, *mut RawCell) -> i32;
 pub(crate) type GetText = unsafe extern "C" fn(*mut Word, *mut u8, usize, *mut usize) -> i32;
-pub(crate) type GetRowText = unsafe extern "C" fn(*mut Word, u16, *mut u8, usize, *mut usize) -> i32;
+pub(crate) type GetRowText =
+    unsafe extern "C" fn(*mut Word, u16, *mut u8, usize, *mut usize) -> i32;
 pub(crate) type Give = unsafe extern "C" fn(*mut Word, *const u8, usize) -> i32;
 
 extern "C" {
@@ -95,7 +96,12 @@ extern "C" {
         capacity: usize,
         length: *mut usize,
     ) -> i32;
-    pub(crate) fn jeihpal_hub_contents(hub: *mut Word, to: *mut u8, capacity: usize, length: *mut usize) -> i32;
+    pub(crate) fn jeihpal_hub_contents(
+        hub: *mut Word,
+        to: *mut u8,
+        capacity: usize,
+        length: *mut usize,
+    ) -> i32;
     pub(crate) fn jeihpal_hub_close(hub: *mut Word);
 
     pub(crate) fn jeihpal_view_new(view: *mut Word, rows: u16, cols: u16) -> i32;
@@ -103,7 +109,8 @@ extern "C" {
     pub(crate) fn jeihpal_view_stop(view: *mut Word) -> i32;
     pub(crate) fn jeihpal_view_held(view: *mut Word, count: *mut usize) -> i32;
     pub(crate) fn jeihpal_view_look(view: *mut Word, look: *mut RawLook) -> i32;
-    pub(crate) fn jeihpal_view_cell(view: *mut Word, row: u16, col: u16, cell: *mut RawCell) -> i32;
+    pub(crate) fn jeihpal_view_cell(view: *mut Word, row: u16, col: u16, cell: *mut RawCell)
+        -> i32;
     pub(crate) fn jeihpal_view_row_text(
         view: *mut Word,
         row: u16,
@@ -113,12 +120,22 @@ extern "C" {
     ) -> i32;
     pub(crate) fn jeihpal_view_close(view: *mut Word);
 
-    pub(crate) fn jeihpal_screen_new(screen: *mut Word, rows: u16, cols: u16, scrollback: usize) -> i32;
+    pub(crate) fn jeihpal_screen_new(
+        screen: *mut Word,
+        rows: u16,
+        cols: u16,
+        scrollback: usize,
+    ) -> i32;
     pub(crate) fn jeihpal_screen_process(screen: *mut Word, bytes: *const u8, count: usize) -> i32;
     pub(crate) fn jeihpal_screen_resize(screen: *mut Word, rows: u16, cols: u16) -> i32;
     pub(crate) fn jeihpal_screen_scroll(screen: *mut Word, rows: usize) -> i32;
     pub(crate) fn jeihpal_screen_look(screen: *mut Word, look: *mut RawLook) -> i32;
-    pub(crate) fn jeihpal_screen_cell(screen: *mut Word, row: u16, col: u16, cell: *mut RawCell) -> i32;
+    pub(crate) fn jeihpal_screen_cell(
+        screen: *mut Word,
+        row: u16,
+        col: u16,
+        cell: *mut RawCell,
+    ) -> i32;
     pub(crate) fn jeihpal_screen_row_text(
         screen: *mut Word,
         row: u16,
@@ -126,7 +143,12 @@ extern "C" {
         capacity: usize,
         length: *mut usize,
     ) -> i32;
-    pub(crate) fn jeihpal_screen_contents(screen: *mut Word, to: *mut u8, capacity: usize, length: *mut usize) -> i32;
+    pub(crate) fn jeihpal_screen_contents(
+        screen: *mut Word,
+        to: *mut u8,
+        capacity: usize,
+        length: *mut usize,
+    ) -> i32;
     pub(crate) fn jeihpal_screen_contents_between(
         screen: *mut Word,
         start_row: u16,
@@ -143,7 +165,12 @@ extern "C" {
         capacity: usize,
         length: *mut usize,
     ) -> i32;
-    pub(crate) fn jeihpal_screen_state(screen: *mut Word, to: *mut u8, capacity: usize, length: *mut usize) -> i32;
+    pub(crate) fn jeihpal_screen_state(
+        screen: *mut Word,
+        to: *mut u8,
+        capacity: usize,
+        length: *mut usize,
+    ) -> i32;
     pub(crate) fn jeihpal_screen_mark(screen: *mut Word) -> i32;
     pub(crate) fn jeihpal_screen_difference(
         screen: *mut Word,
@@ -158,4 +185,36 @@ extern "C" {
         request: *mut RawRequest,
     ) -> i32;
     pub(crate) fn jeihpal_screen_close(screen: *mut Word);
+}
+
+#[cfg(test)]
+mod tests {
+    use super::*;
+    use std::mem::{offset_of, size_of};
+
+    macro_rules! said {
+        ($name:literal, $kind:ty, $($field:ident: $field_kind:ty),*) => {{
+            let sizes = [$((stringify!($field), offset_of!($kind, $field), size_of::<$field_kind>())),*];
+            let fields = sizes.map(|(field, at, size)| format!("{}.{field} {at} {size}\n", $name));
+            format!("{} {}\n", $name, size_of::<$kind>()) + &fields.concat()
+        }};
+    }
+
+    /// The structs are as the C compiler has them: the file that `JEIHPAL_SIZES` names says how.
+    #[test]
+    fn sizes() {
+        let Ok(path) = std::env::var("JEIHPAL_SIZES") else {
+            return;
+        };
+        let mut found = format!("hub {}\n", size_of::<Word>());
+        found += &said!("color", RawColor, kind: u8, red_or_index: u8, green: u8, blue: u8);
+        found += &said!("cell", RawCell, text: [u8; 32], length: u8, width: u8, attributes: u8, reserved: u8,
+            foreground: RawColor, background: RawColor);
+        found += &said!("look", RawLook, kept: usize, scrolled: usize, rows: u16, cols: u16, row: u16, col: u16,
+            hidden: u8, style: u8, mouse: u8, encoding: u8, keypad: u8, cursor_keys: u8, paste: u8, alternate: u8,
+            updating: u8, failed: u8);
+        found += &said!("request", RawRequest, length: usize, letters: usize, dropped: usize, rows: u16, cols: u16,
+            kind: u8);
+        assert_eq!(found, std::fs::read_to_string(path).unwrap());
+    }
 }

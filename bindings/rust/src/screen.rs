@@ -40,8 +40,11 @@ impl Screen {
     /// A blank screen of this size that keeps up to `scrollback` rows that scroll off.
     pub fn new(rows: NonZeroU16, cols: NonZeroU16, scrollback: usize) -> Result<Screen> {
         // SAFETY, here and below: the word is as the last call left it, and what is lent is lent for the call.
-        let fill = |word| unsafe { raw::jeihpal_screen_new(word, rows.get(), cols.get(), scrollback) };
-        Ok(Screen { object: Object::new(&FUNCTIONS, fill)? })
+        let fill =
+            |word| unsafe { raw::jeihpal_screen_new(word, rows.get(), cols.get(), scrollback) };
+        Ok(Screen {
+            object: Object::new(&FUNCTIONS, fill)?,
+        })
     }
 
     /// Reads the program's next bytes. They may be cut anywhere. After [`Error::Memory`] the screen has failed: it can
@@ -54,12 +57,16 @@ impl Screen {
 
     /// Gives the screen another size, or the same, ends the program's synchronized update, and forgets the mark.
     pub fn resize(&mut self, rows: NonZeroU16, cols: NonZeroU16) -> Result<()> {
-        self.object.call(|word| unsafe { raw::jeihpal_screen_resize(word, rows.get(), cols.get()) }).map(drop)
+        self.object
+            .call(|word| unsafe { raw::jeihpal_screen_resize(word, rows.get(), cols.get()) })
+            .map(drop)
     }
 
     /// Shows the newest `rows` of the kept rows above the others, or all where there are fewer.
     pub fn scroll(&mut self, rows: usize) -> Result<()> {
-        self.object.call(|word| unsafe { raw::jeihpal_screen_scroll(word, rows) }).map(drop)
+        self.object
+            .call(|word| unsafe { raw::jeihpal_screen_scroll(word, rows) })
+            .map(drop)
     }
 
     /// The size, the cursor and the modes.
@@ -110,7 +117,8 @@ impl Screen {
 
     /// What takes a terminal of this size to the picture, whatever it showed before.
     pub fn contents_formatted(&self) -> Result<String> {
-        self.object.whole_text(raw::jeihpal_screen_contents_formatted)
+        self.object
+            .whole_text(raw::jeihpal_screen_contents_formatted)
     }
 
     /// What takes a fresh terminal of this size to the picture, the modes and the cursor's style.
@@ -120,7 +128,9 @@ impl Screen {
 
     /// Keeps a copy of the screen as it is now, its mark, in place of an earlier one.
     pub fn mark(&mut self) -> Result<()> {
-        self.object.call(|word| unsafe { raw::jeihpal_screen_mark(word) }).map(drop)
+        self.object
+            .call(|word| unsafe { raw::jeihpal_screen_mark(word) })
+            .map(drop)
     }
 
     /// What takes a terminal from what the mark shows to what the screen shows. Without a mark it is
@@ -208,7 +218,10 @@ impl Request {
             3 => Some(Request::Resize(raw.rows, raw.cols)),
             4 => Some(Request::IconName(rest.to_vec())),
             5 => Some(Request::Title(rest.to_vec())),
-            6 => Some(Request::Copy { clipboards: letters.to_vec(), data: rest.to_vec() }),
+            6 => Some(Request::Copy {
+                clipboards: letters.to_vec(),
+                data: rest.to_vec(),
+            }),
             7 => Some(Request::Paste(letters.to_vec())),
             kind => unreachable!("the library knows no request {kind}"),
         }

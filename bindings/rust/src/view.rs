@@ -25,23 +25,31 @@ impl View {
     pub fn new(rows: NonZeroU16, cols: NonZeroU16) -> Result<View> {
         // SAFETY, here and below: the word is as the last call left it, and what is lent is lent for the call.
         let fill = |word| unsafe { raw::jeihpal_view_new(word, rows.get(), cols.get()) };
-        Ok(View { object: Object::new(&FUNCTIONS, fill)? })
+        Ok(View {
+            object: Object::new(&FUNCTIONS, fill)?,
+        })
     }
 
     /// Reads the next bytes. What a frame changes is shown once its last byte was read.
     pub fn advance(&mut self, bytes: &[u8]) {
-        self.object.give(raw::jeihpal_view_advance, bytes).expect("a view reads everything");
+        self.object
+            .give(raw::jeihpal_view_advance, bytes)
+            .expect("a view reads everything");
     }
 
     /// Shows what is held back: for where a frame has begun and its end doesn't come.
     pub fn stop(&mut self) {
-        self.object.call(|word| unsafe { raw::jeihpal_view_stop(word) }).expect("a stop is never refused");
+        self.object
+            .call(|word| unsafe { raw::jeihpal_view_stop(word) })
+            .expect("a stop is never refused");
     }
 
     /// How many bytes are held back, until the end of a frame or of a synchronized update.
     pub fn held(&self) -> usize {
         let mut count = 0;
-        self.object.call(|word| unsafe { raw::jeihpal_view_held(word, &mut count) }).expect("it is never refused");
+        self.object
+            .call(|word| unsafe { raw::jeihpal_view_held(word, &mut count) })
+            .expect("it is never refused");
         count
     }
 

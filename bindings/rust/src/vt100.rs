@@ -74,8 +74,16 @@ impl Screen {
     }
 
     /// The text from one place up to another.
-    pub fn contents_between(&self, start_row: u16, start_col: u16, end_row: u16, end_col: u16) -> String {
-        self.screen.contents_between((start_row, start_col), (end_row, end_col)).unwrap()
+    pub fn contents_between(
+        &self,
+        start_row: u16,
+        start_col: u16,
+        end_row: u16,
+        end_col: u16,
+    ) -> String {
+        self.screen
+            .contents_between((start_row, start_col), (end_row, end_col))
+            .unwrap()
     }
 
     /// What takes a fresh terminal of this size to the picture, the modes and the cursor's style.
@@ -202,7 +210,10 @@ impl<CB: Callbacks> Parser<CB> {
         callbacks: CB,
     ) -> Self {
         let screen = crate::Screen::new(rows, cols, scrollback_capacity).unwrap();
-        Parser { screen: Screen { screen }, callbacks }
+        Parser {
+            screen: Screen { screen },
+            callbacks,
+        }
     }
 
     /// Reads the program's next bytes. They may be cut anywhere.
@@ -227,7 +238,9 @@ impl<CB: Callbacks> Parser<CB> {
             Request::Resize(rows, cols) => callbacks.resize(screen, (*rows, *cols)),
             Request::IconName(name) => callbacks.set_window_icon_name(screen, name),
             Request::Title(title) => callbacks.set_window_title(screen, title),
-            Request::Copy { clipboards, data } => callbacks.copy_to_clipboard(screen, clipboards, data),
+            Request::Copy { clipboards, data } => {
+                callbacks.copy_to_clipboard(screen, clipboards, data)
+            }
             Request::Paste(clipboards) => callbacks.paste_from_clipboard(screen, clipboards),
         }
     }
