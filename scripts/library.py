@@ -2,6 +2,7 @@
 
 What is made lies in bindings/out: a static library, a shared library, and a file for pkg-config.
 """
+import glob
 import os
 import shutil
 import subprocess
@@ -96,6 +97,30 @@ def make():
     return [make_static(archive, memory), make_shared(archive, memory), f"{OUT}/jeihpal.pc"]
 
 
+def toolchain_libraries():
+    """The toolchain's libraries that the archive stands on, as crates.txt names them."""
+    uses, found, left = {}, set(), [CRATE]
+    with open(f"{HERE}/crates.txt", encoding="utf-8") as file:
+        for line in file:
+            head, colon, words = line.split("#")[0].partition(":")
+            if colon:
+                uses[head.split()[0]] = words.split()
+    while left:
+        name = left.pop()
+        if name not in found:
+            found.add(name)
+            left += uses.get(name, [])
+    return sorted(found - set(uses))
+
+
+def install_licenses(folder):
+    """Copies the license here, and those of the toolchain's libraries that the archive holds."""
+    shutil.copy(f"{HERE}/LICENSE", folder)
+    for name in toolchain_libraries():
+        for path in glob.glob(f"{toolchain()}/rattle/{name}/LICENSE*"):
+            shutil.copy(path, f"{folder}/{os.path.basename(path)}-{name}")
+
+
 def install_python(folder):
     """Copies the module and share, with a link to the shared library."""
     for name in ("jeihpal", "jeihpal_share"):
@@ -125,8 +150,8 @@ def install(prefix):
         shutil.copy(f"{OUT}/{SHARED}", f"{prefix}/lib"),
         shutil.copy(f"{OUT}/jeihpal.pc", f"{prefix}/lib/pkgconfig"),
         shutil.copy(f"{HERE}/bindings/include/jeihpal.h", f"{prefix}/include"),
-        shutil.copy(f"{HERE}/LICENSE", f"{prefix}/share/doc/jeihpal"),
     ]
+    install_licenses(f"{prefix}/share/doc/jeihpal")
     link(SHARED, f"{prefix}/lib/libjeihpal.so")
     install_python(f"{prefix}/lib/jeihpal/python")
     install_share(f"{prefix}/bin/share")
