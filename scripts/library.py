@@ -134,7 +134,8 @@ def install_share(path):
     with open(f"{HERE}/share", encoding="utf-8") as file:
         text = file.read()
     text = text.replace('"bindings", "python"', '"..", "lib", "jeihpal", "python"')
-    text = text.replace("from a checkout, over the library that ./build --library has made", "over the installed library")
+    ours = "from a checkout, over the library that ./build --library has made"
+    text = text.replace(ours, "over the installed library")
     with open(path, "w", encoding="utf-8") as file:
         file.write(text)
     os.chmod(path, 0o755)

@@ -68,7 +68,8 @@ def main():
             for work in WORKS:
                 ours, other = compared(sys.argv[1:3], work, f"{folder}/{name}")
                 slow += other > 1.05 * ours
-                print(f"{name:9} {work:10} {ours * 1e6:10.1f} us {other * 1e6:10.1f} us {other / ours:6.3f} times", flush=True)
+                figures = f"{ours * 1e6:10.1f} us {other * 1e6:10.1f} us {other / ours:6.3f} times"
+                print(f"{name:9} {work:10} {figures}", flush=True)
     print(f"{slow} above 1.05 times")
 
 

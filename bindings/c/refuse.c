@@ -1,5 +1,5 @@
-/* Each request for memory is refused in turn: every call answers a code that is right then, and nothing leaks.
- * The library's own lines for memory are replaced by those below. */
+/* Each request for memory is refused in turn: every call answers a code that is right then, and nothing
+ * leaks. The library's own lines for memory are replaced by those below. */
 #include "tried.h"
 #include <stdbool.h>
 

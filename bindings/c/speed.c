@@ -1,5 +1,6 @@
-/* Does one kind of work on a stream again and again, as crates/speed does: speed WORK ROWS COLS TIMES, with the stream on
- * standard input. It prints the same counts. The works are screen, redraw, view, hub, unchanged, frame and client. */
+/* Does one kind of work on a stream again and again, as crates/speed does: speed WORK ROWS COLS TIMES, with
+ * the stream on standard input. It prints the same counts. The works are screen, redraw, view, hub,
+ * unchanged, frame and client. */
 #include "tried.h"
 
 enum { PIECE = 4096 };
@@ -121,9 +122,13 @@ static size_t do_hub(const char *work) {
         count = send_stream(&hub, client);
     } else {
         count = send_frame(&hub, client);
-        if (strcmp(work, "frame") == 0) count += send_rows(&hub, client);
-        else if (strcmp(work, "client") == 0) count = send_to_each(&hub);
-        else for (unsigned long time = 0; time < times; time++) CHECK(jeihpal_hub_frame(&hub, client) == JEIHPAL_UNCHANGED);
+        if (strcmp(work, "frame") == 0)
+            count += send_rows(&hub, client);
+        else if (strcmp(work, "client") == 0)
+            count = send_to_each(&hub);
+        else
+            for (unsigned long time = 0; time < times; time++)
+                CHECK(jeihpal_hub_frame(&hub, client) == JEIHPAL_UNCHANGED);
     }
     jeihpal_hub_close(&hub);
     return count;
@@ -138,7 +143,7 @@ int main(int count, char **words) {
     wire_size = 1024 * ((size_t)rows * cols + 1);
     CHECK((wire = malloc(wire_size)));
     const char *work = words[1];
-    size_t found = strcmp(work, "screen") == 0 ? do_screen()
+    size_t found = strcmp(work, "screen") == 0   ? do_screen()
                    : strcmp(work, "redraw") == 0 ? do_redraw()
                    : strcmp(work, "view") == 0   ? do_view()
                                                  : do_hub(work);

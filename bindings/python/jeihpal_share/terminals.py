@@ -137,7 +137,7 @@ class LocalTerminal:
         return self
 
     def __exit__(self, *_: object) -> None:
-        termios.tcsetattr(self.fd, termios.TCSADRAIN, self._kept)
+        termios.tcsetattr(self.fd, termios.TCSANOW, self._kept)
         os.close(self.fd)
 
     @staticmethod

@@ -159,7 +159,7 @@ class Watchers:
 
     def show(self) -> None:
         """Shows the screen to each that has read its last frame."""
-        for watcher in list(self._all):
+        for watcher in [it for it in self._all if not it.is_behind]:
             watcher.show()
 
     def detach(self) -> None:

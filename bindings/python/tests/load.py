@@ -136,7 +136,8 @@ def flood(pieces: int, watchers: int) -> float:
             watcher.__exit__()
         shared.end()
     rate = pieces * 56 * 72 / seconds / 1e6
-    print(f"a flood of {pieces * 56 * 72 / 1e6:.0f} MB, {watchers} watchers that read nothing: {rate:.1f} MB/s, {most >> 20} MB of memory")
+    print(f"a flood of {pieces * 56 * 72 / 1e6:.0f} MB, {watchers} watchers that read nothing: ", end="")
+    print(f"{rate:.1f} MB/s, {most >> 20} MB of memory")
     if "the end" not in shown:
         sys.exit("the last screen isn't shown")
     return rate

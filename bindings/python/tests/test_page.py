@@ -19,7 +19,8 @@ import sys, time
 w = sys.stdout.write
 w("\x1b[2J\x1b[H\x1b[1;37;44m a build, watched from afar \x1b[m\r\n\r\n")
 for i in range(8):
-    w(f"\x1b[{30 + i}m{i} normal \x1b[1mbold \x1b[22;2mdim \x1b[22;3mitalic\x1b[23;4m under\x1b[24;7m inverse\x1b[m\r\n")
+    w(f"\x1b[{30 + i}m{i} normal \x1b[1mbold \x1b[22;2mdim \x1b[22;3mitalic")
+    w("\x1b[23;4m under\x1b[24;7m inverse\x1b[m\r\n")
 w("\x1b[38;5;208m256 colours \x1b[38;2;120;200;255mand 24 bits\x1b[m \x1b[48;2;60;0;90m behind \x1b[m\r\n")
 w("wide: 米日本語 thé e\u0301 |end\r\n<script>alert(1)</script> & \"quotes\"\r\n$ make 米\x1b[D")
 input()
@@ -162,7 +163,8 @@ class Events(unittest.TestCase):
             self.assertEqual((page.ended, shared.end()), (3, 3))
 
     def test_a_slow_one_gets_the_newest(self):
-        program = "import time\nfor n in range(250): print('\\x1b[H' + '\\r\\n'.join(str(n) * 20 for _ in range(23))); time.sleep(.01)"
+        rows = "'\\r\\n'.join(str(n) * 20 for _ in range(23))"
+        program = f"import time\nfor n in range(250): print('\\x1b[H' + {rows}); time.sleep(.01)"
         with Shared(program, *HTTP) as shared, Page(shared) as quick, Page(shared, room=4096) as slow:
             while quick.moments < 40:
                 quick.read()
@@ -199,10 +201,10 @@ class InChromium(unittest.TestCase):
         self.assertEqual(browser.value(style.format(10, 1, "color")), "rgb(120, 200, 255)")
         left = "document.querySelectorAll('.row')[{}].{}.getBoundingClientRect().{}"
         one = browser.value(left.format(0, "children[0]", "width")) / 28
-        end = browser.value(left.format(11, "lastElementChild", "right")) - browser.value(left.format(11, "firstElementChild", "left"))
-        self.assertAlmostEqual(end, 60 * one, delta=1)
+        start = browser.value(left.format(11, "firstElementChild", "left"))
+        end = browser.value(left.format(11, "lastElementChild", "right"))
+        self.assertAlmostEqual(end - start, 60 * one, delta=1)
         cursor = "document.getElementById('cursor').getBoundingClientRect().{}"
-        start = browser.value(left.format(13, "firstElementChild", "left"))
         self.assertAlmostEqual(browser.value(cursor.format("left")) - start, 7 * one, delta=1)
         self.assertAlmostEqual(browser.value(cursor.format("width")), 2 * one, delta=1)
 

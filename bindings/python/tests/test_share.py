@@ -85,7 +85,8 @@ class Watchers(unittest.TestCase):
 
     @unittest.skipUnless(shutil.which("tmux") and shutil.which("socat"), "there is no tmux, or no socat")
     def test_a_real_tmux(self):
-        program = r"import time; print('\x1b[31mred\x1b[m 米 and \x1b[1;4mbold\x1b[m\n' * 5 + '$ ', end=''); time.sleep(60)"
+        rows = r"'\x1b[31mred\x1b[m 米 and \x1b[1;4mbold\x1b[m\n' * 5"
+        program = f"import time; print({rows} + '$ ', end=''); time.sleep(60)"
         with Shared(program) as shared, tempfile.TemporaryDirectory() as folder, Watching(shared) as watcher:
             watcher.read_until("$")
             tmux = ["tmux", "-S", f"{folder}/server", "-f", "/dev/null"]
@@ -155,7 +156,8 @@ class Refusals(unittest.TestCase):
             (["--listen", "192.0.2.1:1", "true"], 1),
         ):
             with self.subTest(words):
-                run = subprocess.run([sys.executable, "-m", "jeihpal_share", *words], cwd=sharing.PYTHON, stderr=subprocess.PIPE)
+                started = [sys.executable, "-m", "jeihpal_share", *words]
+                run = subprocess.run(started, cwd=sharing.PYTHON, stderr=subprocess.PIPE)
                 self.assertEqual(run.returncode, status)
                 self.assertTrue(run.stderr and b"Traceback" not in run.stderr)
 
@@ -264,7 +266,8 @@ class Local(unittest.TestCase):
         return data
 
     def test_shown_here_and_restored(self):
-        program = "import os; print('size', *os.get_terminal_size()); print('got', input()); print('size', *os.get_terminal_size())"
+        size = "print('size', *os.get_terminal_size())"
+        program = f"import os; {size}; print('got', input()); {size}"
         pid, fd = self.start(program)
         before = termios.tcgetattr(fd)
         self.read_until(fd, b"size 80 24")
