@@ -73,6 +73,8 @@ class SharedScreen:
     def show_soon(self) -> None:
         """Plans to show it: after a pause of the command, at latest once the rate allows it."""
         now = self._loop.time()
+        if self._tick and self._tick.when() <= now:
+            return  # it is about to be shown
         if self._tick:
             self._tick.cancel()
         else:

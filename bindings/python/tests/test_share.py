@@ -139,11 +139,17 @@ class Refusals(unittest.TestCase):
                     self.assertIn(b"too many watchers", late.read_all().data)
                 wait_for(lambda: "a watcher was refused: there are 250" in shared.said)
                 watchers.pop().__exit__()
-                with Watching(shared) as later:
-                    later.read_until("ready")
+                wait_for(lambda: self.is_let_in(shared))
             finally:
                 for watcher in watchers:
                     watcher.__exit__()
+
+    @staticmethod
+    def is_let_in(shared: Shared) -> bool:
+        with Watching(shared) as watcher:
+            while not watcher.frames() and watcher.read(5):
+                pass
+            return watcher.frames() > 0
 
     def test_words(self):
         for words, status in (
@@ -242,6 +248,7 @@ class Flood(unittest.TestCase):
             except (OSError, TypeError):
                 pass  # it has ended
             self.assertIn("line 299999", watcher.view.text())
+            self.assertGreater(watcher.frames(), 5)
             if most:
                 self.assertLess(most, 100 << 20)
             self.assertEqual(shared.end(), 0)
