@@ -72,6 +72,7 @@ static void use_screen(jeihpal_screen *screen) {
     jeihpal_request request;
     noted(jeihpal_screen_process(screen, BYTES("a\r\nb\x1b]2;title\a\r\n\r\n\r\n\r\nc\r\n")));
     CHECK(jeihpal_screen_request(screen, to, sizeof to, &request) >= 0);
+    made += (long)request.dropped; /* one that finds no memory is counted there */
     noted(jeihpal_screen_mark(screen));
     noted(jeihpal_screen_process(screen, BYTES("\x1b[?1049hd")));
     noted(jeihpal_screen_difference(screen, to, sizeof to, &length));

@@ -150,7 +150,7 @@ class Browsers:
         except Refused as refused:
             self._notices.say(f"a browser was refused: {refused}")
             await refuse(reader, writer, str(refused))
-        except (OSError, asyncio.CancelledError):
+        except (OSError, asyncio.TimeoutError, asyncio.CancelledError):
             pass
         finally:
             self._tasks.discard(task)
@@ -187,6 +187,8 @@ class Browsers:
                 self._notices.say("a browser was refused: it sends more than a request")
         finally:
             del self._news[task]
+            if not sending.done():
+                writer.transport.abort()
             sending.cancel()
             leaving.cancel()
             await asyncio.gather(sending, leaving, return_exceptions=True)
