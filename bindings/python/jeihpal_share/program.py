@@ -35,15 +35,16 @@ class Session:
         self._keys = Outlet(loop, command.fd, self._read_keys)
         self._picture = Outlet(loop, local.fd, self._read_command) if local else None
 
-    def start(self) -> None:
-        """Begins to read."""
+    def start(self, has_own_size: bool) -> None:
+        """Begins to read. A screen that has no size of its own is as large as the terminal here."""
         self._read_command()
         self._loop.add_signal_handler(signal.SIGCHLD, self._reap)
         for name in (signal.SIGTERM, signal.SIGHUP, signal.SIGINT):
             self._loop.add_signal_handler(name, self.hang_up)
         if self._local:
             self._read_keys()
-            self._loop.add_signal_handler(signal.SIGWINCH, self._resize)
+            if not has_own_size:
+                self._loop.add_signal_handler(signal.SIGWINCH, self._resize)
         self._reap()
 
     def _read_command(self) -> None:
@@ -170,7 +171,7 @@ async def _share(
                 watchers.listen(sockets.terminals)
             if browsers and sockets.browsers:
                 await browsers.listen(sockets.browsers)
-            session.start()
+            session.start(has_own_size=options.size is not None)
             await session.ended
             await _until(loop, lambda: not session.is_behind(), LINGER)
             session.close()
