@@ -1,0 +1,3 @@
+mod Did
+mod RowTexts
+mod RunLemmas

@@ -39,7 +39,8 @@ Feeds bytes h code g = (answer : Result (Unit {0}) HubError) × hub.Feeds h byte
 abbrev pub Resizes : ℕ → ℕ → HubState as_kept → ℤ → HubState as_kept → Type 0
 Resizes rows cols h code g =
     ((rows * cols ≡ 0) × (code ≡ bad_size) × (g ≡ h))
-    ⊎ ((answer : Result (Unit {0}) HubError) × hub.Resizes h rows cols answer g × (code ≡ code_of answer))
+    ⊎ ((0 < rows) × (0 < cols) × (answer : Result (Unit {0}) HubError) × hub.Resizes h rows cols answer g
+    × (code ≡ code_of answer))
 
 -- the key is written where there is one
 abbrev pub Attached : Result ℕ HubError → ℕ → ℕ → ℤ → Type 0

@@ -3,6 +3,7 @@ pub mod Hubs
 pub mod Looks
 pub mod Objects
 pub mod Requests
+pub mod Runs
 pub mod Screens
 pub mod Taken
 pub mod Texts

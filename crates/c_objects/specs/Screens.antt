@@ -1,5 +1,5 @@
 -- What each call does to a screen, as the library's call, and how it is answered.
-use Rattle.std.specs.Prelude.{◌≡◌, ◌⊎◌, ℕ, ◌*◌, ℤ, true, false, List, [], ◌∷◌, ◌++◌, length, min, Option, Some, None, Ok, Err, Result}
+use Rattle.std.specs.Prelude.{◌≡◌, ◌⊎◌, ℕ, ◌<◌, ◌*◌, ℤ, true, false, List, [], ◌∷◌, ◌++◌, length, min, Option, Some, None, Ok, Err, Result}
 use Rattle.std.specs.Prelude.{String}
 use Rattle.std.specs.Global.{Global}
 use Rattle.std.specs.Prelude.{OnOk, IsOk, MatchOption, encode_utf8_all}
@@ -87,12 +87,15 @@ abbrev pub mark_after : Result (Unit {0}) ScreenError → Option ScreenView → 
 mark_after (Ok u) mark = None
 mark_after (Err e) mark = mark
 
+abbrev pub ResizesTo : ℕ → ℕ → Marked → ℤ → Marked → Type 0
+ResizesTo rows cols m code n =
+    (answer : Result (Unit {0}) ScreenError) × Resizes rows cols m.parser answer n.parser × (code ≡ screen_code answer)
+    × (n.mark ≡ mark_after answer m.mark)
+
 -- a size of no cells is refused
 abbrev pub ResizesMarked : ℕ → ℕ → Marked → ℤ → Marked → Type 0
 ResizesMarked rows cols m code n =
-    ((rows * cols ≡ 0) × (code ≡ bad_size) × (n ≡ m))
-    ⊎ ((answer : Result (Unit {0}) ScreenError) × Resizes rows cols m.parser answer n.parser
-    × (code ≡ screen_code answer) × (n.mark ≡ mark_after answer m.mark))
+    ((rows * cols ≡ 0) × (code ≡ bad_size) × (n ≡ m)) ⊎ ((0 < rows) × (0 < cols) × ResizesTo rows cols m code n)
 
 -- kept rows of a screen v, which is then w, are shown, with all that the library's call promises of it
 pub record Scrolls (rows : ℕ) (v : ScreenView) (answer : Result (Unit {0}) ScreenError) (w : ScreenView) : Type 0 where

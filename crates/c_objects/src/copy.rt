@@ -1,5 +1,5 @@
 //! Bytes that go into the caller's memory.
-ghost use Rattle.std.specs.Prelude.{◌≡◌, ◌×◌, length};
+ghost use Rattle.std.specs.Prelude.{◌≡◌, length};
 ghost use Rattle.c_objects.specs.Codes.{IsRefusal};
 ghost use Rattle.c_objects.specs.Texts.{with_front, Copies};
 

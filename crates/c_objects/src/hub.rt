@@ -1,5 +1,5 @@
 //! Hubs.
-ghost use Rattle.std.specs.Prelude.{◌≡◌, ◌×◌, IfOk, IfErr};
+ghost use Rattle.std.specs.Prelude.{◌≡◌, IfOk, IfErr};
 ghost use Rattle.c_objects.specs.Codes.{IsRefusal};
 ghost use Rattle.c_objects.specs.Objects.{HubDoes, HubSays};
 ghost use Rattle.c_objects.specs.Hubs.{IsNewHubOf, IsNoObjectCode, Feeds, Resizes, Attaches, Detaches, Frames, Sends};

@@ -7,6 +7,7 @@
 mod code;
 mod copy;
 pub mod hub;
+pub mod laws;
 mod look;
 mod object;
 mod plain;

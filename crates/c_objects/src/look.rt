@@ -1,8 +1,11 @@
 //! What C is shown of a screen or a view.
-ghost use Rattle.std.specs.Prelude.{◌≡◌};
-ghost use Rattle.c_objects.specs.Looks.{switch, color_of, cell_of, screen_look, view_look};
+ghost use Rattle.std.specs.Prelude.{◌≡◌, ◌≤◌, replicate};
+ghost use Rattle.vt100_cells.specs.Cell.{IsCell};
+ghost use Rattle.c_objects.specs.Texts.{with_front};
+ghost use Rattle.c_objects.specs.Looks.{switch, color_of, width_of, cell_of, screen_look, view_look};
 ghost use Rattle.c_objects.specs.Looks.{mouse_number, encoding_number, style_number};
 
+use crate::copy::copy_front;
 use crate::plain::{CCell, CColor, CLook};
 use termview::{UntilCleared, View};
 use vt100::{Cell, Color, CursorStyle, MouseProtocolEncoding, MouseProtocolMode, Screen};
@@ -32,30 +35,48 @@ fn color_of(color: Color) -> CColor
 
 /// How many columns a cell takes; 0 of the second half of a wide one.
 fn width_of(cell: &Cell) -> u8
-    ensures { result ≡ width_of cell.now }
+    ensures value { result ≡ width_of cell.now }
+    ensures valid { IsCell cell.now }
 {
+    let wide = cell.is_wide();
     if cell.is_wide_continuation() {
         0
-    } else if cell.is_wide() {
+    } else if wide {
         2
     } else {
         1
     }
 }
 
+/// The length of a cell's text.
+fn byte_of(length: usize) -> u8
+    requires { length ≤ 21 }
+    ensures { result ≡ length }
+{
+    length as u8
+}
+
+/// A text with zeros after it.
+fn padded(contents: &[u8]) -> [u8; 32]
+    ensures { result ≡ with_front contents.now (replicate 32 0) }
+{
+    let mut text = [0; 32];
+    let mut length = 0;
+    copy_front(contents, &mut text, &mut length);
+    text
+}
+
 /// A cell, for C.
 pub(crate) fn cell_of(cell: &Cell) -> CCell
     ensures { result ≡ cell_of cell.now }
 {
+    let width = width_of(cell);
     let contents = cell.contents().as_bytes();
-    let mut text = [0; 32];
-    let length = contents.len().min(32);
-    text[..length].copy_from_slice(&contents[..length]);
     let attrs = cell.attrs();
     CCell {
-        text,
-        length: length as u8,
-        width: width_of(cell),
+        text: padded(contents),
+        length: byte_of(contents.len()),
+        width,
         attributes: attrs.mode,
         reserved: 0,
         foreground: color_of(attrs.fgcolor),

@@ -1,9 +1,10 @@
 //! Screens.
-ghost use Rattle.std.specs.Prelude.{◌≡◌, ◌×◌, IfOk, IfErr};
+ghost use Rattle.std.specs.Prelude.{◌≡◌, IfOk, IfErr};
 ghost use Rattle.c_objects.specs.Codes.{IsRefusal};
 ghost use Rattle.c_objects.specs.Hubs.{IsNoObjectCode};
 ghost use Rattle.c_objects.specs.Objects.{ScreenDoes, ScreenSays};
-ghost use Rattle.c_objects.specs.Screens.{IsNewScreenOf, Processes, ResizesMarked, ScrollsMarked, Marks, TellsOldest};
+ghost use Rattle.c_objects.specs.Screens.{IsNewScreenOf, Processes, ResizesTo, ResizesMarked, ScrollsMarked, Marks};
+ghost use Rattle.c_objects.specs.Screens.{TellsOldest};
 ghost use Rattle.c_objects.specs.Screens.{Looks, HasCell, HasRow, HasContents, HasBetween};
 ghost use Rattle.c_objects.specs.Screens.{HasFormatted, HasState, HasDifference};
 
@@ -58,18 +59,24 @@ pub fn process(object: &mut Object, bytes: &[u8]) -> i32
     }
 }
 
-fn resize_marked(marked: &mut Marked, rows: u16, cols: u16) -> i32
-    ensures { ResizesMarked rows cols marked.old result marked.new }
+fn resize_to(marked: &mut Marked, rows: NonZeroU16, cols: NonZeroU16) -> i32
+    ensures { ResizesTo rows.value cols.value marked.old result marked.new }
 {
-    let (Some(rows), Some(cols)) = (NonZeroU16::new(rows), NonZeroU16::new(cols)) else {
-        return BAD_SIZE;
-    };
     match marked.parser.set_size(rows, cols) {
         Ok(()) => {
             marked.mark = None;
             OK
         }
         Err(error) => screen_refusal(error),
+    }
+}
+
+fn resize_marked(marked: &mut Marked, rows: u16, cols: u16) -> i32
+    ensures { ResizesMarked rows cols marked.old result marked.new }
+{
+    match (NonZeroU16::new(rows), NonZeroU16::new(cols)) {
+        (Some(rows), Some(cols)) => resize_to(marked, rows, cols),
+        _ => BAD_SIZE,
     }
 }
 

@@ -1,5 +1,5 @@
 //! Views.
-ghost use Rattle.std.specs.Prelude.{◌≡◌, ◌×◌, IfOk, IfErr};
+ghost use Rattle.std.specs.Prelude.{◌≡◌, IfOk, IfErr};
 ghost use Rattle.c_objects.specs.Codes.{IsRefusal};
 ghost use Rattle.c_objects.specs.Hubs.{IsNoObjectCode};
 ghost use Rattle.c_objects.specs.Objects.{ViewDoes, ViewSays};

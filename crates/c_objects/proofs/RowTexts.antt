@@ -1,0 +1,17 @@
+-- A row's text that is sent to a vector.
+use Rattle.std.proofs.Common.{◌≡◌, ◌∙◌, ℕ, List, [], ◌++◌, Option, Some, Result, Ok, refl, ap}
+use Rattle.std.specs.Global.{Vec}
+use Rattle.takers.specs.Pump.{Writes}
+use Rattle.takers.specs.Sent.{SendsText}
+use Rattle.takers.proofs.SendLemmas.{text-appends}
+
+abbrev held : Vec ℕ → Option (List ℕ)
+held v = Some v.items
+
+-- an empty vector holds the text then
+pub row-text : (w v : Vec ℕ) (text : List ℕ) (u : Unit {0}) → SendsText (Writes held) w text (Ok u) v → w.items ≡ []
+    → v.items ≡ text
+row-text w v text u sends none =
+    let grown : v.items ≡ w.items ++ text =
+    text-appends (Vec ℕ) (Writes held) held (λ s bytes answer t told. told) w v text (Ok u) sends refl in
+    grown ∙ ap (λ xs. xs ++ text) none

@@ -1,0 +1,8 @@
+use Rattle.c_objects.proofs.Did.{screen_did}
+use Rattle.c_objects.specs.Screens.{ResizesMarked}
+use Rattle.c_objects.proofs.screen.resize.Goals as goal
+
+pub returns-in-Screen : goal.returns-in-Screen
+returns-in-Screen c =
+    screen_did (ResizesMarked c.args.rows c.args.cols) _ _ _ _ c.resize_marked.type_inv c.in-Screen.is
+    c.resize_marked.ensures
