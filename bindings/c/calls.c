@@ -1,0 +1,262 @@
+/* Every call, its examples byte for byte, and each code but those of refused memory. */
+#include "tried.h"
+
+static void codes_of_words(void) {
+    jeihpal_hub hub = JEIHPAL_INIT;
+    jeihpal_view view = JEIHPAL_INIT;
+    jeihpal_screen screen = JEIHPAL_INIT;
+    size_t length = 77;
+    CHECK(jeihpal_abi() == JEIHPAL_ABI);
+    CHECK(jeihpal_hub_feed(&hub, BYTES("x")) == JEIHPAL_CLOSED);
+    CHECK(jeihpal_view_held(&view, &length) == JEIHPAL_CLOSED && length == 77);
+    CHECK(jeihpal_screen_mark(&screen) == JEIHPAL_CLOSED);
+    CHECK(jeihpal_hub_new(&hub, 0, 20) == JEIHPAL_BAD_SIZE && !hub.held);
+    CHECK(jeihpal_view_new(&view, 20, 0) == JEIHPAL_BAD_SIZE && !view.held);
+    CHECK(jeihpal_screen_new(&screen, 0, 0, 0) == JEIHPAL_BAD_SIZE && !screen.held);
+    CHECK(jeihpal_view_new(&view, 1, 1) == JEIHPAL_OK && view.held);
+    CHECK(jeihpal_hub_feed((jeihpal_hub *)&view, BYTES("x")) == JEIHPAL_OTHER_KIND);
+    CHECK(jeihpal_screen_process((jeihpal_screen *)&view, BYTES("x")) == JEIHPAL_OTHER_KIND);
+    CHECK(jeihpal_view_new(&view, 0, 1) == JEIHPAL_BAD_SIZE && !view.held); /* what it held is closed */
+    CHECK(jeihpal_hub_new(&hub, 2, 3) == JEIHPAL_OK && jeihpal_hub_new(&hub, 3, 2) == JEIHPAL_OK);
+    CHECK(jeihpal_view_advance((jeihpal_view *)&hub, BYTES("x")) == JEIHPAL_OTHER_KIND);
+    jeihpal_hub_close(&hub);
+    CHECK(!hub.held && jeihpal_hub_detach(&hub, 0) == JEIHPAL_CLOSED);
+    jeihpal_hub_close(&hub);
+    jeihpal_view_close(&view);
+    jeihpal_screen_close(&screen);
+}
+
+static void frames(void) {
+    jeihpal_hub hub = JEIHPAL_INIT;
+    jeihpal_view view = JEIHPAL_INIT;
+    uint8_t text[1024];
+    size_t client, other, length;
+    CHECK(jeihpal_hub_new(&hub, 1, 20) == JEIHPAL_OK && jeihpal_view_new(&view, 1, 20) == JEIHPAL_OK);
+    CHECK(jeihpal_hub_attach(&hub, &client) == JEIHPAL_OK && jeihpal_hub_attach(&hub, &other) == JEIHPAL_OK);
+    CHECK(client != other && jeihpal_hub_frame(&hub, 77) == JEIHPAL_UNKNOWN_CLIENT);
+    CHECK(jeihpal_hub_feed(&hub, BYTES("[####      ]  40%")) == JEIHPAL_OK);
+    CHECK(jeihpal_hub_frame(&hub, client) == JEIHPAL_FULL &&
+          jeihpal_hub_frame(&hub, client) == JEIHPAL_BEHIND);
+    CHECK(jeihpal_hub_owed(&hub, client, text, sizeof text, &length) == JEIHPAL_OK);
+    CHECK(is_text(
+        text, length,
+        "\x1b[?2026h\x1b[?25h\x1b[m\x1b[H\x1b[J[####      ]  40%\x1b>\x1b[?1l\x1b[?2004l\x1b[?2026l"));
+    CHECK(jeihpal_hub_sent(&hub, client, length + 1) == JEIHPAL_NOT_OWED);
+    tried_carry(&hub, client, &view, 5);
+    CHECK(jeihpal_hub_frame(&hub, client) == JEIHPAL_UNCHANGED);
+    CHECK(jeihpal_hub_feed(&hub, BYTES("\r[########  ]  80%")) == JEIHPAL_OK);
+    CHECK(jeihpal_hub_frame(&hub, client) == JEIHPAL_DIFFERENCE);
+    CHECK(jeihpal_hub_owed(&hub, client, text, 4, &length) == JEIHPAL_OK && length > 4);
+    tried_carry(&hub, client, &view, 3);
+    CHECK(jeihpal_view_row_text(&view, 0, text, sizeof text, &length) == JEIHPAL_OK);
+    CHECK(is_text(text, length, "[########  ]  80%"));
+    CHECK(jeihpal_hub_row_text(&hub, 0, text, sizeof text, &length) == JEIHPAL_OK);
+    CHECK(is_text(text, length, "[########  ]  80%"));
+    CHECK(jeihpal_hub_detach(&hub, other) == JEIHPAL_OK);
+    CHECK(jeihpal_hub_detach(&hub, other) == JEIHPAL_UNKNOWN_CLIENT);
+    CHECK(jeihpal_hub_owed(&hub, other, text, sizeof text, &length) == JEIHPAL_UNKNOWN_CLIENT);
+    CHECK(jeihpal_hub_sent(&hub, other, 0) == JEIHPAL_UNKNOWN_CLIENT);
+    jeihpal_hub_close(&hub);
+    jeihpal_view_close(&view);
+}
+
+static void other_answers(void) {
+    jeihpal_hub hub = JEIHPAL_INIT;
+    jeihpal_look look;
+    char cell[64];
+    size_t client;
+    CHECK(jeihpal_hub_new(&hub, 300, 300) == JEIHPAL_OK && jeihpal_hub_attach(&hub, &client) == JEIHPAL_OK);
+    CHECK(jeihpal_hub_feed(&hub, BYTES("\x1b[?2026hx")) == JEIHPAL_OK);
+    CHECK(jeihpal_hub_frame(&hub, client) == JEIHPAL_HELD);
+    CHECK(jeihpal_hub_look(&hub, &look) == JEIHPAL_OK && look.updating == 1 && look.rows == 300);
+    CHECK(jeihpal_hub_resize(&hub, 0, 1) == JEIHPAL_BAD_SIZE &&
+          jeihpal_hub_frame(&hub, client) == JEIHPAL_HELD);
+    CHECK(jeihpal_hub_resize(&hub, 300, 300) == JEIHPAL_OK);
+    CHECK(jeihpal_hub_frame(&hub, client) == JEIHPAL_UNKNOWN_CLIENT);
+    CHECK(jeihpal_hub_attach(&hub, &client) == JEIHPAL_OK);
+    CHECK(jeihpal_hub_feed(&hub, BYTES("\xe2\x9d\xa4\xef\xb8\x8f")) == JEIHPAL_OK);
+    CHECK(jeihpal_hub_frame(&hub, client) == JEIHPAL_UNSURE);
+    CHECK(jeihpal_hub_feed(&hub, BYTES("\x1b[H\x1b[2J")) == JEIHPAL_OK);
+    for (int i = 0; i < 300 * 300; i++) {
+        int count = snprintf(cell, sizeof cell, "\x1b[38;2;%d;200;200;48;2;%d;100;%dmx", 100 + i % 100,
+                             100 + i % 99, 100 + i % 98);
+        CHECK(jeihpal_hub_feed(&hub, (const uint8_t *)cell, (size_t)count) == JEIHPAL_OK);
+    }
+    CHECK(jeihpal_hub_attach(&hub, &client) == JEIHPAL_OK);
+    CHECK(jeihpal_hub_frame(&hub, client) == JEIHPAL_TOO_LONG);
+    jeihpal_hub_close(&hub);
+}
+
+static void view_cells(void) {
+    jeihpal_view view = JEIHPAL_INIT;
+    jeihpal_cell cell;
+    jeihpal_look look;
+    size_t held;
+    CHECK(jeihpal_view_new(&view, 2, 9) == JEIHPAL_OK);
+    CHECK(jeihpal_view_advance(&view, BYTES("\x1b[1;3;4;7;38;5;9;48;2;1;2;3m\xe7\xb1\xb3\x1b[m\x1b[2m"
+                                            "e\xcc\x81")) == JEIHPAL_OK);
+    CHECK(jeihpal_view_cell(&view, 0, 0, &cell) == JEIHPAL_OK && cell.width == 2 &&
+          is_text(cell.text, cell.length, "\xe7\xb1\xb3"));
+    CHECK(cell.attributes == (JEIHPAL_BOLD | JEIHPAL_ITALIC | JEIHPAL_UNDERLINED | JEIHPAL_INVERSE) &&
+          cell.reserved == 0);
+    CHECK(cell.foreground.kind == JEIHPAL_COLOR_INDEXED && cell.foreground.red_or_index == 9);
+    CHECK(cell.background.kind == JEIHPAL_COLOR_RGB && cell.background.red_or_index == 1);
+    CHECK(cell.background.green == 2 && cell.background.blue == 3);
+    CHECK(jeihpal_view_cell(&view, 0, 1, &cell) == JEIHPAL_OK && cell.width == 0 && cell.length == 0);
+    CHECK(jeihpal_view_cell(&view, 0, 2, &cell) == JEIHPAL_OK &&
+          is_text(cell.text, cell.length, "e\xcc\x81"));
+    CHECK(cell.attributes == JEIHPAL_DIM && cell.foreground.kind == JEIHPAL_COLOR_DEFAULT &&
+          cell.text[3] == 0 && cell.text[31] == 0);
+    CHECK(jeihpal_view_cell(&view, 2, 0, &cell) == JEIHPAL_NO_CELL &&
+          jeihpal_view_cell(&view, 0, 9, &cell) == JEIHPAL_NO_CELL);
+    CHECK(jeihpal_view_advance(&view, BYTES("\x1b[?1003;1006;2004;1h\x1b=\x1b[?25l\x1b[4 q\x1b[2;9Hx")) ==
+          JEIHPAL_OK);
+    CHECK(jeihpal_view_look(&view, &look) == JEIHPAL_OK && look.rows == 2 && look.cols == 9 &&
+          look.row == 1 && look.col == 9);
+    CHECK(look.hidden && look.style == 4 && look.mouse == JEIHPAL_MOUSE_ANY_MOTION &&
+          look.encoding == JEIHPAL_ENCODING_SGR);
+    CHECK(look.keypad && look.cursor_keys && look.paste && !look.failed && !look.kept && !look.scrolled);
+    CHECK(jeihpal_view_advance(&view, BYTES("\x1b[?2026h\x1b[H\x1b[J")) == JEIHPAL_OK);
+    CHECK(jeihpal_view_held(&view, &held) == JEIHPAL_OK && held > 0);
+    CHECK(jeihpal_view_cell(&view, 0, 0, &cell) == JEIHPAL_OK && cell.width == 2);
+    CHECK(jeihpal_view_stop(&view) == JEIHPAL_OK && jeihpal_view_held(&view, &held) == JEIHPAL_OK &&
+          held == 0);
+    CHECK(jeihpal_view_cell(&view, 0, 0, &cell) == JEIHPAL_OK && cell.length == 0);
+    jeihpal_view_close(&view);
+}
+
+static void screens(void) {
+    jeihpal_screen screen = JEIHPAL_INIT;
+    uint8_t text[1024];
+    size_t length;
+    CHECK(jeihpal_screen_new(&screen, 24, 80, 10) == JEIHPAL_OK);
+    CHECK(jeihpal_screen_process(&screen, BYTES("this text is \x1b[31mRED\x1b[m")) == JEIHPAL_OK);
+    CHECK(jeihpal_screen_contents_formatted(&screen, text, sizeof text, &length) == JEIHPAL_OK);
+    CHECK(is_text(text, length, "\x1b[?25h\x1b[m\x1b[H\x1b[Jthis text is \x1b[31mRED\x1b[m"));
+    CHECK(jeihpal_screen_state(&screen, text, sizeof text, &length) == JEIHPAL_OK);
+    CHECK(is_text(text, length,
+                  "\x1b[?25h\x1b[m\x1b[H\x1b[Jthis text is \x1b[31mRED\x1b[m\x1b>\x1b[?1l\x1b[?2004l"));
+    CHECK(jeihpal_screen_mark(&screen) == JEIHPAL_OK);
+    CHECK(jeihpal_screen_process(&screen, BYTES("\x1b[3D\x1b[32mGREEN")) == JEIHPAL_OK);
+    CHECK(jeihpal_screen_contents(&screen, text, sizeof text, &length) == JEIHPAL_OK);
+    CHECK(is_text(text, length, "this text is GREEN"));
+    CHECK(jeihpal_screen_difference(&screen, text, sizeof text, &length) == JEIHPAL_OK);
+    CHECK(is_text(text, length, "\x1b[1;14H\x1b[32mGREEN"));
+    CHECK(jeihpal_screen_contents_between(&screen, 0, 5, 0, 9, text, sizeof text, &length) == JEIHPAL_OK);
+    CHECK(is_text(text, length, "text"));
+    memset(text, '.', sizeof text);
+    CHECK(jeihpal_screen_contents(&screen, text, 4, &length) == JEIHPAL_OK && length == 18);
+    CHECK(is_text(text, 6, "this.."));
+    CHECK(jeihpal_screen_contents(&screen, text, 0, &length) == JEIHPAL_OK && length == 18 && text[0] == 't');
+    jeihpal_screen_close(&screen);
+}
+
+static void scrollback(void) {
+    jeihpal_screen screen = JEIHPAL_INIT;
+    jeihpal_look look;
+    jeihpal_cell cell;
+    uint8_t text[64];
+    size_t length;
+    CHECK(jeihpal_screen_new(&screen, 2, 5, 3) == JEIHPAL_OK);
+    CHECK(jeihpal_screen_process(&screen, BYTES("a\r\nb\r\nc\r\nd\x1b[?2026h")) == JEIHPAL_OK);
+    CHECK(jeihpal_screen_look(&screen, &look) == JEIHPAL_OK && look.kept == 2 && look.scrolled == 0 &&
+          look.updating);
+    CHECK(jeihpal_screen_scroll(&screen, 9) == JEIHPAL_OK);
+    CHECK(jeihpal_screen_look(&screen, &look) == JEIHPAL_OK && look.scrolled == 2);
+    CHECK(jeihpal_screen_row_text(&screen, 1, text, sizeof text, &length) == JEIHPAL_OK &&
+          is_text(text, length, "b"));
+    CHECK(jeihpal_screen_cell(&screen, 0, 0, &cell) == JEIHPAL_OK && cell.text[0] == 'a');
+    CHECK(jeihpal_screen_cell(&screen, 2, 0, &cell) == JEIHPAL_NO_CELL);
+    CHECK(jeihpal_screen_scroll(&screen, 0) == JEIHPAL_OK &&
+          jeihpal_screen_resize(&screen, 3, 4) == JEIHPAL_OK);
+    CHECK(jeihpal_screen_look(&screen, &look) == JEIHPAL_OK && look.rows == 3 && look.cols == 4 &&
+          !look.updating);
+    CHECK(jeihpal_screen_resize(&screen, 3, 0) == JEIHPAL_BAD_SIZE);
+    jeihpal_screen_close(&screen);
+}
+
+static void requests(void) {
+    jeihpal_screen screen = JEIHPAL_INIT;
+    jeihpal_request request;
+    uint8_t text[64];
+    CHECK(jeihpal_screen_new(&screen, 2, 5, 0) == JEIHPAL_OK);
+    CHECK(jeihpal_screen_request(&screen, text, sizeof text, &request) == JEIHPAL_NO_REQUEST &&
+          request.kind == 0);
+    CHECK(
+        jeihpal_screen_process(
+            &screen, BYTES("\a\x1bg\x1b[8;30;0t\x1b]1;icon\a\x1b]2;title\a\x1b]52;cp;aGk=\a\x1b]52;s;?\a")) ==
+        JEIHPAL_OK);
+    CHECK(jeihpal_screen_request(&screen, text, sizeof text, &request) == JEIHPAL_BELL &&
+          request.length == 0);
+    CHECK(jeihpal_screen_request(&screen, text, sizeof text, &request) == JEIHPAL_VISUAL_BELL);
+    CHECK(jeihpal_screen_request(&screen, text, sizeof text, &request) == JEIHPAL_RESIZE &&
+          request.rows == 30 && request.cols == 0);
+    CHECK(jeihpal_screen_request(&screen, text, sizeof text, &request) == JEIHPAL_ICON_NAME &&
+          is_text(text, request.length, "icon"));
+    CHECK(jeihpal_screen_request(&screen, text, 2, &request) == JEIHPAL_TITLE &&
+          request.length == 5); /* it stays */
+    CHECK(jeihpal_screen_request(&screen, text, 5, &request) == JEIHPAL_TITLE &&
+          is_text(text, request.length, "title"));
+    CHECK(jeihpal_screen_request(&screen, text, sizeof text, &request) == JEIHPAL_COPY &&
+          request.letters == 2);
+    CHECK(is_text(text, request.length, "cpaGk="));
+    CHECK(jeihpal_screen_request(&screen, text, sizeof text, &request) == JEIHPAL_PASTE &&
+          is_text(text, request.length, "s"));
+    CHECK(request.letters == 1 && request.dropped == 0);
+    for (int i = 0; i < JEIHPAL_MOST_REQUESTS + 2; i++)
+        CHECK(jeihpal_screen_process(&screen, BYTES("\a")) == JEIHPAL_OK);
+    CHECK(jeihpal_screen_request(&screen, text, sizeof text, &request) == JEIHPAL_BELL &&
+          request.dropped == 2);
+    jeihpal_screen_close(&screen);
+}
+
+/* What a session of examples/ leaves, as a view shows it, is what stands beside it. */
+static void session(const char *folder, const char *name, uint16_t rows, uint16_t cols) {
+    static uint8_t bytes[65536], wanted[65536], shown[65536];
+    char path[4096];
+    size_t client, count, length, at = 0;
+    jeihpal_hub hub = JEIHPAL_INIT;
+    jeihpal_view view = JEIHPAL_INIT;
+    snprintf(path, sizeof path, "%s/%s.session", folder, name);
+    FILE *file = fopen(path, "rb");
+    CHECK(file);
+    count = fread(bytes, 1, sizeof bytes, file);
+    fclose(file);
+    CHECK(jeihpal_hub_new(&hub, rows, cols) == JEIHPAL_OK &&
+          jeihpal_view_new(&view, rows, cols) == JEIHPAL_OK);
+    CHECK(jeihpal_hub_attach(&hub, &client) == JEIHPAL_OK);
+    for (size_t from = 0; from < count; from += 7) {
+        CHECK(jeihpal_hub_feed(&hub, bytes + from, count - from < 7 ? count - from : 7) == JEIHPAL_OK);
+        CHECK(jeihpal_hub_frame(&hub, client) >= 0);
+        tried_carry(&hub, client, &view, 11);
+    }
+    for (uint16_t row = 0; row < rows; row++) {
+        CHECK(jeihpal_view_row_text(&view, row, shown + at, sizeof shown - at, &length) == JEIHPAL_OK);
+        at += length;
+        shown[at++] = '\n';
+    }
+    snprintf(path, sizeof path, "%s/%s.screen", folder, name);
+    file = fopen(path, "rb");
+    CHECK(file);
+    count = fread(wanted, 1, sizeof wanted, file);
+    fclose(file);
+    CHECK(count == at && memcmp(wanted, shown, at) == 0);
+    jeihpal_hub_close(&hub);
+    jeihpal_view_close(&view);
+}
+
+int main(int count, char **words) {
+    codes_of_words();
+    frames();
+    other_answers();
+    view_cells();
+    screens();
+    scrollback();
+    requests();
+    if (count > 1) {
+        session(words[1], "build", 12, 40);
+        session(words[1], "editor", 8, 40);
+    }
+    puts("calls: well");
+    return 0;
+}

@@ -1,0 +1,115 @@
+/* Each request for memory is refused in turn: every call answers a code that is right then, and nothing
+ * leaks. The library's own lines for memory are replaced by those below. */
+#include "tried.h"
+#include <stdbool.h>
+
+struct tried {
+    bool ok;
+    void *place;
+};
+struct tried rattle_alloc(size_t count, size_t align);
+struct tried rattle_realloc(void *old, size_t kept, size_t count, size_t align);
+void rattle_dealloc(void *place);
+
+static long live, requested, refused_at;
+static char nothing[16];
+
+struct tried rattle_alloc(size_t count, size_t align) {
+    (void)align;
+    if (count == 0) return (struct tried){true, nothing};
+    if (++requested == refused_at) return (struct tried){false, NULL};
+    void *place = malloc(count);
+    CHECK(place);
+    live++;
+    return (struct tried){true, place};
+}
+
+struct tried rattle_realloc(void *old, size_t kept, size_t count, size_t align) {
+    (void)kept;
+    (void)align;
+    if (++requested == refused_at) return (struct tried){false, NULL};
+    void *place = realloc(old, count);
+    CHECK(place);
+    return (struct tried){true, place};
+}
+
+void rattle_dealloc(void *place) {
+    CHECK(place != nothing);
+    free(place);
+    live--;
+}
+
+static long codes[16], made;
+
+/* Notes a code: done, or refused for lack of memory, now or before. */
+static int32_t noted(int32_t code) {
+    CHECK(code >= 0 || code == JEIHPAL_MEMORY || code == JEIHPAL_FAILED);
+    if (code < 0) codes[-code]++, made++;
+    return code;
+}
+
+static uint8_t to[1 << 16];
+
+static void use_hub(jeihpal_hub *hub, jeihpal_view *view) {
+    size_t client = 0, length = 0;
+    int32_t fed = noted(jeihpal_hub_feed(hub, BYTES("one\r\ntwo\x1b[?1049hthree\xe7\xb1\xb3")));
+    int32_t attached = noted(jeihpal_hub_attach(hub, &client));
+    CHECK((attached == JEIHPAL_FAILED) == (fed == JEIHPAL_MEMORY));
+    if (attached == JEIHPAL_OK) {
+        int32_t frame = noted(jeihpal_hub_frame(hub, client));
+        CHECK(jeihpal_hub_owed(hub, client, to, sizeof to, &length) == JEIHPAL_OK);
+        CHECK((frame >= JEIHPAL_FULL) == (length > 0));
+        if (view->held) CHECK(jeihpal_view_advance(view, to, length) == JEIHPAL_OK);
+        CHECK(jeihpal_hub_sent(hub, client, length) == JEIHPAL_OK);
+    }
+    noted(jeihpal_hub_contents(hub, to, sizeof to, &length));
+    noted(jeihpal_hub_row_text(hub, 1, to, sizeof to, &length));
+    noted(jeihpal_hub_resize(hub, 6, 9));
+}
+
+static void use_screen(jeihpal_screen *screen) {
+    size_t length;
+    jeihpal_request request;
+    noted(jeihpal_screen_process(screen, BYTES("a\r\nb\x1b]2;title\a\r\n\r\n\r\n\r\nc\r\n")));
+    CHECK(jeihpal_screen_request(screen, to, sizeof to, &request) >= 0);
+    made += (long)request.dropped; /* one that finds no memory is counted there */
+    noted(jeihpal_screen_mark(screen));
+    noted(jeihpal_screen_process(screen, BYTES("\x1b[?1049hd")));
+    noted(jeihpal_screen_difference(screen, to, sizeof to, &length));
+    noted(jeihpal_screen_state(screen, to, sizeof to, &length));
+    noted(jeihpal_screen_contents(screen, to, sizeof to, &length));
+    noted(jeihpal_screen_contents_between(screen, 0, 0, 3, 1, to, sizeof to, &length));
+    noted(jeihpal_screen_scroll(screen, 1));
+    noted(jeihpal_screen_resize(screen, 7, 21));
+}
+
+/* Uses an object of each kind, and closes them. */
+static void run(void) {
+    jeihpal_hub hub = JEIHPAL_INIT;
+    jeihpal_view view = JEIHPAL_INIT;
+    jeihpal_screen screen = JEIHPAL_INIT;
+    size_t length;
+    if (noted(jeihpal_view_new(&view, 5, 20)) < 0) CHECK(!view.held);
+    if (noted(jeihpal_hub_new(&hub, 5, 20)) < 0) CHECK(!hub.held);
+    if (hub.held) use_hub(&hub, &view);
+    if (view.held) noted(jeihpal_view_row_text(&view, 0, to, sizeof to, &length));
+    if (noted(jeihpal_screen_new(&screen, 5, 20, 3)) < 0) CHECK(!screen.held);
+    if (screen.held) use_screen(&screen);
+    jeihpal_hub_close(&hub);
+    jeihpal_view_close(&view);
+    jeihpal_screen_close(&screen);
+    CHECK(live == 0);
+}
+
+int main(void) {
+    long refused = 0;
+    for (refused_at = 1;; refused_at++, refused++) {
+        requested = made = 0;
+        run();
+        if (requested < refused_at) break;
+        CHECK(made > 0 || refused_at == 0);
+    }
+    CHECK(codes[-JEIHPAL_MEMORY] > 0 && codes[-JEIHPAL_FAILED] > 0);
+    printf("refuse: well, %ld requests refused, of which no block was lost\n", refused);
+    return 0;
+}

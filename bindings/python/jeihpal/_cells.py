@@ -1,0 +1,137 @@
+"""What a screen shows: colours, cells, and its size, cursor and modes."""
+
+from __future__ import annotations
+
+import enum
+import functools
+from typing import NamedTuple, Union
+
+from ._library import RawCell, RawColor, RawLook
+
+
+class Rgb(NamedTuple):
+    """A colour by its parts, each 0 to 255."""
+
+    red: int
+    green: int
+    blue: int
+
+
+# None is the terminal's own colour, and a number is one of the 256 numbered ones.
+Color = Union[None, int, Rgb]
+
+
+class Attributes(enum.IntFlag):
+    """How a cell's text is drawn. Where both BOLD and DIM are set it is bold."""
+
+    BOLD = 1
+    DIM = 2
+    ITALIC = 4
+    UNDERLINED = 8
+    INVERSE = 16
+
+
+class Cell(NamedTuple):
+    """One cell of a screen."""
+
+    text: str
+    """A character and the zero-width ones that joined it, or nothing."""
+    width: int
+    """1; 2 where the cell takes the next column too; 0 for the second half of such a cell."""
+    foreground: Color
+    background: Color
+    attributes: Attributes
+
+
+class Mouse(enum.IntEnum):
+    """Which mouse events a program asks for."""
+
+    NONE = 0
+    PRESS = 1
+    PRESS_RELEASE = 2
+    BUTTON_MOTION = 3
+    ANY_MOTION = 4
+
+
+class Encoding(enum.IntEnum):
+    """How mouse events are written."""
+
+    DEFAULT = 0
+    UTF8 = 1
+    SGR = 2
+
+
+class Look(NamedTuple):
+    """A screen's size, cursor and modes."""
+
+    kept: int
+    """How many rows have scrolled off and are kept; 0 in a hub or a view."""
+    scrolled: int
+    """How many of them are shown; 0 in a hub or a view."""
+    rows: int
+    cols: int
+    row: int
+    """The cursor's row, from 0."""
+    col: int
+    """The cursor's column, from 0; it is `cols` where the next character goes to the next row."""
+    hidden: bool
+    """The cursor is hidden."""
+    style: int
+    """How the cursor looks: the number of DECSCUSR, 0 to 6."""
+    mouse: Mouse
+    encoding: Encoding
+    keypad: bool
+    """The keypad sends application sequences."""
+    cursor_keys: bool
+    """The cursor keys do."""
+    paste: bool
+    """Pasted text is marked as such (private mode 2004)."""
+    alternate: bool
+    """The alternate screen is shown; never in a view."""
+    updating: bool
+    """The program is in a synchronized update of its own (private mode 2026); never in a view."""
+    failed: bool
+    """The screen has failed for lack of memory; never in a view."""
+
+
+_BY_NUMBER = [Attributes(number) for number in range(32)]
+
+
+def color_of(raw: RawColor) -> Color:
+    """The colour that the library's struct says."""
+    if raw.kind == 0:
+        return None
+    if raw.kind == 1:
+        return raw.red_or_index
+    return Rgb(raw.red_or_index, raw.green, raw.blue)
+
+
+def cell_of(raw: RawCell) -> Cell:
+    """The cell that the library's struct says."""
+    return _cell_of(bytes(raw))
+
+
+@functools.lru_cache(maxsize=4096)
+def _cell_of(data: bytes) -> Cell:
+    """The same; cells of a screen are much alike."""
+    raw = RawCell.from_buffer_copy(data)
+    text = bytes(raw.text[: raw.length]).decode() if raw.length else ""
+    attributes = _BY_NUMBER[raw.attributes]
+    return Cell(text, raw.width, color_of(raw.foreground), color_of(raw.background), attributes)
+
+
+def look_of(raw: RawLook) -> Look:
+    """The look that the library's struct says."""
+    return Look(
+        *(raw.kept, raw.scrolled, raw.rows, raw.cols, raw.row, raw.col),
+        hidden=bool(raw.hidden),
+        style=raw.style,
+        mouse=Mouse(raw.mouse),
+        encoding=Encoding(raw.encoding),
+        keypad=bool(raw.keypad),
+        cursor_keys=bool(raw.cursor_keys),
+        paste=bool(raw.paste),
+        alternate=bool(raw.alternate),
+        updating=bool(raw.updating),
+        failed=bool(raw.failed),
+    )

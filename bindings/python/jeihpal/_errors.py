@@ -1,0 +1,34 @@
+"""What a refused call raises."""
+
+from __future__ import annotations
+
+
+class JeihpalError(Exception):
+    """A call was refused."""
+
+
+class Failed(JeihpalError):
+    """An earlier call found no memory, and what the screen shows is open: make a new object."""
+
+
+class UnknownClient(JeihpalError, LookupError):
+    """The client has ended, or never was."""
+
+
+class NotOwed(JeihpalError, ValueError):
+    """Fewer bytes are owed."""
+
+
+def refusal(code: int) -> Exception:
+    """The exception for a code of the library that is less than 0."""
+    if code == -4:
+        return MemoryError("the library found no memory")
+    known = {
+        -1: ValueError("it is closed"),
+        -3: ValueError("a size is 1 to 65,535 rows and columns"),
+        -5: Failed("an earlier call found no memory"),
+        -6: UnknownClient("the client has ended, or never was"),
+        -7: NotOwed("fewer bytes are owed"),
+        -8: IndexError("the place is outside the screen"),
+    }
+    return known.get(code) or JeihpalError(f"the library answered {code}")

@@ -1,0 +1,77 @@
+"""Hubs."""
+
+from __future__ import annotations
+
+import enum
+
+from ._object import Object, checked_count, checked_size
+
+
+class Answer(enum.IntEnum):
+    """What a request for a frame is answered."""
+
+    UNCHANGED = 0
+    """The screen shows what it did at the client's last frame."""
+    BEHIND = 1
+    """Bytes of the last frame are still owed."""
+    HELD = 2
+    """The program is in a synchronized update of its own (private mode 2026)."""
+    TOO_LONG = 3
+    """The frame would be longer than 2,097,150 bytes; never for up to 2,000 cells."""
+    FULL = 4
+    """The frame leads from any picture."""
+    DIFFERENCE = 5
+    """It leads from the picture of the client's last frame."""
+    UNSURE = 6
+    """As FULL, of a screen that shows U+FE0F, on whose width terminals disagree."""
+
+    @property
+    def is_frame(self) -> bool:
+        """Whether the client is owed a new frame now."""
+        return self >= Answer.FULL
+
+
+class Hub(Object):
+    """One program's screen, and clients that are sent frames of it."""
+
+    _kind = "hub"
+
+    def __init__(self, rows: int, cols: int) -> None:
+        """A blank screen of this size, without clients."""
+        super().__init__(checked_size(rows), checked_size(cols))
+
+    def feed(self, data: bytes) -> None:
+        """Gives the program's next bytes to the screen. They may be cut anywhere.
+
+        After a MemoryError the hub has failed: no frame is made any more, but what is owed can be sent.
+        """
+        self._give("feed", data)
+
+    def resize(self, rows: int, cols: int) -> None:
+        """Gives the screen another size, or the same, and ends the program's synchronized update. Every client ends."""
+        self._call("resize", checked_size(rows), checked_size(cols))
+
+    def attach(self) -> int:
+        """A new client, by its key. The key of one that has ended may be given again."""
+        self._call("attach", self._count)
+        return self._count.value
+
+    def detach(self, client: int) -> None:
+        """Ends a client; what it is owed is gone."""
+        self._call("detach", checked_count(client))
+
+    def frame(self, client: int) -> Answer:
+        """Asks for a frame. Where the answer is one, the client is owed it from now on."""
+        return Answer(self._call("frame", checked_count(client)))
+
+    def owed(self, client: int, most: int | None = None) -> bytes:
+        """The bytes that the client is owed, or the first `most` of them."""
+        return self._text("owed", checked_count(client), most=most)
+
+    def sent(self, client: int, count: int) -> None:
+        """The first `count` of the bytes that the client is owed were sent. They are owed no longer."""
+        self._call("sent", checked_count(client), checked_count(count))
+
+    def contents(self) -> str:
+        """The text of all rows."""
+        return self._text("contents").decode()

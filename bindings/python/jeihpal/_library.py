@@ -1,0 +1,137 @@
+"""The shared library: where it lies, its structs, and its functions' types."""
+
+from __future__ import annotations
+
+import ctypes
+import os
+
+ABI = 1
+
+_HERE = os.path.dirname(os.path.abspath(__file__))
+_PLACES = (
+    os.path.join(_HERE, "libjeihpal.so"),  # as installed
+    os.path.join(_HERE, "..", "..", "out", "libjeihpal.so"),  # as ./build --library leaves it in a checkout
+)
+
+
+class Word(ctypes.Structure):
+    """A hub, a view or a screen, as the library keeps it. It begins null."""
+
+    _fields_ = [("held", ctypes.c_void_p)]
+
+
+class RawColor(ctypes.Structure):
+    """jeihpal_color."""
+
+    _fields_ = [(name, ctypes.c_uint8) for name in ("kind", "red_or_index", "green", "blue")]
+
+
+class RawCell(ctypes.Structure):
+    """jeihpal_cell."""
+
+    _fields_ = [
+        ("text", ctypes.c_uint8 * 32),
+        ("length", ctypes.c_uint8),
+        ("width", ctypes.c_uint8),
+        ("attributes", ctypes.c_uint8),
+        ("reserved", ctypes.c_uint8),
+        ("foreground", RawColor),
+        ("background", RawColor),
+    ]
+
+
+class RawLook(ctypes.Structure):
+    """jeihpal_look."""
+
+    _fields_ = [
+        *[(name, ctypes.c_size_t) for name in ("kept", "scrolled")],
+        *[(name, ctypes.c_uint16) for name in ("rows", "cols", "row", "col")],
+        *[(name, ctypes.c_uint8) for name in ("hidden", "style", "mouse", "encoding", "keypad", "cursor_keys")],
+        *[(name, ctypes.c_uint8) for name in ("paste", "alternate", "updating", "failed")],
+    ]
+
+
+class RawRequest(ctypes.Structure):
+    """jeihpal_request."""
+
+    _fields_ = [
+        *[(name, ctypes.c_size_t) for name in ("length", "letters", "dropped")],
+        *[(name, ctypes.c_uint16) for name in ("rows", "cols")],
+        ("kind", ctypes.c_uint8),
+    ]
+
+
+_U16, _SIZE = ctypes.c_uint16, ctypes.c_size_t
+_BYTES = [ctypes.c_char_p, _SIZE]
+_OUT_SIZE = ctypes.POINTER(_SIZE)
+_TEXT = [ctypes.c_void_p, _SIZE, _OUT_SIZE]
+_LOOK = [ctypes.POINTER(RawLook)]
+_CELL = [_U16, _U16, ctypes.POINTER(RawCell)]
+
+# Of each function the parameters after the word.
+PARAMETERS = {
+    "hub_new": [_U16, _U16],
+    "hub_feed": _BYTES,
+    "hub_resize": [_U16, _U16],
+    "hub_attach": [_OUT_SIZE],
+    "hub_detach": [_SIZE],
+    "hub_frame": [_SIZE],
+    "hub_owed": [_SIZE, *_TEXT],
+    "hub_sent": [_SIZE, _SIZE],
+    "hub_look": _LOOK,
+    "hub_cell": _CELL,
+    "hub_row_text": [_U16, *_TEXT],
+    "hub_contents": _TEXT,
+    "view_new": [_U16, _U16],
+    "view_advance": _BYTES,
+    "view_stop": [],
+    "view_held": [_OUT_SIZE],
+    "view_look": _LOOK,
+    "view_cell": _CELL,
+    "view_row_text": [_U16, *_TEXT],
+    "screen_new": [_U16, _U16, _SIZE],
+    "screen_process": _BYTES,
+    "screen_resize": [_U16, _U16],
+    "screen_scroll": [_SIZE],
+    "screen_look": _LOOK,
+    "screen_cell": _CELL,
+    "screen_row_text": [_U16, *_TEXT],
+    "screen_contents": _TEXT,
+    "screen_contents_between": [_U16, _U16, _U16, _U16, *_TEXT],
+    "screen_contents_formatted": _TEXT,
+    "screen_state": _TEXT,
+    "screen_mark": [],
+    "screen_difference": _TEXT,
+    "screen_request": [ctypes.c_void_p, _SIZE, ctypes.POINTER(RawRequest)],
+}
+CLOSES = ("hub_close", "view_close", "screen_close")
+
+
+def _found() -> str:
+    """Where the library lies: as JEIHPAL_LIBRARY says, beside this module, or in the checkout."""
+    told = os.environ.get("JEIHPAL_LIBRARY")
+    places = (told,) if told else _PLACES
+    for place in places:
+        if os.path.isfile(place):
+            return place
+    raise ImportError(f"there is no libjeihpal.so at {' or '.join(places)}: ./build --library makes it")
+
+
+def _loaded() -> ctypes.CDLL:
+    """The library with its functions' types set."""
+    path = _found()
+    library = ctypes.CDLL(path)
+    library.jeihpal_abi.restype, library.jeihpal_abi.argtypes = ctypes.c_uint32, []
+    if library.jeihpal_abi() != ABI:
+        raise ImportError(f"{path} has interface {library.jeihpal_abi()}, and this module is for {ABI}")
+    word = ctypes.POINTER(Word)
+    for name, parameters in PARAMETERS.items():
+        function = getattr(library, f"jeihpal_{name}")
+        function.restype, function.argtypes = ctypes.c_int32, [word, *parameters]
+    for name in CLOSES:
+        function = getattr(library, f"jeihpal_{name}")
+        function.restype, function.argtypes = None, [word]
+    return library
+
+
+library = _loaded()

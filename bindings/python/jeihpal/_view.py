@@ -1,0 +1,33 @@
+"""Views."""
+
+from __future__ import annotations
+
+from ._object import Object, checked_size
+
+
+class View(Object):
+    """A small far terminal, which reads frames in any pieces."""
+
+    _kind = "view"
+
+    def __init__(self, rows: int, cols: int) -> None:
+        """A view of this size that shows nothing. It takes all the memory that it needs, but for texts."""
+        super().__init__(checked_size(rows), checked_size(cols))
+        self._rows = rows
+
+    def advance(self, data: bytes) -> None:
+        """Reads the next bytes. What a frame changes is shown once its last byte was read."""
+        self._give("advance", data)
+
+    def stop(self) -> None:
+        """Shows what is held back: for where a frame has begun and its end doesn't come."""
+        self._call("stop")
+
+    def held(self) -> int:
+        """How many bytes are held back, until the end of a frame or of a synchronized update."""
+        self._call("held", self._count)
+        return self._count.value
+
+    def text(self) -> str:
+        """The rows, a line for each."""
+        return "\n".join(self.row_text(row) for row in range(self._rows))

@@ -1,0 +1,7 @@
+"""A live screen that many watch: runs a command in a pseudo-terminal, and shows its screen to whoever connects.
+
+    share [--listen ADDRESS:PORT | --unix PATH] [--http ADDRESS:PORT] [--size RxC] [--rate N] [--] COMMAND [WORD ..]
+
+A watcher is any terminal, best of the command's size (`socat -,raw,echo=0 tcp:ADDRESS:PORT`), or a browser. Each gets
+frames as fast as it reads them. One that reads slowly is owed one frame, and then gets the newest.
+"""

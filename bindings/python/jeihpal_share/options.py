@@ -1,0 +1,82 @@
+"""The command line of share."""
+
+from __future__ import annotations
+
+import argparse
+import re
+from dataclasses import dataclass
+
+USAGE = (
+    "share [--listen ADDRESS:PORT | --unix PATH] [--http ADDRESS:PORT] [--size RxC] [--rate N] [--] COMMAND [WORD ..]"
+)
+ABOUT = """Runs a command in a pseudo-terminal and shows its screen to whoever connects.
+
+Watch with a terminal of the same size:  socat -,raw,echo=0 tcp:ADDRESS:PORT   (or nc ADDRESS PORT)
+Ctrl-C ends the watching. Watchers can't type. Without --listen, --unix and --http a free port of 127.0.0.1 is taken."""
+
+
+@dataclass(frozen=True)
+class Options:
+    """What the command line says."""
+
+    command: list[str]
+    listen: tuple[str, int] | None = None
+    unix: str | None = None
+    http: tuple[str, int] | None = None
+    size: tuple[int, int] | None = None
+    rate: float = 30.0
+
+
+def address(text: str) -> tuple[str, int]:
+    """An address and a port: HOST:PORT, [IPV6]:PORT, or a port of 127.0.0.1."""
+    host, _, port = text.rpartition(":")
+    host = host.strip("[]") if host.startswith("[") else host
+    if not re.fullmatch(r"\d{1,5}", port) or int(port) > 65535 or (not host and ":" in text):
+        raise argparse.ArgumentTypeError(f"{text!r} is not ADDRESS:PORT")
+    return host or "127.0.0.1", int(port)
+
+
+def size(text: str) -> tuple[int, int]:
+    """Rows and columns, as 24x80."""
+    found = re.fullmatch(r"(\d{1,5})x(\d{1,5})", text)
+    rows, cols = map(int, found.groups()) if found else (0, 0)
+    if not (0 < rows < 1 << 16 and 0 < cols < 1 << 16):
+        raise argparse.ArgumentTypeError(f"{text!r} is not ROWSxCOLUMNS")
+    return rows, cols
+
+
+def rate(text: str) -> float:
+    """Frames a second."""
+    try:
+        number = float(text)
+    except ValueError:
+        number = 0.0
+    if not 0.1 <= number <= 1000:
+        raise argparse.ArgumentTypeError(f"{text!r} is not 0.1 to 1000 frames a second")
+    return number
+
+
+def parsed(words: list[str]) -> Options:
+    """The options that the words give. Ends the program, with status 2, where they don't."""
+    parser = argparse.ArgumentParser(
+        prog="share",
+        usage=USAGE,
+        description=ABOUT,
+        formatter_class=argparse.RawDescriptionHelpFormatter,
+        allow_abbrev=False,
+    )
+    where = parser.add_mutually_exclusive_group()
+    where.add_argument("--listen", type=address, metavar="ADDRESS:PORT", help="where terminals may connect")
+    where.add_argument("--unix", metavar="PATH", help="the same, as a socket in the file system, of this user alone")
+    parser.add_argument("--http", type=address, metavar="ADDRESS:PORT", help="where browsers may watch")
+    parser.add_argument("--size", type=size, metavar="RxC", help="rows and columns (as the terminal here, else 24x80)")
+    parser.add_argument("--rate", type=rate, default=30.0, metavar="N", help="at most N frames a second (30)")
+    parser.add_argument("command", nargs=argparse.REMAINDER, metavar="COMMAND")
+    given = vars(parser.parse_args(words))
+    if given["command"][:1] == ["--"]:
+        del given["command"][0]
+    if not given["command"]:
+        parser.error("there is no command")
+    if not (given["listen"] or given["unix"] or given["http"]):
+        given["listen"] = ("127.0.0.1", 0)
+    return Options(**given)

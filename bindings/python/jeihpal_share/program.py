@@ -1,0 +1,209 @@
+"""share itself: a command, its screen, this terminal, and who watches, until the command has ended."""
+
+from __future__ import annotations
+
+import asyncio
+import contextlib
+import os
+import shutil
+import signal
+import socket
+import sys
+from typing import Callable
+
+from .notices import Notices
+from .options import Options, parsed
+from .page import Browsers
+from .screen import SharedScreen
+from .terminals import Command, LocalTerminal, Outlet, window
+from .watchers import Watchers, tcp_listener, unix_listener
+
+LINGER = 5.0  # seconds that watchers may take to read the last frame
+_DRAIN = 0.5  # seconds that what the command has started may write on after its end
+_KILL = 2.0  # seconds that the command may take to end when it is told to
+
+
+class Session:
+    """A command, its screen and this terminal. `ended` is done once the command has ended and all was read."""
+
+    def __init__(
+        self, loop: asyncio.AbstractEventLoop, command: Command, screen: SharedScreen, local: LocalTerminal | None
+    ) -> None:
+        self._loop, self._command, self._screen, self._local = loop, command, screen, local
+        self.ended: asyncio.Future[None] = loop.create_future()
+        self._is_read = False
+        self._keys = Outlet(loop, command.fd, self._read_keys)
+        self._picture = Outlet(loop, local.fd, self._read_command) if local else None
+
+    def start(self, has_own_size: bool) -> None:
+        """Begins to read. A screen that has no size of its own is as large as the terminal here."""
+        self._read_command()
+        self._loop.add_signal_handler(signal.SIGCHLD, self._reap)
+        for name in (signal.SIGTERM, signal.SIGHUP, signal.SIGINT):
+            self._loop.add_signal_handler(name, self.hang_up)
+        if self._local:
+            self._read_keys()
+            if not has_own_size:
+                self._loop.add_signal_handler(signal.SIGWINCH, self._resize)
+        self._reap()
+
+    def _read_command(self) -> None:
+        if not self._is_read:
+            self._loop.add_reader(self._command.fd, self._take_picture)
+
+    def _take_picture(self) -> None:
+        """The command's next bytes. A slow terminal here holds up the command, as without share."""
+        data = self._command.read()
+        if data:
+            self._screen.feed(data)
+            if self._picture:
+                self._picture.write(data)
+                if self._picture.is_full:
+                    self._loop.remove_reader(self._command.fd)
+        elif data is not None:
+            self._loop.remove_reader(self._command.fd)
+            self._is_read = True
+            self._reap()
+
+    def _read_keys(self) -> None:
+        assert self._local
+        self._loop.add_reader(self._local.fd, self._take_keys)
+
+    def _take_keys(self) -> None:
+        """The next keys that were typed here."""
+        assert self._local
+        keys = self._local.keys()
+        if keys:
+            self._keys.write(keys)
+        if keys == b"" or self._keys.is_full:
+            self._loop.remove_reader(self._local.fd)
+
+    def _resize(self) -> None:
+        """The terminal here has another size."""
+        assert self._local
+        size = window(self._local.fd)
+        if size != self._screen.size:
+            self._command.resize(*size)
+            self._screen.resize(*size)
+
+    def _reap(self) -> None:
+        """Ends once the command has ended and its bytes are read, or soon after."""
+        if self._command.has_ended() and not self.ended.done():
+            if self._is_read:
+                self.ended.set_result(None)
+            else:
+                self._loop.call_later(_DRAIN, self._stop_reading)
+
+    def _stop_reading(self) -> None:
+        self._is_read = True
+        self._reap()
+
+    def hang_up(self) -> None:
+        """Tells the command to end, and soon makes it."""
+        self._command.signal(signal.SIGHUP)
+        self._command.signal(signal.SIGCONT)
+        self._loop.call_later(_KILL, self._command.signal, signal.SIGKILL)
+
+    def is_behind(self) -> bool:
+        """Whether the terminal here has still to show something."""
+        return bool(self._picture and self._picture.is_waiting)
+
+    def close(self) -> None:
+        """Reads and writes no more."""
+        self._loop.remove_reader(self._command.fd)
+        self._keys.close()
+        if self._local and self._picture:
+            self._loop.remove_reader(self._local.fd)
+            self._picture.close()
+
+
+async def _until(loop: asyncio.AbstractEventLoop, is_done: Callable[[], bool], seconds: float) -> None:
+    """Waits until something is done, at most so many seconds."""
+    end = loop.time() + seconds
+    while not is_done() and loop.time() < end:
+        await asyncio.sleep(0.005)
+
+
+class Sockets:
+    """The sockets that the options ask for."""
+
+    def __init__(self, options: Options, stack: contextlib.ExitStack) -> None:
+        self.terminals: socket.socket | None = None
+        self.browsers: socket.socket | None = None
+        if options.unix:
+            self.terminals = stack.enter_context(unix_listener(options.unix))
+            stack.callback(os.unlink, options.unix)
+        elif options.listen:
+            self.terminals = stack.enter_context(tcp_listener(*options.listen))
+        if options.http:
+            self.browsers = stack.enter_context(tcp_listener(*options.http))
+
+    def announce(self, size: tuple[int, int]) -> None:
+        """Says where to watch."""
+        said = [f"a screen of {size[0]} rows and {size[1]} columns"]
+        if self.terminals and self.terminals.family == socket.AF_UNIX:
+            said.append(f"terminals: socat -,raw,echo=0 unix:{self.terminals.getsockname()}")
+        elif self.terminals:
+            said.append(f"terminals: socat -,raw,echo=0 tcp:{_place(self.terminals)}")
+        if self.browsers:
+            said.append(f"browsers: http://{_place(self.browsers)}/")
+        for line in said:
+            print(f"share: {line}", file=sys.stderr, flush=True)
+
+
+def _place(listener: socket.socket) -> str:
+    host, port = listener.getsockname()[:2]
+    return f"[{host}]:{port}" if ":" in host else f"{host}:{port}"
+
+
+async def _share(
+    options: Options, command: Command, size: tuple[int, int], sockets: Sockets, local: LocalTerminal | None
+) -> int:
+    """Shares the command's screen until it ends. Answers its status."""
+    loop, notices = asyncio.get_running_loop(), Notices(local is not None)
+    screen = SharedScreen(loop, size, options.rate, notices)
+    watchers = Watchers(loop, screen, notices)
+    browsers = Browsers(screen, os.path.basename(options.command[0]), notices) if sockets.browsers else None
+    session = Session(loop, command, screen, local)
+    try:
+        with local or contextlib.nullcontext():
+            if sockets.terminals:
+                watchers.listen(sockets.terminals)
+            if browsers and sockets.browsers:
+                await browsers.listen(sockets.browsers)
+            session.start(has_own_size=options.size is not None)
+            await session.ended
+            await _until(loop, lambda: not session.is_behind(), LINGER)
+            session.close()
+        screen.finish()
+        await _until(loop, lambda: not watchers.are_behind(), LINGER)
+        if browsers:
+            await browsers.end(command.status or 0, LINGER)
+    finally:
+        if sockets.terminals:
+            loop.remove_reader(sockets.terminals)
+        watchers.close()
+        notices.end()
+    return command.status or 0
+
+
+def main(words: list[str] | None = None) -> int:
+    """Runs share. Answers its status: the command's, 127 where there is no such command, 1 where it can't listen."""
+    options = parsed(sys.argv[1:] if words is None else words)
+    if not shutil.which(options.command[0]):
+        print(f"share: {options.command[0]}: there is no such command", file=sys.stderr)
+        return 127
+    with contextlib.ExitStack() as stack:
+        try:
+            sockets = Sockets(options, stack)
+        except OSError as error:
+            print(f"share: can't listen: {error.strerror or error}", file=sys.stderr)
+            return 1
+        local = LocalTerminal() if LocalTerminal.is_there() else None
+        size = options.size or (window(local.fd) if local else (24, 80))
+        sockets.announce(size)
+        command = Command(options.command, *size)
+        try:
+            return asyncio.run(_share(options, command, size, sockets, local))
+        finally:
+            command.signal(signal.SIGKILL)

@@ -1,0 +1,125 @@
+"""The command's screen, and when those that watch it are shown it."""
+
+from __future__ import annotations
+
+import asyncio
+from typing import Protocol
+
+from jeihpal import Hub
+
+from .notices import Notices
+
+PAUSE = 0.01  # a command that is silent for so many seconds has drawn what it wanted
+MOST_HELD = 1.0  # for so many seconds it may hold an update back
+_END_UPDATE = b"\x1b[?2026l"
+
+
+class Audience(Protocol):
+    """Who watches."""
+
+    def show(self) -> None:
+        """Shows the screen as it is now."""
+
+    def detach(self) -> None:
+        """Ends its clients of the hub."""
+
+    def attach(self) -> None:
+        """Begins anew, with new clients."""
+
+
+class SharedScreen:
+    """A hub that is fed the command's bytes. After them, soon but not too often, it has the audiences show it."""
+
+    def __init__(self, loop: asyncio.AbstractEventLoop, size: tuple[int, int], rate: float, notices: Notices) -> None:
+        self.hub = Hub(*size)
+        self.size = size
+        self._loop, self._between, self._notices = loop, 1 / rate, notices
+        self._audiences: list[Audience] = []
+        self._last = self._first = 0.0  # when it was shown, and when the first byte came after that
+        self._tick: asyncio.TimerHandle | None = None
+        self._held: asyncio.TimerHandle | None = None
+
+    def add(self, audience: Audience) -> None:
+        """Has another audience from now on."""
+        self._audiences.append(audience)
+
+    def feed(self, data: bytes) -> None:
+        """Takes the command's next bytes."""
+        if self._held:
+            # What waits for the end of an update is shown right there, before the next one begins.
+            done, mark, data = data.rpartition(_END_UPDATE)
+            self._take(done + mark)
+            if not self.hub.look().updating:
+                self.show()
+        self._take(data)
+        self.show_soon()
+
+    def _take(self, data: bytes) -> None:
+        try:
+            self.hub.feed(data)
+        except MemoryError:
+            self._notices.say("out of memory: the screen begins anew")
+            self._begin_anew()
+
+    def _begin_anew(self) -> None:
+        """Takes another hub, in place of one that has failed."""
+        for audience in self._audiences:
+            audience.detach()
+        self.hub.close()
+        self.hub = Hub(*self.size)
+        for audience in self._audiences:
+            audience.attach()
+
+    def show_soon(self) -> None:
+        """Plans to show it: after a pause of the command, at latest once the rate allows it."""
+        now = self._loop.time()
+        if self._tick and self._tick.when() <= now:
+            return  # it is about to be shown
+        if self._tick:
+            self._tick.cancel()
+        else:
+            self._first = now
+        soonest, latest = self._last + self._between, self._first + self._between
+        self._tick = self._loop.call_at(max(soonest, min(latest, now + PAUSE)), self.show)
+
+    def show(self) -> None:
+        """Has it shown to everybody, unless the command holds an update back."""
+        if self._tick:
+            self._tick.cancel()
+            self._tick = None
+        if self.hub.look().updating:
+            self._held = self._held or self._loop.call_later(MOST_HELD, self._end_update)
+            return
+        if self._held:
+            self._held.cancel()
+            self._held = None
+        self._last = self._loop.time()
+        for audience in self._audiences:
+            audience.show()
+
+    def _end_update(self) -> None:
+        """The command doesn't end its update: a resize to the same size does."""
+        self._held = None
+        if self.hub.look().updating:
+            self.resize(*self.size)
+
+    def resize(self, rows: int, cols: int) -> None:
+        """Gives it another size, or the same. Whoever watches gets the whole screen."""
+        self.size = rows, cols
+        for audience in self._audiences:
+            audience.detach()
+        try:
+            self.hub.resize(rows, cols)
+        except MemoryError:
+            self.hub.close()
+            self.hub = Hub(rows, cols)
+        for audience in self._audiences:
+            audience.attach()
+        self.show()
+
+    def finish(self) -> None:
+        """The command has ended: its last screen is shown, also where it has left an update open."""
+        if self.hub.look().updating:
+            self.resize(*self.size)
+        else:
+            self.show()

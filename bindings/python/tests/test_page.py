@@ -1,0 +1,235 @@
+"""share --http: the page, its events, what is refused, and the page in Chromium."""
+
+from __future__ import annotations
+
+import json
+import os
+import re
+import socket
+import time
+import unittest
+
+from .chromium import PROGRAM, Chromium
+from .sharing import Shared, wait_for
+
+HTTP = ("--http", "127.0.0.1:0")
+READY = "print('ready'); input()"
+COLOURS = r"""
+import sys, time
+w = sys.stdout.write
+w("\x1b[2J\x1b[H\x1b[1;37;44m a build, watched from afar \x1b[m\r\n\r\n")
+for i in range(8):
+    w(f"\x1b[{30 + i}m{i} normal \x1b[1mbold \x1b[22;2mdim \x1b[22;3mitalic")
+    w("\x1b[23;4m under\x1b[24;7m inverse\x1b[m\r\n")
+w("\x1b[38;5;208m256 colours \x1b[38;2;120;200;255mand 24 bits\x1b[m \x1b[48;2;60;0;90m behind \x1b[m\r\n")
+w("wide: 米日本語 thé e\u0301 |end\r\n<script>alert(1)</script> & \"quotes\"\r\n$ make 米\x1b[D")
+input()
+"""
+
+
+def asked(shared: Shared, request: bytes, seconds: float = 10.0) -> bytes:
+    """What a request is answered, to the end of the connection."""
+    with socket.create_connection(shared.place("browsers")) as sock:
+        sock.settimeout(seconds)
+        sock.sendall(request)
+        answer = b""
+        try:
+            while data := sock.recv(65536):
+                answer += data
+        except ConnectionResetError:
+            pass
+        return answer
+
+
+def get(path: str, host: str = "localhost") -> bytes:
+    """A request."""
+    return f"GET {path} HTTP/1.1\r\nHost: {host}\r\n\r\n".encode()
+
+
+class Page:
+    """A page as its script has it: the screen that its events make."""
+
+    def __init__(self, shared: Shared, room: int | None = None) -> None:
+        self.sock = socket.socket()
+        if room:
+            self.sock.setsockopt(socket.SOL_SOCKET, socket.SO_RCVBUF, room)
+        self.sock.settimeout(20)
+        self.sock.connect(shared.place("browsers"))
+        self.sock.sendall(get("/events"))
+        self.said, self.rows, self.moments, self.ended = b"", [], 0, None
+
+    def read(self) -> bool:
+        """Reads the next event. Whether there was one."""
+        while b"\n\n" not in self.said:
+            data = self.sock.recv(65536)
+            if not data:
+                return False
+            self.said += data.replace(b"\r", b"")
+        event, _, self.said = self.said.partition(b"\n\n")
+        if found := re.search(rb"^event: ended\ndata: (\d+)", event, re.M):
+            self.ended = int(found[1])
+        elif found := re.search(rb"^data: (.*)", event, re.M):
+            self.take(json.loads(found[1]))
+        return True
+
+    def take(self, moment: dict) -> None:
+        """Takes an event's moment."""
+        self.moments += 1
+        if "size" in moment:
+            self.rows = [""] * moment["size"][0]
+        for row, runs in moment["rows"].items():
+            self.rows[int(row)] = "".join(run[0] for run in runs).rstrip()
+
+    def read_until(self, text: str) -> None:
+        """Reads until it shows a text."""
+        while text not in "\n".join(self.rows):
+            if not self.read():
+                raise AssertionError(f"{text!r} isn't shown")
+
+    def __enter__(self) -> Page:
+        return self
+
+    def __exit__(self, *_: object) -> None:
+        self.sock.close()
+
+
+class Refusals(unittest.TestCase):
+    def test_requests_that_are_none(self):
+        with Shared(READY, *HTTP) as shared:
+            for request, status in (
+                (b"hello\r\n\r\n", b"400"),
+                (b"\r\n\r\n", b"400"),
+                (b"GET / HTTP/1.1\r\n\r\n", b"400"),
+                (b"GET / HTTP/1.1\r\nHost: a\r\nHost: b\r\n\r\n", b"400"),
+                (b"GET / HTTP/1.1\r\nHost localhost\r\n\r\n", b"400"),
+                (b"GET / HTTP/3\r\nHost: localhost\r\n\r\n", b"400"),
+                (b"POST / HTTP/1.1\r\nHost: localhost\r\n\r\n", b"405"),
+                (get("/other"), b"404"),
+                (get("/../etc/passwd"), b"404"),
+                (get("/", "example.org"), b"421"),
+                (get("/events", "evil.example:80"), b"421"),
+                (get("/" + "a" * 20000), b"431"),
+                (b"GET / HTTP/1.1\r\n" + b"X: y\r\n" * 5000, b"431"),
+            ):
+                with self.subTest(request[:40]):
+                    self.assertEqual(asked(shared, request)[:12], b"HTTP/1.1 " + status)
+            for status in ("400", "405", "404", "421", "431"):
+                wait_for(lambda: f"a browser was refused: {status}" in shared.said)
+
+    def test_a_head_without_end(self):
+        with Shared(READY, *HTTP) as shared:
+            begun = time.monotonic()
+            self.assertEqual(asked(shared, b"GET / HTTP/1.1\r\nHost: localhost\r\n", 15)[:12], b"HTTP/1.1 408")
+            self.assertLess(time.monotonic() - begun, 8)
+
+    def test_one_that_sends_more(self):
+        with Shared(READY, *HTTP) as shared, Page(shared) as page:
+            page.read_until("ready")
+            page.sock.sendall(b"more")
+            while page.read():
+                pass
+            wait_for(lambda: "it sends more than a request" in shared.said)
+
+    def test_too_many(self):
+        with Shared(READY, *HTTP) as shared:
+            pages = [Page(shared) for _ in range(60)]
+            try:
+                pages[-1].read_until("ready")
+                self.assertEqual(asked(shared, get("/"))[:12], b"HTTP/1.1 503")
+                pages.pop().sock.close()
+                wait_for(lambda: asked(shared, get("/"))[:12] == b"HTTP/1.1 200")
+            finally:
+                for page in pages:
+                    page.sock.close()
+
+
+class Events(unittest.TestCase):
+    def test_the_page(self):
+        with Shared(READY, *HTTP) as shared:
+            head, _, page = asked(shared, get("/")).partition(b"\r\n\r\n")
+            self.assertTrue(head.startswith(b"HTTP/1.1 200 OK\r\n"))
+            nonce = re.search(rb"script-src 'nonce-([\w-]+)'", head)[1]
+            self.assertEqual(page.count(b'nonce="' + nonce), 2)
+            self.assertLess(len(page), 10000)
+            self.assertNotIn(b"http", page)  # nothing comes from elsewhere
+
+    def test_the_screen(self):
+        program = "import time; print('米 one'); time.sleep(.5); print('two'); time.sleep(.5); import sys; sys.exit(3)"
+        with Shared(program, *HTTP) as shared, Page(shared) as page:
+            page.read_until("two")
+            self.assertEqual(page.rows[0], "米 one")
+            while page.read():
+                pass
+            self.assertEqual((page.ended, shared.end()), (3, 3))
+
+    def test_a_slow_one_gets_the_newest(self):
+        rows = "'\\r\\n'.join(str(n) * 20 for _ in range(23))"
+        program = f"import time\nfor n in range(250): print('\\x1b[H' + {rows}); time.sleep(.01)"
+        with Shared(program, *HTTP) as shared, Page(shared) as quick, Page(shared, room=4096) as slow:
+            while quick.moments < 40:
+                quick.read()
+            while quick.read():
+                if quick.moments % 10 == 0:
+                    slow.read()
+            while slow.read():
+                pass
+            self.assertLess(slow.moments, quick.moments)
+            self.assertEqual((quick.rows, quick.ended, slow.ended), (slow.rows, 0, 0))
+            self.assertIn("249" * 20, quick.rows)
+
+
+@unittest.skipUnless(PROGRAM, "there is no Chromium")
+class InChromium(unittest.TestCase):
+    def test_the_page(self):
+        with Shared(COLOURS, *HTTP, size="16x60") as shared:
+            with Chromium("http://%s:%d/" % shared.place("browsers")) as browser:
+                wait_for(lambda: "make" in (browser.value("document.getElementById('text')?.textContent") or ""))
+                self.assertEqual(browser.value("document.getElementById('state').textContent"), "live")
+                text = browser.value("document.getElementById('text').textContent")
+                self.assertIn('wide: 米日本語 thé e\u0301 |end\n<script>alert(1)</script> & "quotes"', text)
+                self.check_drawing(browser)
+                self.check_reader(browser)
+                if folder := os.environ.get("JEIHPAL_PICTURES"):
+                    with open(f"{folder}/page.png", "wb") as file:
+                        file.write(browser.picture())
+
+    def check_drawing(self, browser: Chromium) -> None:
+        """Colours, wide cells and the cursor lie where they should."""
+        style = "getComputedStyle(document.querySelectorAll('.row')[{}].children[{}]).{}"
+        self.assertEqual(browser.value(style.format(3, 0, "color")), "rgb(205, 49, 49)")
+        self.assertEqual(browser.value(style.format(0, 0, "backgroundColor")), "rgb(59, 120, 255)")
+        self.assertEqual(browser.value(style.format(10, 1, "color")), "rgb(120, 200, 255)")
+        left = "document.querySelectorAll('.row')[{}].{}.getBoundingClientRect().{}"
+        one = browser.value(left.format(0, "children[0]", "width")) / 28
+        start = browser.value(left.format(11, "firstElementChild", "left"))
+        end = browser.value(left.format(11, "lastElementChild", "right"))
+        self.assertAlmostEqual(end - start, 60 * one, delta=1)
+        cursor = "document.getElementById('cursor').getBoundingClientRect().{}"
+        self.assertAlmostEqual(browser.value(cursor.format("left")) - start, 7 * one, delta=1)
+        self.assertAlmostEqual(browser.value(cursor.format("width")), 2 * one, delta=1)
+
+    def check_reader(self, browser: Chromium) -> None:
+        """A screen reader is told the text once, by its rows."""
+        told = browser.told()
+        self.assertIn(("group", "Screen of 16 rows and 60 columns"), told)
+        texts = [name for role, name in told if role == "StaticText" and "256 colours" in name]
+        self.assertEqual(len(texts), 1)
+        self.assertIn("256 colours and 24 bits  behind\nwide:", texts[0])
+
+    def test_pause(self):
+        program = "import time\nfor n in range(100): print('\\x1b[H', n); time.sleep(.05)"
+        with Shared(program, *HTTP) as shared:
+            with Chromium("http://%s:%d/" % shared.place("browsers")) as browser:
+                shown = lambda: browser.value("document.getElementById('text').textContent")
+                wait_for(lambda: (shown() or "").strip())
+                browser.value("document.getElementById('pause').click()")
+                before = shown()
+                time.sleep(0.5)
+                self.assertEqual(shown(), before)
+                browser.value("document.getElementById('pause').click()")
+                wait_for(lambda: shown() != before)
+                wait_for(lambda: browser.value("document.getElementById('state').textContent") == "ended with status 0")
+
+
+if __name__ == "__main__":
+    unittest.main()

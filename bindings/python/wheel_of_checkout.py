@@ -1,0 +1,76 @@
+"""Makes a wheel of this folder and the shared library, for `pip install`. It needs nothing but the standard library.
+
+The library is what JEIHPAL_LIBRARY names, or what ./build --library has left in the checkout.
+"""
+
+from __future__ import annotations
+
+import base64
+import hashlib
+import os
+import sysconfig
+import zipfile
+
+HERE = os.path.dirname(os.path.abspath(__file__))
+NAME, VERSION = "jeihpal", "0.1.0"
+PACKAGES = ("jeihpal", "jeihpal_share")
+INFO = f"{NAME}-{VERSION}.dist-info"
+METADATA = f"""Metadata-Version: 2.1
+Name: {NAME}
+Version: {VERSION}
+Summary: Terminal screens that arrive whole, proved in Rattle
+License: MIT
+Requires-Python: >=3.9
+"""
+SCRIPTS = "[console_scripts]\nshare = jeihpal_share.program:main\n"
+
+
+def _tag() -> str:
+    platform = sysconfig.get_platform().replace("-", "_").replace(".", "_")
+    return f"py3-none-{platform}"
+
+
+def _library() -> bytes:
+    path = os.environ.get("JEIHPAL_LIBRARY") or os.path.join(HERE, "..", "out", "libjeihpal.so")
+    if not os.path.isfile(path):
+        raise FileNotFoundError(f"there is no {path}: ./build --library makes it, or JEIHPAL_LIBRARY names it")
+    with open(path, "rb") as file:
+        return file.read()
+
+
+def _packaged() -> dict[str, bytes]:
+    """The packages' files, by their names in the wheel."""
+    found = {}
+    for package in PACKAGES:
+        for name in sorted(os.listdir(os.path.join(HERE, package))):
+            path = os.path.join(HERE, package, name)
+            if name.endswith((".py", ".html", ".typed")):
+                with open(path, "rb") as file:
+                    found[f"{package}/{name}"] = file.read()
+    return found
+
+
+def _information() -> dict[str, bytes]:
+    wheel = f"Wheel-Version: 1.0\nGenerator: {NAME}\nRoot-Is-Purelib: false\nTag: {_tag()}\n"
+    texts = {"METADATA": METADATA, "WHEEL": wheel, "entry_points.txt": SCRIPTS}
+    return {f"{INFO}/{name}": text.encode() for name, text in texts.items()}
+
+
+def _record(files: dict[str, bytes]) -> bytes:
+    """The list of the files, with their checksums and sizes."""
+    lines = []
+    for name, data in files.items():
+        digest = base64.urlsafe_b64encode(hashlib.sha256(data).digest()).rstrip(b"=").decode()
+        lines.append(f"{name},sha256={digest},{len(data)}")
+    return "\n".join([*lines, f"{INFO}/RECORD,,", ""]).encode()
+
+
+def build_wheel(wheel_directory: str, config_settings: object = None, metadata_directory: object = None) -> str:
+    """Makes the wheel in a folder, and answers its name."""
+    files = {**_packaged(), "jeihpal/libjeihpal.so": _library(), **_information()}
+    files[f"{INFO}/RECORD"] = _record(files)
+    made = f"{NAME}-{VERSION}-{_tag()}.whl"
+    with zipfile.ZipFile(os.path.join(wheel_directory, made), "w", zipfile.ZIP_DEFLATED) as wheel:
+        for name, data in files.items():
+            wheel.writestr(zipfile.ZipInfo(name), data)
+    return made

@@ -1,0 +1,54 @@
+//! Why a call is refused.
+use std::{error, fmt, io, result};
+
+/// Why a call is refused. Unless the call says otherwise nothing has changed then.
+#[derive(Clone, Copy, Debug, Eq, Hash, PartialEq)]
+#[non_exhaustive]
+pub enum Error {
+    /// There was no memory.
+    Memory,
+    /// An earlier call found no memory, and what the screen shows is open: make a new object.
+    Failed,
+    /// The client has ended, or never was.
+    UnknownClient,
+    /// Fewer bytes are owed.
+    NotOwed,
+}
+
+/// What most calls answer.
+pub type Result<T> = result::Result<T, Error>;
+
+impl fmt::Display for Error {
+    fn fmt(&self, f: &mut fmt::Formatter<'_>) -> fmt::Result {
+        f.write_str(match self {
+            Error::Memory => "out of memory",
+            Error::Failed => "an earlier call found no memory",
+            Error::UnknownClient => "the client has ended, or never was",
+            Error::NotOwed => "fewer bytes are owed",
+        })
+    }
+}
+
+impl error::Error for Error {}
+
+impl From<Error> for io::Error {
+    fn from(error: Error) -> io::Error {
+        match error {
+            Error::Memory => io::ErrorKind::OutOfMemory.into(),
+            _ => io::Error::other(error),
+        }
+    }
+}
+
+/// What a code of the library says.
+pub(crate) fn answer(code: i32) -> Result<i32> {
+    match code {
+        0.. => Ok(code),
+        -4 => Err(Error::Memory),
+        -5 => Err(Error::Failed),
+        -6 => Err(Error::UnknownClient),
+        -7 => Err(Error::NotOwed),
+        // A word here is never closed nor of another kind, and has a size; places are looked at where they are used.
+        _ => unreachable!("the library answered {code}"),
+    }
+}

@@ -1,0 +1,198 @@
+//! Hubs.
+use crate::cell::{Cell, Look};
+use crate::error::Result;
+use crate::object::{Functions, Object};
+use crate::raw;
+use std::io;
+use std::num::NonZeroU16;
+
+static FUNCTIONS: Functions = Functions {
+    close: raw::jeihpal_hub_close,
+    look: raw::jeihpal_hub_look,
+    cell: raw::jeihpal_hub_cell,
+    row_text: raw::jeihpal_hub_row_text,
+};
+
+/// A client of a hub, by its key. The key of one that has ended may be given again.
+#[derive(Clone, Copy, Debug, Eq, Hash, Ord, PartialEq, PartialOrd)]
+pub struct Client(usize);
+
+/// What a request for a frame is answered.
+#[derive(Clone, Copy, Debug, Eq, Hash, PartialEq)]
+pub enum Answer {
+    /// The screen shows what it did at the client's last frame.
+    Unchanged,
+    /// Bytes of the last frame are still owed.
+    Behind,
+    /// The program is in a synchronized update of its own (private mode 2026).
+    Held,
+    /// The frame would be longer than 2,097,150 bytes; never for up to 2,000 cells.
+    TooLong,
+    /// The frame leads from any picture.
+    Full,
+    /// It leads from the picture of the client's last frame.
+    Difference,
+    /// As `Full`, of a screen that shows U+FE0F, on whose width terminals disagree.
+    Unsure,
+}
+
+const ANSWERS: [Answer; 7] = [
+    Answer::Unchanged,
+    Answer::Behind,
+    Answer::Held,
+    Answer::TooLong,
+    Answer::Full,
+    Answer::Difference,
+    Answer::Unsure,
+];
+
+impl Answer {
+    /// Whether the client is owed a new frame now.
+    pub fn is_frame(self) -> bool {
+        matches!(self, Answer::Full | Answer::Difference | Answer::Unsure)
+    }
+}
+
+/// One program's screen, and clients that are sent frames of it.
+///
+/// What is written to it as [`io::Write`] is fed to it. It stays on the thread that made it:
+///
+/// ```compile_fail,E0277
+/// # let size = std::num::NonZeroU16::new(1).unwrap();
+/// let hub = jeihpal::Hub::new(size, size).unwrap();
+/// std::thread::spawn(move || drop(hub));
+/// ```
+pub struct Hub {
+    object: Object,
+}
+
+impl Hub {
+    /// A hub with a blank screen of this size, and without clients.
+    pub fn new(rows: NonZeroU16, cols: NonZeroU16) -> Result<Hub> {
+        // SAFETY, here and below: the word is as the last call left it, and what is lent is lent for the call.
+        let fill = |word| unsafe { raw::jeihpal_hub_new(word, rows.get(), cols.get()) };
+        Ok(Hub {
+            object: Object::new(&FUNCTIONS, fill)?,
+        })
+    }
+
+    /// Gives the program's next bytes to the screen. They may be cut anywhere. After [`Error::Memory`] the hub has
+    /// failed: no frame is made any more, but what is owed can be sent.
+    ///
+    /// [`Error::Memory`]: crate::Error::Memory
+    pub fn feed(&mut self, bytes: &[u8]) -> Result<()> {
+        self.object.give(raw::jeihpal_hub_feed, bytes)
+    }
+
+    /// Gives the screen another size, or the same, and ends the program's synchronized update. Every client ends.
+    pub fn resize(&mut self, rows: NonZeroU16, cols: NonZeroU16) -> Result<()> {
+        self.object
+            .call(|word| unsafe { raw::jeihpal_hub_resize(word, rows.get(), cols.get()) })
+            .map(drop)
+    }
+
+    /// A new client, which has had no frame.
+    pub fn attach(&mut self) -> Result<Client> {
+        let mut key = 0;
+        self.object
+            .call(|word| unsafe { raw::jeihpal_hub_attach(word, &mut key) })?;
+        Ok(Client(key))
+    }
+
+    /// Ends a client; what it is owed is gone.
+    pub fn detach(&mut self, client: Client) -> Result<()> {
+        self.object
+            .call(|word| unsafe { raw::jeihpal_hub_detach(word, client.0) })
+            .map(drop)
+    }
+
+    /// Asks for a frame for a client, best once it is owed nothing and the program pauses.
+    pub fn frame(&mut self, client: Client) -> Result<Answer> {
+        let number = self
+            .object
+            .call(|word| unsafe { raw::jeihpal_hub_frame(word, client.0) })?;
+        Ok(ANSWERS[number as usize])
+    }
+
+    /// Copies as much of what the client is owed as fits, and answers how much it is owed in all.
+    pub fn copy_owed(&self, client: Client, to: &mut [u8]) -> Result<usize> {
+        let mut length = 0;
+        self.object.call(|word| unsafe {
+            raw::jeihpal_hub_owed(word, client.0, to.as_mut_ptr(), to.len(), &mut length)
+        })?;
+        Ok(length)
+    }
+
+    /// The bytes that the client is owed: those of its last frame that weren't sent yet.
+    pub fn owed(&self, client: Client) -> Result<Vec<u8>> {
+        self.object.bytes(|word, to, length| unsafe {
+            raw::jeihpal_hub_owed(word, client.0, to.as_mut_ptr(), to.len(), length)
+        })
+    }
+
+    /// The first `count` of the bytes that the client is owed were sent. They are owed no longer.
+    pub fn sent(&mut self, client: Client, count: usize) -> Result<()> {
+        self.object
+            .call(|word| unsafe { raw::jeihpal_hub_sent(word, client.0, count) })
+            .map(drop)
+    }
+
+    /// Writes what the client is owed. What the writer took is no longer owed, whatever it answers after that.
+    pub fn pump(&mut self, client: Client, to: &mut impl io::Write) -> io::Result<()> {
+        let mut piece = [0; 8192];
+        loop {
+            let owed = self.copy_owed(client, &mut piece)?;
+            if owed == 0 {
+                return Ok(());
+            }
+            let offered = &piece[..owed.min(piece.len())];
+            match to.write(offered) {
+                Ok(0) => return Err(io::ErrorKind::WriteZero.into()),
+                Ok(count) => self.sent(client, count.min(offered.len()))?,
+                Err(error) if error.kind() == io::ErrorKind::Interrupted => {}
+                Err(error) => return Err(error),
+            }
+        }
+    }
+
+    /// The size, the cursor and the modes of the program's screen.
+    pub fn look(&self) -> Look {
+        self.object.look()
+    }
+
+    /// The cell at a place of it.
+    pub fn cell(&self, row: u16, col: u16) -> Option<Cell> {
+        self.object.cell(row, col)
+    }
+
+    /// The cells of a row of it; none past the last row.
+    pub fn cells(&self, row: u16) -> impl Iterator<Item = Cell> + '_ {
+        self.object.cells(row)
+    }
+
+    /// The text of a row of it, without the empty columns at its end.
+    pub fn row_text(&self, row: u16) -> Result<String> {
+        self.object.row_text(row)
+    }
+
+    /// The texts of its rows.
+    pub fn rows(&self) -> impl Iterator<Item = Result<String>> + '_ {
+        self.object.rows()
+    }
+
+    /// The text of all of it.
+    pub fn contents(&self) -> Result<String> {
+        self.object.whole_text(raw::jeihpal_hub_contents)
+    }
+}
+
+impl io::Write for Hub {
+    fn write(&mut self, bytes: &[u8]) -> io::Result<usize> {
+        self.feed(bytes)?;
+        Ok(bytes.len())
+    }
+
+    fn flush(&mut self) -> io::Result<()> {
+        Ok(())
+    }
+}

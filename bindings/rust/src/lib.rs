@@ -1,0 +1,39 @@
+//! Terminal screens that arrive whole.
+//!
+//! A [`Hub`] keeps the screen of one program, and owes each of its clients at most one frame of it. A [`View`] is a
+//! small far terminal that reads frames. A [`Screen`] is a terminal's screen from bytes, with what redraws it; module
+//! [`vt100`] has one with the names of the crate `vt100` 0.18.1.
+//!
+//! ```
+//! use std::num::NonZeroU16;
+//! use jeihpal::{Answer, Hub, View};
+//!
+//! let [rows, cols] = [1, 20].map(|n| NonZeroU16::new(n).unwrap());
+//! let (mut hub, mut view) = (Hub::new(rows, cols)?, View::new(rows, cols)?);
+//! let client = hub.attach()?;
+//! hub.feed(b"[####      ]  40%")?;
+//! assert_eq!(hub.frame(client)?, Answer::Full);
+//! hub.pump(client, &mut view)?; // any `io::Write`
+//! assert_eq!(view.row_text(0)?, "[####      ]  40%");
+//! # Ok::<(), Box<dyn std::error::Error>>(())
+//! ```
+//!
+//! What each call answers and does is proved, in Rattle, of the library below. That the declarations here fit it is
+//! only tested. Each object stays on the thread that made it, and is freed when it is dropped. No call waits. Rows and
+//! columns are counted from 0.
+#![deny(missing_docs, unsafe_op_in_unsafe_fn)]
+
+mod cell;
+mod error;
+mod hub;
+mod object;
+mod raw;
+mod screen;
+mod view;
+pub mod vt100;
+
+pub use cell::{Cell, Color, CursorStyle, Look, MouseProtocolEncoding, MouseProtocolMode};
+pub use error::{Error, Result};
+pub use hub::{Answer, Client, Hub};
+pub use screen::{Request, Screen};
+pub use view::View;

@@ -1,0 +1,132 @@
+//! What hubs, views and screens have in common.
+use crate::cell::{Cell, Look};
+use crate::error::{answer, Result};
+use crate::raw::{
+    self, Close, GetCell, GetLook, GetRowText, GetText, Give, RawCell, RawLook, Word,
+};
+use std::cell::UnsafeCell;
+use std::ptr;
+
+/// The number of the interface that the declarations are for.
+const ABI: u32 = 1;
+
+/// The library's answer to a place outside of the screen.
+const NO_CELL: i32 = -8;
+
+/// The functions that all kinds have.
+pub(crate) struct Functions {
+    pub(crate) close: Close,
+    pub(crate) look: GetLook,
+    pub(crate) cell: GetCell,
+    pub(crate) row_text: GetRowText,
+}
+
+/// A word of the library's, which is closed when it is dropped.
+///
+/// A call takes what the word holds out of it and puts it back, so reading too is a change. Since the word is neither
+/// `Send` nor `Sync`, and no call comes back here, there is never more than one call on it.
+pub(crate) struct Object {
+    word: UnsafeCell<Word>,
+    functions: &'static Functions,
+}
+
+impl Object {
+    /// A word that a call fills.
+    pub(crate) fn new(
+        functions: &'static Functions,
+        fill: impl FnOnce(*mut Word) -> i32,
+    ) -> Result<Object> {
+        // SAFETY: it may be called at any time.
+        let abi = unsafe { raw::jeihpal_abi() };
+        assert_eq!(abi, ABI, "libjeihpal.a is of another interface");
+        let word = UnsafeCell::new(Word {
+            held: ptr::null_mut(),
+        });
+        let object = Object { word, functions };
+        object.call(fill)?;
+        Ok(object)
+    }
+
+    /// Calls a function of the library on the word.
+    pub(crate) fn call(&self, function: impl FnOnce(*mut Word) -> i32) -> Result<i32> {
+        answer(function(self.word.get()))
+    }
+
+    /// Calls a function that reads bytes.
+    pub(crate) fn give(&self, function: Give, bytes: &[u8]) -> Result<()> {
+        // SAFETY: the word is as the last call left it, and the bytes are lent for the call.
+        self.call(|word| unsafe { function(word, bytes.as_ptr(), bytes.len()) })
+            .map(drop)
+    }
+
+    /// What a call copies out, whole.
+    pub(crate) fn bytes(
+        &self,
+        mut copy: impl FnMut(*mut Word, &mut [u8], &mut usize) -> i32,
+    ) -> Result<Vec<u8>> {
+        let (mut room, mut length) = (vec![0; 1024], 0);
+        loop {
+            self.call(|word| copy(word, &mut room, &mut length))?;
+            if length <= room.len() {
+                room.truncate(length);
+                return Ok(room);
+            }
+            room.resize(length, 0);
+        }
+    }
+
+    /// What a call copies out, as text.
+    pub(crate) fn text(
+        &self,
+        copy: impl FnMut(*mut Word, &mut [u8], &mut usize) -> i32,
+    ) -> Result<String> {
+        Ok(String::from_utf8(self.bytes(copy)?).expect("the library's texts are UTF-8"))
+    }
+
+    /// What a function without further parameters copies out, as text.
+    pub(crate) fn whole_text(&self, function: GetText) -> Result<String> {
+        // SAFETY, here and below: the word is as the last call left it, and what is lent is lent for the call.
+        self.text(|word, to, length| unsafe { function(word, to.as_mut_ptr(), to.len(), length) })
+    }
+
+    pub(crate) fn row_text(&self, row: u16) -> Result<String> {
+        let function = self.functions.row_text;
+        self.text(|word, to, length| unsafe {
+            function(word, row, to.as_mut_ptr(), to.len(), length)
+        })
+    }
+
+    pub(crate) fn look(&self) -> Look {
+        let mut look = RawLook::default();
+        self.call(|word| unsafe { (self.functions.look)(word, &mut look) })
+            .expect("a look is never refused");
+        Look::of(&look)
+    }
+
+    pub(crate) fn cell(&self, row: u16, col: u16) -> Option<Cell> {
+        let mut cell = RawCell::default();
+        let code = unsafe { (self.functions.cell)(self.word.get(), row, col, &mut cell) };
+        if code == NO_CELL {
+            return None;
+        }
+        answer(code).expect("a cell is never refused");
+        Some(Cell::of(cell))
+    }
+
+    /// The cells of a row; none past the last row.
+    pub(crate) fn cells(&self, row: u16) -> impl Iterator<Item = Cell> + '_ {
+        (0..=u16::MAX).map_while(move |col| self.cell(row, col))
+    }
+
+    /// The texts of all rows.
+    pub(crate) fn rows(&self) -> impl Iterator<Item = Result<String>> + '_ {
+        (0..self.look().rows).map(|row| self.row_text(row))
+    }
+}
+
+impl Drop for Object {
+    fn drop(&mut self) {
+        // SAFETY: the word is null, or as the last call left it.
+        unsafe { (self.functions.close)(self.word.get()) }
+    }
+}

@@ -1,0 +1,229 @@
+//! Screens.
+use crate::cell::{Cell, Look};
+use crate::error::Result;
+use crate::object::{Functions, Object};
+use crate::raw::{self, RawRequest};
+use std::io;
+use std::num::NonZeroU16;
+
+static FUNCTIONS: Functions = Functions {
+    close: raw::jeihpal_screen_close,
+    look: raw::jeihpal_screen_look,
+    cell: raw::jeihpal_screen_cell,
+    row_text: raw::jeihpal_screen_row_text,
+};
+
+/// The most bytes that a request's text has.
+const MOST_REQUEST_BYTES: usize = 65536;
+
+/// A terminal's screen from bytes, with the rows that scroll off, and what redraws it.
+///
+/// What is written to it as [`io::Write`] it processes. It stays on the thread that made it.
+///
+/// ```
+/// use std::num::NonZeroU16;
+///
+/// let [rows, cols] = [24, 80].map(|n| NonZeroU16::new(n).unwrap());
+/// let mut screen = jeihpal::Screen::new(rows, cols, 0)?;
+/// screen.process(b"this text is \x1b[31mRED\x1b[m")?;
+/// screen.mark()?;
+/// screen.process(b"\x1b[3D\x1b[32mGREEN")?;
+/// assert_eq!(screen.contents()?, "this text is GREEN");
+/// assert_eq!(screen.difference()?, "\x1b[1;14H\x1b[32mGREEN");
+/// # Ok::<(), jeihpal::Error>(())
+/// ```
+pub struct Screen {
+    object: Object,
+}
+
+impl Screen {
+    /// A blank screen of this size that keeps up to `scrollback` rows that scroll off.
+    pub fn new(rows: NonZeroU16, cols: NonZeroU16, scrollback: usize) -> Result<Screen> {
+        // SAFETY, here and below: the word is as the last call left it, and what is lent is lent for the call.
+        let fill =
+            |word| unsafe { raw::jeihpal_screen_new(word, rows.get(), cols.get(), scrollback) };
+        Ok(Screen {
+            object: Object::new(&FUNCTIONS, fill)?,
+        })
+    }
+
+    /// Reads the program's next bytes. They may be cut anywhere. After [`Error::Memory`] the screen has failed: it can
+    /// still be read, but no bytes change it any more.
+    ///
+    /// [`Error::Memory`]: crate::Error::Memory
+    pub fn process(&mut self, bytes: &[u8]) -> Result<()> {
+        self.object.give(raw::jeihpal_screen_process, bytes)
+    }
+
+    /// Gives the screen another size, or the same, ends the program's synchronized update, and forgets the mark.
+    pub fn resize(&mut self, rows: NonZeroU16, cols: NonZeroU16) -> Result<()> {
+        self.object
+            .call(|word| unsafe { raw::jeihpal_screen_resize(word, rows.get(), cols.get()) })
+            .map(drop)
+    }
+
+    /// Shows the newest `rows` of the kept rows above the others, or all where there are fewer.
+    pub fn scroll(&mut self, rows: usize) -> Result<()> {
+        self.object
+            .call(|word| unsafe { raw::jeihpal_screen_scroll(word, rows) })
+            .map(drop)
+    }
+
+    /// The size, the cursor and the modes.
+    pub fn look(&self) -> Look {
+        self.object.look()
+    }
+
+    /// The cell at a place.
+    pub fn cell(&self, row: u16, col: u16) -> Option<Cell> {
+        self.object.cell(row, col)
+    }
+
+    /// The cells of a row; none past the last row.
+    pub fn cells(&self, row: u16) -> impl Iterator<Item = Cell> + '_ {
+        self.object.cells(row)
+    }
+
+    /// The text of a row, without the empty columns at its end.
+    pub fn row_text(&self, row: u16) -> Result<String> {
+        self.object.row_text(row)
+    }
+
+    /// The texts of the rows.
+    pub fn rows(&self) -> impl Iterator<Item = Result<String>> + '_ {
+        self.object.rows()
+    }
+
+    /// The text of the rows that are shown.
+    pub fn contents(&self) -> Result<String> {
+        self.object.whole_text(raw::jeihpal_screen_contents)
+    }
+
+    /// The text from one place up to another, each a row and a column.
+    pub fn contents_between(&self, start: (u16, u16), end: (u16, u16)) -> Result<String> {
+        self.object.text(|word, to, length| unsafe {
+            raw::jeihpal_screen_contents_between(
+                word,
+                start.0,
+                start.1,
+                end.0,
+                end.1,
+                to.as_mut_ptr(),
+                to.len(),
+                length,
+            )
+        })
+    }
+
+    /// What takes a terminal of this size to the picture, whatever it showed before.
+    pub fn contents_formatted(&self) -> Result<String> {
+        self.object
+            .whole_text(raw::jeihpal_screen_contents_formatted)
+    }
+
+    /// What takes a fresh terminal of this size to the picture, the modes and the cursor's style.
+    pub fn state_formatted(&self) -> Result<String> {
+        self.object.whole_text(raw::jeihpal_screen_state)
+    }
+
+    /// Keeps a copy of the screen as it is now, its mark, in place of an earlier one.
+    pub fn mark(&mut self) -> Result<()> {
+        self.object
+            .call(|word| unsafe { raw::jeihpal_screen_mark(word) })
+            .map(drop)
+    }
+
+    /// What takes a terminal from what the mark shows to what the screen shows. Without a mark it is
+    /// [`state_formatted`](Screen::state_formatted).
+    pub fn difference(&self) -> Result<String> {
+        self.object.whole_text(raw::jeihpal_screen_difference)
+    }
+
+    /// Takes what the program has asked of its terminal out of the screen's queue, oldest first. The queue holds up to
+    /// 256 requests; those that come while it is full are dropped.
+    ///
+    /// ```
+    /// # let size = std::num::NonZeroU16::new(9).unwrap();
+    /// # let mut screen = jeihpal::Screen::new(size, size, 0)?;
+    /// screen.process(b"\x07\x1b]2;make\x07")?;
+    /// let requests: Vec<_> = screen.requests().collect();
+    /// assert_eq!(requests, [jeihpal::Request::Bell, jeihpal::Request::Title(b"make".to_vec())]);
+    /// # Ok::<(), jeihpal::Error>(())
+    /// ```
+    pub fn requests(&mut self) -> impl Iterator<Item = Request> + '_ {
+        let mut room = Vec::new();
+        std::iter::from_fn(move || self.next_request(&mut room))
+    }
+
+    fn next_request(&mut self, room: &mut Vec<u8>) -> Option<Request> {
+        let mut raw = RawRequest::default();
+        loop {
+            self.object
+                .call(|word| unsafe {
+                    raw::jeihpal_screen_request(word, room.as_mut_ptr(), room.len(), &mut raw)
+                })
+                .expect("it is never refused");
+            // One whose text is longer than the room stays in the queue.
+            if raw.length <= room.len() {
+                return Request::of(&raw, &room[..raw.length]);
+            }
+            room.resize(MOST_REQUEST_BYTES, 0);
+        }
+    }
+}
+
+impl io::Write for Screen {
+    fn write(&mut self, bytes: &[u8]) -> io::Result<usize> {
+        self.process(bytes)?;
+        Ok(bytes.len())
+    }
+
+    fn flush(&mut self) -> io::Result<()> {
+        Ok(())
+    }
+}
+
+/// What a program asks of its terminal beyond drawing. Texts are as it wrote them, and needn't be UTF-8.
+#[derive(Clone, Debug, Eq, Hash, PartialEq)]
+#[non_exhaustive]
+pub enum Request {
+    /// BEL.
+    Bell,
+    /// `ESC g`.
+    VisualBell,
+    /// So many rows and columns, which may be 0 (XTWINOPS 8).
+    Resize(u16, u16),
+    /// The name of the window's icon (OSC 0 and 1).
+    IconName(Vec<u8>),
+    /// The window's title (OSC 0 and 2).
+    Title(Vec<u8>),
+    /// Data in base64 for clipboards (OSC 52).
+    Copy {
+        /// The clipboards' letters.
+        clipboards: Vec<u8>,
+        /// The data, in base64.
+        data: Vec<u8>,
+    },
+    /// Clipboards whose data is asked for, by their letters (OSC 52 with `?`).
+    Paste(Vec<u8>),
+}
+
+impl Request {
+    fn of(raw: &RawRequest, text: &[u8]) -> Option<Request> {
+        let (letters, rest) = text.split_at(raw.letters.min(text.len()));
+        match raw.kind {
+            0 => None,
+            1 => Some(Request::Bell),
+            2 => Some(Request::VisualBell),
+            3 => Some(Request::Resize(raw.rows, raw.cols)),
+            4 => Some(Request::IconName(rest.to_vec())),
+            5 => Some(Request::Title(rest.to_vec())),
+            6 => Some(Request::Copy {
+                clipboards: letters.to_vec(),
+                data: rest.to_vec(),
+            }),
+            7 => Some(Request::Paste(letters.to_vec())),
+            kind => unreachable!("the library knows no request {kind}"),
+        }
+    }
+}

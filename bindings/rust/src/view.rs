@@ -1,0 +1,91 @@
+//! Views.
+use crate::cell::{Cell, Look};
+use crate::error::Result;
+use crate::object::{Functions, Object};
+use crate::raw;
+use std::io;
+use std::num::NonZeroU16;
+
+static FUNCTIONS: Functions = Functions {
+    close: raw::jeihpal_view_close,
+    look: raw::jeihpal_view_look,
+    cell: raw::jeihpal_view_cell,
+    row_text: raw::jeihpal_view_row_text,
+};
+
+/// A small far terminal, which reads frames in any pieces.
+///
+/// What is written to it as [`io::Write`] it reads. It stays on the thread that made it.
+pub struct View {
+    object: Object,
+}
+
+impl View {
+    /// A view of this size that shows nothing. It takes all the memory that it needs, but for texts.
+    pub fn new(rows: NonZeroU16, cols: NonZeroU16) -> Result<View> {
+        // SAFETY, here and below: the word is as the last call left it, and what is lent is lent for the call.
+        let fill = |word| unsafe { raw::jeihpal_view_new(word, rows.get(), cols.get()) };
+        Ok(View {
+            object: Object::new(&FUNCTIONS, fill)?,
+        })
+    }
+
+    /// Reads the next bytes. What a frame changes is shown once its last byte was read.
+    pub fn advance(&mut self, bytes: &[u8]) {
+        self.object
+            .give(raw::jeihpal_view_advance, bytes)
+            .expect("a view reads everything");
+    }
+
+    /// Shows what is held back: for where a frame has begun and its end doesn't come.
+    pub fn stop(&mut self) {
+        self.object
+            .call(|word| unsafe { raw::jeihpal_view_stop(word) })
+            .expect("a stop is never refused");
+    }
+
+    /// How many bytes are held back, until the end of a frame or of a synchronized update.
+    pub fn held(&self) -> usize {
+        let mut count = 0;
+        self.object
+            .call(|word| unsafe { raw::jeihpal_view_held(word, &mut count) })
+            .expect("it is never refused");
+        count
+    }
+
+    /// The size, the cursor and the modes of what is shown.
+    pub fn look(&self) -> Look {
+        self.object.look()
+    }
+
+    /// The cell at a place.
+    pub fn cell(&self, row: u16, col: u16) -> Option<Cell> {
+        self.object.cell(row, col)
+    }
+
+    /// The cells of a row; none past the last row.
+    pub fn cells(&self, row: u16) -> impl Iterator<Item = Cell> + '_ {
+        self.object.cells(row)
+    }
+
+    /// The text of a row, without the empty columns at its end.
+    pub fn row_text(&self, row: u16) -> Result<String> {
+        self.object.row_text(row)
+    }
+
+    /// The texts of the rows.
+    pub fn rows(&self) -> impl Iterator<Item = Result<String>> + '_ {
+        self.object.rows()
+    }
+}
+
+impl io::Write for View {
+    fn write(&mut self, bytes: &[u8]) -> io::Result<usize> {
+        self.advance(bytes);
+        Ok(bytes.len())
+    }
+
+    fn flush(&mut self) -> io::Result<()> {
+        Ok(())
+    }
+}

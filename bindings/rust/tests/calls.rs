@@ -1,0 +1,279 @@
+//! Hubs, views and screens, and the names of `vt100`.
+use jeihpal::{
+    Answer, Client, Color, Error, Hub, MouseProtocolEncoding, MouseProtocolMode, Request, Screen,
+    View,
+};
+use std::fs;
+use std::io::{self, Write};
+use std::num::NonZeroU16;
+use std::thread;
+
+fn size(n: u16) -> NonZeroU16 {
+    NonZeroU16::new(n).unwrap()
+}
+
+fn pair(rows: u16, cols: u16) -> (Hub, View, Client) {
+    let mut hub = Hub::new(size(rows), size(cols)).unwrap();
+    let client = hub.attach().unwrap();
+    (hub, View::new(size(rows), size(cols)).unwrap(), client)
+}
+
+#[test]
+fn a_frame_arrives() {
+    let (mut hub, mut view, client) = pair(1, 20);
+    for (line, want) in [
+        ("[####      ]  40%", Answer::Full),
+        ("\r[########  ]  80%", Answer::Difference),
+    ] {
+        hub.write_all(line.as_bytes()).unwrap();
+        assert_eq!(hub.frame(client), Ok(want));
+        assert_eq!(hub.frame(client), Ok(Answer::Behind));
+        let mut wire = Vec::new();
+        hub.pump(client, &mut wire).unwrap();
+        wire.chunks(5).for_each(|piece| view.advance(piece));
+        assert_eq!(view.row_text(0).unwrap(), line.trim_start());
+    }
+    assert_eq!(hub.frame(client), Ok(Answer::Unchanged));
+    assert_eq!(
+        hub.contents().unwrap(),
+        view.rows().next().unwrap().unwrap()
+    );
+    hub.detach(client).unwrap();
+    assert_eq!(hub.frame(client), Err(Error::UnknownClient));
+}
+
+/// Takes so many bytes in all, and then is at fault.
+struct Narrow(usize);
+
+impl io::Write for Narrow {
+    fn write(&mut self, bytes: &[u8]) -> io::Result<usize> {
+        let count = bytes.len().min(self.0).min(3);
+        self.0 -= count;
+        if count == 0 {
+            return Err(io::ErrorKind::BrokenPipe.into());
+        }
+        Ok(count)
+    }
+
+    fn flush(&mut self) -> io::Result<()> {
+        Ok(())
+    }
+}
+
+#[test]
+fn what_is_owed() {
+    let (mut hub, _, client) = pair(1, 20);
+    hub.feed(b"hello").unwrap();
+    hub.frame(client).unwrap();
+    let want = b"\x1b[?2026h\x1b[?25h\x1b[m\x1b[H\x1b[Jhello\x1b>\x1b[?1l\x1b[?2004l\x1b[?2026l";
+    assert_eq!(hub.owed(client).unwrap(), want);
+    assert_eq!(
+        hub.pump(client, &mut Narrow(10)).unwrap_err().kind(),
+        io::ErrorKind::BrokenPipe
+    );
+    assert_eq!(hub.owed(client).unwrap(), want[10..]);
+    assert_eq!(hub.sent(client, want.len()), Err(Error::NotOwed));
+    hub.sent(client, want.len() - 10).unwrap();
+    assert!(hub.owed(client).unwrap().is_empty());
+}
+
+#[test]
+fn updates_are_held() {
+    let (mut hub, _, client) = pair(2, 9);
+    hub.feed(b"\x1b[?2026hx").unwrap();
+    assert_eq!(hub.frame(client), Ok(Answer::Held));
+    assert!(hub.look().is_updating);
+    hub.resize(size(2), size(9)).unwrap();
+    let client = hub.attach().unwrap();
+    assert!(hub.frame(client).unwrap().is_frame());
+}
+
+#[test]
+fn sessions() {
+    for (name, rows) in [("build", 12), ("editor", 8)] {
+        let examples = concat!(env!("CARGO_MANIFEST_DIR"), "/../../examples");
+        let (mut hub, mut view, client) = pair(rows, 40);
+        for piece in fs::read(format!("{examples}/{name}.session"))
+            .unwrap()
+            .chunks(7)
+        {
+            hub.feed(piece).unwrap();
+            hub.frame(client).unwrap();
+            hub.pump(client, &mut view).unwrap();
+        }
+        let shown: String = view.rows().map(|row| row.unwrap() + "\n").collect();
+        assert_eq!(
+            shown,
+            fs::read_to_string(format!("{examples}/{name}.screen")).unwrap()
+        );
+    }
+}
+
+#[test]
+fn cells() {
+    let (_, mut view, _) = pair(2, 9);
+    view.advance("\x1b[1;3;38;5;9;48;2;1;2;3m米\x1b[m\x1b[?1003;1006h\x1b[4 q".as_bytes());
+    let cells: Vec<_> = view.cells(0).collect();
+    assert_eq!(
+        (cells.len(), view.cells(2).count(), view.cell(0, 9)),
+        (9, 0, None)
+    );
+    assert_eq!(
+        (
+            cells[0].contents(),
+            cells[0].is_wide(),
+            cells[1].is_wide_continuation()
+        ),
+        ("米", true, true)
+    );
+    assert_eq!(
+        (cells[0].fgcolor(), cells[0].bgcolor()),
+        (Color::Idx(9), Color::Rgb(1, 2, 3))
+    );
+    assert_eq!(
+        (
+            cells[0].bold(),
+            cells[0].italic(),
+            cells[0].dim(),
+            cells[0].inverse()
+        ),
+        (true, true, false, false)
+    );
+    assert!(!cells[2].has_contents() && cells[2] == cells[3] && cells[0] != cells[2]);
+    let look = view.look();
+    assert_eq!((look.rows, look.cols, look.cursor), (2, 9, (0, 2)));
+    assert_eq!(look.mouse_protocol_mode, MouseProtocolMode::AnyMotion);
+    assert_eq!(look.mouse_protocol_encoding, MouseProtocolEncoding::Sgr);
+}
+
+#[test]
+fn what_a_view_holds_back() {
+    let (_, mut view, _) = pair(1, 9);
+    view.write_all(b"\x1b[?2026hnow").unwrap();
+    assert_eq!(
+        (view.row_text(0).unwrap().as_str(), view.held() > 0),
+        ("", true)
+    );
+    view.stop();
+    assert_eq!(
+        (view.row_text(0).unwrap().as_str(), view.held()),
+        ("now", 0)
+    );
+}
+
+#[test]
+fn screens() {
+    let mut screen = Screen::new(size(2), size(5), 3).unwrap();
+    screen
+        .process(b"a\r\nb\r\nc\r\nd\x07\x1b]2;title\x07\x1b]52;cp;aGk=\x07")
+        .unwrap();
+    screen.scroll(9).unwrap();
+    assert_eq!(
+        (screen.look().scrollback_len, screen.look().scrollback),
+        (2, 2)
+    );
+    assert_eq!(screen.contents().unwrap(), "a\nb");
+    assert_eq!(screen.contents_between((0, 0), (1, 1)).unwrap(), "a\nb");
+    let copy = Request::Copy {
+        clipboards: b"cp".to_vec(),
+        data: b"aGk=".to_vec(),
+    };
+    let requests: Vec<_> = screen.requests().collect();
+    assert_eq!(
+        requests,
+        [Request::Bell, Request::Title(b"title".to_vec()), copy]
+    );
+    screen.resize(size(3), size(4)).unwrap();
+    assert_eq!((screen.look().rows, screen.look().cols), (3, 4));
+    assert_eq!(screen.difference(), screen.state_formatted());
+}
+
+#[test]
+fn threads_with_an_object_each() {
+    let threads = ["a", "b"].map(|letter| {
+        thread::spawn(move || {
+            let (mut hub, mut view, client) = pair(3, 20);
+            for time in 0..500 {
+                hub.feed(format!("\x1b[H{letter}{time}").as_bytes())
+                    .unwrap();
+                hub.frame(client).unwrap();
+                hub.pump(client, &mut view).unwrap();
+            }
+            view.row_text(0).unwrap()
+        })
+    });
+    assert_eq!(threads.map(|it| it.join().unwrap()), ["a499", "b499"]);
+}
+
+/// A program for `vt100`, with its `use` line alone changed.
+mod as_vt100 {
+    use jeihpal::vt100;
+
+    struct Window {
+        bells: usize,
+        title: String,
+    }
+
+    impl vt100::Callbacks for Window {
+        fn audible_bell(&mut self, _: &mut vt100::Screen) {
+            self.bells += 1;
+        }
+
+        fn set_window_title(&mut self, screen: &mut vt100::Screen, title: &[u8]) {
+            self.title = format!(
+                "{} {:?}",
+                String::from_utf8_lossy(title),
+                screen.cursor_position()
+            );
+        }
+    }
+
+    #[test]
+    fn a_program() {
+        let mut parser = vt100::Parser::new(super::size(24), super::size(80), 0);
+        parser.process(b"this text is \x1b[31mRED\x1b[m");
+        assert_eq!(
+            parser.screen().cell(0, 13).unwrap().fgcolor(),
+            vt100::Color::Idx(1)
+        );
+        assert_eq!(parser.screen().cell(0, 16).unwrap().contents(), "");
+        assert!(parser.screen().cell(24, 0).is_none());
+        let screen = parser.screen();
+        assert_eq!(
+            screen.contents_formatted().as_bytes(),
+            b"\x1b[?25h\x1b[m\x1b[H\x1b[Jthis text is \x1b[31mRED\x1b[m"
+        );
+        assert_eq!(screen.rows(5, 4).next().unwrap(), "text");
+        assert_eq!(
+            (screen.rows(0, 80).count(), screen.size().1.get()),
+            (24, 80)
+        );
+        parser.mark();
+        parser.process(b"\x1b[3D\x1b[32mGREEN");
+        assert_eq!(parser.screen().contents(), "this text is GREEN");
+        assert_eq!(
+            parser.screen().state_diff_of_mark(),
+            "\x1b[1;14H\x1b[32mGREEN"
+        );
+        parser
+            .screen_mut()
+            .set_size(super::size(10), super::size(20));
+        assert_eq!(parser.screen().cursor_position(), (0, 18));
+    }
+
+    #[test]
+    fn callbacks() {
+        let window = Window {
+            bells: 0,
+            title: String::new(),
+        };
+        let mut parser =
+            vt100::Parser::new_with_callbacks(super::size(24), super::size(80), 0, window);
+        parser.process(&b"\x07".repeat(3000));
+        parser.process(b"ab\x1b]2;title\x07");
+        assert_eq!(
+            (parser.callbacks().bells, parser.callbacks().title.as_str()),
+            (3000, "title (0, 2)")
+        );
+    }
+}

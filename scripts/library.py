@@ -1,0 +1,159 @@
+"""Makes the library for C of the archive that `rt lib` builds, and installs it.
+
+What is made lies in bindings/out: a static library, a shared library, and a file for pkg-config.
+"""
+import glob
+import os
+import shutil
+import subprocess
+import tempfile
+
+HERE = os.path.dirname(os.path.dirname(os.path.realpath(__file__)))
+CRATE = "jeihpal_c"
+OUT = f"{HERE}/bindings/out"
+ABI = 1  # as JEIHPAL_ABI of the header
+VERSION = "0.1.0"
+SHARED = f"libjeihpal.so.{ABI}"
+PYTHON = f"{HERE}/bindings/python"
+PKG_CONFIG = f"""prefix=${{pcfiledir}}/../..
+includedir=${{prefix}}/include
+libdir=${{prefix}}/lib
+
+Name: jeihpal
+Description: Terminal screens that arrive whole
+Version: {VERSION}
+Cflags: -I${{includedir}}
+Libs: -L${{libdir}} -ljeihpal
+"""
+
+
+class Missing(Exception):
+    """Something that is needed isn't there."""
+
+
+def toolchain():
+    """The folder of the Rattle toolchain."""
+    said = subprocess.run(["rt", "doc"], stdout=subprocess.PIPE, text=True, check=True).stdout
+    return os.path.dirname(said.split()[0])
+
+
+def memory_archive():
+    """The toolchain's few lines for memory, over malloc, realloc and free."""
+    path = f"{toolchain()}/c/liblibc_c.a"
+    if not os.path.isfile(path):
+        raise Missing(f"there is no {path}")
+    return path
+
+
+def tool(*names):
+    """The first of these programs that is on the path."""
+    for name in names:
+        if shutil.which(name):
+            return name
+    raise Missing(f"there is no {' or '.join(names)} on the path")
+
+
+def make_static(archive, memory):
+    """The proved archive, with the lines for memory merged in: one file to link."""
+    made = f"{OUT}/libjeihpal.a"
+    ar = tool("ar", "llvm-ar")
+    with tempfile.TemporaryDirectory() as folder:
+        subprocess.run([ar, "x", memory], cwd=folder, check=True)
+        shutil.copy(archive, f"{folder}/made.a")
+        members = sorted(name for name in os.listdir(folder) if name.endswith(".o"))
+        subprocess.run([ar, "rcsD", "made.a", *members], cwd=folder, check=True)
+        os.replace(shutil.copy(f"{folder}/made.a", f"{made}.new"), made)
+    return made
+
+
+def make_shared(archive, memory):
+    """A shared library that needs the C library alone, and exports the header's names alone."""
+    made = f"{OUT}/{SHARED}"
+    whole = ["-Wl,--whole-archive", archive, "-Wl,--no-whole-archive", memory]
+    how = ["-Wl,--exclude-libs,liblibc_c.a", "-Wl,-z,defs", "-Wl,-z,text", "-Wl,-z,relro", "-Wl,-z,now"]
+    words = [tool("cc", "clang", "gcc"), "-shared", "-O2", "-o", f"{made}.new", f"-Wl,-soname,{SHARED}", *whole, *how]
+    subprocess.run(words, check=True)
+    os.replace(f"{made}.new", made)
+    link(SHARED, f"{OUT}/libjeihpal.so")
+    return made
+
+
+def link(to, at):
+    """Makes a symbolic link, in place of an earlier one."""
+    if os.path.lexists(at):
+        os.remove(at)
+    os.symlink(to, at)
+
+
+def make():
+    """Makes everything, of the archive that `rt lib` has built. Answers the files' names."""
+    archive = f"{HERE}/crates/{CRATE}/out/lib{CRATE}.a"
+    if not os.path.isfile(archive):
+        raise Missing(f"there is no {archive}: rt ci builds none, and removes one; rt lib makes it")
+    os.makedirs(OUT, exist_ok=True)
+    memory = memory_archive()
+    with open(f"{OUT}/jeihpal.pc", "w", encoding="utf-8") as file:
+        file.write(PKG_CONFIG)
+    return [make_static(archive, memory), make_shared(archive, memory), f"{OUT}/jeihpal.pc"]
+
+
+def toolchain_libraries():
+    """The toolchain's libraries that the archive stands on, as crates.txt names them."""
+    uses, found, left = {}, set(), [CRATE]
+    with open(f"{HERE}/crates.txt", encoding="utf-8") as file:
+        for line in file:
+            head, colon, words = line.split("#")[0].partition(":")
+            if colon:
+                uses[head.split()[0]] = words.split()
+    while left:
+        name = left.pop()
+        if name not in found:
+            found.add(name)
+            left += uses.get(name, [])
+    return sorted(found - set(uses))
+
+
+def install_licenses(folder):
+    """Copies the license here, and those of the toolchain's libraries that the archive holds."""
+    shutil.copy(f"{HERE}/LICENSE", folder)
+    for name in toolchain_libraries():
+        for path in glob.glob(f"{toolchain()}/rattle/{name}/LICENSE*"):
+            shutil.copy(path, f"{folder}/{os.path.basename(path)}-{name}")
+
+
+def install_python(folder):
+    """Copies the module and share, with a link to the shared library."""
+    for name in ("jeihpal", "jeihpal_share"):
+        shutil.rmtree(f"{folder}/{name}", ignore_errors=True)
+        shutil.copytree(f"{PYTHON}/{name}", f"{folder}/{name}", ignore=shutil.ignore_patterns("__pycache__"))
+    link(f"../../../{SHARED}", f"{folder}/jeihpal/libjeihpal.so")
+
+
+def install_share(path):
+    """Copies the command, which finds the module from where it lies."""
+    with open(f"{HERE}/share", encoding="utf-8") as file:
+        text = file.read()
+    text = text.replace('"bindings", "python"', '"..", "lib", "jeihpal", "python"')
+    ours = "from a checkout, over the library that ./build --library has made"
+    text = text.replace(ours, "over the installed library")
+    with open(path, "w", encoding="utf-8") as file:
+        file.write(text)
+    os.chmod(path, 0o755)
+
+
+def install(prefix):
+    """Copies everything below a folder. Answers the names of what was copied."""
+    prefix = os.path.abspath(prefix)
+    for name in ("bin", "include", "lib/pkgconfig", "lib/jeihpal/python", "share/doc/jeihpal"):
+        os.makedirs(f"{prefix}/{name}", exist_ok=True)
+    copied = [
+        shutil.copy(f"{OUT}/libjeihpal.a", f"{prefix}/lib"),
+        shutil.copy(f"{OUT}/{SHARED}", f"{prefix}/lib"),
+        shutil.copy(f"{OUT}/jeihpal.pc", f"{prefix}/lib/pkgconfig"),
+        shutil.copy(f"{HERE}/bindings/include/jeihpal.h", f"{prefix}/include"),
+    ]
+    install_licenses(f"{prefix}/share/doc/jeihpal")
+    link(SHARED, f"{prefix}/lib/libjeihpal.so")
+    install_python(f"{prefix}/lib/jeihpal/python")
+    install_share(f"{prefix}/bin/share")
+    return [*copied, f"{prefix}/lib/libjeihpal.so", f"{prefix}/lib/jeihpal/python", f"{prefix}/bin/share"]
