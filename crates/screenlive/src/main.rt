@@ -8,11 +8,11 @@ use std::env;
 use std::process::ExitCode;
 
 fn main(rt: HostRuntime) -> ExitCode {
-    let (mut input, mut output, mut errors) = (rt.stdin(), rt.stdout(), rt.stderr());
     run(
         rt.alloc(),
         env::args(&rt),
-        |words| command(rt.alloc(), words, &mut input, &mut output, &mut errors),
-        || report_fault(&mut rt.stderr(), RelayError::Memory),
+        &mut (rt.stdin(), rt.stdout(), rt.stderr()),
+        |(input, output, errors), words| command(rt.alloc(), words, input, output, errors),
+        |(_, _, errors)| report_fault(errors, RelayError::Memory),
     )
 }
