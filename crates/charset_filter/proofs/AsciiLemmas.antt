@@ -1,28 +1,27 @@
 -- Streams that name no set of lines are given as they are.
-use Rattle.std.proofs.Common.{◌≡◌, ℕ, ◌<◌, Bool, true, false, not, ◌&&◌, ◌||◌, List, [], ◌∷◌, ◌++◌, ◌==◌, if◌then◌else◌}
-use Rattle.std.proofs.Common.{Option, Some, None, refl, sym, ◌∙◌, ap, subst, inl, inr, arith}
+use Rattle.std.proofs.Common.{◌≡◌, ℕ, ◌<◌, Bool, true, false, not, ◌&&◌, List, [], ◌∷◌, ◌++◌, ◌==◌, if◌then◌else◌}
+use Rattle.std.proofs.Common.{Option, Some, None, refl, ◌∙◌, ap, subst, inl, inr, arith}
 use Rattle.std.proofs.lemmas.Bool.Decides.{nat_tests}
 use Rattle.std.proofs.lemmas.Str.{encode_ascii}
 use Rattle.std.specs.Char.{encode_utf8}
 use Rattle.std.specs.Int.{is_in_range}
 use Rattle.vte_core.specs.Event.{Event, Print, Execute, Hook, Put, Unhook, Osc, Csi, Esc}
-use Rattle.vte_core.specs.Shapes.{events}
 use Rattle.vte_core.specs.Pending.{Pending, InText, InEscape, InCsi, InOsc, InHook, InDevice, InSwallowed, closed}
 use Rattle.vte_core.specs.Pending.{events_of_byte, after_byte, events_from}
 use Rattle.vte_core.proofs.Characters.{bool_cases, if_holds}
 use Rattle.vte_core.proofs.Machine.{events-told}
 use Rattle.vte_types.specs.Charset.{mapped}
 use Rattle.vte_types.specs.declared.charset.StandardCharset.{StandardCharset}
-use Rattle.vte_types.specs.declared.charset.StandardCharset.TheVariants.{Ascii, SpecialCharacterAndLineDrawing}
+use Rattle.vte_types.specs.declared.charset.StandardCharset.TheVariants.{Ascii}
 use Rattle.vte_types.specs.declared.charset.CharsetIndex.{CharsetIndex}
 use Rattle.vte_types.specs.declared.charset.CharsetIndex.TheVariants.{G0, G1, G2, G3}
-use Rattle.charset_filter.specs.Sets.{set_at, set_for, set_of, ascii, first_sets, locking, designating, drawing_set}
+use Rattle.charset_filter.specs.Sets.{set_at, set_for, set_of, first_sets, locking, designating, drawing_set}
 use Rattle.charset_filter.specs.Sets.{after_event, after_events, after_escape, after_plain_escape, is_exclamation}
-use Rattle.charset_filter.specs.Given.{is_drawable, given_for, given_from, filtered}
+use Rattle.charset_filter.specs.Given.{is_drawable, given_for, given_from}
 use Rattle.charset_filter.specs.Laws.{names_lines, names_none, KeepsAscii}
 use Rattle.charset_filter.specs.declared.sets.Designations.{Designations}
 use Rattle.charset_filter.specs.declared.sets.CharacterSets.{CharacterSets}
-use Rattle.charset_filter.proofs.ByteLemmas.{set_behind, given-drawn, silent-given, sets-alike, is-len}
+use Rattle.charset_filter.proofs.ByteLemmas.{set_behind, given-drawn, silent-given, sets-alike}
 
 -- ASCII in all four
 record IsAscii (d : Designations) : Type 0 where

@@ -1,22 +1,22 @@
 -- What is given for one byte.
-use Rattle.std.proofs.Common.{◌≡◌, ℕ, zero, suc, ◌+◌, ◌-◌, ◌<◌, ◌≤◌, Bool, true, false, not, ◌&&◌, ◌||◌, List, [], ◌∷◌, ◌++◌}
-use Rattle.std.proofs.Common.{length, ◌==◌, nat_lt, if◌then◌else◌, Option, Some, None, refl, sym, ◌∙◌, ap, subst, inl, inr}
+use Rattle.std.proofs.Common.{◌≡◌, ℕ, ◌+◌, ◌≤◌, Bool, true, false, ◌&&◌, ◌||◌, List, [], ◌∷◌, ◌++◌}
+use Rattle.std.proofs.Common.{length, ◌==◌, nat_lt, Some, None, refl, sym, ◌∙◌, ap, inl, inr}
 use Rattle.std.proofs.Common.{arith, append-nil}
 use Rattle.std.proofs.lemmas.Bool.Decides.{nat_tests}
 use Rattle.std.specs.Char.{encode_utf8}
 use Rattle.std.specs.Int.{is_in_range}
-use Rattle.vte_core.specs.Event.{Event, Print, Execute, Hook, Put, Unhook, Osc, Csi, Esc}
+use Rattle.vte_core.specs.Event.{Event, Print, Execute}
 use Rattle.vte_core.specs.Bytes.{is_esc, is_abort, is_control, is_put, ends_header, ends_escape, ends_osc, ends_device}
 use Rattle.vte_core.specs.Text.{char_len, first_bits, joined, char_event, malformed_event}
 use Rattle.vte_core.specs.Header.{is_well_formed}
 use Rattle.vte_core.specs.Pending.{Pending, InText, InEscape, InCsi, InOsc, InHook, InDevice, InSwallowed, IsSound}
-use Rattle.vte_core.specs.Pending.{told, goes_on, begun, text_told, closed, final_told, byte_told, events_of_byte}
+use Rattle.vte_core.specs.Pending.{told, goes_on, begun, text_told, closed, final_told, events_of_byte}
 use Rattle.vte_core.specs.Pending.{after_byte, events_from, after_bytes}
 use Rattle.vte_core.specs.Stopping.{is_text}
 use Rattle.vte_core.proofs.Characters.{bool_cases, if_holds}
 use Rattle.vte_types.specs.Charset.{mapped}
 use Rattle.charset_filter.specs.Sets.{after_event, after_events, drawing_set, shown, drawn_events}
-use Rattle.charset_filter.specs.Given.{is_drawable, last_drawn, drawn_or, given_for}
+use Rattle.charset_filter.specs.Given.{is_drawable, last_drawn, given_for}
 use Rattle.charset_filter.specs.declared.sets.CharacterSets.{CharacterSets}
 use Rattle.charset_filter.proofs.Codes.{high-joined}
 use Rattle.charset_filter.proofs.EventLemmas.{prints_nothing, silent-events, silent-last}

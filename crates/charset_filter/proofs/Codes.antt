@@ -1,11 +1,11 @@
 -- Characters of several bytes lie above ASCII.
-use Rattle.std.proofs.Common.{◌≡◌, ℕ, zero, suc, ◌+◌, ◌-◌, ◌*◌, ◌<◌, ◌≤◌, Bool, true, false, List, [], ◌∷◌, ◌++◌}
-use Rattle.std.proofs.Common.{length, ◌==◌, nat_lt, refl, sym, arith, inl, inr}
+use Rattle.std.proofs.Common.{◌≡◌, ℕ, ◌+◌, ◌-◌, ◌*◌, ◌≤◌, true, List, [], ◌∷◌, ◌++◌}
+use Rattle.std.proofs.Common.{length, sym, arith}
 use Rattle.std.proofs.lemmas.Bool.Decides.{nat_tests}
 use Rattle.std.specs.Int.{is_in_range}
-use Rattle.vte_core.specs.Text.{char_len, second_min, second_max, tail_len, first_bits, joined}
+use Rattle.vte_core.specs.Text.{char_len, second_min, second_max, first_bits, joined}
 use Rattle.vte_core.specs.Pending.{goes_on, IsUnfinished}
-use Rattle.vte_core.proofs.Characters.{bool_cases, tail_first}
+use Rattle.vte_core.proofs.Characters.{tail_first}
 
 two : (a b : ℕ) → char_len a ≡ 2 → is_in_range (second_min a) (second_max a) b ≡ true
     → 0x80 ≤ first_bits a * 64 + (b - 128)

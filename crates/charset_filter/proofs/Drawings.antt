@@ -1,17 +1,17 @@
 -- What is given for a drawn character prints it.
-use Rattle.std.proofs.Common.{◌≡◌, ℕ, ◌+◌, ◌-◌, ◌*◌, ◌<◌, ◌≤◌, Bool, true, false, not, ◌&&◌, ◌||◌, List, [], ◌∷◌, ◌++◌}
-use Rattle.std.proofs.Common.{length, ◌==◌, nat_eq, nat_lt, if◌then◌else◌, unwrap_or, refl, sym, ◌∙◌, ap, subst, inl, inr, arith}
+use Rattle.std.proofs.Common.{◌≡◌, ℕ, ◌<◌, Bool, true, false, ◌&&◌, ◌||◌, List, [], ◌∷◌, ◌++◌}
+use Rattle.std.proofs.Common.{◌==◌, nat_eq, nat_lt, unwrap_or, refl, sym, ap, subst, inl, inr, arith}
 use Rattle.std.proofs.lemmas.Bool.Decides.{nat_tests}
 use Rattle.std.proofs.lemmas.Str.{encode_ascii}
 use Rattle.std.specs.Char.{encode_utf8}
 use Rattle.std.specs.Int.{is_in_range}
-use Rattle.vte_core.specs.Event.{Event, Print, Execute}
+use Rattle.vte_core.specs.Event.{Event, Print}
 use Rattle.vte_core.specs.Bytes.{is_esc}
 use Rattle.vte_core.specs.Text.{char_len, second_min, second_max, first_bits, joined, char_event}
-use Rattle.vte_core.specs.Pending.{Pending, InText, goes_on, begun, begun_rest, text_told, text_rest, closed}
-use Rattle.vte_core.specs.Pending.{events_of_byte, after_byte, events_from, after_bytes}
+use Rattle.vte_core.specs.Pending.{InText, goes_on, begun, begun_rest, closed}
+use Rattle.vte_core.specs.Pending.{events_from, after_bytes}
 use Rattle.vte_core.proofs.Characters.{bool_cases}
-use Rattle.vte_types.specs.Charset.{drawings, drawn, mapped}
+use Rattle.vte_types.specs.Charset.{drawings, mapped}
 use Rattle.vte_types.specs.Lookup.{lookup}
 use Rattle.vte_types.specs.declared.charset.StandardCharset.{StandardCharset}
 use Rattle.vte_types.specs.declared.charset.StandardCharset.TheVariants.{Ascii, SpecialCharacterAndLineDrawing}

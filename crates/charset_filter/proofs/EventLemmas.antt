@@ -1,12 +1,9 @@
 -- Events and sets.
-use Rattle.std.proofs.Common.{◌≡◌, ℕ, Bool, true, false, not, ◌&&◌, ◌||◌, List, [], ◌∷◌, ◌++◌, ◌==◌, if◌then◌else◌}
-use Rattle.std.proofs.Common.{Option, Some, None, refl, sym, ◌∙◌, ap, inl, inr, arith}
-use Rattle.std.proofs.lemmas.Bool.Decides.{nat_tests}
-use Rattle.std.specs.Int.{is_in_range}
+use Rattle.std.proofs.Common.{◌≡◌, ℕ, Bool, true, false, not, ◌&&◌, List, [], ◌∷◌, ◌++◌}
+use Rattle.std.proofs.Common.{Option, refl, ◌∙◌, ap}
 use Rattle.vte_core.specs.Event.{Event, Print, Execute, Hook, Put, Unhook, Osc, Csi, Esc}
-use Rattle.vte_core.proofs.Characters.{bool_cases}
 use Rattle.charset_filter.specs.Sets.{after_event, after_events, shown, drawn_events}
-use Rattle.charset_filter.specs.Given.{is_drawable, drawn_by, last_drawn}
+use Rattle.charset_filter.specs.Given.{drawn_by, last_drawn}
 use Rattle.charset_filter.specs.declared.sets.CharacterSets.{CharacterSets}
 
 pub after_events-append : (s : CharacterSets) (xs ys : List Event)

@@ -1,7 +1,6 @@
 -- What is given for bytes.
-use Rattle.std.proofs.Common.{◌≡◌, ℕ, Bool, true, false, List, [], ◌∷◌, ◌++◌, refl, sym, ◌∙◌, ap, append_assoc}
+use Rattle.std.proofs.Common.{◌≡◌, ℕ, List, [], ◌∷◌, ◌++◌, refl, sym, ◌∙◌, ap, append_assoc}
 use Rattle.vte_core.specs.Event.{Event}
-use Rattle.vte_core.specs.Shapes.{events}
 use Rattle.vte_core.specs.Pending.{Pending, InText, IsSound, events_of_byte, after_byte, events_from, after_bytes, pending}
 use Rattle.vte_core.proofs.Machine.{IsSound-byte, events-told, events_from-append, after_bytes-append}
 use Rattle.charset_filter.specs.Sets.{after_events, drawn_events, first_sets}

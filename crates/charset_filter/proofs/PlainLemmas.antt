@@ -1,32 +1,30 @@
 -- Runs in which no set can change are given as they are.
 use Rattle.std.proofs.Common.{◌≡◌, ◌≢◌, ℕ, suc, ◌+◌, ◌≤◌, ◌<◌, Bool, true, false, not, ◌&&◌, ◌||◌, List, [], ◌∷◌, ◌++◌, length, take}
-use Rattle.std.proofs.Common.{◌==◌, nat_lt, if◌then◌else◌, ◌⊎◌, Option, Some, None, refl, sym, ◌∙◌, ap, subst, inl, inr, arith}
-use Rattle.std.proofs.Common.{append-nil, get_or, drop-cons, add-one}
+use Rattle.std.proofs.Common.{◌==◌, nat_lt, if◌then◌else◌, ◌⊎◌, refl, sym, ◌∙◌, ap, subst, inl, inr, arith}
+use Rattle.std.proofs.Common.{get_or, drop-cons, add-one}
 use Rattle.std.proofs.Math.Seq.{take-add}
 use Rattle.std.proofs.lemmas.Bool.Decides.{nat_tests}
 use Rattle.std.proofs.lemmas.Str.{encode_ascii}
 use Rattle.std.specs.Char.{encode_utf8}
 use Rattle.std.specs.Int.{is_in_range}
 use Rattle.vte_core.specs.Event.{Event, Print, Execute, Hook, Put, Unhook, Osc, Csi, Esc}
-use Rattle.vte_core.specs.Bytes.{is_esc, is_abort, is_control, is_put, ends_header, ends_escape, ends_osc, ends_device, each}
+use Rattle.vte_core.specs.Bytes.{is_esc, is_abort, is_control, is_put, ends_header, ends_escape, ends_osc, ends_device}
 use Rattle.vte_core.specs.Text.{char_len, first_bits, joined, char_event, malformed_event}
 use Rattle.vte_core.specs.Header.{is_well_formed}
-use Rattle.vte_core.specs.Pending.{Pending, InText, InEscape, InCsi, InOsc, InHook, InDevice, InSwallowed, IsSound, pending}
-use Rattle.vte_core.specs.Pending.{told, goes_on, begun, text_told, text_rest, closed, byte_told, byte_rest, final_rest}
-use Rattle.vte_core.specs.Pending.{events_of_byte, after_byte, events_from, after_bytes}
-use Rattle.vte_core.specs.Stopping.{is_text}
+use Rattle.vte_core.specs.Pending.{Pending, InText, InEscape, InCsi, InOsc, InHook, InDevice, InSwallowed, IsSound}
+use Rattle.vte_core.specs.Pending.{told, goes_on, begun, text_told, closed, byte_rest, final_rest}
+use Rattle.vte_core.specs.Pending.{events_of_byte, after_byte, after_bytes}
 use Rattle.vte_core.proofs.Characters.{bool_cases, if_holds}
 use Rattle.vte_core.proofs.Machine.{IsSound-byte}
 use Rattle.vte_types.specs.Charset.{mapped}
 use Rattle.vte_types.specs.declared.charset.StandardCharset.{StandardCharset}
 use Rattle.vte_types.specs.declared.charset.StandardCharset.TheVariants.{Ascii}
-use Rattle.charset_filter.specs.Sets.{set_at, set_for, after_event, after_events, drawing_set, first_sets, is_exclamation}
-use Rattle.charset_filter.specs.Given.{is_drawable, given_for, given_from, filtered}
+use Rattle.charset_filter.specs.Sets.{set_for, after_event, after_events, drawing_set, first_sets, is_exclamation}
+use Rattle.charset_filter.specs.Given.{is_drawable, given_for, given_from}
 use Rattle.charset_filter.specs.Filter.{is_escape}
 use Rattle.charset_filter.specs.Plain.{IsPlain, is_plain_run}
 use Rattle.charset_filter.specs.declared.sets.CharacterSets.{CharacterSets}
 use Rattle.charset_filter.proofs.Codes.{high-joined}
-use Rattle.charset_filter.proofs.EventLemmas.{after_events-append}
 use Rattle.charset_filter.proofs.ByteLemmas.{set_behind, given-drawn, silent-given, first-same, is-len}
 
 -- where an escape is pending

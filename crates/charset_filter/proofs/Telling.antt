@@ -1,20 +1,17 @@
 -- What a filter reads.
-use Rattle.std.proofs.Common.{◌≡◌, ℕ, ◌+◌, ◌-◌, ◌<◌, ◌≤◌, Bool, true, false, ◌||◌, List, [], ◌∷◌, ◌++◌, length, take, drop, ◌==◌}
-use Rattle.std.proofs.Common.{if◌then◌else◌, Option, Some, None, refl, sym, ◌∙◌, ap, subst, arith, append-nil, append_assoc}
+use Rattle.std.proofs.Common.{◌≡◌, ℕ, ◌+◌, ◌-◌, ◌<◌, ◌≤◌, Bool, true, false, List, [], ◌∷◌, ◌++◌, length, take, drop}
+use Rattle.std.proofs.Common.{if◌then◌else◌, Option, None, sym, ◌∙◌, ap, subst, arith, append-nil, append_assoc}
 use Rattle.std.proofs.Common.{length-drop, get_or}
 use Rattle.std.proofs.Math.Seq.{take-add, take-length}
-use Rattle.std.proofs.lemmas.Bool.Decides.{nat_tests}
 use Rattle.vte_core.specs.Event.{Event, Performs}
-use Rattle.vte_core.specs.Shapes.{events}
-use Rattle.vte_core.specs.Added.{added}
 use Rattle.vte_core.specs.Bytes.{is_esc, ends_escape}
-use Rattle.vte_core.specs.Pending.{Pending, InText, events_from, after_bytes, after_byte, events_of_byte, pending}
+use Rattle.vte_core.specs.Pending.{InText, events_from, events_of_byte, pending}
 use Rattle.vte_core.specs.Standing.{Stands}
 use Rattle.vte_core.specs.Told.{Told}
 use Rattle.vte_core.specs.declared.parser.Parser.{Parser}
 use Rattle.vte_core.proofs.AddedLemmas.{added-is, added-from}
 use Rattle.vte_core.proofs.Machine.{after_bytes-append}
-use Rattle.charset_filter.specs.Sets.{after_event, after_events, first_sets}
+use Rattle.charset_filter.specs.Sets.{after_event, after_events}
 use Rattle.charset_filter.specs.Given.{drawn_by, last_drawn, given_after, given_byte, given_for, sets_of}
 use Rattle.charset_filter.specs.Filter.{HasRead, Gives, is_escape}
 use Rattle.charset_filter.specs.Plain.{IsPlain, is_plain_run}

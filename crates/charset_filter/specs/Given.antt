@@ -1,9 +1,9 @@
 -- What is given for bytes.
-use Rattle.std.specs.Prelude.{ℕ, Bool, true, false, ◌&&◌, List, [], ◌∷◌, ◌++◌, Option, Some, None, if◌then◌else◌}
+use Rattle.std.specs.Prelude.{ℕ, Bool, List, [], ◌∷◌, ◌++◌, Option, Some, None, if◌then◌else◌}
 use Rattle.std.specs.Char.{encode_utf8}
 use Rattle.std.specs.Int.{is_in_range}
 use Rattle.vte_core.specs.Event.{Event, Print}
-use Rattle.vte_core.specs.Pending.{Pending, InText, after_byte, events_of_byte, pending}
+use Rattle.vte_core.specs.Pending.{Pending, after_byte, events_of_byte, pending}
 use Rattle.vte_core.specs.Shapes.{events}
 use Rattle.vte_types.specs.Charset.{mapped}
 use Rattle.charset_filter.specs.Sets.{after_event, after_events, drawing_set, first_sets}

@@ -1,7 +1,6 @@
 -- Runs in which no set can change.
-use Rattle.std.specs.Prelude.{◌≡◌, ℕ, Bool, true, false, not, ◌&&◌, ◌||◌, ◌==◌, List, [], ◌∷◌, Option, Some, None}
+use Rattle.std.specs.Prelude.{◌≡◌, ℕ, Bool, true, false, not, ◌&&◌, ◌||◌, ◌==◌, List, [], ◌∷◌, None}
 use Rattle.vte_core.specs.Bytes.{is_esc}
-use Rattle.vte_types.specs.declared.charset.StandardCharset.{StandardCharset}
 use Rattle.vte_types.specs.declared.charset.StandardCharset.TheVariants.{Ascii}
 use Rattle.charset_filter.specs.Sets.{set_at}
 use Rattle.charset_filter.specs.declared.sets.CharacterSets.{CharacterSets}

@@ -1,4 +1,3 @@
-use Rattle.std.proofs.Common.{refl, sym, ◌∙◌}
 use Rattle.charset_filter.proofs.Telling.{gives-on}
 use Rattle.charset_filter.proofs.filter.CharsetFilter.advance.Goals as goal
 

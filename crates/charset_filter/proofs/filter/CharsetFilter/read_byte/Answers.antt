@@ -1,4 +1,3 @@
-use Rattle.std.proofs.Common.{refl}
 use Rattle.charset_filter.proofs.Telling.{byte-gives}
 use Rattle.charset_filter.proofs.filter.CharsetFilter.read_byte.Goals as goal
 
