@@ -1,0 +1,218 @@
+-- What is given for one byte.
+use Rattle.std.proofs.Common.{◌≡◌, ℕ, ◌+◌, ◌≤◌, Bool, true, false, ◌&&◌, ◌||◌, List, [], ◌∷◌, ◌++◌}
+use Rattle.std.proofs.Common.{length, ◌==◌, nat_lt, Some, None, refl, sym, ◌∙◌, ap, inl, inr}
+use Rattle.std.proofs.Common.{arith, append-nil}
+use Rattle.std.proofs.lemmas.Bool.Decides.{nat_tests}
+use Rattle.std.specs.Char.{encode_utf8}
+use Rattle.std.specs.Int.{is_in_range}
+use Rattle.vte_core.specs.Event.{Event, Print, Execute}
+use Rattle.vte_core.specs.Bytes.{is_esc, is_abort, is_control, is_put, ends_header, ends_escape, ends_osc, ends_device}
+use Rattle.vte_core.specs.Text.{char_len, first_bits, joined, char_event, malformed_event}
+use Rattle.vte_core.specs.Header.{is_well_formed}
+use Rattle.vte_core.specs.Pending.{Pending, InText, InEscape, InCsi, InOsc, InHook, InDevice, InSwallowed, IsSound}
+use Rattle.vte_core.specs.Pending.{told, goes_on, begun, text_told, closed, final_told, events_of_byte}
+use Rattle.vte_core.specs.Pending.{after_byte, events_from, after_bytes}
+use Rattle.vte_core.specs.Stopping.{is_text}
+use Rattle.vte_core.proofs.Characters.{bool_cases, if_holds}
+use Rattle.vte_types.specs.Charset.{mapped}
+use Rattle.charset_filter.specs.Sets.{after_event, after_events, drawing_set, shown, drawn_events}
+use Rattle.charset_filter.specs.Given.{is_drawable, last_drawn, given_for}
+use Rattle.charset_filter.specs.declared.sets.CharacterSets.{CharacterSets}
+use Rattle.charset_filter.proofs.Codes.{high-joined}
+use Rattle.charset_filter.proofs.EventLemmas.{prints_nothing, silent-events, silent-last}
+use Rattle.charset_filter.proofs.Drawings.{begun-one, drawable-plain, mapped-same, off-drawable, printed-mapped}
+
+-- only text prints
+
+abbrev Silent : List Event → Type 0
+Silent es = prints_nothing es ≡ true
+
+silent-told : (p : ℕ → Bool) (b : ℕ) → Silent (told p Execute b)
+silent-told p b = if_holds Silent (p b) (Execute b ∷ []) [] refl refl
+
+silent-final : (is : List ℕ) (b : ℕ) → Silent (final_told is b)
+silent-final is b =
+    if_holds Silent (length is == 0 && b == 0x5B) _ _ refl (if_holds Silent (length is == 0 && b == 0x5D) _ _ refl
+    (if_holds Silent (length is == 0 && b == 0x50) _ _ refl
+    (if_holds Silent (length is == 0 && (b == 0x58 || (b == 0x5E || b == 0x5F))) _ _ refl refl)))
+
+pub silent-byte : (n : ℕ) (q : Pending) (b : ℕ) → is_text q ≡ false → prints_nothing (events_of_byte n q b) ≡ true
+silent-byte n (InText u) b h = absurd (let no : true ≡ false = h in cc)
+silent-byte n (InEscape is) b h = if_holds Silent (is_esc b) _ _ refl
+    (if_holds Silent (ends_escape b) _ _ (if_holds Silent (is_abort b) _ _ refl (silent-final is b))
+    (silent-told is_control b))
+silent-byte n (InCsi x) b h = if_holds Silent (is_esc b) _ _ refl
+    (if_holds Silent (ends_header b) _ _
+    (if_holds Silent (is_abort b) _ _ refl (if_holds Silent (is_well_formed x) _ _ refl refl))
+    (silent-told is_control b))
+silent-byte n (InOsc d) b h = if_holds Silent (is_esc b) _ _ refl
+    (if_holds Silent (ends_osc b) _ _ (silent-told is_abort b) refl)
+silent-byte n (InHook x) b h = if_holds Silent (is_esc b) _ _ refl
+    (if_holds Silent (ends_header b) _ _
+    (if_holds Silent (is_abort b) _ _ refl (if_holds Silent (is_well_formed x) _ _ refl refl)) refl)
+silent-byte n InDevice b h = if_holds Silent (is_esc b) _ _ refl
+    (if_holds Silent (ends_device b) _ _ (silent-told is_abort b) (if_holds Silent (is_put b) _ _ refl refl))
+silent-byte n InSwallowed b h = if_holds Silent (is_esc b) _ _ refl (silent-told is_abort b)
+
+-- text that no set draws otherwise
+
+abbrev Steady : Event → Type 0
+Steady e = (s : CharacterSets) → shown s e ≡ e
+
+abbrev Fixed : List Event → Type 0
+Fixed es = (s : CharacterSets) → drawn_events s es ≡ es
+
+fixed-one : (e : Event) → Steady e → Fixed (e ∷ [])
+fixed-one e h s = ap (λ (x : Event). x ∷ []) (h s)
+
+fixed-cons : (e : Event) (es : List Event) → Steady e → Fixed es → Fixed (e ∷ es)
+fixed-cons e es h k s = ap (λ (x : Event). x ∷ drawn_events (after_event s e) es) (h s)
+    ∙ ap (λ (xs : List Event). e ∷ xs) (k (after_event s e))
+
+fixed-none : Fixed []
+fixed-none s = refl
+
+steady-print : (c : ℕ) → is_drawable c ≡ false → Steady (Print c)
+steady-print c h s = ap Print (mapped-same (drawing_set s) c h)
+
+steady-char : (c : ℕ) → is_drawable c ≡ false → Steady (char_event c)
+steady-char c h = if_holds Steady (nat_lt c 0x20 || is_in_range 0x80 0x9F c) (Execute c) (Print c) (λ s. refl)
+    (steady-print c h)
+
+steady-malformed : (b : ℕ) → Steady (malformed_event 1 b)
+steady-malformed b = if_holds Steady (1 == 1 && is_in_range 0x80 0x9F b) (Execute b) (Print 0xFFFD) (λ s. refl)
+    (steady-print 0xFFFD refl)
+
+pub first-same : (b : ℕ) → (char_len b == 1) ≡ true → first_bits b ≡ b
+first-same b h = grind (arith, nat_tests)
+
+fixed-begun : (b : ℕ) → is_drawable b ≡ false → Fixed (begun b)
+fixed-begun b h =
+    elim (bool_cases (char_len b == 1)) [
+      | inl e ↦ rw (e, first-same b e) (fixed-one (char_event b) (steady-char b h))
+      | inr e ↦ rw e (if_holds Fixed (char_len b == 0) _ _ (fixed-one (malformed_event 1 b) (steady-malformed b))
+          fixed-none)
+    ]
+
+high-undrawn : (c : ℕ) → 0x80 ≤ c → is_drawable c ≡ false
+high-undrawn c h = grind (arith, nat_tests)
+
+pub is-len : (k l : ℕ) → (k == l) ≡ true → k ≡ l
+is-len k l h = grind (arith, nat_tests)
+
+fixed-text : (u : List ℕ) (b : ℕ) → IsSound (InText u) → is_drawable b ≡ false → Fixed (text_told u b)
+fixed-text [] b k h = fixed-begun b h
+fixed-text (a ∷ t) b k h =
+    elim (bool_cases (goes_on a t b)) [
+      | inl e ↦ rw e (elim (bool_cases (length t + 2 == char_len a)) [
+        | inl f ↦
+            let high = high-joined a t b k e (is-len (length t + 2) (char_len a) f) in
+            rw f (fixed-one (char_event (joined (first_bits a) (t ++ b ∷ []))) (steady-char (joined (first_bits a) (t ++ b ∷ []))
+            (high-undrawn (joined (first_bits a) (t ++ b ∷ [])) high)))
+        | inr f ↦ rw f fixed-none
+      ])
+      | inr e ↦ rw e (fixed-cons (Print 0xFFFD) (begun b) (steady-print 0xFFFD refl) (fixed-begun b h))
+    ]
+
+fixed-closed : (n : ℕ) (u : List ℕ) → Fixed (closed n (InText u))
+fixed-closed n [] = fixed-none
+fixed-closed n (a ∷ t) = fixed-one (Print 0xFFFD) (steady-print 0xFFFD refl)
+
+-- text that is drawn
+
+drawable-esc : (b : ℕ) → is_drawable b ≡ true → is_esc b ≡ false
+drawable-esc b h = grind (arith, nat_tests)
+
+drawn-text : (n : ℕ) (u : List ℕ) (b : ℕ) → is_drawable b ≡ true
+    → events_of_byte n (InText u) b ≡ closed n (InText u) ++ Print b ∷ []
+drawn-text n [] b h = rw (drawable-esc b h, (begun-one b (drawable-plain b h)).0) refl
+drawn-text n (a ∷ t) b h =
+    rw (drawable-esc b h, off-drawable a t b h, (begun-one b (drawable-plain b h)).0) refl
+
+drawn-rest : (u : List ℕ) (b : ℕ) → is_drawable b ≡ true → after_byte (InText u) b ≡ InText []
+drawn-rest [] b h = rw (drawable-esc b h, (begun-one b (drawable-plain b h)).1) refl
+drawn-rest (a ∷ t) b h =
+    rw (drawable-esc b h, off-drawable a t b h, (begun-one b (drawable-plain b h)).1) refl
+
+-- the set that draws it
+abbrev pub set_behind : CharacterSets → List ℕ → CharacterSets
+set_behind s u = after_events s (closed 0 (InText u))
+
+last-drawn : (s : CharacterSets) (u : List ℕ) (b : ℕ)
+    → last_drawn s None (closed 0 (InText u) ++ Print b ∷ []) ≡ Some (mapped (drawing_set (set_behind s u)) b)
+last-drawn s [] b = refl
+last-drawn s (a ∷ t) b = refl
+
+pub given-drawn : (u : List ℕ) (s : CharacterSets) (b : ℕ) → is_drawable b ≡ true
+    → given_for (InText u) s b ≡ encode_utf8 (mapped (drawing_set (set_behind s u)) b)
+given-drawn u s b h = rw (h, drawn-text 0 u b h, last-drawn s u b) refl
+
+shown-drawn : (n : ℕ) (s : CharacterSets) (u : List ℕ) (b : ℕ)
+    → drawn_events s (closed n (InText u) ++ Print b ∷ [])
+    ≡ closed n (InText u) ++ Print (mapped (drawing_set (set_behind s u)) b) ∷ []
+shown-drawn n s [] b = refl
+shown-drawn n s (a ∷ t) b = ap (λ (x : Event). x ∷ Print (mapped (drawing_set (set_behind s (a ∷ t))) b) ∷ [])
+    (steady-print 0xFFFD refl s)
+
+-- what is given tells what the byte tells, as it is drawn, and leaves what the byte leaves
+abbrev pub Stands-for : Pending → CharacterSets → ℕ → Type 0
+Stands-for q s b = (n : ℕ) → (events_from n q (given_for q s b) ≡ drawn_events s (events_of_byte n q b))
+    × (after_bytes q (given_for q s b) ≡ after_byte q b)
+
+as-it-is : (q : Pending) (s : CharacterSets) (b : ℕ) → given_for q s b ≡ b ∷ []
+    → ((n : ℕ) → drawn_events s (events_of_byte n q b) ≡ events_of_byte n q b) → Stands-for q s b
+as-it-is q s b given same n =
+    rw given (append-nil (events_of_byte n q b) ∙ sym (same n), refl)
+
+pub silent-given : (q : Pending) (s : CharacterSets) (b : ℕ) → is_text q ≡ false → given_for q s b ≡ b ∷ []
+silent-given q s b h =
+    let none : last_drawn s None (events_of_byte 0 q b) ≡ None =
+    silent-last s None (events_of_byte 0 q b) (silent-byte 0 q b h) in
+    rw none (if_holds (λ (x : List ℕ). x ≡ b ∷ []) (is_drawable b) (b ∷ []) (b ∷ []) refl refl)
+
+stands-silent : (q : Pending) (s : CharacterSets) (b : ℕ) → is_text q ≡ false → Stands-for q s b
+stands-silent q s b h = as-it-is q s b (silent-given q s b h)
+    (λ n. silent-events s (events_of_byte n q b) (silent-byte n q b h))
+
+fixed-byte : (n : ℕ) (u : List ℕ) (b : ℕ) → IsSound (InText u) → is_drawable b ≡ false
+    → Fixed (events_of_byte n (InText u) b)
+fixed-byte n u b k h = if_holds Fixed (is_esc b) _ _ (fixed-closed n u) (fixed-text u b k h)
+
+stands-text : (u : List ℕ) (s : CharacterSets) (b : ℕ) → IsSound (InText u) → Stands-for (InText u) s b
+stands-text u s b k =
+    elim (bool_cases (is_drawable b)) [
+      | inl e ↦ λ n.
+          let x = drawing_set (set_behind s u) in
+          let p = printed-mapped x b e n u in
+          rw (given-drawn u s b e) (
+            p.0 ∙ (sym (shown-drawn n s u b) ∙ ap (drawn_events s) (sym (drawn-text n u b e))),
+            p.1 ∙ sym (drawn-rest u b e),
+          )
+      | inr e ↦ as-it-is (InText u) s b (rw e refl) (λ n. fixed-byte n u b k e s)
+    ]
+
+pub stands-for : (q : Pending) (s : CharacterSets) (b : ℕ) → IsSound q → Stands-for q s b
+stands-for (InText u) s b k = stands-text u s b k
+stands-for (InEscape is) s b k = stands-silent (InEscape is) s b refl
+stands-for (InCsi x) s b k = stands-silent (InCsi x) s b refl
+stands-for (InOsc d) s b k = stands-silent (InOsc d) s b refl
+stands-for (InHook x) s b k = stands-silent (InHook x) s b refl
+stands-for InDevice s b k = stands-silent InDevice s b refl
+stands-for InSwallowed s b k = stands-silent InSwallowed s b refl
+
+-- how much of an operating system command is kept makes no difference to the sets
+
+pub sets-alike : (n m : ℕ) (q : Pending) (s : CharacterSets) (b : ℕ)
+    → after_events s (events_of_byte n q b) ≡ after_events s (events_of_byte m q b)
+sets-alike n m (InText []) s b = refl
+sets-alike n m (InText (a ∷ t)) s b = refl
+sets-alike n m (InEscape is) s b = refl
+sets-alike n m (InCsi x) s b = refl
+sets-alike n m (InOsc d) s b =
+    elim (bool_cases (is_esc b)) [
+      | inl e ↦ rw e refl
+      | inr e ↦ rw e (elim (bool_cases (ends_osc b)) [ inl f ↦ rw f refl | inr f ↦ rw f refl ])
+    ]
+sets-alike n m (InHook x) s b = refl
+sets-alike n m InDevice s b = refl
+sets-alike n m InSwallowed s b = refl

@@ -1,0 +1,17 @@
+-- Runs in which no set can change.
+use Rattle.std.specs.Prelude.{◌≡◌, ℕ, Bool, true, false, not, ◌&&◌, ◌||◌, ◌==◌, List, [], ◌∷◌, None}
+use Rattle.vte_core.specs.Bytes.{is_esc}
+use Rattle.vte_types.specs.declared.charset.StandardCharset.TheVariants.{Ascii}
+use Rattle.charset_filter.specs.Sets.{set_at}
+use Rattle.charset_filter.specs.declared.sets.CharacterSets.{CharacterSets}
+
+-- ASCII is drawn, and no single shift is pending
+pub record IsPlain (s : CharacterSets) : Type 0 where
+  pub single : s.single ≡ None
+  pub current : set_at s.current s.current.locked ≡ Ascii
+
+-- neither SO nor SI, and directly behind each ESC stands `[` or `]`; after_esc says that ESC stood before the bytes
+abbrev pub is_plain_run : Bool → List ℕ → Bool
+is_plain_run after_esc [] = not after_esc
+is_plain_run true (b ∷ bs) = (b == 0x5B || b == 0x5D) && is_plain_run false bs
+is_plain_run false (b ∷ bs) = not (b == 0x0E || b == 0x0F) && is_plain_run (is_esc b) bs

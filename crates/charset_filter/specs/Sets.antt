@@ -1,0 +1,101 @@
+-- Which set draws what is printed, event by event.
+use Rattle.std.specs.Prelude.{ℕ, Bool, false, List, [], ◌∷◌, ◌==◌, ◌&&◌, if◌then◌else◌, Option, Some, None}
+use Rattle.vte_core.specs.Event.{Event, Print, Execute, Csi, Esc}
+use Rattle.vte_types.specs.Charset.{mapped}
+use Rattle.vte_types.specs.declared.charset.StandardCharset.{StandardCharset}
+use Rattle.vte_types.specs.declared.charset.StandardCharset.TheVariants.{Ascii, SpecialCharacterAndLineDrawing}
+use Rattle.vte_types.specs.declared.charset.CharsetIndex.{CharsetIndex}
+use Rattle.vte_types.specs.declared.charset.CharsetIndex.TheVariants.{G0, G1, G2, G3}
+use Rattle.charset_filter.specs.declared.sets.Designations.{Designations}
+use Rattle.charset_filter.specs.declared.sets.CharacterSets.{CharacterSets}
+
+-- the set of G0 to G3
+abbrev pub set_at : Designations → CharsetIndex → StandardCharset
+set_at d G0 = d.g0
+set_at d G1 = d.g1
+set_at d G2 = d.g2
+set_at d G3 = d.g3
+
+abbrev pub designated : Designations → CharsetIndex → StandardCharset → Designations
+designated d G0 x = record d { g0 = x }
+designated d G1 x = record d { g1 = x }
+designated d G2 x = record d { g2 = x }
+designated d G3 x = record d { g3 = x }
+
+-- ASCII everywhere, G0 locked
+abbrev pub ascii : Designations
+ascii = record { g0 = Ascii; g1 = Ascii; g2 = Ascii; g3 = Ascii; locked = G0 }
+
+abbrev pub first_sets : CharacterSets
+first_sets = record { current = ascii; single = None; saved = ascii }
+
+abbrev pub set_for : Designations → Option CharsetIndex → StandardCharset
+set_for d None = set_at d d.locked
+set_for d (Some i) = set_at d i
+
+-- the set that draws the next character
+abbrev pub drawing_set : CharacterSets → StandardCharset
+drawing_set s = set_for s.current s.single
+
+abbrev pub locking : CharacterSets → CharsetIndex → CharacterSets
+locking s i = record s { current = record s.current { locked = i } }
+
+abbrev pub designating : CharacterSets → CharsetIndex → StandardCharset → CharacterSets
+designating s i x = record s { current = designated s.current i x }
+
+-- the set that a final byte names behind one intermediate; behind more it names none that draws lines
+abbrev pub set_of : List ℕ → ℕ → StandardCharset
+set_of [] f = if f == 0x30 then SpecialCharacterAndLineDrawing else Ascii
+set_of (i ∷ is) f = Ascii
+
+-- an escape without intermediates: DECSC, DECRC, RIS, SS2, SS3, LS2, LS3
+abbrev pub after_plain_escape : CharacterSets → ℕ → CharacterSets
+after_plain_escape s f =
+    if f == 0x37 then record s { saved = s.current }
+    else (if f == 0x38 then record s { current = s.saved }
+    else (if f == 0x63 then first_sets
+    else (if f == 0x4E then record s { single = Some G2 }
+    else (if f == 0x4F then record s { single = Some G3 }
+    else (if f == 0x6E then locking s G2
+    else (if f == 0x6F then locking s G3 else s))))))
+
+-- an escape with intermediates: SCS
+abbrev pub after_escape : CharacterSets → List ℕ → ℕ → CharacterSets
+after_escape s [] f = after_plain_escape s f
+after_escape s (i ∷ is) f =
+    if i == 0x28 then designating s G0 (set_of is f)
+    else (if i == 0x29 then designating s G1 (set_of is f)
+    else (if i == 0x2A then designating s G2 (set_of is f)
+    else (if i == 0x2B then designating s G3 (set_of is f) else s)))
+
+-- `!` alone
+abbrev pub is_exclamation : List ℕ → Bool
+is_exclamation [] = false
+is_exclamation (i ∷ []) = i == 0x21
+is_exclamation (i ∷ j ∷ is) = false
+
+-- SO and SI
+abbrev pub after_control : CharacterSets → ℕ → CharacterSets
+after_control s b = if b == 0x0E then locking s G1 else (if b == 0x0F then locking s G0 else s)
+
+-- the sets after an event
+abbrev pub after_event : CharacterSets → Event → CharacterSets
+after_event s (Print c) = record s { single = None }
+after_event s (Execute b) = after_control s b
+after_event s (Csi groups is many f) = if is_exclamation is && f == 0x70 then first_sets else s
+after_event s (Esc is many f) = after_escape s is f
+after_event s e = s
+
+abbrev pub after_events : CharacterSets → List Event → CharacterSets
+after_events s [] = s
+after_events s (e ∷ es) = after_events (after_event s e) es
+
+-- an event as it is shown: a printed character as its set draws it
+abbrev pub shown : CharacterSets → Event → Event
+shown s (Print c) = Print (mapped (drawing_set s) c)
+shown s e = e
+
+-- the events, each printed character as the events before it have it drawn
+abbrev pub drawn_events : CharacterSets → List Event → List Event
+drawn_events s [] = []
+drawn_events s (e ∷ es) = shown s e ∷ drawn_events (after_event s e) es

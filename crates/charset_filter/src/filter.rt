@@ -1,0 +1,164 @@
+//! The filter.
+
+ghost use Rattle.std.specs.Prelude.{◌≡◌, ◌<◌, ℕ, List, [], ◌∷◌, ◌++◌, length, false, true, None, Some, IsTrue};
+ghost use Rattle.std.specs.Prelude.{if◌then◌else◌, take, ◌+◌, ◌≤◌, vec_capacity, vec_len};
+ghost use Rattle.std.specs.Result.{OnOk, OnErr, IfOk};
+ghost use Rattle.charset_filter.specs.Filter.{Gives, GivesFront, HasRead};
+ghost use Rattle.charset_filter.specs.Given.{given_byte, is_drawable, last_drawn};
+ghost use Rattle.charset_filter.specs.Plain.{IsPlain, is_plain_run};
+ghost use Rattle.vte_core.specs.Bytes.{ends_escape, is_esc};
+ghost use Rattle.vte_core.specs.Pending.{events_of_byte, pending};
+
+use crate::listener::Listener;
+use crate::plain::plain_len;
+use crate::sets::CharacterSets;
+use std::alloc::AllocError;
+use vte_core::{Parser, Perform};
+
+/// Reads a program's bytes in pieces, and gives them on with each printed character as its set draws it.
+///
+/// The contract of `advance` speaks of every past that the filter has read: the bytes since it was made. A new filter
+/// has read nothing. It holds no bytes back and allocates nothing but the output.
+#[derive(Drop)]
+pub struct CharsetFilter {
+    parser: Parser<0>,
+    sets: CharacterSets,
+    /// Whether an escape sequence is unfinished.
+    in_escape: bool,
+}
+
+impl CharsetFilter {
+    /// A filter that has read nothing: ASCII in G0 to G3, and G0 locked.
+    pub fn new() -> Self
+        ensures { HasRead result [] }
+    {
+        CharsetFilter {
+            parser: Parser::new_with_size(),
+            sets: CharacterSets::new(),
+            in_escape: false,
+        }
+    }
+
+    /// Reads the next bytes, and appends to the output what they give.
+    ///
+    /// Where memory is refused, some of the bytes at the front have been read, and what these give is appended. The
+    /// others have not been read.
+    pub fn advance(&mut self, bytes: &[u8], output: &mut Vec<u8>) -> Result<(), AllocError>
+        ensures given { OnOk result (Gives self.old bytes.now (length bytes.now) self.new output.old.items
+            output.new.items) }
+        ensures front { OnErr result (GivesFront self.old bytes.now self.new output.old.items output.new.items) }
+    {
+        let mut read = 0;
+        while read < bytes.len() {
+            read += self.read_some(&bytes[read..], output)?;
+        }
+        Ok(())
+    }
+
+    /// Reads a run in which no set can change, or one byte. Returns how many bytes it read.
+    fn read_some(&mut self, bytes: &[u8], output: &mut Vec<u8>) -> Result<usize, AllocError>
+        requires { 0 < length bytes.now }
+        ensures some { IfOk result (λ k. 0 < k) }
+        ensures given { IfOk result (λ k. Gives self.old bytes.now k self.new output.old.items output.new.items) }
+        ensures same { OnErr result ((self.new ≡ self.old) × (output.new.items ≡ output.old.items)) }
+    {
+        if !self.in_escape && self.sets.is_plain() {
+            let len = plain_len(bytes);
+            if len > 0 {
+                self.read_plain(bytes, len, output)?;
+                return Ok(len);
+            }
+        }
+        self.read_byte(bytes, output)?;
+        Ok(1)
+    }
+
+    /// Reads a run in which no set can change, as many bytes at the front, and gives it as it is.
+    fn read_plain(
+        &mut self,
+        bytes: &[u8],
+        len: usize,
+        output: &mut Vec<u8>,
+    ) -> Result<(), AllocError>
+        requires within { len ≤ length bytes.now }
+        requires plain { IsPlain self.old.sets }
+        requires escape { self.old.in_escape ≡ false }
+        requires run { is_plain_run false (take len bytes.now) ≡ true }
+        ensures given { OnOk result (Gives self.old bytes.now len self.new output.old.items output.new.items) }
+        ensures same { OnErr result ((self.new ≡ self.old) × (output.new.items ≡ output.old.items)) }
+    {
+        let run = &bytes[..len];
+        output.extend_from_slice(run)?;
+        self.parser.advance(&mut self.sets, run);
+        Ok(())
+    }
+
+    /// Reads the first byte.
+    fn read_byte(&mut self, bytes: &[u8], output: &mut Vec<u8>) -> Result<(), AllocError>
+        requires { 0 < length bytes.now }
+        ensures given { OnOk result (Gives self.old bytes.now 1 self.new output.old.items output.new.items) }
+        ensures same { OnErr result ((self.new ≡ self.old) × (output.new.items ≡ output.old.items)) }
+    {
+        output.reserve(4)?;
+        let drawn = self.listen(bytes[0]);
+        push_given(output, bytes[0], drawn);
+        Ok(())
+    }
+
+    /// Tells the parser of a byte, and answers what is drawn of the last character that it printed.
+    fn listen(&mut self, byte: u8) -> Option<char>
+        ensures reads { (past : List ℕ) → HasRead self.old past → HasRead self.new (past ++ byte ∷ []) }
+        ensures drawn { (past : List ℕ) → HasRead self.old past → result ≡ last_drawn self.old.sets None
+            (events_of_byte 0 (pending past) byte) }
+    {
+        let mut listener = Listener {
+            sets: self.sets,
+            drawn: None,
+        };
+        self.parser.advance(&mut listener, &[byte]);
+        self.sets = listener.sets;
+        self.in_escape = is_in_escape(self.in_escape, byte);
+        listener.drawn
+    }
+}
+
+/// Whether an escape sequence is unfinished after a byte, where it was so before it or not.
+fn is_in_escape(before: bool, byte: u8) -> bool
+    ensures { result ≡ (if is_esc byte then true else (if ends_escape byte then false else before)) }
+{
+    match byte {
+        0x1B => true,
+        0x18 | 0x1A | 0x30..=0x7E => false,
+        _ => before,
+    }
+}
+
+/// Appends what is given for a byte, where there is room for it: the byte, or what is drawn of the character that it
+/// prints.
+fn push_given(output: &mut Vec<u8>, byte: u8, drawn: Option<char>)
+    requires { vec_len output.old + 4 ≤ vec_capacity output.old }
+    ensures { output.new.items ≡ output.old.items ++ given_byte byte drawn }
+{
+    match drawn {
+        Some(c) if is_drawable(byte) => {
+            let mut room = [0; 4];
+            push_bytes(output, c.encode_utf8(&mut room).as_bytes());
+        }
+        _ => output.push_reserved(byte),
+    }
+}
+
+/// Whether the byte is one of those that the special graphics draw otherwise.
+fn is_drawable(byte: u8) -> bool
+    ensures { result ≡ is_drawable byte }
+{
+    (0x5F..=0x7E).contains(&byte)
+}
+
+/// Appends bytes where there is room for them.
+fn push_bytes(output: &mut Vec<u8>, bytes: &[u8])
+    requires { vec_len output.old + length bytes.now ≤ vec_capacity output.old }
+    ensures { output.new.items ≡ output.old.items ++ bytes.now }
+{
+    let _appended = output.extend_from_slice(bytes);
+}

@@ -1,0 +1,34 @@
+//! Character sets, resolved before a terminal: a filter for a program's bytes.
+//!
+//! Programs draw boxes with DEC's special graphics: `ESC ( 0` designates that set, and then `lqqk` is the upper edge of
+//! a box. A terminal that knows UTF-8 alone shows letters there. [`CharsetFilter`] stands in front of one: it reads the
+//! bytes in pieces of any lengths and gives them on, where each character that is printed from the special graphics
+//! comes as its Unicode character, as `┌──┐`.
+//!
+//! The rules are those of ECMA-35 and of DEC's VT220, as xterm's control sequences have them without national sets:
+//!
+//! - `ESC ( F`, `ESC ) F`, `ESC * F` and `ESC + F` designate a set to G0, G1, G2 and G3: the special graphics where F
+//!   is `0`, and ASCII for every other final byte and wherever there is a second intermediate.
+//! - SI locks G0 into the codes 0x20 to 0x7F, SO G1, `ESC n` G2 and `ESC o` G3. `ESC N` and `ESC O` draw the next
+//!   character alone from G2 and from G3. That character may be of any kind, U+FFFD too.
+//! - `ESC 7` saves the four sets and which is locked, and `ESC 8` brings them back, ASCII where none were saved. As in
+//!   xterm a pending single shift is neither saved nor dropped.
+//! - `ESC c` and `ESC [ ! p` set everything back: ASCII in all four, G0 locked, no single shift, and that saved.
+//!
+//! Designations and shifts are given on with all other bytes, since a terminal behind the filter isn't led astray by
+//! them: what is given in place of a drawn character has no other meaning in the special graphics. So whatever a
+//! sequence breaks off, as a string that wasn't ended, is broken off behind the filter too.
+//!
+//! Not read are the 8-bit forms of the single shifts, sets of 96 characters (`ESC -`, `ESC .`, `ESC /`), the codes from
+//! 0xA0 on (GR), and the modes 1048 and 1049, which in xterm save and restore the sets too.
+#![tactic(auto)]
+
+mod filter;
+pub mod laws;
+mod listener;
+mod plain;
+mod sets;
+#[cfg(test)]
+mod tests;
+
+pub use filter::CharsetFilter;

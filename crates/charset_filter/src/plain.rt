@@ -1,0 +1,40 @@
+//! Runs in which no set can change.
+
+ghost use Rattle.std.specs.Prelude.{◌≡◌, ◌≤◌, length, take, true, false, ◌==◌, ◌||◌};
+ghost use Rattle.charset_filter.specs.Plain.{is_plain_run};
+
+/// How many bytes at the front have neither SO nor SI, and only `[` or `]` directly behind each ESC.
+#[tactic(auto, using(crate::proofs::PlainLemmas::run_byte, crate::proofs::PlainLemmas::run_sequence))]
+pub fn plain_len(bytes: &[u8]) -> usize
+    ensures within { result ≤ length bytes.now }
+    ensures plain { is_plain_run false (take result bytes.now) ≡ true }
+{
+    let mut len = 0;
+    while len < bytes.len() {
+        if is_shift(bytes[len]) {
+            break;
+        }
+        if bytes[len] != 0x1B {
+            len += 1;
+        } else if len + 1 < bytes.len() && is_introducer(bytes[len + 1]) {
+            len += 2;
+        } else {
+            break;
+        }
+    }
+    len
+}
+
+/// Whether the byte is SO or SI.
+fn is_shift(byte: u8) -> bool
+    ensures { result ≡ (byte == 0x0E || byte == 0x0F) }
+{
+    byte == 0x0E || byte == 0x0F
+}
+
+/// Whether the byte begins a control sequence or an operating system command behind ESC.
+fn is_introducer(byte: u8) -> bool
+    ensures { result ≡ (byte == 0x5B || byte == 0x5D) }
+{
+    byte == b'[' || byte == b']'
+}
