@@ -147,15 +147,15 @@ module _ (h g : HubState as_told) where
 
 -- the hub after it, by the call and the reply
 module _ (h : HubState as_told) where
-  abbrev answered_by : ℕ → Answer → Option ClientState → HubState as_told
+  abbrev pub answered_by : ℕ → Answer → Option ClientState → HubState as_told
   answered_by key answer None = h
   answered_by key answer (Some c) = put h key (Some (after_answer (size_in h) (shown_in h) c answer))
 
-  abbrev pumped_by : ℕ → List Take → Option ClientState → HubState as_told
+  abbrev pub pumped_by : ℕ → List Take → Option ClientState → HubState as_told
   pumped_by key takes None = h
   pumped_by key takes (Some c) = put h key (Some (left_in takes c))
 
-  abbrev hub_after : Call → Reply → HubState as_told
+  abbrev pub hub_after : Call → Reply → HubState as_told
   hub_after (Feed bytes) Done = acted h (Fed bytes) h.clients
   hub_after (Feed bytes) (Refused hub.Memory) = broken h
   hub_after (Resize rows cols) Done = acted h (Resized rows cols) no_clients

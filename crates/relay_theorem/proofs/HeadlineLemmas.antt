@@ -38,6 +38,7 @@ use Rattle.relay_theorem.specs.Headline.{EachTextIsAFrame, WholeSessionsAreShown
 use Rattle.relay_theorem.specs.Headline.{NoSessionIsTorn, ReadsFrames, ReadsFront, last_read, whole_read}
 use Rattle.relay_theorem.specs.Headline.{OneMomentShowsTheSame, OneMomentShowsTheSameWhole}
 use Rattle.relay_theorem.proofs.HistoryLemmas.{sessions-told}
+use Rattle.relay_theorem.proofs.MomentLemmas.{FedBefore, these-before, those-before, one-made, all-whole, all-first}
 use Rattle.relay_theorem.proofs.ScreenLemmas.{IsShot, shot-made, IsShotBase}
 use Rattle.relay_theorem.proofs.FrameSteps.{byte-base, text-frame, frame-read, frame-ends}
 use Rattle.termrelay.specs.Frame.{IsShortFrame}
@@ -586,11 +587,11 @@ none-torn rows cols calls replies n t pieces more parsed parsed' s r q same =
 
 -- what is shown of two frames that were taken at one moment
 same-moment : (rows cols : ℕ) (e f : Entry) (z y : Size) (shown shown' : Shown) → size_at rows cols e ≡ z
-    → size_at rows cols f ≡ y → shown ≡ shown_at rows cols e → shown' ≡ shown_at rows cols f → e.moment ≡ f.moment
-    → (z ≡ y) × (shown ≡ shown')
+    → size_at rows cols f ≡ y → shown ≡ shown_at rows cols e → shown' ≡ shown_at rows cols f
+    → state_at rows cols e ≡ state_at rows cols f → (z ≡ y) × (shown ≡ shown')
 same-moment rows cols e f z y shown shown' size size' is is' same = (
-  sym size ∙ ap (λ acts. grid_size (made rows cols 0 acts).shown) same ∙ size',
-  is ∙ ap (λ acts. shown_state (made rows cols 0 acts)) same ∙ sym is',
+  sym size ∙ ap (λ (x : State). grid_size x.shown) same ∙ size',
+  is ∙ ap shown_state same ∙ sym is',
 )
 
 -- what is shown right of a sure frame
@@ -607,14 +608,22 @@ moments-same rows cols calls replies n m t u pieces others parsed parsed' e f s 
     (size-of rows cols calls replies n t s (whole_read t pieces) e first is)
     (size-of rows cols calls replies m u z (whole_read u others) f other are)
     (shown-right rows cols _ _ e is sure (last-shown rows cols calls replies n t pieces parsed s r))
-    (shown-right rows cols _ _ f are sure' (last-shown rows cols calls replies m u others parsed' z q)) same
+    (shown-right rows cols _ _ f are sure' (last-shown rows cols calls replies m u others parsed' z q))
+    (one-made rows cols calls replies n m t u s z (whole_read t pieces) (whole_read u others) e f
+    (all-whole _ t.entries (length (concat pieces)) (these-before rows cols calls replies n m t u s z))
+    (all-whole _ u.entries (length (concat others)) (those-before rows cols calls replies n m t u s z)) is are same)
 
 pub moments-whole : OneMomentShowsTheSameWhole
 moments-whole rows cols calls replies n m t u front others parsed parsed' hold hold' e f s z r q is are same sure k =
+    let Before = FedBefore rows cols calls replies n m t u s z in
     let first = answered-first rows cols calls replies n t s front parsed hold r in
     let other = answered-first rows cols calls replies m u z others parsed' hold' q in
     same-moment rows cols e f (size_of_story t) (size_of_story u) (shown_of (seen (size_of_story t) parsed))
     (shown_of (seen (size_of_story u) parsed')) (size-of rows cols calls replies n t s front e first is)
     (size-of rows cols calls replies m u z others f other are)
     (shown-right rows cols _ _ e is sure (wholes-shown rows cols calls replies n t front parsed hold s r).1)
-    (shown-right rows cols _ _ f are k (wholes-shown rows cols calls replies m u others parsed' hold' z q).1) same
+    (shown-right rows cols _ _ f are k (wholes-shown rows cols calls replies m u others parsed' hold' z q).1)
+    (one-made rows cols calls replies n m t u s z front others e f (all-first Before front r.back
+    (subst (AllByRecursion Before) r.parts (these-before rows cols calls replies n m t u s z)))
+    (all-first Before others q.back
+    (subst (AllByRecursion Before) q.parts (those-before rows cols calls replies n m t u s z))) is are same)

@@ -459,7 +459,7 @@ module _ (h : HubState as_told) (key : ℕ) where
 -- ---- calls
 
 module _ (h : HubState as_told) (ts : List Story) (k : IsKept h ts) where
-  does-kept : (call : Call) (reply : Reply) (g : HubState as_told) → IsCall call → Does h call reply g
+  pub does-kept : (call : Call) (reply : Reply) (g : HubState as_told) → IsCall call → Does h call reply g
       → IsKept g (stories_after h call reply ts)
   does-kept call reply g is (refuses (Frame key) e never) = absurd never
   does-kept call reply g is (refuses (Pump key takes) e never) = absurd never

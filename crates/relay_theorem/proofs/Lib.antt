@@ -3,12 +3,14 @@ pub mod CallLemmas
 pub mod HistoryLemmas
 pub mod ScreenLemmas
 pub mod FrameSteps
+pub mod OneHistory
+pub mod MomentLemmas
 pub mod HeadlineLemmas
 pub mod ServesLemmas
-pub mod OneHistory
 pub mod LoggedLemmas
 pub mod OwnLemmas
 pub mod OwnRunLemmas
 pub mod IsolationLemmas
 pub mod AloneLemmas
+pub mod LoneLemmas
 pub mod BoundLemmas

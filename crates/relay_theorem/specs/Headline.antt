@@ -1,9 +1,10 @@
 -- What a far terminal shows: what the judge says.
-use Rattle.std.specs.Prelude.{◌≡◌, ℕ, true, List, [], ◌++◌, Option, Some, None, map, length}
+use Rattle.std.specs.Prelude.{◌≡◌, ℕ, suc, true, List, [], ◌∷◌, ◌++◌, Option, Some, None, map, length}
 use Rattle.std.specs.List.{AllByRecursion, concat}
 use Rattle.vte.specs.Moves.{Move, Gives, given}
 use Rattle.vte.specs.Frames.{IsFrame, Drives}
 use Rattle.terminal_model.specs.Term.{shown_of}
+use Rattle.screen_model.specs.Made.{Act, Fed, Resized, bytes_fed}
 use Rattle.termrelay.specs.Answers.{is_frame}
 use Rattle.termrelay.specs.declared.answer.Answer.TheVariants.{Unsure}
 use Rattle.termview.specs.Seen.{seen}
@@ -67,13 +68,25 @@ NoSessionIsTorn = (rows cols : ℕ) (calls : List Call) (replies : List Reply) (
     → whole_read t (pieces ++ more) ≡ whole_read t pieces
     → shown_of (seen (size_of_story t) parsed') ≡ shown_of (seen (size_of_story t) parsed)
 
+-- how many resizes were made
+abbrev pub resizes_made : List Act → ℕ
+resizes_made [] = 0
+resizes_made (Fed bytes ∷ acts) = resizes_made acts
+resizes_made (Resized rows cols ∷ acts) = suc (resizes_made acts)
+
+-- Two answers of one run were given at one moment: before both as many bytes were fed and as many resizes made. So a feed
+-- of no bytes makes no other moment.
+pub record AreAtOneMoment (e f : Entry) : Type 0 where
+  pub fed : length (bytes_fed e.moment) ≡ length (bytes_fed f.moment)
+  pub resized : resizes_made e.moment ≡ resizes_made f.moment
+
 -- Views of two sessions whose last whole frames were taken at one moment show the same.
 abbrev pub OneMomentShowsTheSame : Type 0
 OneMomentShowsTheSame = (rows cols : ℕ) (calls : List Call) (replies : List Reply) (n m : ℕ) (t u : Story)
     (pieces others : List (List ℕ)) (parsed parsed' : List ℕ) (e f : Entry)
     → IsSession rows cols calls replies n t → IsSession rows cols calls replies m u
     → ReadsFront t.session.pumped pieces parsed → ReadsFront u.session.pumped others parsed'
-    → last_read t pieces ≡ Some e → last_read u others ≡ Some f → e.moment ≡ f.moment
+    → last_read t pieces ≡ Some e → last_read u others ≡ Some f → AreAtOneMoment e f
     → (e.answer ≡ Unsure → ⊥) → (f.answer ≡ Unsure → ⊥)
     → (size_of_story t ≡ size_of_story u)
     × (shown_of (seen (size_of_story t) parsed) ≡ shown_of (seen (size_of_story u) parsed'))
@@ -84,7 +97,7 @@ OneMomentShowsTheSameWhole = (rows cols : ℕ) (calls : List Call) (replies : Li
     (front others : List Entry) (parsed parsed' : List ℕ) (hold hold' : Option (List ℕ)) (e f : Entry)
     → IsSession rows cols calls replies n t → IsSession rows cols calls replies m u
     → ReadsFrames t front parsed hold → ReadsFrames u others parsed' hold'
-    → last_frame None front ≡ Some e → last_frame None others ≡ Some f → e.moment ≡ f.moment
+    → last_frame None front ≡ Some e → last_frame None others ≡ Some f → AreAtOneMoment e f
     → (e.answer ≡ Unsure → ⊥) → (f.answer ≡ Unsure → ⊥)
     → (size_of_story t ≡ size_of_story u)
     × (shown_of (seen (size_of_story t) parsed) ≡ shown_of (seen (size_of_story u) parsed'))

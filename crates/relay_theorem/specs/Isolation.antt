@@ -110,10 +110,28 @@ EachSessionStandsAlone = (rows cols : ℕ) (calls : List Call) (replies : List R
     → IsSession rows cols calls replies n t → list_any is_starved replies ≡ false
     → StandsAlone rows cols key (own_calls n calls replies)
 
+-- However those calls are answered when they are made alone: where the attach gets the key, and no call is refused for
+-- want of memory, the one session is alike, it is answered the same, and these are its own calls.
+abbrev pub EachLoneSessionIsAlike : Type 0
+EachLoneSessionIsAlike = (rows cols : ℕ) (calls : List Call) (replies answers : List Reply) (n : ℕ) (t u : Story)
+    (key : ℕ) → (s : IsSession rows cols calls replies n t)
+    → (z : IsSession rows cols (map (alone key) (own_calls n calls replies)) answers 0 u)
+    → list_any is_starved replies ≡ false → list_any is_starved answers ≡ false → u.session.client ≡ key
+    → AreAlike t.session u.session (clients_in s.hub) (clients_in z.hub) × (t.entries ≡ u.entries)
+    × (own_calls 0 (map (alone key) (own_calls n calls replies)) answers ≡ own_calls n calls replies)
+
 -- so are sessions of two logs
 abbrev pub LoggedSessionsAreIsolated : Type 0
 LoggedSessionsAreIsolated = (rows cols : ℕ) (calls others : List Call) (l k : LogView) (n m : ℕ) (s z : SessionView)
     → (a : IsLogged rows cols calls l n s) → (b : IsLogged rows cols others k m z)
     → list_any is_starved l.replies ≡ false → list_any is_starved k.replies ≡ false
     → own_calls n calls l.replies ≡ own_calls m others k.replies
+    → AreAlike s z (clients_in a.after) (clients_in b.after)
+
+-- and so is the one of a log of those calls alone
+abbrev pub EachLoggedLoneSessionIsAlike : Type 0
+EachLoggedLoneSessionIsAlike = (rows cols : ℕ) (calls : List Call) (l k : LogView) (n : ℕ) (s z : SessionView) (key : ℕ)
+    → (a : IsLogged rows cols calls l n s)
+    → (b : IsLogged rows cols (map (alone key) (own_calls n calls l.replies)) k 0 z)
+    → list_any is_starved l.replies ≡ false → list_any is_starved k.replies ≡ false → z.client ≡ key
     → AreAlike s z (clients_in a.after) (clients_in b.after)

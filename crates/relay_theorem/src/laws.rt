@@ -10,6 +10,7 @@ ghost use Rattle.relay_theorem.specs.Serves.{EachPumpTakesAsTold, EachPumpIsServ
 ghost use Rattle.relay_theorem.specs.Serves.{EachHistoryIsOne};
 ghost use Rattle.relay_theorem.specs.Logged.{EachLoggedReadIsARead, LoggedFramesAreShown, WholeLoggedFramesAreShown};
 ghost use Rattle.relay_theorem.specs.Isolation.{SessionsAreIsolated, LoggedSessionsAreIsolated, EachSessionStandsAlone};
+ghost use Rattle.relay_theorem.specs.Isolation.{EachLoneSessionIsAlike, EachLoggedLoneSessionIsAlike};
 
 use termrelay::Taker;
 
@@ -47,8 +48,8 @@ pub fn no_frame_is_torn()
     ensures { NoSessionIsTorn }
 {}
 
-/// Views of two sessions whose last whole frames were taken at one moment show the same, unless their screen showed
-/// U+FE0F: whatever beginnings of the sessions' bytes they read, and, wherever synchronized updates are stopped by hand,
+/// Views of two sessions whose last whole frames were taken at one moment, so that as many bytes had been fed and as many
+/// resizes made, show the same, unless their screen showed U+FE0F: whatever beginnings of the sessions' bytes they read, and, wherever synchronized updates are stopped by hand,
 /// where whole frames alone were read.
 pub fn one_moment_shows_the_same()
     ensures pieces { OneMomentShowsTheSame }
@@ -123,9 +124,14 @@ pub fn sessions_are_isolated()
 {}
 
 /// A session's own calls can be made on a new hub without any others, at any key, and are then those of its one
-/// session: so each session has what it would have, were the others left out.
+/// session. And in whatever run they are so made, where the attach gets the key and no call is refused for want of
+/// memory, that session is pumped the same bytes, gets the same answers at the same moments, and is alike in all that
+/// [`sessions_are_isolated`] says; so of the session of a log. So each session has what it would have, were the others
+/// left out.
 pub fn sessions_stand_alone()
-    ensures { EachSessionStandsAlone }
+    ensures made { EachSessionStandsAlone }
+    ensures alike { EachLoneSessionIsAlike }
+    ensures logged { EachLoggedLoneSessionIsAlike }
 {}
 
 /// Each frame of a session has at most 1,024 bytes a cell, and 1,024 more, and so has what its client is owed.
