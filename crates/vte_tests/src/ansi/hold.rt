@@ -1,13 +1,14 @@
 //! Synchronized updates.
 
-use super::log::{Flagged, Log, Processor, feed, with_processor};
+use super::log::{Flagged, Log, Processor, Still, Watching, feed, with_processor};
 use super::table::calls;
 use crate::same::same;
 use std::alloc::Global;
 use std::cell::Cell;
 use std::process::Abort;
 use std::test::Fail;
-use vte::ansi::{self, Handler, Timeout};
+use std::time::Duration;
+use vte::ansi::{self, Handler, StdSyncHandler, Timeout};
 
 /// A piece, the calls so far after it, and how many bytes are held then.
 type Piece = (&'static [u8], &'static str, usize);
@@ -168,6 +169,82 @@ fn parses_held_bytes_first(rt: HostRuntime) -> Result<(), Fail> {
     pending.set(false);
     let after = held_after(&mut processor, &mut log, b"cd");
     same(&rt, &(held, after, log.text.as_str()), &(2, 0, HELD_FIRST));
+    Ok(())
+}
+
+/// A timeout that is pending from the start holds what comes.
+#[test]
+fn begins_while_the_timeout_is_pending(rt: HostRuntime) -> Result<(), Fail> {
+    let pending = Cell::new(true);
+    let mut log = Log::new(&rt);
+    let mut processor = ansi::Processor::new(rt.alloc(), Flagged(&pending))?;
+    let held = held_after(&mut processor, &mut log, b"x");
+    let before = log.text.len();
+    processor.stop_sync(&mut log);
+    same(
+        &rt,
+        &(held, before, pending.get(), log.text.as_str()),
+        &(
+            1,
+            0,
+            false,
+            "Input('x') UnsetPrivateMode(Named(SyncUpdate)) ",
+        ),
+    );
+    Ok(())
+}
+
+const WATCHED: &str =
+    "SetPrivateMode(Named(ShowCursor)) false SetPrivateMode(Named(SyncUpdate)) true Input('a') true \
+     UnsetPrivateMode(Named(SyncUpdate)) true UnsetPrivateMode(Named(SyncUpdate)) true Input('b') false ";
+
+/// The timeout is set before the handler hears that an update was opened, and cleared after it heard of the end.
+#[test]
+fn sets_the_timeout_first_and_clears_it_last(rt: HostRuntime) -> Result<(), Fail> {
+    let flag = Cell::new(false);
+    let mut watching = Watching {
+        log: Log::new(&rt),
+        flag: &flag,
+    };
+    let mut processor = ansi::Processor::new(rt.alloc(), Flagged(&flag))?;
+    processor.advance(&mut watching, b"\x1b[?25;2026ha\x1b[?2026l");
+    processor.advance(&mut watching, b"b");
+    same(
+        &rt,
+        &(watching.log.failed, watching.log.text.as_str()),
+        &(false, WATCHED),
+    );
+    Ok(())
+}
+
+/// How many bytes are held after a piece, and when the update's time is over.
+fn time_after(
+    processor: &mut ansi::Processor<StdSyncHandler<Still>, Global>,
+    log: &mut Log,
+    piece: &[u8],
+) -> (usize, Option<Duration>) {
+    processor.advance(log, piece);
+    (
+        processor.sync_bytes_count(),
+        processor.sync_timeout().sync_timeout(),
+    )
+}
+
+/// An update's time is over 150 milliseconds after it was opened, and is forgotten where it is closed.
+#[test]
+fn keeps_the_time_of_an_update(rt: HostRuntime) -> Result<(), Fail> {
+    let mut log = Log::new(&rt);
+    let timeout = StdSyncHandler::new(Still(Duration::from_secs(1)));
+    let mut processor = ansi::Processor::new(rt.alloc(), timeout)?;
+    for (piece, wanted, count) in HELD {
+        let told = time_after(&mut processor, &mut log, piece);
+        let end = if *count > 0 {
+            Some(Duration::from_millis(1150))
+        } else {
+            None
+        };
+        same(&rt, &(told, log.text.as_str()), &((*count, end), *wanted));
+    }
     Ok(())
 }
 

@@ -125,6 +125,22 @@ impl<'a> Timeout for Flagged<'a> {
     }
 }
 
+/// Writes down each call, and whether the flag beside it is up then.
+#[derive(Drop)]
+pub struct Watching<'a> {
+    pub log: Log,
+    pub flag: &'a Cell<bool>,
+}
+
+impl<'a> Handler for Watching<'a> {
+    ghost step = { λ _ _ _. ⊤ };
+
+    fn call(&mut self, call: Call<'_>) {
+        self.log.call(call);
+        self.log.failed |= write!(self.log.text, "{} ", self.flag.get()).is_err();
+    }
+}
+
 /// A clock that stands still.
 #[derive(Drop)]
 pub struct Still(pub Duration);

@@ -5,6 +5,7 @@ ghost use Rattle.std.specs.Prelude.{⊤, false};
 use super::log::{Log, Until};
 use crate::same::same;
 use std::process::Abort;
+use std::test::Fail;
 use vte_core::{Event, Params, Parser, Perform};
 
 /// A stream, and its events.
@@ -193,14 +194,16 @@ fn stops(rt: HostRuntime) {
 }
 
 #[test]
-fn no_params(rt: HostRuntime) {
+fn no_params(rt: HostRuntime) -> Result<(), Fail> {
     let params = Params::default();
     let is_over = params.iter().next().is_none();
+    let text = format!(in rt.alloc(); "{params:?}")?;
     same(
         &rt,
-        &(params.len(), params.is_empty(), is_over),
-        &(0, true, true),
+        &(params.len(), params.is_empty(), is_over, text.as_str()),
+        &(0, true, true, "[]"),
     );
+    Ok(())
 }
 
 #[test]

@@ -126,11 +126,16 @@ fn dcs(place: Place, byte: u8) -> (Effect, Place) {
 #[derive(Drop)]
 struct Reading {
     place: Place,
-    /// The whole numbers of a header, each with what ends it, and the last number.
+    /// The whole numbers of a header that are kept, with what stands between them.
     numbers: String,
+    /// How many numbers are whole.
+    count: usize,
+    /// What stands before the last number.
+    before: &'static str,
     number: u32,
-    /// The intermediates, or a command's data, as a log writes them.
+    /// The intermediates, or a command's data, as a log writes them, and how many intermediates or pieces there are.
     content: Log,
+    parts: usize,
     log: Log,
 }
 
@@ -139,8 +144,11 @@ impl Reading {
         Reading {
             place: Place::Ground,
             numbers: String::new(rt.alloc()),
+            count: 0,
+            before: "",
             number: 0,
             content: Log::new(rt, Until::Never),
+            parts: 0,
             log: Log::new(rt, Until::Never),
         }
     }
@@ -148,8 +156,11 @@ impl Reading {
     fn begin(&mut self, place: Place) {
         self.place = place;
         self.numbers.clear();
+        self.count = 0;
+        self.before = "";
         self.number = 0;
         self.content.text.clear();
+        self.parts = 0;
     }
 
     /// CAN, SUB or ESC ends what was begun.
@@ -169,29 +180,58 @@ impl Reading {
         self.log.word("|");
     }
 
-    fn separate(&mut self, byte: u8) {
+    /// A byte of a command: 16 pieces are kept.
+    fn piece(&mut self, byte: u8) {
         if byte == b';' {
-            self.content.word("|");
-        } else {
+            self.parts = self.parts.saturating_add(1);
+        }
+        match byte {
+            _ if self.parts >= 16 => {}
+            b';' => self.content.word("|"),
+            _ => self.content.number(byte as u32),
+        }
+    }
+
+    /// An intermediate: 2 are kept.
+    fn collect(&mut self, byte: u8) {
+        if self.parts < 2 {
             self.content.number(byte as u32);
         }
+        self.parts = self.parts.saturating_add(1);
+    }
+
+    /// A number is whole: 32 are kept.
+    fn end_number(&mut self) {
+        if self.count < 32 {
+            self.log.failed |= write!(self.numbers, "{}{}", self.before, self.number).is_err();
+        }
+        self.count = self.count.saturating_add(1);
+        self.number = 0;
     }
 
     fn number(&mut self, byte: u8) {
         if let b':' | b';' = byte {
-            self.log.failed |= write!(self.numbers, "{}{}", self.number, byte as char).is_err();
-            self.number = 0;
+            self.end_number();
+            self.before = if byte == b':' { ":" } else { ";" };
         } else {
             let digit = byte.saturating_sub(b'0') as u32;
             self.number = self.number.saturating_mul(10).saturating_add(digit);
         }
     }
 
-    fn dispatch(&mut self, word: &str, byte: u8) {
-        self.log.word(word);
-        self.log.failed |= write!(self.log.text, "[{}{}] ", self.numbers, self.number).is_err();
+    /// A final byte, behind the intermediates.
+    fn end(&mut self, byte: u8) {
         self.data();
-        self.log.tell("kept", byte as u32);
+        let many = self.count > 32 || self.parts > 2;
+        self.log
+            .tell(if many { "ignored" } else { "kept" }, byte as u32);
+    }
+
+    fn dispatch(&mut self, word: &str, byte: u8) {
+        self.end_number();
+        self.log.word(word);
+        self.log.failed |= write!(self.log.text, "[{}] ", self.numbers).is_err();
+        self.end(byte);
     }
 
     fn apply(&mut self, effect: Effect, byte: u8) {
@@ -201,15 +241,14 @@ impl Reading {
             Effect::Malformed => self.log.tell("print", 0xFFFD),
             Effect::Execute => self.log.tell("execute", byte as u32),
             Effect::Put => self.log.tell("put", byte as u32),
-            Effect::Collect => self.content.number(byte as u32),
-            Effect::Data => self.separate(byte),
+            Effect::Collect => self.collect(byte),
+            Effect::Data => self.piece(byte),
             Effect::Number => self.number(byte),
             Effect::CsiDispatch => self.dispatch("csi", byte),
             Effect::Hook => self.dispatch("hook", byte),
             Effect::EscDispatch => {
                 self.log.word("esc");
-                self.data();
-                self.log.tell("kept", byte as u32);
+                self.end(byte);
             }
             Effect::OscBell => {
                 self.log.word("osc bell");
@@ -281,12 +320,20 @@ fn reads_alike(rt: &(impl Abort + AllocGlobal), front: &[u8], byte: u8, end: &[u
     );
 }
 
-/// Bytes that lead to each place.
+/// Bytes that lead to each place, also with all numbers, intermediates or pieces that are kept.
 const FRONTS: &[&[u8]] = &[
     b"",
     b"\x1b",
     b"\x1b(",
+    b"\x1b(!",
+    b"\x1b(!$",
     b"\x1b[",
+    b"\x1b[?",
+    b"\x1b[?!",
+    b"\x1b[ !#",
+    b"\x1b[;;;;;;;;;;;;;;;;;;;;;;;;;;;;;;;",
+    b"\x1b[::::::::::::::::::::::::::::::;1",
+    b"\x1b[;;;;;;;;;;;;;;;;;;;;;;;;;;;;;;;;",
     b"\x1b[1",
     b"\x1b[1!",
     b"\x1b[1!2",
@@ -294,8 +341,13 @@ const FRONTS: &[&[u8]] = &[
     b"\x1bP1",
     b"\x1bP1!",
     b"\x1bP1!2",
+    b"\x1bP>",
+    b"\x1bP;;;;;;;;;;;;;;;;;;;;;;;;;;;;;;;1",
     b"\x1bPq",
+    b"\x1b]",
     b"\x1b]0;a",
+    b"\x1b];;;;;;;;;;;;;;;",
+    b"\x1b];;;;;;;;;;;;;;;a;",
     b"\x1b_a",
 ];
 

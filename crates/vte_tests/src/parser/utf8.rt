@@ -4,6 +4,7 @@ use super::log::{Log, Until};
 use crate::same::same;
 use std::process::Abort;
 use std::str;
+use std::test::Fail;
 use vte_core::Parser;
 
 /// A character, or a control that is executed.
@@ -75,12 +76,64 @@ fn agrees_cut(rt: &(impl Abort + AllocGlobal), front: &[u8], back: &[u8], wanted
 }
 
 /// The bytes, cut once at each place.
-fn agrees(rt: &(impl Abort + AllocGlobal), bytes: &[u8]) {
+fn agrees(rt: &(impl Abort + AllocGlobal), bytes: &[u8], wanted: &Log) {
+    for cut in 0..=bytes.len() {
+        agrees_cut(rt, &bytes[..cut], &bytes[cut..], wanted);
+    }
+}
+
+/// The same of bytes without ESC.
+fn agrees_as_text(rt: &(impl Abort + AllocGlobal), bytes: &[u8]) {
     let mut wanted = Log::new(rt, Until::Never);
     events(&mut wanted, bytes);
-    for cut in 0..=bytes.len() {
-        agrees_cut(rt, &bytes[..cut], &bytes[cut..], &wanted);
+    agrees(rt, bytes, &wanted);
+}
+
+/// Bytes that leave a character unfinished, with the first and last second bytes where these are narrower.
+const UNFINISHED: &[&[u8]] = &[
+    b"\xC2",
+    b"\xDF",
+    b"\xE0",
+    b"\xE0\xA0",
+    b"\xE4",
+    b"\xE4\xB8",
+    b"\xED",
+    b"\xED\x9F",
+    b"\xF0",
+    b"\xF0\x90",
+    b"\xF0\x9F\x98",
+    b"\xF3",
+    b"\xF3\x80",
+    b"\xF4",
+    b"\xF4\x8F",
+    b"\xF4\x8F\xBF",
+];
+
+/// A byte and `c` behind an unfinished character, which ESC ends.
+fn goes_on(rt: &(impl Abort + AllocGlobal), unfinished: &[u8], byte: u8) -> Result<(), Fail> {
+    let mut bytes = Vec::new(rt.alloc());
+    bytes.extend_from_slice(unfinished)?;
+    bytes.extend_from_slice(&[byte, b'c'])?;
+    let mut wanted = Log::new(rt, Until::Never);
+    if byte == 0x1B {
+        malformed(&mut wanted, unfinished);
+        wanted.word("esc |");
+        wanted.tell("kept", b'c' as u32);
+    } else {
+        events(&mut wanted, bytes.as_slice());
     }
+    agrees(rt, bytes.as_slice(), &wanted);
+    Ok(())
+}
+
+#[test]
+fn every_byte_after_an_unfinished_character(rt: HostRuntime) -> Result<(), Fail> {
+    for unfinished in UNFINISHED {
+        for byte in 0..=255u8 {
+            goes_on(&rt, unfinished, byte)?;
+        }
+    }
+    Ok(())
 }
 
 /// First bytes, those that follow, and last ones.
@@ -98,7 +151,7 @@ fn malformed_text(rt: HostRuntime) {
         for b in OTHERS {
             for c in OTHERS {
                 for d in LASTS {
-                    agrees(&rt, &[*a, *b, *c, *d]);
+                    agrees_as_text(&rt, &[*a, *b, *c, *d]);
                 }
             }
         }
