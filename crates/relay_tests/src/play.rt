@@ -8,6 +8,7 @@ use crate::sinks::Sink;
 use std::alloc::{AllocError, Global};
 use std::io::ErrorKind;
 use std::process::Abort;
+use std::slice;
 use std::test::Fail;
 use termrelay::{Answer, Call, Client, Hub, HubError, Log, Reply, Take, run};
 use termview::Color;
@@ -111,7 +112,7 @@ fn told_by(hub: &mut Hub, call: &Call<'_>) -> Told {
 
 /// Makes a call by a run. Where the log has no room nothing is done.
 fn told_by_run(hub: &mut Hub, log: &mut Log, call: &Call<'_>) -> Told {
-    match run(hub, &[*call], log) {
+    match run(hub, slice::from_ref(call), log) {
         Ok(()) => match log.replies().last() {
             Some(reply) => told_of(reply),
             None => Told::Refused,
