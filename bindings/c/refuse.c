@@ -1,4 +1,4 @@
-/* Each request for memory is refused in turn: every call answers a code that is right then, and nothing
+/* Each request for more memory is refused in turn: every call answers a code that is right then, and nothing
  * leaks. The library's own lines for memory are replaced by those below. */
 #include "tried.h"
 #include <stdbool.h>
