@@ -1,17 +1,29 @@
 #!/usr/bin/env python3
-"""Runs two programs that take the words of crates/speed in turn, and compares counts and times: beside.py OURS OTHER.
+"""Runs two programs that take the words of crates/speed in turn, and compares counts and times.
+
+beside.py [--seconds N] OURS OTHER: in some N seconds (240).
 
 A figure is the least processor time of several runs, less that of a run that does the work once. It fails where the
-other program counts something else. A ratio above 1.05 is said.
+other program counts something else, or takes more than 1.05 times the time for a work of feeding, frames or
+processing. What is above that is measured again in the time that is left.
 """
+import argparse
 import resource
 import subprocess
 import sys
 import tempfile
+import time
 
-WORKS = ("screen", "redraw", "view", "hub", "unchanged", "frame", "client")
-ROUNDS = 9
-SPAN = 0.4
+# Works of which each stream makes another one, and works of the screen that one stream leaves.
+WORKS = {
+    "plain": ("screen", "hub", "view", "redraw", "unchanged", "frame", "client"),
+    "coloured": ("screen", "hub", "view"),
+    "motion": ("screen", "hub", "view"),
+}
+MARKED = {"screen", "hub", "unchanged", "frame", "client"}
+MARK = 1.05
+SPAN = 0.25  # seconds that a run takes
+LEAST_ROUNDS = 3
 
 
 def streams():
@@ -43,35 +55,74 @@ def times_for(program, work, file):
     return times
 
 
-def compared(programs, work, file):
-    """The least times of both, for the same work so often; they must print the same."""
-    times = times_for(programs[0], work, file)
-    least = [[9e9, 9e9], [9e9, 9e9]]
-    for _ in range(ROUNDS):
-        for slot, count in enumerate((1, times + 1)):
+class Compared:
+    """A work on a stream, and the least times of both programs for it: once, and so often more."""
+
+    def __init__(self, programs, name, work, file):
+        self.programs, self.name, self.work, self.file = programs, name, work, file
+        self.times = times_for(programs[0], work, file)
+        self.least = [[9e9, 9e9] for _ in programs]
+
+    def go_round(self):
+        """Runs both programs once more. They must print the same."""
+        for slot, count in enumerate((1, self.times + 1)):
             said = []
-            for which, program in enumerate(programs):
-                text, spent = taken(program, work, count, file)
+            for least, program in zip(self.least, self.programs):
+                text, spent = taken(program, self.work, count, self.file)
                 said.append(text)
-                least[which][slot] = min(least[which][slot], spent)
+                least[slot] = min(least[slot], spent)
             if said[0] != said[1]:
-                sys.exit(f"beside: {work}: they print {said}")
-    return [(often - once) / times for once, often in least]
+                sys.exit(f"beside: {self.name} {self.work}: they print {said}")
+
+    def seconds(self):
+        """What doing the work once takes each."""
+        return [(often - once) / self.times for once, often in self.least]
+
+    def is_slow(self):
+        """Whether the other program takes too long, so far as is known."""
+        ours, other = self.seconds()
+        return self.work in MARKED and other > MARK * ours
+
+    def __str__(self):
+        ours, other = self.seconds()
+        figures = f"{ours * 1e6:10.1f} us {other * 1e6:10.1f} us {other / ours:6.3f} times"
+        return f"{self.name:9} {self.work:10} {figures}{'  ABOVE' * self.is_slow()}"
+
+
+def measured(programs, folder, seconds):
+    """All works, each measured in its share of the time, and the slow ones again in what is left."""
+    end = time.monotonic() + seconds
+    works = [(name, work) for name, all_works in WORKS.items() for work in all_works]
+    found = []
+    for at, (name, work) in enumerate(works):
+        # A fifth of the time is kept for the slow ones.
+        share = time.monotonic() + (end - seconds / 5 - time.monotonic()) / (len(works) - at)
+        found.append(Compared(programs, name, work, f"{folder}/{name}"))
+        rounds = 0
+        while rounds < LEAST_ROUNDS or time.monotonic() < share:
+            found[-1].go_round()
+            rounds += 1
+    while time.monotonic() < end and (slow := [it for it in found if it.is_slow()]):
+        for it in slow:
+            it.go_round()
+    return found
 
 
 def main():
-    slow = 0
+    parser = argparse.ArgumentParser(description=__doc__, formatter_class=argparse.RawDescriptionHelpFormatter)
+    parser.add_argument("--seconds", type=float, default=240)
+    parser.add_argument("programs", nargs=2, metavar="PROGRAM")
+    words = parser.parse_args()
     with tempfile.TemporaryDirectory() as folder:
         for name, stream in streams().items():
             with open(f"{folder}/{name}", "wb") as file:
                 file.write(stream)
-            for work in WORKS:
-                ours, other = compared(sys.argv[1:3], work, f"{folder}/{name}")
-                slow += other > 1.05 * ours
-                figures = f"{ours * 1e6:10.1f} us {other * 1e6:10.1f} us {other / ours:6.3f} times"
-                print(f"{name:9} {work:10} {figures}", flush=True)
-    print(f"{slow} above 1.05 times")
+        found = measured(words.programs, folder, words.seconds)
+    print(*found, sep="\n")
+    slow = [it for it in found if it.is_slow()]
+    print(f"{len(slow)} of {len(found)} above {MARK} times")
+    return 1 if slow else 0
 
 
 if __name__ == "__main__":
-    main()
+    sys.exit(main())

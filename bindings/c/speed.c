@@ -39,10 +39,14 @@ static void fill_screen(jeihpal_screen *screen) {
 static size_t do_screen(void) {
     jeihpal_screen screen = JEIHPAL_INIT;
     jeihpal_look look;
-    for (unsigned long time = 0; time < times; time++) fill_screen(&screen);
-    CHECK(jeihpal_screen_look(&screen, &look) == JEIHPAL_OK);
-    jeihpal_screen_close(&screen);
-    return cursor_sum(&look);
+    size_t sum = 0;
+    for (unsigned long time = 0; time < times; time++) {
+        fill_screen(&screen);
+        CHECK(jeihpal_screen_look(&screen, &look) == JEIHPAL_OK);
+        sum = cursor_sum(&look);
+        jeihpal_screen_close(&screen);
+    }
+    return sum;
 }
 
 static size_t do_redraw(void) {

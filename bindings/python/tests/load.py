@@ -1,20 +1,20 @@
 """share under load: 200 watchers, of which half read slowly and some are killed, and commands that flood.
 
-python3 -m tests.load prints figures, and fails where a watcher that stayed doesn't show the last screen.
+python3 -m tests.load prints figures, within some four minutes. It fails where a watcher that stayed doesn't show the
+last screen, or where what a flood wrote waits in memory.
 """
 
 from __future__ import annotations
 
+import contextlib
 import os
 import random
-import re
 import selectors
-import signal
-import subprocess
 import sys
 import time
+from collections import deque
 
-from .sharing import PYTHON, Shared, Watching, wait_for
+from .sharing import Shared, Watching
 
 DRAWING = r"""
 import sys, time
@@ -26,6 +26,8 @@ while time.monotonic() < end:
     n += 1; time.sleep(.02)
 sys.stdout.write("\x1b[m\x1b[H\x1b[2Jthe end"); sys.stdout.flush(); time.sleep(.5)
 """
+PAUSE = 0.15  # seconds between the reads of a slow watcher
+MOST_WAITING = 24 << 20  # bytes of memory that a flood may add
 FLOOD = "import os\nline = b'0123456789' * 7 + b'\\r\\n'\nfor n in range(%d): os.write(1, line * 56)\nprint('the end')"
 
 
@@ -36,8 +38,9 @@ class Crowd:
         self.watchers = [Watching(shared, room=4096 if n % 2 else None) for n in range(count)]
         self.slow = set(self.watchers[1::2])
         self.killed: set[Watching] = set()
-        self.ready_at = {watcher: 0.0 for watcher in self.slow}
+        self.left = lambda: None
         self._open = set(self.watchers)
+        self._pausing: deque[tuple[float, Watching]] = deque()
         self._random = random.Random(1)
         self._selector = selectors.DefaultSelector()
         for watcher in self.watchers:
@@ -47,39 +50,55 @@ class Crowd:
     def kill(self) -> None:
         """One that is killed, in the midst of a frame or not."""
         watcher = self._random.choice(sorted(self._open, key=self.watchers.index))
+        if watcher.sock in self._selector.get_map():
+            self._selector.unregister(watcher.sock)
         self._leave(watcher)
         self.killed.add(watcher)
         watcher.sock.close()
 
     def _leave(self, watcher: Watching) -> None:
-        self._selector.unregister(watcher.sock)
         self._open.discard(watcher)
+        self.left()
 
-    def read(self, to_kill: int) -> None:
+    def read(self, to_kill: int, seconds: float) -> None:
         """Reads until all have come to their end, and kills so many on the way."""
         begun = time.monotonic()
         while self._open:
             now = time.monotonic()
+            if now - begun > seconds:
+                sys.exit(f"{len(self._open)} haven't come to their end in {seconds:.0f} s")
             if len(self.killed) < to_kill and now - begun > 1 + 0.1 * len(self.killed):
                 self.kill()
-            for key, _ in self._selector.select(0.05):
+            self._wake(now)
+            for key, _ in self._selector.select(0.02):
                 self._read_one(key.data, now)
 
+    def _wake(self, now: float) -> None:
+        """The slow ones whose pause is over read again."""
+        while self._pausing and self._pausing[0][0] <= now:
+            _, watcher = self._pausing.popleft()
+            if watcher in self._open:
+                self._selector.register(watcher.sock, selectors.EVENT_READ, watcher)
+
     def _read_one(self, watcher: Watching, now: float) -> None:
-        if watcher in self.slow and now < self.ready_at[watcher]:
-            return
-        self.ready_at[watcher] = now + 0.15
         try:
             data = watcher.sock.recv(2048 if watcher in self.slow else 65536)
+        except BlockingIOError:
+            return
         except ConnectionResetError:
             data = b""
         watcher.view.advance(data)
         watcher.data += data
+        if not data or watcher in self.slow:
+            self._selector.unregister(watcher.sock)
         if not data:
             self._leave(watcher)
+        elif watcher in self.slow:
+            self._pausing.append((now + PAUSE, watcher))
 
     def close(self) -> None:
         """Ends them all."""
+        self._selector.close()
         for watcher in self.watchers:
             watcher.__exit__()
 
@@ -95,17 +114,13 @@ def crowd(count: int, to_kill: int) -> None:
     """So many watchers of a screen that changes all the time."""
     with Shared(DRAWING) as shared:
         watching, seen = Crowd(shared, count), [0.0, 0]
-        waiting = watching._leave
 
-        def leave(watcher: Watching) -> None:
-            try:
+        def left() -> None:
+            with contextlib.suppress(OSError, TypeError):  # it may have ended
                 seen[:] = processor_seconds(shared.run.pid), shared.memory()
-            except (OSError, TypeError):
-                pass  # it has ended
-            waiting(watcher)
 
-        watching._leave = leave
-        watching.read(to_kill)
+        watching.left = left
+        watching.read(to_kill, 90)
         status = shared.end()
         stayed = [it for it in watching.watchers if it not in watching.killed]
         wrong = [it for it in stayed if it.view.text().strip() != "the end"]
@@ -119,28 +134,29 @@ def crowd(count: int, to_kill: int) -> None:
         sys.exit(f"{len(wrong)} of {len(stayed)} don't show the last screen")
 
 
-def flood(pieces: int, watchers: int) -> float:
-    """A command that writes 4 KB pieces as fast as it can. Answers the megabytes a second."""
+def flood(pieces: int, watchers: int) -> None:
+    """A command that writes 4 KB pieces as fast as it can, for at most a minute."""
     with Shared(FLOOD % pieces) as shared:
         watching = [Watching(shared, room=4096) for _ in range(watchers)]
-        begun, most = time.monotonic(), 0
+        begun, before, most = time.monotonic(), shared.memory(), 0
         last = Watching(shared)
         while last.read(30):
-            try:
+            with contextlib.suppress(OSError, TypeError):  # it may have ended
                 most = max(most, shared.memory())
-            except (OSError, TypeError):
-                pass  # it has ended
+            if time.monotonic() - begun > 60:
+                sys.exit("a flood doesn't come to its end in 60 s")
         seconds = time.monotonic() - begun
         shown = last.view.text()
         for watcher in (*watching, last):
             watcher.__exit__()
         shared.end()
-    rate = pieces * 56 * 72 / seconds / 1e6
-    print(f"a flood of {pieces * 56 * 72 / 1e6:.0f} MB, {watchers} watchers that read nothing: ", end="")
-    print(f"{rate:.1f} MB/s, {most >> 20} MB of memory")
+    megabytes = pieces * 56 * 72 / 1e6
+    print(f"a flood of {megabytes:.0f} MB, {watchers} watchers that read nothing: {megabytes / seconds:.1f} MB/s, ", end="")
+    print(f"{most >> 20} MB of memory, {before >> 20} MB before")
     if "the end" not in shown:
         sys.exit("the last screen isn't shown")
-    return rate
+    if most > before + MOST_WAITING:
+        sys.exit("what it wrote waits in memory")
 
 
 def main() -> None:

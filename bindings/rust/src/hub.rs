@@ -1,7 +1,6 @@
 //! Hubs.
-use crate::cell::{Cell, Look};
 use crate::error::Result;
-use crate::object::{Functions, Object};
+use crate::object::{reading_calls, Functions, Object};
 use crate::raw;
 use std::io;
 use std::num::NonZeroU16;
@@ -87,8 +86,7 @@ impl Hub {
     /// Gives the screen another size, or the same, and ends the program's synchronized update. Every client ends.
     pub fn resize(&mut self, rows: NonZeroU16, cols: NonZeroU16) -> Result<()> {
         self.object
-            .call(|word| unsafe { raw::jeihpal_hub_resize(word, rows.get(), cols.get()) })
-            .map(drop)
+            .act(|word| unsafe { raw::jeihpal_hub_resize(word, rows.get(), cols.get()) })
     }
 
     /// A new client, which has had no frame.
@@ -102,8 +100,7 @@ impl Hub {
     /// Ends a client; what it is owed is gone.
     pub fn detach(&mut self, client: Client) -> Result<()> {
         self.object
-            .call(|word| unsafe { raw::jeihpal_hub_detach(word, client.0) })
-            .map(drop)
+            .act(|word| unsafe { raw::jeihpal_hub_detach(word, client.0) })
     }
 
     /// Asks for a frame for a client, best once it is owed nothing and the program pauses.
@@ -116,25 +113,22 @@ impl Hub {
 
     /// Copies as much of what the client is owed as fits, and answers how much it is owed in all.
     pub fn copy_owed(&self, client: Client, to: &mut [u8]) -> Result<usize> {
-        let mut length = 0;
-        self.object.call(|word| unsafe {
-            raw::jeihpal_hub_owed(word, client.0, to.as_mut_ptr(), to.len(), &mut length)
-        })?;
-        Ok(length)
+        self.object.copy(to, |word, to, room, length| unsafe {
+            raw::jeihpal_hub_owed(word, client.0, to, room, length)
+        })
     }
 
     /// The bytes that the client is owed: those of its last frame that weren't sent yet.
     pub fn owed(&self, client: Client) -> Result<Vec<u8>> {
-        self.object.bytes(|word, to, length| unsafe {
-            raw::jeihpal_hub_owed(word, client.0, to.as_mut_ptr(), to.len(), length)
+        self.object.bytes(|word, to, room, length| unsafe {
+            raw::jeihpal_hub_owed(word, client.0, to, room, length)
         })
     }
 
     /// The first `count` of the bytes that the client is owed were sent. They are owed no longer.
     pub fn sent(&mut self, client: Client, count: usize) -> Result<()> {
         self.object
-            .call(|word| unsafe { raw::jeihpal_hub_sent(word, client.0, count) })
-            .map(drop)
+            .act(|word| unsafe { raw::jeihpal_hub_sent(word, client.0, count) })
     }
 
     /// Writes what the client is owed. What the writer took is no longer owed, whatever it answers after that.
@@ -155,30 +149,7 @@ impl Hub {
         }
     }
 
-    /// The size, the cursor and the modes of the program's screen.
-    pub fn look(&self) -> Look {
-        self.object.look()
-    }
-
-    /// The cell at a place of it.
-    pub fn cell(&self, row: u16, col: u16) -> Option<Cell> {
-        self.object.cell(row, col)
-    }
-
-    /// The cells of a row of it; none past the last row.
-    pub fn cells(&self, row: u16) -> impl Iterator<Item = Cell> + '_ {
-        self.object.cells(row)
-    }
-
-    /// The text of a row of it, without the empty columns at its end.
-    pub fn row_text(&self, row: u16) -> Result<String> {
-        self.object.row_text(row)
-    }
-
-    /// The texts of its rows.
-    pub fn rows(&self) -> impl Iterator<Item = Result<String>> + '_ {
-        self.object.rows()
-    }
+    reading_calls!();
 
     /// The text of all of it.
     pub fn contents(&self) -> Result<String> {

@@ -52,21 +52,37 @@ impl Object {
         answer(function(self.word.get()))
     }
 
+    /// Calls one that answers nothing but a refusal.
+    pub(crate) fn act(&self, function: impl FnOnce(*mut Word) -> i32) -> Result<()> {
+        self.call(function).map(drop)
+    }
+
     /// Calls a function that reads bytes.
     pub(crate) fn give(&self, function: Give, bytes: &[u8]) -> Result<()> {
         // SAFETY: the word is as the last call left it, and the bytes are lent for the call.
-        self.call(|word| unsafe { function(word, bytes.as_ptr(), bytes.len()) })
-            .map(drop)
+        self.act(|word| unsafe { function(word, bytes.as_ptr(), bytes.len()) })
     }
 
-    /// What a call copies out, whole.
+    /// Calls a function that copies bytes: it is told where the room for them is, how large that is, and where to say
+    /// how many there are in all, which is answered.
+    pub(crate) fn copy(
+        &self,
+        room: &mut [u8],
+        function: impl FnOnce(*mut Word, *mut u8, usize, *mut usize) -> i32,
+    ) -> Result<usize> {
+        let mut length = 0;
+        self.act(|word| function(word, room.as_mut_ptr(), room.len(), &mut length))?;
+        Ok(length)
+    }
+
+    /// All bytes that such a function copies.
     pub(crate) fn bytes(
         &self,
-        mut copy: impl FnMut(*mut Word, &mut [u8], &mut usize) -> i32,
+        mut function: impl FnMut(*mut Word, *mut u8, usize, *mut usize) -> i32,
     ) -> Result<Vec<u8>> {
-        let (mut room, mut length) = (vec![0; 1024], 0);
+        let mut room = vec![0; 1024];
         loop {
-            self.call(|word| copy(word, &mut room, &mut length))?;
+            let length = self.copy(&mut room, &mut function)?;
             if length <= room.len() {
                 room.truncate(length);
                 return Ok(room);
@@ -75,25 +91,23 @@ impl Object {
         }
     }
 
-    /// What a call copies out, as text.
+    /// The text that such a function copies.
     pub(crate) fn text(
         &self,
-        copy: impl FnMut(*mut Word, &mut [u8], &mut usize) -> i32,
+        function: impl FnMut(*mut Word, *mut u8, usize, *mut usize) -> i32,
     ) -> Result<String> {
-        Ok(String::from_utf8(self.bytes(copy)?).expect("the library's texts are UTF-8"))
+        Ok(String::from_utf8(self.bytes(function)?).expect("the library's texts are UTF-8"))
     }
 
-    /// What a function without further parameters copies out, as text.
+    /// The text that a function without further parameters copies.
     pub(crate) fn whole_text(&self, function: GetText) -> Result<String> {
         // SAFETY, here and below: the word is as the last call left it, and what is lent is lent for the call.
-        self.text(|word, to, length| unsafe { function(word, to.as_mut_ptr(), to.len(), length) })
+        self.text(|word, to, room, length| unsafe { function(word, to, room, length) })
     }
 
     pub(crate) fn row_text(&self, row: u16) -> Result<String> {
         let function = self.functions.row_text;
-        self.text(|word, to, length| unsafe {
-            function(word, row, to.as_mut_ptr(), to.len(), length)
-        })
+        self.text(|word, to, room, length| unsafe { function(word, row, to, room, length) })
     }
 
     pub(crate) fn look(&self) -> Look {
@@ -123,6 +137,38 @@ impl Object {
         (0..self.look().rows).map(|row| self.row_text(row))
     }
 }
+
+/// The public calls that read what is shown, which all kinds have.
+macro_rules! reading_calls {
+    () => {
+        /// The size, the cursor and the modes of the screen.
+        pub fn look(&self) -> crate::cell::Look {
+            self.object.look()
+        }
+
+        /// The cell at a place of the screen.
+        pub fn cell(&self, row: u16, col: u16) -> Option<crate::cell::Cell> {
+            self.object.cell(row, col)
+        }
+
+        /// The cells of a row; none past the last row.
+        pub fn cells(&self, row: u16) -> impl Iterator<Item = crate::cell::Cell> + '_ {
+            self.object.cells(row)
+        }
+
+        /// The text of a row, without the empty columns at its end.
+        pub fn row_text(&self, row: u16) -> crate::error::Result<String> {
+            self.object.row_text(row)
+        }
+
+        /// The texts of the rows.
+        pub fn rows(&self) -> impl Iterator<Item = crate::error::Result<String>> + '_ {
+            self.object.rows()
+        }
+    };
+}
+
+pub(crate) use reading_calls;
 
 impl Drop for Object {
     fn drop(&mut self) {

@@ -1,7 +1,6 @@
 //! Screens.
-use crate::cell::{Cell, Look};
 use crate::error::Result;
-use crate::object::{Functions, Object};
+use crate::object::{reading_calls, Functions, Object};
 use crate::raw::{self, RawRequest};
 use std::io;
 use std::num::NonZeroU16;
@@ -58,41 +57,16 @@ impl Screen {
     /// Gives the screen another size, or the same, ends the program's synchronized update, and forgets the mark.
     pub fn resize(&mut self, rows: NonZeroU16, cols: NonZeroU16) -> Result<()> {
         self.object
-            .call(|word| unsafe { raw::jeihpal_screen_resize(word, rows.get(), cols.get()) })
-            .map(drop)
+            .act(|word| unsafe { raw::jeihpal_screen_resize(word, rows.get(), cols.get()) })
     }
 
     /// Shows the newest `rows` of the kept rows above the others, or all where there are fewer.
     pub fn scroll(&mut self, rows: usize) -> Result<()> {
         self.object
-            .call(|word| unsafe { raw::jeihpal_screen_scroll(word, rows) })
-            .map(drop)
+            .act(|word| unsafe { raw::jeihpal_screen_scroll(word, rows) })
     }
 
-    /// The size, the cursor and the modes.
-    pub fn look(&self) -> Look {
-        self.object.look()
-    }
-
-    /// The cell at a place.
-    pub fn cell(&self, row: u16, col: u16) -> Option<Cell> {
-        self.object.cell(row, col)
-    }
-
-    /// The cells of a row; none past the last row.
-    pub fn cells(&self, row: u16) -> impl Iterator<Item = Cell> + '_ {
-        self.object.cells(row)
-    }
-
-    /// The text of a row, without the empty columns at its end.
-    pub fn row_text(&self, row: u16) -> Result<String> {
-        self.object.row_text(row)
-    }
-
-    /// The texts of the rows.
-    pub fn rows(&self) -> impl Iterator<Item = Result<String>> + '_ {
-        self.object.rows()
-    }
+    reading_calls!();
 
     /// The text of the rows that are shown.
     pub fn contents(&self) -> Result<String> {
@@ -101,16 +75,9 @@ impl Screen {
 
     /// The text from one place up to another, each a row and a column.
     pub fn contents_between(&self, start: (u16, u16), end: (u16, u16)) -> Result<String> {
-        self.object.text(|word, to, length| unsafe {
+        self.object.text(|word, to, room, length| unsafe {
             raw::jeihpal_screen_contents_between(
-                word,
-                start.0,
-                start.1,
-                end.0,
-                end.1,
-                to.as_mut_ptr(),
-                to.len(),
-                length,
+                word, start.0, start.1, end.0, end.1, to, room, length,
             )
         })
     }
@@ -129,8 +96,7 @@ impl Screen {
     /// Keeps a copy of the screen as it is now, its mark, in place of an earlier one.
     pub fn mark(&mut self) -> Result<()> {
         self.object
-            .call(|word| unsafe { raw::jeihpal_screen_mark(word) })
-            .map(drop)
+            .act(|word| unsafe { raw::jeihpal_screen_mark(word) })
     }
 
     /// What takes a terminal from what the mark shows to what the screen shows. Without a mark it is

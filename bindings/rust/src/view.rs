@@ -1,7 +1,6 @@
 //! Views.
-use crate::cell::{Cell, Look};
 use crate::error::Result;
-use crate::object::{Functions, Object};
+use crate::object::{reading_calls, Functions, Object};
 use crate::raw;
 use std::io;
 use std::num::NonZeroU16;
@@ -53,30 +52,7 @@ impl View {
         count
     }
 
-    /// The size, the cursor and the modes of what is shown.
-    pub fn look(&self) -> Look {
-        self.object.look()
-    }
-
-    /// The cell at a place.
-    pub fn cell(&self, row: u16, col: u16) -> Option<Cell> {
-        self.object.cell(row, col)
-    }
-
-    /// The cells of a row; none past the last row.
-    pub fn cells(&self, row: u16) -> impl Iterator<Item = Cell> + '_ {
-        self.object.cells(row)
-    }
-
-    /// The text of a row, without the empty columns at its end.
-    pub fn row_text(&self, row: u16) -> Result<String> {
-        self.object.row_text(row)
-    }
-
-    /// The texts of the rows.
-    pub fn rows(&self) -> impl Iterator<Item = Result<String>> + '_ {
-        self.object.rows()
-    }
+    reading_calls!();
 }
 
 impl io::Write for View {

@@ -1,2 +1,3 @@
-pub mod NumberLemmas
 pub mod CallLemmas
+pub mod InputLemmas
+pub mod NumberLemmas

@@ -1,29 +1,65 @@
 //! Whole input.
 
-ghost use Rattle.std.specs.Prelude.{◌≡◌, IfErr, IfOk, IfSome, OnOk, ◌⊎◌};
-ghost use Rattle.std.specs.Io.KnownBytes.{IsAtEnd};
+ghost use Rattle.std.specs.Prelude.{◌≡◌, ◌^◌, ℕ, List, IfSome, IfErr, IfOk, OnOk};
+ghost use Rattle.std.specs.Io.KnownBytes.{Consumes, IsAtEnd};
 ghost use Rattle.std.specs.Vec.{vec_items};
+ghost use Rattle.command_line.specs.Input.{Drains};
+ghost use Rattle.command_line.specs.declared.input.InputError.TheVariants.{Memory};
 
-use std::alloc::Global;
-use std::io::{ErrorKind, Read};
+use givers::Source;
+use std::alloc::{AllocError, Global};
+use std::io;
+use std::io::ErrorKind;
+
+/// Bytes that one read of a whole input is given room for.
+const ROOM_LEN: usize = 65_536;
+
+/// Reads tried, interrupted ones included, before an input is given up as endless.
+const MAX_READS: u64 = 1 << 40;
+
+/// Why the whole of an input can't be had.
+#[derive(Debug, Drop)]
+pub enum InputError {
+    /// A read failed with this error, which isn't an interruption.
+    Read(io::Error),
+    /// Memory for what was read was refused.
+    Memory,
+    /// The input didn't end within 2^40 reads.
+    TooManyReads,
+}
+
+impl From<AllocError> for InputError {
+    ghost from_gives = { λ _ e. e ≡ Memory };
+
+    fn from(_error: AllocError) -> Self {
+        InputError::Memory
+    }
+}
 
 /// Reads to the end of the input, and returns all that was left of it.
 ///
-/// The error is `memory` where that was refused, and `read` at any other fault. What was read by then is lost.
-pub fn read_all<R: Read, E: Drop>(
-    alloc: Global,
-    input: &mut R,
-    read: E,
-    memory: E,
-) -> Result<Vec<u8>, E>
-    ensures bytes { IfOk result (λ all. IfSome (R.remaining input.old) (λ left. vec_items all ≡ left)) }
-    ensures end { OnOk result (IsAtEnd (R.remaining input.new)) }
-    ensures fault { IfErr result (λ e. (e ≡ read) ⊎ (e ≡ memory)) }
+/// A read is given room for 65,536 bytes; an interrupted one is tried again. A fault of a read is handed back as it is.
+/// Memory is asked for after a read that gave some bytes, to keep them. At a fault, what was read by then is lost.
+pub fn read_all<S: Source>(alloc: Global, input: &mut S) -> Result<Vec<u8>, InputError>
+    ensures bytes { IfOk result (λ all. IfSome (S.left input.old) (λ left. vec_items all ≡ left)) }
+    ensures end { OnOk result (IsAtEnd (S.left input.new)) }
+    ensures reads { IfOk result (λ all. Drains S.gives 65536 input.old (2 ^ 40) (vec_items all) (Ok tt) input.new) }
+    ensures faults { IfErr result (λ e. (lost : List ℕ)
+        × Drains S.gives 65536 input.old (2 ^ 40) lost (Err e) input.new) }
+    ensures lost { IfErr result (λ e. (lost : List ℕ) × Consumes (S.left input.old) (S.left input.new) lost) }
 {
     let mut bytes = Vec::new(alloc);
-    match input.read_to_end(&mut bytes) {
-        Ok(_) => Ok(bytes),
-        Err(error) if error.kind() == ErrorKind::OutOfMemory => Err(memory),
-        Err(_) => Err(read),
+    let mut room = [0; ROOM_LEN];
+    'reads: for _ in 0..MAX_READS {
+        match input.give(&mut room) {
+            Ok(0) => return Ok(bytes),
+            Ok(n) => bytes.extend_from_slice(&room[..n])?,
+            Err(error) => {
+                if error.kind() != ErrorKind::Interrupted {
+                    return Err(InputError::Read(error));
+                }
+            }
+        }
     }
+    Err(InputError::TooManyReads)
 }

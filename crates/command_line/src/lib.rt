@@ -9,7 +9,7 @@ mod reporting;
 mod running;
 
 pub use args::{lend, with_words, words_of};
-pub use input::read_all;
+pub use input::{InputError, read_all};
 pub use numbers::{parse_count, parse_size};
 pub use reporting::{FAULT, SUCCESS, USAGE, report};
 pub use running::run;

@@ -36,7 +36,7 @@ pub fn dump_stream<R: Read, W: Sink>(
     input: &mut R,
     output: &mut W,
 ) -> Result<(), DumpError> {
-    let bytes = read_all(alloc, input, DumpError::Read, DumpError::Memory)?;
+    let bytes = read_all(alloc, input)?;
     let parser = parser_of(alloc, dump, &bytes)?;
     write_screen(alloc, parser.screen(), output)
 }

@@ -1,8 +1,10 @@
 //! Why a command ended before its work was done.
 
 ghost use Rattle.std.specs.Prelude.{◌≡◌};
+ghost use Rattle.screendump_command.specs.Faults.{input_fault};
 ghost use Rattle.screendump_command.specs.declared.error.DumpError.TheVariants.{Memory};
 
+use command_line::InputError;
 use std::alloc::{AllocError, AllocFailed};
 use thiserror::Error;
 use vt100::ScreenError;
@@ -10,7 +12,7 @@ use vt100::ScreenError;
 /// Why a command ended early. What was written by then stays written.
 #[derive(Clone, Copy, Debug, Error, PartialEq, Eq)]
 pub enum DumpError {
-    /// A read failed.
+    /// A read failed, or the input didn't end within 2^40 reads.
     #[error("read")]
     Read,
     /// A write or a flush failed, or a write took nothing.
@@ -37,6 +39,17 @@ impl<T: Drop> From<AllocFailed<T>> for DumpError {
 
     fn from(_error: AllocFailed<T>) -> Self {
         DumpError::Memory
+    }
+}
+
+impl From<InputError> for DumpError {
+    ghost from_gives = { λ error e. e ≡ input_fault error };
+
+    fn from(error: InputError) -> Self {
+        match error {
+            InputError::Read(_) | InputError::TooManyReads => DumpError::Read,
+            InputError::Memory => DumpError::Memory,
+        }
     }
 }
 

@@ -165,7 +165,7 @@ pub fn run_script<R: Read, W: Sink>(
     input: &mut R,
     output: &mut W,
 ) -> Result<(), DumpError> {
-    let bytes = read_all(alloc, input, DumpError::Read, DumpError::Memory)?;
+    let bytes = read_all(alloc, input)?;
     match str::from_utf8(&bytes) {
         Ok(script) => play(alloc, script, output),
         Err(_) => Err(DumpError::Script),

@@ -84,7 +84,7 @@ fn obey<R: Read, W: Sink>(
     match order {
         Order::Tell(text) => write_all(output, text.as_bytes()),
         Order::Print(request) => {
-            let bytes = read_all(alloc, input, TextError::Read, TextError::Memory)?;
+            let bytes = read_all(alloc, input)?;
             let recording = parse_recording(alloc, bytes)?;
             let answer = answer_of(alloc, &recording, request)?;
             write_all(output, &answer)

@@ -1,4 +1,4 @@
-use Rattle.std.proofs.Common.{◌≡◌, ◌∙◌, ap, map, refl}
+use Rattle.std.proofs.Common.{◌∙◌, ap, map, refl}
 use Rattle.std.specs.String.{string_bytes}
 use Rattle.command_line.proofs.CallLemmas.{also_ok, also_err, returns_with}
 use Rattle.command_line.proofs.args.with_words.Goals as goal

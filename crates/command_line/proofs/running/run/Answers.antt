@@ -1,4 +1,4 @@
-use Rattle.std.proofs.Common.{◌≡◌, ◌∙◌, ap, inr, refl}
+use Rattle.std.proofs.Common.{inr}
 use Rattle.command_line.proofs.CallLemmas.{when_ok, when_err, refused_at}
 use Rattle.command_line.proofs.running.run.Goals as goal
 

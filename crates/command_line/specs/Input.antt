@@ -1,0 +1,25 @@
+-- Reads of a whole input: the bytes that they give, and how they end.
+use Rattle.std.specs.Prelude.{◌≡◌, ◌≢◌, ℕ, suc, ◌≤◌, List, [], ◌++◌, length, Ok, Err, Result}
+use Rattle.std.specs.IoError.{error_kind}
+use Rattle.std.specs.declared.io.Error.{Error}
+use Rattle.std.specs.declared.io.ErrorKind.TheVariants.{Interrupted}
+use Rattle.command_line.specs.declared.input.InputError.{InputError}
+use Rattle.command_line.specs.declared.input.InputError.TheVariants.{Memory, Read, TooManyReads}
+
+-- From a source, of which at most so many reads may be made, reads with this room give these bytes, end so, and leave the
+-- source so. A step is what one read with so much room answers and leaves. An interrupted read gives nothing, and is
+-- followed by another one. Memory is asked for after a read that gave some bytes, to keep them.
+pub data Drains {S : Type 0} (step : S → ℕ → Result (List ℕ) Error → S → Type 0) (room : ℕ) : S → ℕ → List ℕ
+    → Result (Unit {0}) InputError → S → Type 0 where
+  ended : {s t : S} {n : ℕ} → step s room (Ok []) t → Drains step room s (suc n) [] (Ok tt) t
+  failed : {s t : S} {n : ℕ} {e : Error} → step s room (Err e) t → error_kind e ≢ Interrupted
+      → Drains step room s (suc n) [] (Err (Read e)) t
+  refused : {s t : S} {n : ℕ} {some : List ℕ} → some ≢ [] → length some ≤ room → step s room (Ok some) t
+      → Drains step room s (suc n) some (Err Memory) t
+  stopped : {s : S} → Drains step room s 0 [] (Err TooManyReads) s
+  again : {s t : S} {n : ℕ} {bytes : List ℕ} {answer : Result (Unit {0}) InputError} (m : S) (e : Error)
+      → step s room (Err e) m → error_kind e ≡ Interrupted → Drains step room m n bytes answer t
+      → Drains step room s (suc n) bytes answer t
+  more : {s t : S} {n : ℕ} {bytes : List ℕ} {answer : Result (Unit {0}) InputError} (m : S) (some : List ℕ)
+      → some ≢ [] → length some ≤ room → step s room (Ok some) m → Drains step room m n bytes answer t
+      → Drains step room s (suc n) (some ++ bytes) answer t

@@ -1,0 +1,10 @@
+-- What a fault of the input is told as.
+use Rattle.command_line.specs.declared.input.InputError.{InputError}
+use Rattle.command_line.specs.declared.input.InputError.TheVariants as input
+use Rattle.screendump_command.specs.declared.error.DumpError.{DumpError}
+use Rattle.screendump_command.specs.declared.error.DumpError.TheVariants.{Memory, Read}
+
+abbrev pub input_fault : InputError → DumpError
+input_fault (input.Read e) = Read
+input_fault input.Memory = Memory
+input_fault input.TooManyReads = Read
