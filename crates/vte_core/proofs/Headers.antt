@@ -69,7 +69,7 @@ first-over gs (k ∷ ks) n h =
       | inr over ↦ first-full 32 gs (k ∷ ks) over ∙ sym (first-full 32 gs ((k ∷ ks) ++ n ∷ []) over)
     ]
 
-first-whole : (gs : List (List ℕ)) (g : List ℕ) → 0 < length g → total gs + length g ≤ 32
+pub first-whole : (gs : List (List ℕ)) (g : List ℕ) → 0 < length g → total gs + length g ≤ 32
     → first_numbers 32 (gs ++ g ∷ []) ≡ first_numbers 32 gs ++ g ∷ []
 first-whole gs g some h = first-room 32 gs g (omega (arith, some, h))
     ∙ ap (λ (x : List ℕ). first_numbers 32 gs ++ x ∷ []) (take_all (32 - total gs) g (omega (arith, h)))

@@ -3,6 +3,7 @@
 use Rattle.std.specs.Prelude.{◌≡◌, ◌<◌, ◌≤◌, ℕ, List, [], take, drop, length, slice_index}
 use Rattle.vte_core.specs.Event.{Event}
 use Rattle.vte_core.specs.Pending.{Pending, events_from, after_bytes}
+use Rattle.vte_core.specs.Plain.{IsPlain}
 use Rattle.vte_core.specs.Runs.{Tells, IsStep}
 use Rattle.vte_core.specs.Standing.{IsAt}
 use Rattle.vte_core.specs.declared.parser.Parser.{Parser}
@@ -37,3 +38,12 @@ pub record ReadsQuietly (n : ℕ) (p : Parser n) (bs : List ℕ) (k : ℕ) (r : 
   pub within : k ≤ length bs
   pub stands : (q : Pending) → IsAt n p q → IsAt n r (after_bytes q (take k bs))
   pub quiet : (q : Pending) → IsAt n p q → events_from n q (take k bs) ≡ []
+
+-- A plain control sequence stands at the front, after whole ground text: `ESC [`, then these numbers in k bytes, and a
+-- final byte. The numbers are kept.
+pub record BeginsPlain (n : ℕ) (p : Parser n) (bs : List ℕ) (k : ℕ) (r : Parser n) : Type 0 where
+  pub whole : p.unfinished ≡ []
+  pub some : 2 ≤ length bs
+  pub esc : slice_index bs 0 ≡ 0x1B
+  pub bracket : slice_index bs 1 ≡ 0x5B
+  pub plain : IsPlain (drop 2 bs) k r.header.numbers.params

@@ -1,8 +1,9 @@
 //! The numbers of a header, digit by digit: 32 are kept, in their groups.
 
 ghost use Rattle.std.specs.Prelude.{◌≡◌, ◌+◌, ◌-◌, ◌*◌, ◌<◌, ◌≤◌, ◌^◌, ℕ, List, [], ◌∷◌, ◌++◌, length, take, true};
-ghost use Rattle.std.specs.Prelude.{IsTrue, false, slice_index};
+ghost use Rattle.std.specs.Prelude.{IsTrue, IfSome, false, slice_index};
 ghost use Rattle.vte_core.specs.Bytes.{each, is_numeric};
+ghost use Rattle.vte_core.specs.Plain.{IsPlain};
 ghost use Rattle.vte_core.specs.Store.{total};
 
 use crate::Params;
@@ -126,6 +127,16 @@ impl Numbers {
         }
         self.number = number;
         read
+    }
+
+    /// Reads numbers that `;` alone separates, up to the final byte of a control sequence. Returns how many bytes they
+    /// are; nothing where the sequence isn't plain, has more numbers than are kept, or ends elsewhere.
+    #[inline(always)]
+    pub fn read_plain(&mut self, bytes: &[u8]) -> Option<usize>
+        ensures { IfSome result (λ k. IsPlain bytes.now k self.new.params) }
+    {
+        self.is_open = false;
+        self.params.read_plain(bytes)
     }
 
     /// The header ends, and with it the last number and the last group.

@@ -1,15 +1,15 @@
 //! The parser: what each byte does where the bytes before it have led, and how bytes are read many at a time.
 
 ghost use Rattle.std.specs.Prelude.{◌≡◌, ◌≢◌, ◌<◌, ◌≤◌, ℕ, List, [], ◌++◌, length, IsTrue, take, slice_index};
-ghost use Rattle.std.specs.Prelude.{true, not, ◌&&◌};
+ghost use Rattle.std.specs.Prelude.{true, not, ◌&&◌, IfSome};
 ghost use Rattle.std.specs.Int.{is_in_range};
 ghost use Rattle.vte_core.specs.Byte.{ReadsByte, ReadsOther};
 ghost use Rattle.vte_core.specs.Bytes.{each, is_device_data, is_esc, is_swallowed};
 ghost use Rattle.vte_core.specs.Event as e;
 ghost use Rattle.vte_core.specs.Event.{Performs};
 ghost use Rattle.vte_core.specs.Heard.{final_heard};
-ghost use Rattle.vte_core.specs.Pending.{InEscape, final_rest, final_told};
-ghost use Rattle.vte_core.specs.Reads.{BeginsWithEsc, Reads, ReadsSome, ReadsStep, ReadsQuietly};
+ghost use Rattle.vte_core.specs.Pending.{Pending, InEscape, final_rest, final_told};
+ghost use Rattle.vte_core.specs.Reads.{BeginsPlain, BeginsWithEsc, Reads, ReadsSome, ReadsStep, ReadsQuietly};
 ghost use Rattle.vte_core.specs.Runs.{TellsEach};
 ghost use Rattle.vte_core.specs.Standing.{IsAt, Stands, state_is_text};
 ghost use Rattle.vte_core.specs.Stopping.{Stops};
@@ -414,10 +414,27 @@ impl<const N: usize> Parser<N> {
         1 + self.read_header(performer, &bytes[1..])
     }
 
+    /// Reads the numbers of a plain control sequence after whole ground text, if one stands whole at the front: `ESC [`,
+    /// numbers that `;` alone separates, and a final byte. Returns how many bytes the numbers are.
+    #[inline(always)]
+    fn read_plain(&mut self, bytes: &[u8]) -> Option<usize>
+        requires { self.old.state ≡ State.Ground }
+        ensures stands { (q : Pending) → IsAt N self.old q → IsAt N self.new q }
+        ensures ground { self.new.state ≡ State.Ground }
+        ensures begins { IfSome result (λ k. BeginsPlain N self.old bytes.now k self.new) }
+    {
+        match bytes {
+            [0x1B, b'[', rest @ ..] if self.unfinished.is_empty() => self
+                .header
+                .numbers
+                .read_plain(rest),
+            _ => None,
+        }
+    }
+
     /// Reads a control sequence that ESC begins after ground text, up to the first byte that tells something, and with
     /// it; or else ESC alone. Returns how many bytes it read.
-    #[inline(always)]
-    fn read_escape<P: Perform>(&mut self, performer: &mut P, bytes: &[u8]) -> usize
+    fn read_begun<P: Perform>(&mut self, performer: &mut P, bytes: &[u8]) -> usize
         requires begins { BeginsWithEsc bytes.now }
         requires ground { self.old.state ≡ State.Ground }
         ensures { ReadsStep P.step N self.old performer.old bytes.now result self.new performer.new }
@@ -432,6 +449,22 @@ impl<const N: usize> Parser<N> {
             return quiet + 1;
         }
         quiet
+    }
+
+    /// Reads a plain control sequence at once, and any other as `read_begun` does, which comes to the same. Returns how
+    /// many bytes it read.
+    #[inline(always)]
+    fn read_escape<P: Perform>(&mut self, performer: &mut P, bytes: &[u8]) -> usize
+        requires begins { BeginsWithEsc bytes.now }
+        requires ground { self.old.state ≡ State.Ground }
+        ensures { ReadsStep P.step N self.old performer.old bytes.now result self.new performer.new }
+    {
+        if let Some(len) = self.read_plain(bytes) {
+            let byte = bytes[len + 2];
+            performer.csi_dispatch(&self.header.numbers.params, &[], false, byte as char);
+            return len + 3;
+        }
+        self.read_begun(performer, bytes)
     }
 
     /// Reads ground text up to the next ESC, or else one byte, and returns how many bytes it read.

@@ -1,17 +1,9 @@
-use Rattle.std.proofs.Common.{◌<◌, arith}
-use Rattle.vte_core.proofs.Quiet.{quiet-byte-step}
-use Rattle.vte_core.proofs.ReadsLemmas.{reads_quiet, reads_next}
+use Rattle.vte_core.proofs.PlainSequence.{plain_step, from_same}
 use Rattle.vte_core.proofs.parser.Parser.read_escape.Goals as goal
 
-pub returns-then-quiet-bytes : goal.returns-then-quiet-bytes
-returns-then-quiet-bytes g c =
-    let bs = c.args.bytes.now in
-    let k = c.begin_csi-quiet.result in
-    let quiet = c.begin_csi-quiet.ensures in
-    let some : 0 < k = omega (arith, c.if-quiet-eq0.false) in
-    record {
-      some = omega arith;
-      reads = reads_next bs k c.if-quiet-bytes.true (reads_quiet bs k quiet.reads) c.end_csi.ensures;
-      is_step = λ q h. quiet-byte-step g.row.N c.begin_csi-quiet.new.self q bs k c.if-quiet-bytes.true
-          (quiet.reads.quiet q h) (quiet.begun some) (quiet.reads.stands q h);
-    }
+pub returns-in-Some : goal.returns-in-Some
+returns-in-Some g c = plain_step c.args.bytes.now c.in-Some.len c.requires.ground c.in-Some.ensures.begins
+    c.read_plain.ensures.stands c.csi_dispatch.ensures
+
+pub returns : goal.returns
+returns g c = from_same c.args.bytes.now c.read_begun.result c.read_plain.ensures.stands c.read_begun.ensures

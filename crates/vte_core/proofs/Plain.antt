@@ -1,0 +1,95 @@
+-- The numbers of a plain control sequence, byte by byte.
+use Rattle.std.proofs.Common.{◌≡◌, ◌∙◌, ℕ, ◌+◌, ◌-◌, ◌*◌, ◌<◌, ◌≤◌, min, true, false, List, [], ◌∷◌, ◌++◌, length, take}
+use Rattle.std.proofs.Common.{set, sym, ap, subst, refl, arith, ◌==◌}
+use Rattle.std.proofs.lemmas.Bool.Decides.{nat_tests}
+use Rattle.std.specs.Int.{is_in_range}
+use Rattle.vte_core.specs.Header.{groups_of, first_numbers}
+use Rattle.vte_core.specs.Reading.{AreNumbers}
+use Rattle.vte_core.specs.Store.{total, cut_at}
+use Rattle.vte_core.proofs.Headers.{first-whole, total-append}
+use Rattle.vte_core.proofs.Numbered.{numbers-digit, numbers-semicolon, numbers-whole}
+use Rattle.vte_core.proofs.Stores.{IsStore, total-store, pushed_one}
+
+-- the bytes so far are the groups in these stores, each of one number, and then the number n
+pub record PlainSoFar (m : List ℕ) (count n : ℕ) (numbers ends : List ℕ) : Type 0 where
+  pub gs : List (List ℕ)
+  pub are : AreNumbers m gs [] n
+  pub store : IsStore numbers ends count count
+  pub view : cut_at 0 (take count ends) (take count numbers) ≡ gs
+  pub kept : first_numbers 32 gs ≡ gs
+
+pub empty_store : (numbers ends : List ℕ) → length numbers ≡ 32 → length ends ≡ 32 → IsStore numbers ends 0 0
+empty_store numbers ends h k = (refl, omega arith, omega arith, h, k)
+
+pub plain-none : (numbers ends : List ℕ) → length numbers ≡ 32 → length ends ≡ 32 → PlainSoFar [] 0 0 numbers ends
+plain-none numbers ends h k = record {
+  gs = [];
+  are = record {
+    parts = [];
+    last = [];
+    last_parts = [];
+    digits = [];
+    by_groups = refl;
+    by_numbers = refl;
+    are_groups = refl;
+    are_group = refl;
+    is_number = refl;
+  };
+  store = empty_store numbers ends h k;
+  view = refl;
+  kept = refl;
+}
+
+module _ {m : List ℕ} {count n : ℕ} {numbers ends : List ℕ} (s : PlainSoFar m count n numbers ends) where
+  pub plain-digit : (b : ℕ) → n ≤ 6552 → is_in_range 0x30 0x39 b ≡ true
+      → PlainSoFar (m ++ b ∷ []) count (n * 10 + (b - 0x30)) numbers ends
+  plain-digit b few digit =
+      let semicolon : (b == 0x3B) ≡ false = grind (arith, nat_tests) in
+      let colon : (b == 0x3A) ≡ false = grind (arith, nat_tests) in
+      let most : b ≤ 0x39 = grind (arith, nat_tests) in
+      let same : min 65535 (n * 10 + (b - 0x30)) ≡ n * 10 + (b - 0x30) = omega (arith, few, most) in
+      record {
+        gs = s.gs;
+        are = subst (λ (k : ℕ). AreNumbers (m ++ b ∷ []) s.gs [] k) same
+            (numbers-digit m s.gs [] n b semicolon colon s.are);
+        store = s.store;
+        view = s.view;
+        kept = s.kept;
+      }
+
+  room : count < 32 → total s.gs < 32
+  room h = omega (arith, h, total-store numbers ends count count s.gs s.store s.view)
+
+  -- the number ends
+  pub plain-more : count < 32
+      → (cut_at 0 (take (count + 1) (set ends count (count + 1))) (take (count + 1) (set numbers count n))
+      ≡ s.gs ++ (n ∷ []) ∷ []) × IsStore (set numbers count n) (set ends count (count + 1)) (count + 1) (count + 1)
+  plain-more h = pushed_one numbers ends count count s.gs s.store s.view n (room h)
+
+  kept-more : count < 32 → first_numbers 32 (s.gs ++ (n ∷ []) ∷ []) ≡ s.gs ++ (n ∷ []) ∷ []
+  kept-more h = first-whole s.gs (n ∷ []) (omega arith) (omega (arith, room h))
+      ∙ ap (λ (gs : List (List ℕ)). gs ++ (n ∷ []) ∷ []) s.kept
+
+  pub plain-semicolon : (b : ℕ) → count < 32 → (b == 0x3B) ≡ true
+      → PlainSoFar (m ++ b ∷ []) (count + 1) 0 (set numbers count n) (set ends count (count + 1))
+  plain-semicolon b h semicolon = record {
+    gs = s.gs ++ (n ∷ []) ∷ [];
+    are = numbers-semicolon m s.gs [] n b semicolon s.are;
+    store = (plain-more h).1;
+    view = (plain-more h).0;
+    kept = kept-more h;
+  }
+
+  -- all of them
+  pub plain-all : count < 32
+      → cut_at 0 (take (count + 1) (set ends count (count + 1))) (take (count + 1) (set numbers count n))
+      ≡ first_numbers 32 (groups_of m)
+  plain-all h = (plain-more h).0 ∙ (sym (kept-more h) ∙ ap (first_numbers 32) (sym (numbers-whole m s.gs [] n s.are)))
+
+  pub plain-few : count < 32 → total (groups_of m) ≤ 32
+  plain-few h = omega (
+    arith,
+    ap total (numbers-whole m s.gs [] n s.are),
+    total-append s.gs (n ∷ []),
+    room h,
+  )

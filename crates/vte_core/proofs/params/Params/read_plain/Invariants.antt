@@ -1,0 +1,17 @@
+use Rattle.std.proofs.Common.{◌≡◌, ◌-◌, ◌≤◌, true, length, take}
+use Rattle.vte_core.specs.Bytes.{each, is_numeric}
+use Rattle.vte_core.proofs.Plain.{PlainSoFar}
+use Rattle.vte_core.proofs.params.Params.read_plain.Given as goal
+
+-- the bytes so far are read, and nothing is shown of them yet
+abbrev pub invariant-loop-read : goal.invariant-loop-read
+invariant-loop-read l = record {
+  within : l.read ≤ length l.bytes;
+  numeric : each is_numeric (take l.read l.bytes) ≡ true;
+  so_far : PlainSoFar (take l.read l.bytes) l.count l.number l.self-inside.numbers l.self-inside.ends;
+  no_numbers : l.self-inside.len ≡ 0;
+  no_groups : l.self-inside.groups ≡ 0;
+}
+
+abbrev pub decreases-loop-read : goal.decreases-loop-read
+decreases-loop-read l = length l.bytes - l.read

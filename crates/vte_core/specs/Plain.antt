@@ -1,0 +1,14 @@
+-- A plain control sequence: `ESC [`, numbers that `;` alone separates, and a final byte.
+use Rattle.std.specs.Prelude.{◌≡◌, ◌<◌, ◌≤◌, ℕ, true, List, length, take, slice_index}
+use Rattle.std.specs.Int.{is_in_range}
+use Rattle.vte_core.specs.Bytes.{each, is_numeric}
+use Rattle.vte_core.specs.Header.{groups_of, first_numbers}
+use Rattle.vte_core.specs.Store.{total}
+
+-- the first k bytes are these numbers, at most 32, and a final byte follows
+pub record IsPlain (bs : List ℕ) (k : ℕ) (numbers : List (List ℕ)) : Type 0 where
+  pub within : k < length bs
+  pub numeric : each is_numeric (take k bs) ≡ true
+  pub final : is_in_range 0x40 0x7E (slice_index bs k) ≡ true
+  pub groups : numbers ≡ first_numbers 32 (groups_of (take k bs))
+  pub few : total (groups_of (take k bs)) ≤ 32
