@@ -31,7 +31,7 @@ pub fields-any : (cells : List CellView) (wrapped : Bool) (w : RowView) → reco
 fields-any cells wrapped w e r = fields-at cells wrapped 65535 w e r (blank-any w r)
 
 -- a line that says what each cell is
-blank-line : (n m : ℕ) (g : ℕ → CellView) → ((k : ℕ) → m ≤ k → k < n → g k ≡ default_cell)
+pub blank-line : (n m : ℕ) (g : ℕ → CellView) → ((k : ℕ) → m ≤ k → k < n → g k ≡ default_cell)
     → IsBlankFrom (by_position n g) m
 blank-line n m g h k l =
     ⊎_elim (λ lt. cell_at-by_position n g k lt ∙ h k l lt)
@@ -77,7 +77,7 @@ blank-pairs cells filled m i xs a few b more behind =
     (pairs-behind (cell_at cells) i xs a)
 
 -- what is erased in the default attributes is blank, and what was stays so
-wiped-blank : (f : ℕ → CellView) (s e k : ℕ) → f k ≡ default_cell → wiped f s e default_attrs k ≡ default_cell
+pub wiped-blank : (f : ℕ → CellView) (s e k : ℕ) → f k ≡ default_cell → wiped f s e default_attrs k ≡ default_cell
 wiped-blank f s e k h =
     cond_both (nat_le s k && nat_lt k e) (empty_cell default_attrs) _ (λ x. x ≡ default_cell) (λ _. refl)
     (λ _. cond_both (nat_lt s e && ((((k + 1) == s) && (f k).wide) || ((k == e) && (f k).continuation)))

@@ -19,3 +19,4 @@ pub mod WidthLemmas
 pub mod PictureLemmas
 pub mod PrintableLemmas
 pub mod BlankLemmas
+pub mod FilledLemmas

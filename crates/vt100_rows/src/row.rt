@@ -1,7 +1,7 @@
 //! One row of a terminal.
 ghost use Rattle.std.specs.Prelude.{◌≡◌, ℕ, ◌+◌, ◌-◌, ◌*◌, ◌<◌, ◌≤◌, ◌==◌, ◌++◌, List, length, Some, true, false, not, ◌&&◌};
 ghost use Rattle.std.specs.Prelude.{IfOk, IsOk, OnOk, OnErr, slice_get, encode_utf8_all, replicate, All};
-ghost use Rattle.std.specs.Prelude.{string_bytes, string_len, string_capacity};
+ghost use Rattle.std.specs.Prelude.{string_bytes, string_len, string_capacity, min, nat_lt, if◌then◌else◌};
 ghost use Rattle.std.specs.Option.{option_copied};
 ghost use Rattle.std.specs.Char.{IsScalar};
 ghost use Rattle.vt100_cells.specs.Cell.{cell_of, default_cell, has_text, drawn_columns, IsPrintable, IsWide};
@@ -13,16 +13,18 @@ ghost use Rattle.vt100_rows.specs.Row.{placed_each, pairs_row, placed_pairs, joi
 ghost use Rattle.vt100_rows.specs.Text.{written_text};
 ghost use Rattle.row_drawing.specs.Writes.{IsBegun};
 
+mod filled;
 mod forms;
 
 use crate::join::Join;
+use crate::row::filled::{insert_filled, remove_filled, wipe_filled};
 use std::alloc::Global;
 use std::marker::Model;
 use std::ops::Range;
 use vt100_cells::Cell;
 use vt100_cells::line::{
-    at, base_col, clear, clear_cut_half, clear_pair, ends_filled, insert, pairs_end, put,
-    put_pairs, put_run, puts_end, remove, trimmed_len, wipe, wipes_end,
+    at, base_col, clear, clear_cut_half, clear_pair, ends_filled, pairs_end, put, put_pairs,
+    put_run, puts_end, trimmed_len, wipe, wipes_end,
 };
 use vt100_forms::GridError;
 use vt100_forms::attrs::Attrs;
@@ -129,8 +131,8 @@ impl Row {
         ensures { self.new ≡ inserted self.old i count }
     {
         self.wrapped = false;
-        self.filled = ANY;
-        insert(&mut self.cells, usize::from(i), usize::from(count));
+        insert_filled(&mut self.cells, i, count, self.filled);
+        self.filled = filled_between(self.filled, i, count);
     }
 
     /// Takes out the cells of the range. What stands right of them moves to the left, and default cells follow.
@@ -139,11 +141,8 @@ impl Row {
         ensures { self.new ≡ removed self.old range.start range.end }
     {
         self.wrapped = false;
-        self.filled = ANY;
-        let start = usize::from(range.start);
-        let end = usize::from(range.end);
-        if start < end {
-            remove(&mut self.cells, start, end - start);
+        if range.start < range.end {
+            remove_filled(&mut self.cells, range.start, range.end, self.filled);
         }
     }
 
@@ -167,17 +166,13 @@ impl Row {
         requires { range.end ≤ length self.old.cells }
         ensures { self.new ≡ wiped_row self.old range.start range.end attrs }
     {
-        let start = usize::from(range.start);
-        let end = usize::from(range.end);
+        let Range { start, end } = range;
         if start >= end {
             return;
         }
-        let filled = filled_after(self.filled, range, attrs);
-        if wipes_end(&self.cells, start, end) {
-            self.wrapped = false;
-        }
-        wipe(&mut self.cells, start, end, attrs);
-        self.filled = filled;
+        self.wrapped &= !wipes_end(&self.cells, usize::from(start), usize::from(end));
+        wipe_filled(&mut self.cells, start, end, attrs, self.filled);
+        self.filled = filled_after(self.filled, start..end, attrs);
     }
 
     /// Cuts the row after `len` cells; a shorter row keeps its cells. Either way it isn't wrapped any more.
@@ -440,6 +435,19 @@ fn filled_after(filled: u16, range: Range<u16>, attrs: Attrs) -> u16
         ANY
     } else if filled <= range.end {
         filled.min(range.start)
+    } else {
+        filled
+    }
+}
+
+/// From which column on a row is blank that was so from `filled` on, and into which `count` default cells came at column
+/// `i`.
+#[inline]
+fn filled_between(filled: u16, i: u16, count: u16) -> u16
+    ensures { result ≡ (if nat_lt i filled then min (filled + count) 65535 else filled) }
+{
+    if i < filled {
+        filled.saturating_add(count)
     } else {
         filled
     }
