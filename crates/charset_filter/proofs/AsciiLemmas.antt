@@ -15,13 +15,14 @@ use Rattle.vte_types.specs.declared.charset.StandardCharset.{StandardCharset}
 use Rattle.vte_types.specs.declared.charset.StandardCharset.TheVariants.{Ascii}
 use Rattle.vte_types.specs.declared.charset.CharsetIndex.{CharsetIndex}
 use Rattle.vte_types.specs.declared.charset.CharsetIndex.TheVariants.{G0, G1, G2, G3}
-use Rattle.charset_filter.specs.Sets.{set_at, set_for, set_of, first_sets, locking, designating, drawing_set}
-use Rattle.charset_filter.specs.Sets.{after_event, after_events, after_escape, after_plain_escape, is_exclamation}
+use Rattle.charset_filter.specs.Sets.{ascii, set_at, set_for, set_of, first_sets, locking, designating, drawing_set}
+use Rattle.charset_filter.specs.Sets.{after_event, after_events, after_escape, after_plain_escape}
 use Rattle.charset_filter.specs.Given.{is_drawable, given_for, given_from}
 use Rattle.charset_filter.specs.Laws.{names_lines, names_none, KeepsAscii}
 use Rattle.charset_filter.specs.declared.sets.Designations.{Designations}
 use Rattle.charset_filter.specs.declared.sets.CharacterSets.{CharacterSets}
 use Rattle.charset_filter.proofs.ByteLemmas.{set_behind, given-drawn, silent-given, sets-alike}
+use Rattle.charset_filter.proofs.SavedLemmas.{Holds, holds-csi, holds-restored, holds-saved}
 
 -- ASCII in all four
 record IsAscii (d : Designations) : Type 0 where
@@ -30,15 +31,22 @@ record IsAscii (d : Designations) : Type 0 where
   g2 : d.g2 ≡ Ascii
   g3 : d.g3 ≡ Ascii
 
-record AreAscii (s : CharacterSets) : Type 0 where
-  current : IsAscii s.current
-  saved : IsAscii s.saved
+ascii-ascii : IsAscii ascii
+ascii-ascii = record { g0 = refl; g1 = refl; g2 = refl; g3 = refl }
+
+-- of a single shift it says nothing
+abbrev IsAny : Option CharsetIndex → Type 0
+IsAny o = o ≡ o
+
+abbrev AreAscii : CharacterSets → Type 0
+AreAscii s = Holds IsAscii IsAny s
+
+abbrev ascii-with : (s : CharacterSets) → IsAscii s.current → IsAscii s.main_saved → IsAscii s.alternate_saved
+    → AreAscii s
+ascii-with s c m a = record { current = c; single = refl; main = m; alternate = a }
 
 ascii-first : AreAscii first_sets
-ascii-first = record {
-  current = record { g0 = refl; g1 = refl; g2 = refl; g3 = refl };
-  saved = record { g0 = refl; g1 = refl; g2 = refl; g3 = refl };
-}
+ascii-first = ascii-with first_sets ascii-ascii ascii-ascii ascii-ascii
 
 ascii-at : (d : Designations) (i : CharsetIndex) → IsAscii d → set_at d i ≡ Ascii
 ascii-at d G0 h = h.g0
@@ -51,40 +59,30 @@ ascii-for d None h = ascii-at d d.locked h
 ascii-for d (Some i) h = ascii-at d i h
 
 ascii-locking : (s : CharacterSets) (i : CharsetIndex) → AreAscii s → AreAscii (locking s i)
-ascii-locking s i h = record {
-  current = record { g0 = h.current.g0; g1 = h.current.g1; g2 = h.current.g2; g3 = h.current.g3 };
-  saved = h.saved;
-}
+ascii-locking s i h = ascii-with (locking s i)
+    (record { g0 = h.current.g0; g1 = h.current.g1; g2 = h.current.g2; g3 = h.current.g3 }) h.main h.alternate
 
 ascii-designating : (s : CharacterSets) (i : CharsetIndex) (x : StandardCharset) → x ≡ Ascii → AreAscii s
     → AreAscii (designating s i x)
-ascii-designating s G0 x e h = record {
-  current = record { g0 = e; g1 = h.current.g1; g2 = h.current.g2; g3 = h.current.g3 };
-  saved = h.saved;
-}
-ascii-designating s G1 x e h = record {
-  current = record { g0 = h.current.g0; g1 = e; g2 = h.current.g2; g3 = h.current.g3 };
-  saved = h.saved;
-}
-ascii-designating s G2 x e h = record {
-  current = record { g0 = h.current.g0; g1 = h.current.g1; g2 = e; g3 = h.current.g3 };
-  saved = h.saved;
-}
-ascii-designating s G3 x e h = record {
-  current = record { g0 = h.current.g0; g1 = h.current.g1; g2 = h.current.g2; g3 = e };
-  saved = h.saved;
-}
+ascii-designating s G0 x e h = ascii-with (designating s G0 x)
+    (record { g0 = e; g1 = h.current.g1; g2 = h.current.g2; g3 = h.current.g3 }) h.main h.alternate
+ascii-designating s G1 x e h = ascii-with (designating s G1 x)
+    (record { g0 = h.current.g0; g1 = e; g2 = h.current.g2; g3 = h.current.g3 }) h.main h.alternate
+ascii-designating s G2 x e h = ascii-with (designating s G2 x)
+    (record { g0 = h.current.g0; g1 = h.current.g1; g2 = e; g3 = h.current.g3 }) h.main h.alternate
+ascii-designating s G3 x e h = ascii-with (designating s G3 x)
+    (record { g0 = h.current.g0; g1 = h.current.g1; g2 = h.current.g2; g3 = e }) h.main h.alternate
 
 either : (v : Bool) (x y : CharacterSets) → AreAscii x → AreAscii y → AreAscii (if v then x else y)
 either v x y h k = if_holds AreAscii v x y h k
 
 ascii-plain : (s : CharacterSets) (f : ℕ) → AreAscii s → AreAscii (after_plain_escape s f)
 ascii-plain s f h =
-    either (f == 0x37) _ _ (record { current = h.current; saved = h.current })
-    (either (f == 0x38) _ _ (record { current = h.saved; saved = h.saved })
+    either (f == 0x37) _ _ (holds-saved IsAscii IsAny s h)
+    (either (f == 0x38) _ _ (holds-restored IsAscii IsAny s h)
     (either (f == 0x63) _ _ ascii-first
-    (either (f == 0x4E) _ _ (record { current = h.current; saved = h.saved })
-    (either (f == 0x4F) _ _ (record { current = h.current; saved = h.saved })
+    (either (f == 0x4E) _ _ (ascii-with (record s { single = Some G2 }) h.current h.main h.alternate)
+    (either (f == 0x4F) _ _ (ascii-with (record s { single = Some G3 }) h.current h.main h.alternate)
     (either (f == 0x6E) _ _ (ascii-locking s G2 h) (either (f == 0x6F) _ _ (ascii-locking s G3 h) h))))))
 
 place : (i j : ℕ) → is_in_range 0x28 0x2B j ≡ true → (i == j) ≡ true → is_in_range 0x28 0x2B i ≡ true
@@ -117,14 +115,14 @@ ascii-escape s (i ∷ is) many f h a =
     (ascii-designation s 0x2B G3 s i is many f refl h a a)))
 
 ascii-event : (s : CharacterSets) (e : Event) → names_lines e ≡ false → AreAscii s → AreAscii (after_event s e)
-ascii-event s (Print c) h a = record { current = a.current; saved = a.saved }
+ascii-event s (Print c) h a = ascii-with (record s { single = None }) a.current a.main a.alternate
 ascii-event s (Execute b) h a =
     either (b == 0x0E) _ _ (ascii-locking s G1 a) (either (b == 0x0F) _ _ (ascii-locking s G0 a) a)
 ascii-event s (Hook ps is many f) h a = a
 ascii-event s (Put b) h a = a
 ascii-event s Unhook h a = a
 ascii-event s (Osc ps bell) h a = a
-ascii-event s (Csi ps is many f) h a = either (is_exclamation is && f == 0x70) _ _ ascii-first a
+ascii-event s (Csi ps is many f) h a = holds-csi IsAscii IsAny s ps is f ascii-ascii refl a
 ascii-event s (Esc is many f) h a = ascii-escape s is many f h a
 
 both : (x y : Bool) → (not x && y) ≡ true → (x ≡ false) × (y ≡ true)

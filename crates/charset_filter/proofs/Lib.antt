@@ -1,5 +1,6 @@
 pub mod Codes
 pub mod EventLemmas
+pub mod SavedLemmas
 pub mod Drawings
 pub mod ByteLemmas
 pub mod LawLemmas

@@ -1,6 +1,6 @@
 -- Runs in which no set can change are given as they are.
 use Rattle.std.proofs.Common.{◌≡◌, ◌≢◌, ℕ, suc, ◌+◌, ◌≤◌, ◌<◌, Bool, true, false, not, ◌&&◌, ◌||◌, List, [], ◌∷◌, ◌++◌, length, take}
-use Rattle.std.proofs.Common.{◌==◌, nat_lt, if◌then◌else◌, ◌⊎◌, refl, sym, ◌∙◌, ap, subst, inl, inr, arith}
+use Rattle.std.proofs.Common.{◌==◌, nat_lt, if◌then◌else◌, ◌⊎◌, Option, None, refl, sym, ◌∙◌, ap, subst, inl, inr, arith}
 use Rattle.std.proofs.Common.{get_or, drop-cons, add-one}
 use Rattle.std.proofs.Math.Seq.{take-add}
 use Rattle.std.proofs.lemmas.Bool.Decides.{nat_tests}
@@ -19,13 +19,16 @@ use Rattle.vte_core.proofs.Machine.{IsSound-byte}
 use Rattle.vte_types.specs.Charset.{mapped}
 use Rattle.vte_types.specs.declared.charset.StandardCharset.{StandardCharset}
 use Rattle.vte_types.specs.declared.charset.StandardCharset.TheVariants.{Ascii}
-use Rattle.charset_filter.specs.Sets.{set_for, after_event, after_events, drawing_set, first_sets, is_exclamation}
+use Rattle.vte_types.specs.declared.charset.CharsetIndex.{CharsetIndex}
+use Rattle.charset_filter.specs.Sets.{set_for, locked_set, after_csi, after_event, after_events, drawing_set}
 use Rattle.charset_filter.specs.Given.{is_drawable, given_for, given_from}
 use Rattle.charset_filter.specs.Filter.{is_escape}
 use Rattle.charset_filter.specs.Plain.{IsPlain, is_plain_run}
+use Rattle.charset_filter.specs.declared.sets.Designations.{Designations}
 use Rattle.charset_filter.specs.declared.sets.CharacterSets.{CharacterSets}
 use Rattle.charset_filter.proofs.Codes.{high-joined}
 use Rattle.charset_filter.proofs.ByteLemmas.{set_behind, given-drawn, silent-given, first-same, is-len}
+use Rattle.charset_filter.proofs.SavedLemmas.{holds-csi}
 
 -- where an escape is pending
 
@@ -94,11 +97,18 @@ abbrev are_quiet : List Event → Bool
 are_quiet [] = true
 are_quiet (e ∷ es) = is_quiet e && are_quiet es
 
-plain-first : IsPlain first_sets
-plain-first = record { single = refl; current = refl }
+abbrev DrawsAscii : Designations → Type 0
+DrawsAscii d = locked_set d ≡ Ascii
 
-plain-if : (v : Bool) (s : CharacterSets) → IsPlain s → IsPlain (if v then first_sets else s)
-plain-if v s k = if_holds IsPlain v first_sets s plain-first k
+abbrev IsNone : Option CharsetIndex → Type 0
+IsNone o = o ≡ None
+
+plain-csi : (s : CharacterSets) (groups : List (List ℕ)) (is : List ℕ) (f : ℕ) → IsPlain s
+    → IsPlain (after_csi s groups is f)
+plain-csi s groups is f k =
+    let h = holds-csi DrawsAscii IsNone s groups is f refl refl
+    (record { current = k.current; single = k.single; main = k.main; alternate = k.alternate }) in
+    record { current = h.current; single = h.single; main = h.main; alternate = h.alternate }
 
 not-or : (x y : Bool) → not (x || y) ≡ true → (x ≡ false) × (y ≡ false)
 not-or true y h = absurd (let no : false ≡ true = h in cc)
@@ -106,13 +116,14 @@ not-or false true h = absurd (let no : false ≡ true = h in cc)
 not-or false false h = (refl, refl)
 
 plain-event : (s : CharacterSets) (e : Event) → is_quiet e ≡ true → IsPlain s → IsPlain (after_event s e)
-plain-event s (Print c) h k = record { single = refl; current = k.current }
+plain-event s (Print c) h k =
+    record { single = refl; current = k.current; main = k.main; alternate = k.alternate }
 plain-event s (Execute b) h k = let p = not-or (b == 0x0E) (b == 0x0F) h in rw (p.0, p.1) k
 plain-event s (Hook ps is many f) h k = k
 plain-event s (Put b) h k = k
 plain-event s Unhook h k = k
 plain-event s (Osc ps bell) h k = k
-plain-event s (Csi ps is many f) h k = plain-if (is_exclamation is && f == 0x70) s k
+plain-event s (Csi ps is many f) h k = plain-csi s ps is f k
 plain-event s (Esc is many f) h k = absurd (let no : false ≡ true = h in cc)
 
 both : (x y : Bool) → (x && y) ≡ true → (x ≡ true) × (y ≡ true)

@@ -2,13 +2,15 @@
 use Rattle.std.specs.Prelude.{◌≡◌, ℕ, Bool, true, false, not, ◌&&◌, ◌||◌, ◌==◌, List, [], ◌∷◌, None}
 use Rattle.vte_core.specs.Bytes.{is_esc}
 use Rattle.vte_types.specs.declared.charset.StandardCharset.TheVariants.{Ascii}
-use Rattle.charset_filter.specs.Sets.{set_at}
+use Rattle.charset_filter.specs.Sets.{locked_set}
 use Rattle.charset_filter.specs.declared.sets.CharacterSets.{CharacterSets}
 
--- ASCII is drawn, and no single shift is pending
+-- ASCII is drawn, and no single shift is pending; and so it is where saved sets are brought back
 pub record IsPlain (s : CharacterSets) : Type 0 where
   pub single : s.single ≡ None
-  pub current : set_at s.current s.current.locked ≡ Ascii
+  pub current : locked_set s.current ≡ Ascii
+  pub main : locked_set s.main_saved ≡ Ascii
+  pub alternate : locked_set s.alternate_saved ≡ Ascii
 
 -- neither SO nor SI, and directly behind each ESC stands `[` or `]`; after_esc says that ESC stood before the bytes
 abbrev pub is_plain_run : Bool → List ℕ → Bool

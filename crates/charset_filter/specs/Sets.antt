@@ -1,5 +1,5 @@
 -- Which set draws what is printed, event by event.
-use Rattle.std.specs.Prelude.{ℕ, Bool, false, List, [], ◌∷◌, ◌==◌, ◌&&◌, if◌then◌else◌, Option, Some, None}
+use Rattle.std.specs.Prelude.{ℕ, Bool, true, false, List, [], ◌∷◌, ◌==◌, ◌&&◌, ◌||◌, if◌then◌else◌, Option, Some, None}
 use Rattle.vte_core.specs.Event.{Event, Print, Execute, Csi, Esc}
 use Rattle.vte_types.specs.Charset.{mapped}
 use Rattle.vte_types.specs.declared.charset.StandardCharset.{StandardCharset}
@@ -26,11 +26,22 @@ designated d G3 x = record d { g3 = x }
 abbrev pub ascii : Designations
 ascii = record { g0 = Ascii; g1 = Ascii; g2 = Ascii; g3 = Ascii; locked = G0 }
 
+-- with the main screen shown
 abbrev pub first_sets : CharacterSets
-first_sets = record { current = ascii; single = None; saved = ascii }
+first_sets = record {
+  current = ascii;
+  single = None;
+  alternate = false;
+  main_saved = ascii;
+  alternate_saved = ascii;
+}
+
+-- the set that is locked
+abbrev pub locked_set : Designations → StandardCharset
+locked_set d = set_at d d.locked
 
 abbrev pub set_for : Designations → Option CharsetIndex → StandardCharset
-set_for d None = set_at d d.locked
+set_for d None = locked_set d
 set_for d (Some i) = set_at d i
 
 -- the set that draws the next character
@@ -43,6 +54,21 @@ locking s i = record s { current = record s.current { locked = i } }
 abbrev pub designating : CharacterSets → CharsetIndex → StandardCharset → CharacterSets
 designating s i x = record s { current = designated s.current i x }
 
+-- DECSC and DECRC: each of the two screens has saved sets of its own
+abbrev pub saved : CharacterSets → CharacterSets
+saved s = if s.alternate then record s { alternate_saved = s.current } else record s { main_saved = s.current }
+
+abbrev pub restored : CharacterSets → CharacterSets
+restored s = record s { current = if s.alternate then s.alternate_saved else s.main_saved }
+
+-- the alternate screen is shown, or the main one
+abbrev pub showing : Bool → CharacterSets → CharacterSets
+showing alternate s = record s { alternate = alternate }
+
+-- DECSTR: ASCII, and that saved
+abbrev pub reset_softly : CharacterSets → CharacterSets
+reset_softly s = saved (record s { current = ascii; single = None })
+
 -- the set that a final byte names behind one intermediate; behind more it names none that draws lines
 abbrev pub set_of : List ℕ → ℕ → StandardCharset
 set_of [] f = if f == 0x30 then SpecialCharacterAndLineDrawing else Ascii
@@ -51,8 +77,8 @@ set_of (i ∷ is) f = Ascii
 -- an escape without intermediates: DECSC, DECRC, RIS, SS2, SS3, LS2, LS3
 abbrev pub after_plain_escape : CharacterSets → ℕ → CharacterSets
 after_plain_escape s f =
-    if f == 0x37 then record s { saved = s.current }
-    else (if f == 0x38 then record s { current = s.saved }
+    if f == 0x37 then saved s
+    else (if f == 0x38 then restored s
     else (if f == 0x63 then first_sets
     else (if f == 0x4E then record s { single = Some G2 }
     else (if f == 0x4F then record s { single = Some G3 }
@@ -68,11 +94,28 @@ after_escape s (i ∷ is) f =
     else (if i == 0x2A then designating s G2 (set_of is f)
     else (if i == 0x2B then designating s G3 (set_of is f) else s)))
 
--- `!` alone
-abbrev pub is_exclamation : List ℕ → Bool
-is_exclamation [] = false
-is_exclamation (i ∷ []) = i == 0x21
-is_exclamation (i ∷ j ∷ is) = false
+-- private modes, set or reset: 47 and 1047 show the other screen, 1048 saves and restores, and 1049 does both
+abbrev pub after_mode : Bool → CharacterSets → List ℕ → CharacterSets
+after_mode set s (m ∷ []) =
+    if m == 47 || m == 1047 then showing set s
+    else (if m == 1048 then (if set then saved s else restored s)
+    else (if m == 1049 then (if set then showing true (saved s) else restored (showing false s)) else s))
+after_mode set s ms = s
+
+abbrev pub after_modes : Bool → CharacterSets → List (List ℕ) → CharacterSets
+after_modes set s [] = s
+after_modes set s (g ∷ gs) = after_modes set (after_mode set s g) gs
+
+-- a control sequence with one intermediate: DECSTR, DECSET, DECRST
+abbrev pub after_control_sequence : CharacterSets → List (List ℕ) → ℕ → ℕ → CharacterSets
+after_control_sequence s groups i f =
+    if i == 0x21 && f == 0x70 then reset_softly s
+    else (if i == 0x3F && f == 0x68 then after_modes true s groups
+    else (if i == 0x3F && f == 0x6C then after_modes false s groups else s))
+
+abbrev pub after_csi : CharacterSets → List (List ℕ) → List ℕ → ℕ → CharacterSets
+after_csi s groups (i ∷ []) f = after_control_sequence s groups i f
+after_csi s groups is f = s
 
 -- SO and SI
 abbrev pub after_control : CharacterSets → ℕ → CharacterSets
@@ -82,7 +125,7 @@ after_control s b = if b == 0x0E then locking s G1 else (if b == 0x0F then locki
 abbrev pub after_event : CharacterSets → Event → CharacterSets
 after_event s (Print c) = record s { single = None }
 after_event s (Execute b) = after_control s b
-after_event s (Csi groups is many f) = if is_exclamation is && f == 0x70 then first_sets else s
+after_event s (Csi groups is many f) = after_csi s groups is f
 after_event s (Esc is many f) = after_escape s is f
 after_event s e = s
 

@@ -12,15 +12,20 @@
 //! - SI locks G0 into the codes 0x20 to 0x7F, SO G1, `ESC n` G2 and `ESC o` G3. `ESC N` and `ESC O` draw the next
 //!   character alone from G2 and from G3. That character may be of any kind, U+FFFD too.
 //! - `ESC 7` saves the four sets and which is locked, and `ESC 8` brings them back, ASCII where none were saved. As in
-//!   xterm a pending single shift is neither saved nor dropped.
-//! - `ESC c` and `ESC [ ! p` set everything back: ASCII in all four, G0 locked, no single shift, and that saved.
+//!   xterm a pending single shift is neither saved nor dropped, and each of the two screens has saved sets of its own.
+//! - The private modes 47, 1047 and 1049 show the alternate screen where they are set, and the main one where they are
+//!   reset. 1048 saves as `ESC 7` does, and restores where it is reset. 1049 saves before it shows the alternate screen,
+//!   and restores once the main one is shown.
+//! - `ESC c` sets everything back: ASCII in all four, G0 locked, no single shift, that saved, and the main screen shown.
+//!   `ESC [ ! p` does so for the screen that is shown.
 //!
 //! Designations and shifts are given on with all other bytes, since a terminal behind the filter isn't led astray by
 //! them: what is given in place of a drawn character has no other meaning in the special graphics. So whatever a
 //! sequence breaks off, as a string that wasn't ended, is broken off behind the filter too.
 //!
-//! Not read are the 8-bit forms of the single shifts, sets of 96 characters (`ESC -`, `ESC .`, `ESC /`), the codes from
-//! 0xA0 on (GR), and the modes 1048 and 1049, which in xterm save and restore the sets too.
+//! Not read are the 8-bit forms of the single shifts, sets of 96 characters (`ESC -`, `ESC .`, `ESC /`) and the codes
+//! from 0xA0 on (GR). Nor are `CSI s`, `CSI u` and `CSI ? 1048 s` and `r`, which in xterm save and restore the sets too.
+//! After `ESC c` xterm keeps what was saved while the alternate screen was shown; here nothing is kept.
 #![tactic(auto)]
 
 mod filter;

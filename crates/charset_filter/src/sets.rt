@@ -3,10 +3,11 @@
 ghost use Rattle.std.specs.Prelude.{◌≡◌, ◌==◌, ◌&&◌, IsTrue};
 ghost use Rattle.charset_filter.specs.Plain.{IsPlain};
 ghost use Rattle.charset_filter.specs.Sets as sets;
-ghost use Rattle.charset_filter.specs.Sets.{after_control, after_escape, after_plain_escape, ascii, designated};
-ghost use Rattle.charset_filter.specs.Sets.{drawing_set, first_sets, is_exclamation, set_at};
+ghost use Rattle.charset_filter.specs.Sets.{after_control, after_csi, after_escape, after_mode, after_modes};
+ghost use Rattle.charset_filter.specs.Sets.{after_plain_escape, ascii, designated, drawing_set, first_sets};
+ghost use Rattle.charset_filter.specs.Sets.{locked_set, reset_softly, restored, saved, set_at};
 
-use vte_core::{Event, Perform};
+use vte_core::{Event, Params, Perform};
 use vte_types::charset::{CharsetIndex, StandardCharset};
 
 /// The sets of G0 to G3, and which of these is locked into the codes 0x20 to 0x7F.
@@ -45,6 +46,13 @@ impl Designations {
         }
     }
 
+    /// The set that is locked.
+    fn locked_set(&self) -> StandardCharset
+        ensures { result ≡ locked_set self.now }
+    {
+        self.set_at(self.locked)
+    }
+
     /// Designates a set to one of the four.
     fn designate(&mut self, index: CharsetIndex, set: StandardCharset)
         ensures { self.new ≡ designated self.old index set }
@@ -64,7 +72,12 @@ pub struct CharacterSets {
     current: Designations,
     /// What the next character alone is drawn from.
     single: Option<CharsetIndex>,
-    saved: Designations,
+    /// Whether the alternate screen is shown.
+    alternate: bool,
+    /// What was saved while the main screen was shown.
+    main_saved: Designations,
+    /// What was saved while the alternate screen was shown.
+    alternate_saved: Designations,
 }
 
 impl CharacterSets {
@@ -75,7 +88,9 @@ impl CharacterSets {
         CharacterSets {
             current: Designations::ascii(),
             single: None,
-            saved: Designations::ascii(),
+            alternate: false,
+            main_saved: Designations::ascii(),
+            alternate_saved: Designations::ascii(),
         }
     }
 
@@ -84,16 +99,92 @@ impl CharacterSets {
         ensures { result ≡ drawing_set self.now }
     {
         match self.single {
-            None => self.current.set_at(self.current.locked),
+            None => self.current.locked_set(),
             Some(index) => self.current.set_at(index),
         }
     }
 
-    /// Whether ASCII is drawn, and no single shift is pending.
+    /// Whether ASCII is drawn, and no single shift is pending; and so it is where saved sets are brought back.
     pub fn is_plain(&self) -> bool
         ensures { IsTrue result → IsPlain self.now }
     {
-        self.single.is_none() && self.current.set_at(self.current.locked) == StandardCharset::Ascii
+        self.single.is_none()
+            && self.current.locked_set() == StandardCharset::Ascii
+            && self.main_saved.locked_set() == StandardCharset::Ascii
+            && self.alternate_saved.locked_set() == StandardCharset::Ascii
+    }
+
+    /// Saves the sets for the screen that is shown.
+    fn save(&mut self)
+        ensures { self.new ≡ saved self.old }
+    {
+        if self.alternate {
+            self.alternate_saved = self.current;
+        } else {
+            self.main_saved = self.current;
+        }
+    }
+
+    /// Brings back what was saved while this screen was shown.
+    fn restore(&mut self)
+        ensures { self.new ≡ restored self.old }
+    {
+        self.current = if self.alternate {
+            self.alternate_saved
+        } else {
+            self.main_saved
+        };
+    }
+
+    /// DECSTR.
+    fn reset_softly(&mut self)
+        ensures { self.new ≡ reset_softly self.old }
+    {
+        self.current = Designations::ascii();
+        self.single = None;
+        self.save();
+    }
+
+    /// Sets or resets private modes, one after the other.
+    fn change_modes(&mut self, params: &Params, set: bool)
+        ensures { self.new ≡ after_modes set self.old params.now }
+    {
+        let mut groups = params.iter();
+        while let Some(group) = groups.next() {
+            self.change_mode(group, set);
+        }
+    }
+
+    /// Sets or resets the private mode that a group names.
+    fn change_mode(&mut self, group: &[u16], set: bool)
+        ensures { self.new ≡ after_mode set self.old group.now }
+    {
+        match group {
+            [47 | 1047] => self.alternate = set,
+            [1048] if set => self.save(),
+            [1048] => self.restore(),
+            [1049] if set => {
+                self.save();
+                self.alternate = true;
+            }
+            [1049] => {
+                self.alternate = false;
+                self.restore();
+            }
+            _ => {}
+        }
+    }
+
+    /// A control sequence.
+    fn control_sequence(&mut self, params: &Params, intermediates: &[u8], last: char)
+        ensures { self.new ≡ after_csi self.old params.now intermediates.now last }
+    {
+        match (intermediates, last) {
+            ([b'!'], 'p') => self.reset_softly(),
+            ([b'?'], 'h') => self.change_modes(params, true),
+            ([b'?'], 'l') => self.change_modes(params, false),
+            _ => {}
+        }
     }
 
     /// SO and SI.
@@ -112,8 +203,8 @@ impl CharacterSets {
         ensures { self.new ≡ after_plain_escape self.old last }
     {
         match last {
-            b'7' => self.saved = self.current,
-            b'8' => self.current = self.saved,
+            b'7' => self.save(),
+            b'8' => self.restore(),
             b'c' => *self = CharacterSets::new(),
             b'N' => self.single = Some(CharsetIndex::G2),
             b'O' => self.single = Some(CharsetIndex::G3),
@@ -158,14 +249,11 @@ impl Perform for CharacterSets {
             Event::Print(_) => self.single = None,
             Event::Execute(byte) => self.control(byte),
             Event::CsiDispatch {
+                params,
                 intermediates,
                 action,
                 ..
-            } => {
-                if is_soft_reset(intermediates, action) {
-                    *self = CharacterSets::new();
-                }
-            }
+            } => self.control_sequence(params, intermediates, action),
             Event::EscDispatch {
                 intermediates,
                 byte,
@@ -177,15 +265,5 @@ impl Perform for CharacterSets {
 
     fn terminated(&self) -> bool {
         false
-    }
-}
-
-/// DECSTR.
-fn is_soft_reset(intermediates: &[u8], action: char) -> bool
-    ensures { result ≡ (is_exclamation intermediates.now && action == 0x70) }
-{
-    match intermediates {
-        [intermediate] => *intermediate == b'!' && action == 'p',
-        _ => false,
     }
 }

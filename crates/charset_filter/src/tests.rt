@@ -34,6 +34,19 @@ const CASES: &[Case] = &[
         b"\x1b*0\x1bN\x1b7\x1b8\xe2\x94\x80q",
     ),
     (b"\x1b(0\x1b8q", b"\x1b(0\x1b8q"),
+    // The modes 1048 and 1049 save and restore, 47 and 1047 don't, and each screen has saved sets of its own.
+    (
+        b"\x1b(0\x1b[?1048h\x1b(B\x1b[?1;1048lq",
+        b"\x1b(0\x1b[?1048h\x1b(B\x1b[?1;1048l\xe2\x94\x80",
+    ),
+    (
+        b"\x1b[?1049h\x1b(0\x1b7\x1b[?1049lq\x1b[?47h\x1b8q",
+        b"\x1b[?1049h\x1b(0\x1b7\x1b[?1049lq\x1b[?47h\x1b8\xe2\x94\x80",
+    ),
+    (
+        b"\x1b(0\x1b[?1047h\x1b(B\x1b[?1047lq",
+        b"\x1b(0\x1b[?1047h\x1b(B\x1b[?1047lq",
+    ),
     // Resets.
     (b"\x1b(0q\x1bcq", b"\x1b(0\xe2\x94\x80\x1bcq"),
     (b"\x1b(0q\x1b[!pq", b"\x1b(0\xe2\x94\x80\x1b[!pq"),
