@@ -1,17 +1,21 @@
 -- The text that a grid shows: its lines one after another, and the newlines at the end of a text.
 use Rattle.std.proofs.Common.{◌≡◌, ℕ, zero, suc, ◌+◌, ◌-◌, ◌<◌, ◌≤◌, Bool, true, false, cond, ◌&&◌, nat_lt, List}
 use Rattle.std.proofs.Common.{[], ◌∷◌, ◌++◌, length, drop, get_or, sym, ap, ◌∙◌, arith, append_assoc}
-use Rattle.std.proofs.Common.{append-nil, drop-cons, length-drop, ⊎_elim}
-use Rattle.std.specs.Prelude.{encode_utf8_all, encode_utf8}
+use Rattle.std.proofs.Common.{append-nil, drop-cons, length-append, length-drop, refl, replicate, subst, ⊎_elim}
+use Rattle.std.specs.Prelude.{encode_utf8_all, encode_utf8, String, string_bytes, string_len, string_capacity}
 use Rattle.std.proofs.lemmas.Bool.{cases_lt}
 use Rattle.std.proofs.lemmas.Bool.Decides.{nat_tests}
+use Rattle.std.proofs.lemmas.List.{append_cancel_left, length-replicate}
 use Rattle.std.proofs.lemmas.Str.{encodes-append}
-use Rattle.vt100_rows.specs.Row.{RowView, blank_row}
-use Rattle.vt100_rows.specs.Text.{written_text}
+use Rattle.vt100_rows.specs.Row.{RowView, IsRow, blank_row}
+use Rattle.vt100_rows.specs.Text.{row_text, written_text}
 use Rattle.row_drawing.specs.Writes.{IsBegun}
+use Rattle.row_drawing.proofs.WritesLemmas.{begun_whole}
 use Rattle.vt100_rows.proofs.TextLemmas.{IsBegun-within}
-use Rattle.vt100_core.specs.Grid.{GridView, visible, visible_at}
-use Rattle.vt100_core.specs.Contents.{is_below_wrapped, text_line, text_lines}
+use Rattle.vt100_core.specs.Grid.{GridView, IsGrid, visible, visible_at}
+use Rattle.vt100_core.specs.Contents.{is_below_wrapped, text_line, text_lines, newlines_cut}
+use Rattle.vt100_core.proofs.NewlineLemmas.{EndsOtherwise, ends-after, ends-encoded, cut-behind, row-ends, written-text}
+use Rattle.vt100_core.proofs.ShowLemmas.{visible-row}
 use Rattle.vt100_rows.proofs.SheetLemmas.{row_at-by_position, length-rows_by_position}
 
 -- ---- the loop over the rows
@@ -159,4 +163,55 @@ IsBegun-shown {g} {n} h =
       encode_utf8_all more.0,
       ap encode_utf8_all more.1 ∙ encodes-append (text_lines g n) more.0,
       h.bytes,
+    )
+
+-- ---- newlines that are owed
+
+-- n rows are written but for k newlines, and these with a part of the next
+pub IsBegun-owed : {g : GridView} {n : ℕ} {from left : List RowView} {v : RowView} {wrapping : Bool}
+    {old was : List ℕ} (k : ℕ) (now : List ℕ) → IsShown g n from wrapping old (was ++ replicate k 10) → from ≡ v ∷ left
+    → (done : List ℕ) × (was ≡ old ++ done)
+    → IsBegun was (replicate k 10 ++ encode_utf8_all (written_text v 0 g.width wrapping)) now
+    → IsBegun old (encode_utf8_all (text_lines g (length g.rows))) now
+IsBegun-owed {g = g} {v = v} {wrapping = wrapping} {old = old} {was = was} k now h cut grown begun =
+    let written = encode_utf8_all (written_text v 0 g.width wrapping) in
+    let part = replicate k 10 ++ written in
+    let next = IsBegun-row ((was ++ replicate k 10) ++ written) h cut (begun_whole (was ++ replicate k 10) written _ refl) in
+    let front : next.0 ≡ grown.0 ++ part = append_cancel_left old next.0 (grown.0 ++ part)
+    (sym next.3 ∙ append_assoc was (replicate k 10) written ∙ ap (λ bs. bs ++ part) grown.1
+    ∙ append_assoc old grown.0 part) in
+    IsBegun-within old was grown.0 part next.1 (encode_utf8_all (text_lines g (length g.rows))) now grown.1
+    (next.2 ∙ ap (λ bs. bs ++ next.1) front) begun
+
+-- the row has a text that doesn't fit behind them: then the whole text without newlines at its end doesn't either
+pub full-owed : {Z : Type 0} {g : GridView} {n : ℕ} {from left : List RowView} {v : RowView} {wrapping : Bool}
+    (s t : String Z) (k : ℕ) → IsShown g n from wrapping (string_bytes s) (string_bytes t ++ replicate k 10)
+    → from ≡ v ∷ left → IsGrid g → 0 < length (row_text v 0 g.width) → string_capacity s ≤ string_capacity t
+    → string_capacity t < string_len t + k + length (encode_utf8_all (row_text v 0 g.width))
+    → string_capacity s
+    < length (newlines_cut (string_bytes s ++ encode_utf8_all (text_lines g (length g.rows))))
+full-owed {g = g} {n = n} {from = from} {left = left} {v = v} {wrapping = wrapping} s t k h cut i some room full =
+    let before = string_bytes t ++ replicate k 10 in
+    let text = row_text v 0 g.width in
+    let written = encode_utf8_all (written_text v 0 g.width wrapping) in
+    let is : written ≡ encode_utf8_all text = ap encode_utf8_all (written-text v g.width wrapping some) in
+    let next = IsBegun-row (before ++ written) h cut (begun_whole before written _ refl) in
+    let whole : string_bytes s ++ encode_utf8_all (text_lines g (length g.rows)) ≡ (before ++ written) ++ next.1 =
+    ap (λ bs. string_bytes s ++ bs) next.2 ∙ sym (append_assoc (string_bytes s) next.0 next.1)
+    ∙ ap (λ bs. bs ++ next.1) (sym next.3) in
+    let here = (next-row g n from left v wrapping (string_bytes s) before h cut).here in
+    let row = subst IsRow (sym here) (visible-row g n i) in
+    let kept = cut-behind (before ++ written) next.1
+    (ends-after before written (subst EndsOtherwise (sym is) (ends-encoded text (row-ends v g.width row some)))) in
+    omega (
+      arith,
+      kept,
+      ap (λ bs. length (newlines_cut bs)) whole,
+      length-append before written,
+      length-append (string_bytes t) (replicate k 10),
+      length-replicate {A = ℕ} k 10,
+      ap length is,
+      room,
+      full,
+      t.bytes.ok.0,
     )

@@ -1,5 +1,6 @@
 pub mod GridLemmas
 pub mod ShowLemmas
+pub mod NewlineLemmas
 pub mod ContentsLemmas
 pub mod EraseLemmas
 pub mod CursorRow

@@ -1,7 +1,6 @@
 -- How long the lists of a grid are, whichever rows it shows.
-use Rattle.std.proofs.Common.{ℕ, ◌+◌, ◌-◌, ◌*◌, ◌<◌, ◌≤◌, Bool, not, ◌&&◌, cond, nat_lt, List, [], ◌∷◌, length, min, refl, subst, sym, arith}
-use Rattle.std.proofs.Common.{⊎_elim}
-use Rattle.std.proofs.lemmas.Bool.{cond_both, ltb-true, cases_lt}
+use Rattle.std.proofs.Common.{ℕ, ◌+◌, ◌-◌, ◌*◌, ◌<◌, ◌≤◌, Bool, not, ◌&&◌, cond, nat_lt, [], ◌∷◌, length, min, refl, arith}
+use Rattle.std.proofs.lemmas.Bool.{cond_both, ltb-true}
 use Rattle.std.proofs.lemmas.Nat.{mul-le}
 use Rattle.vt100_forms.specs.declared.attrs.Attrs.{Attrs}
 use Rattle.vt100_forms.specs.Attrs.{HasByteColors, default_attrs}
@@ -18,16 +17,14 @@ use Rattle.screen_drawing.proofs.Costs.{IsSmallList, small-measure, Costs, costs
 use Rattle.screen_drawing.proofs.Costs.{costs-row_redraw, costs-row_difference, form-small}
 use Rattle.screen_drawing.proofs.Lengths.{le-times}
 use Rattle.screen_drawing.proofs.SmallScreens.{small-rules}
-use Rattle.vt100_rows.specs.Row.{RowView, IsRow}
-use Rattle.vt100_rows.specs.Sheet.{row_at}
+use Rattle.vt100_rows.specs.Row.{RowView}
 use Rattle.vt100_rows.specs.Forms.{redraw_job, difference_job}
-use Rattle.vt100_rows.proofs.RowLemmas.{IsRow-blank}
-use Rattle.vt100_rows.proofs.SheetLemmas.{row_at_past}
 use Rattle.vt100_core.specs.Grid.{GridView, IsGrid, visible_at}
 use Rattle.vt100_core.specs.Contents.{is_below_wrapped}
 use Rattle.vt100_core.specs.Picture.{grid_size, term_of_grid}
 use Rattle.vt100_core.specs.Writers.{drawn_on, line_redraw, line_difference, redrawn, contents_formatted, differing}
 use Rattle.vt100_core.specs.FormLists.{HasByteCells, HasByteVisibleCells, AreShort, EachListIsShort}
+use Rattle.vt100_core.proofs.ShowLemmas.{visible-row}
 use Rattle.vt100_core.proofs.PictureLemmas.{few-rows, IsTerm-grid}
 use Rattle.vt100_core.proofs.PictureWriters.{plain_extras, lines-cells}
 
@@ -42,18 +39,6 @@ small-grid g h colors = record {
 }
 
 -- ---- the rows that are shown
-
-row-of : (rows : List RowView) → ((r : ℕ) → r < length rows → IsRow (row_at rows r)) → (r : ℕ) → IsRow (row_at rows r)
-row-of rows h r =
-    ⊎_elim (h r) (λ (l : length rows ≤ r). subst IsRow (sym (row_at_past rows r l)) (IsRow-blank 0 (omega arith)))
-    (cases_lt r (length rows))
-
-visible-row : (g : GridView) (r : ℕ) → IsGrid g → IsRow (visible_at g r)
-visible-row g r h =
-    cond_both (nat_lt r g.kept.offset) (row_at g.kept.rows (length g.kept.rows - g.kept.offset + r))
-    (row_at g.rows (r - g.kept.offset)) IsRow
-    (λ _. row-of g.kept.rows h.kept.each (length g.kept.rows - g.kept.offset + r))
-    (λ _. row-of g.rows (λ k l. (h.sheet.each k l).row) (r - g.kept.offset))
 
 -- a part of a row, where there is one
 costs-part : (width cols : ℕ) (f : ℕ → Writer) → ((n : ℕ) → 0 < n → n ≤ cols → Costs (f n) (428 * n)) → 0 < width
