@@ -1,8 +1,6 @@
 //! The parameters of a control sequence or a device control string.
 
 ghost use Rattle.std.specs.Prelude.{◌≡◌, ◌+◌, ◌<◌, ◌≤◌, ◌==◌, ℕ, List, [], ◌∷◌, ◌++◌, length, take, map, IfSome};
-ghost use Rattle.std.specs.Prelude.{◌||◌};
-ghost use Rattle.std.specs.Int.{is_in_range};
 ghost use Rattle.vte_core.specs.Store.{total};
 ghost use Rattle.vte_core.specs.Plain.{IsPlain};
 ghost use Rattle.vte_core.specs.ParamsText.{group_text, groups_text};
@@ -16,7 +14,7 @@ use std::marker::Model;
 pub(crate) const MAX_PARAMS: usize = 32;
 
 /// A number up to this one has room for one more digit.
-const MOST_BEFORE_DIGIT: u16 = 6_552;
+const MOST_BEFORE_DIGIT: u32 = 6_552;
 
 /// Groups of numbers, up to 32 numbers in all, each at most 65,535. A group is what stands between two `;`; the
 /// subparameters that `:` separates are its numbers (ITU-T T.416, section 13.1.8). A number without digits is 0.
@@ -128,45 +126,36 @@ impl Params {
         self.len = 0;
         self.groups = 0;
         let mut count = 0;
-        let mut number = 0;
+        let mut number: u32 = 0;
         let mut read = 0;
         while read < bytes.len() {
             let byte = bytes[read];
-            if is_digit(byte) && number <= MOST_BEFORE_DIGIT {
-                number = number * 10 + (byte - b'0') as u16;
-            } else if ends_number(byte) && count < MAX_PARAMS {
-                self.numbers[count] = number;
+            if byte.is_ascii_digit() {
+                if number > MOST_BEFORE_DIGIT {
+                    return None;
+                }
+                number = number * 10 + (byte - b'0') as u32;
+            } else {
+                if count == MAX_PARAMS {
+                    return None;
+                }
+                self.numbers[count] = number as u16;
                 self.ends[count] = count + 1;
                 count += 1;
                 if byte != b';' {
+                    if !(0x40..=0x7E).contains(&byte) {
+                        return None;
+                    }
                     self.len = count;
                     self.groups = count;
                     return Some(read);
                 }
                 number = 0;
-            } else {
-                return None;
             }
             read += 1;
         }
         None
     }
-}
-
-/// Whether the byte is a digit.
-#[inline(always)]
-fn is_digit(byte: u8) -> bool
-    ensures { result ≡ is_in_range 0x30 0x39 byte }
-{
-    byte.is_ascii_digit()
-}
-
-/// Whether the byte is `;`, or ends a control sequence.
-#[inline(always)]
-fn ends_number(byte: u8) -> bool
-    ensures { result ≡ (byte == 0x3B || is_in_range 0x40 0x7E byte) }
-{
-    byte == b';' || (0x40..=0x7E).contains(&byte)
 }
 
 /// The groups of a [`Params`] that are left.

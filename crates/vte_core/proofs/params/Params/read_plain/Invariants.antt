@@ -9,6 +9,7 @@ invariant-loop-read l = record {
   within : l.read ≤ length l.bytes;
   numeric : each is_numeric (take l.read l.bytes) ≡ true;
   so_far : PlainSoFar (take l.read l.bytes) l.count l.number l.self-inside.numbers l.self-inside.ends;
+  small : l.number ≤ 65535;
   no_numbers : l.self-inside.len ≡ 0;
   no_groups : l.self-inside.groups ≡ 0;
 }
