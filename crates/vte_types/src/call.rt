@@ -33,7 +33,7 @@ pub enum Call<'a> {
     MoveUp(usize),
     /// Moves the cursor down so many rows (CUD, VPR).
     MoveDown(usize),
-    /// Asks what terminal this is (DA); the first intermediate tells which report is wanted.
+    /// Asks what terminal this is (DA). The first intermediate says which report is wanted.
     IdentifyTerminal(Option<char>),
     /// Asks for the report with this number (DSR).
     DeviceStatus(usize),
@@ -55,7 +55,7 @@ pub enum Call<'a> {
     Linefeed,
     /// Rings the bell (BEL).
     Bell,
-    /// Stands for a character in error (SUB).
+    /// Shows that a character was in error (SUB).
     Substitute,
     /// Moves the cursor to the next line, and to column 0 in new line mode. No sequence calls it.
     Newline,
@@ -89,7 +89,7 @@ pub enum Call<'a> {
     ClearTabs(TabulationClearMode),
     /// Sets a tab stop every so many columns (DECST8C).
     SetTabs(u16),
-    /// Puts the terminal back to its first state (RIS).
+    /// Resets the terminal to its initial state (RIS).
     ResetState,
     /// Moves the cursor up one line, and scrolls at the region's top (RI).
     ReverseIndex,
@@ -107,11 +107,11 @@ pub enum Call<'a> {
     UnsetPrivateMode(PrivateMode),
     /// Asks whether a private mode is set (DECRQM).
     ReportPrivateMode(PrivateMode),
-    /// Sets the scrolling region (DECSTBM): both lines from 1, to the last line for `None`.
+    /// Sets the scrolling region (DECSTBM). Both lines count from 1, and `None` is the last line.
     SetScrollingRegion(usize, Option<usize>),
-    /// Has the keypad send application sequences (DECKPAM).
+    /// Makes the keypad send application sequences (DECKPAM).
     SetKeypadApplicationMode,
-    /// Has the keypad send numbers (DECKPNM).
+    /// Makes the keypad send numbers (DECKPNM).
     UnsetKeypadApplicationMode,
     /// Draws with the character set of this index (SI, SO).
     SetActiveCharset(CharsetIndex),
@@ -122,7 +122,7 @@ pub enum Call<'a> {
     /// Asks for the colour of an index (OSC 4, 10, 11 and 12 with `?`). The answer begins with the prefix and ends with
     /// the terminator.
     DynamicColorSequence(&'a str, usize, &'a str),
-    /// Gives an index its first colour again (OSC 104, 110, 111 and 112).
+    /// Resets the colour of an index to its initial one (OSC 104, 110, 111 and 112).
     ResetColor(usize),
     /// Stores data, in base64, in a clipboard (OSC 52).
     ClipboardStore(u8, &'a [u8]),
@@ -150,10 +150,10 @@ pub enum Call<'a> {
     PopKeyboardModes(u16),
     /// Changes the keyboard modes (`CSI = u`).
     SetKeyboardMode(KeyboardModes, KeyboardModesApplyBehavior),
-    /// Sets how xterm's `modifyOtherKeys` works (`CSI > 4 m`).
+    /// Sets xterm's `modifyOtherKeys` (`CSI > 4 m`).
     SetModifyOtherKeys(ModifyOtherKeys),
-    /// Asks how `modifyOtherKeys` works (`CSI ? 4 m`).
+    /// Asks for xterm's `modifyOtherKeys` (`CSI ? 4 m`).
     ReportModifyOtherKeys,
-    /// Selects the character path (SCP).
+    /// Selects the character path (SCP): the direction in which characters are laid out.
     SetScp(ScpCharPath, ScpUpdateMode),
 }
