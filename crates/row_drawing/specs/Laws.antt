@@ -29,8 +29,8 @@ EachRedrawLeads = (s : Scene) (p : Pen) → IsScene s → IsReady s p → ((k : 
 abbrev pub EachKeptRowIsLeft : Type 0
 EachKeptRowIsLeft = (j : Job) (n : ℕ) (p : Pen) → IsRowShown j p → row_difference j n p ≡ skip p
 
--- The forms set no mode and no cursor style, and each text in them is a space or the text of a cell of the row,
--- whichever columns are drawn.
+-- The forms set no mode and no cursor style. Each text in them is a space or the text of a cell of the row, whichever
+-- columns are drawn.
 abbrev pub EachTextIsDrawn : Type 0
 EachTextIsDrawn = (j : Job) (n : ℕ) (p : Pen) → AllDrawing (IsTextOf j.new) (row_redraw j n p).forms
     × AllDrawing (IsTextOf j.new) (row_difference j n p).forms

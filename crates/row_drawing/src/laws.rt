@@ -21,8 +21,8 @@ pub fn kept_rows_are_left()
     ensures { EachKeptRowIsLeft }
 {}
 
-/// A difference touches only cells that differ, near them empty cells and those of the first and the last column, and
-/// the other halves of these.
+/// A difference touches only local cells. Local are cells that differ; near them, empty cells and those of the first
+/// and the last column; and the other halves of all these.
 pub fn differences_are_local()
     ensures { EachDifferenceIsLocal }
 {}

@@ -1,5 +1,5 @@
--- Which cells the differences of screens touch: local ones (those that differ, and a few near them), and the last cell
--- of one row if the cursor is behind the last column.
+-- Which cells the differences of screens touch: local ones, which differ or are near one that does. If the cursor is
+-- behind the last column, the last cell of one row may also be touched.
 use Rattle.std.specs.Prelude.{ℕ, ◌≡◌, List, Option, Some, None}
 use Rattle.vt100_forms.specs.Attrs.{IsProper}
 use Rattle.vt100_forms.specs.Form.{Form}

@@ -91,18 +91,18 @@ pub fn state_differences_lead()
     ensures { EachStateDifferenceLeads }
 {}
 
-/// The differences of grids, of screens' contents, and of screens with their modes touch only local cells. These are
-/// the cells that differ; in rows that differ, and right below them, also empty cells and those of the first and the
-/// last column; and the other halves of all these. If the present cursor is behind the last column, they may also touch
-/// the last cell of one row.
+/// The differences of grids, of screens' contents, and of screens with their modes touch only local cells. Local are
+/// the cells that differ. In rows that differ, and right below them, empty cells and those of the first and the last
+/// column are local too. So are the other halves of all these. If the present cursor is behind the last column, the
+/// last cell of one row may also be touched.
 pub fn differences_touch_local_cells()
     ensures grids { EachGridDifferenceIsLocal }
     ensures contents { EachContentsDifferenceIsLocal }
     ensures states { EachDifferenceIsLocal }
 {}
 
-/// A redraw, followed by the difference of the modes, takes a terminal with the modes and cursor style of an earlier
-/// screen to all that the present one shows.
+/// A redraw, followed by the difference of the modes, takes a terminal to all that the present screen shows. The
+/// terminal must have the modes and the cursor style of the earlier screen before.
 pub fn later_redraws_lead()
     ensures { EachLaterRedrawLeads }
 {}

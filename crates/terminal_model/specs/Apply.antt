@@ -58,8 +58,8 @@ made_to_fit z n t = if nat_le (t.col + n) z.cols then t else wrap z t
 
 -- ---- characters
 
--- what isn't shown on a screen of `width` columns with the cursor at `col`: control characters, characters wider than
--- the screen, and zero-width characters with no cell to their left
+-- Whether a character isn't shown on a screen of `width` columns with the cursor at `col`. Not shown are control
+-- characters, characters wider than the screen, and zero-width ones with no cell to their left.
 abbrev pub is_dropped : ℕ → ℕ → ℕ → Bool
 is_dropped width col c = is_undrawable c || (nat_lt width (columns_of c) || ((columns_of c == 0) && (col == 0)))
 

@@ -12,6 +12,7 @@ use Rattle.vt100_forms.specs.Attrs.{default_attrs}
 use Rattle.vt100_cells.specs.Cell.{CellView, default_cell, is_filled}
 use Rattle.vt100_cells.specs.Line.{IsPaired, Bounded}
 
+-- the size of a screen
 pub record Size : Type 0 where
   pub rows : ℕ
   pub cols : ℕ

@@ -10,8 +10,8 @@ use Rattle.vt100_cells.specs.Line.{base_col}
 use Rattle.terminal_model.specs.Term.{Size, Term}
 use Rattle.terminal_model.specs.Apply.{is_dropped, input, apply}
 
--- x is put at column i of the line f: it touches its columns, the rest of a wide cell that it covers, and the first
--- half of one whose second half it covers
+-- x is put at column i of the line f. It touches its own columns and the rest of a wide cell that it covers. If it
+-- covers a second half, it touches the first half too.
 abbrev pub put_touches : (ℕ → CellView) → ℕ → CellView → ℕ → Bool
 put_touches f i x k =
     (k == i)

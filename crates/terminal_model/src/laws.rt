@@ -20,8 +20,8 @@ pub fn lists_join()
     ensures { EachListJoins }
 {}
 
-/// If one list of forms takes a terminal from `a` to `b`, and another one from `b` to `c`, both together take it from
-/// `a` to `c`.
+/// If one list of forms takes a terminal from `a` to `b`, and another from `b` to `c`, both together take it from `a`
+/// to `c`.
 pub fn paths_join()
     ensures { EachPathJoins }
 {}

@@ -91,7 +91,7 @@ fn split_piece(capture: &str) -> (&str, &str)
 }
 
 /// Iterates over the plain text of a capture, in pieces. A piece is as long as possible, and lies outside the control
-/// sequences; each of these goes from ESC to the next `m`, or to the end.
+/// sequences. A control sequence goes from ESC to the next `m`, or to the end.
 pub fn basic_formatted_to_plain(capture: &str) -> BasicFormattedToPlain<'_>
     ensures { result ≡ map (λ x. x.1) (plain_pieces 0 capture.now) }
 {

@@ -30,24 +30,35 @@ pub record Change : Type 0 where
 abbrev pub no_change : Change
 no_change = record { fgcolor = None; bgcolor = None; intensity = None; italic = None; underline = None; inverse = None }
 
+-- one escape sequence, or the text of one cell
 pub data Form : Type 0 where
   -- the text of one cell: a character of one or two columns, and those of no width that follow it
   Text : (characters : List ℕ) → Form
   -- the cursor's row and column, counted from 0
   MoveTo : (row col : ℕ) → Form
+  -- CUF
   MoveRight : (count : ℕ) → Form
+  -- ECH
   EraseChar : (count : ℕ) → Form
+  -- EL 0
   ClearRowForward : Form
+  -- CUP to the first column of the first row, and ED 0
   ClearScreen : Form
+  -- SGR 0
   ClearAttrs : Form
   Crlf : Form
   Lf : Form
   Backspace : Form
+  -- DECSC and DECRC
   SaveCursor : Form
   RestoreCursor : Form
+  -- DECTCEM
   HideCursor : (hidden : Bool) → Form
+  -- DECKPAM, or DECKPNM
   Keypad : (application : Bool) → Form
+  -- DECCKM
   CursorKeys : (application : Bool) → Form
+  -- private mode 2004
   Paste : (bracketed : Bool) → Form
   -- the new mode, and the one that the terminal has
   Mouse : (to from : MouseProtocolMode) → Form
@@ -149,6 +160,7 @@ abbrev pub sgr_text : List ℕ → List ℕ
 sgr_text [] = []
 sgr_text (n ∷ ns) = csi (decimal n ++ (further_numbers ns ++ codes "m"))
 
+-- the bytes of a form
 abbrev pub spelling : Form → List ℕ
 spelling (Text cs) = encode_utf8_all cs
 spelling (MoveTo r c) =

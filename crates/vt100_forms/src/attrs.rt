@@ -33,7 +33,7 @@ const TEXT_MODE_UNDERLINE: u8 = 0b0000_1000;
 const TEXT_MODE_INVERSE: u8 = 0b0001_0000;
 
 /// The attributes with which a character is drawn. The bits of `mode` are 1 for bold, 2 for dim, 4 for italic, 8 for
-/// underlined and 16 for inverse; where both 1 and 2 are set, the character is bold.
+/// underlined and 16 for inverse. If both 1 and 2 are set, the character is bold.
 #[derive(Clone, Copy, Debug, Eq, PartialEq)]
 pub struct Attrs {
     /// Of the character itself.

@@ -10,8 +10,8 @@ use crate::split::split_first;
 use vte_types::hex;
 use vte_types::rgb::Rgb;
 
-/// The colour that a text names, as in X11: `#` and 3, 6, 9 or 12 hexadecimal digits; or `rgb:` and three parts of 1 to
-/// 4 digits, with `/` between them. `None` for other texts.
+/// The colour that a text names, as in X11; `None` for other texts. It is `#` and 3, 6, 9 or 12 hexadecimal digits, or
+/// `rgb:` and three parts of 1 to 4 digits, with `/` between them.
 pub fn parse_color(text: &[u8]) -> Option<Rgb>
     ensures { result ≡ color_of_text text.now }
 {

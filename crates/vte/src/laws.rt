@@ -21,14 +21,14 @@ pub fn bytes_are_conserved<T: Timeout>()
     ensures any { ConservesUnderAny T.ticking }
 {}
 
-/// A piece has one outcome, if the timeout is pending exactly from setting to clearing. The bytes parsed and held
-/// before it, and the piece, determine the bytes parsed and held after it, the calls, and how the timeout is set and
-/// cleared.
+/// A piece has one outcome, if the timeout is pending exactly from setting to clearing. What was parsed and held
+/// before, and the piece, determine what is parsed and held afterwards. They also determine the calls, and how the
+/// timeout is set and cleared.
 pub fn outcomes_are_settled()
     ensures { TakesOneWay }
 {}
 
-/// While an update is open, the held bytes are below the limit, and no end mark has come whole, nothing is parsed and
+/// An update is never torn. While it is open, the held bytes fit, and no end mark has come whole, nothing is parsed and
 /// no call is made.
 pub fn updates_are_never_torn()
     ensures { NeverTears }
@@ -76,8 +76,8 @@ pub fn openings_are_called()
 
 /// A start mark (`CSI ? 2026 h`) opens an update at its eighth byte and not before, whatever came before it. An end
 /// mark (`CSI ? 2026 l`) opens none. After either nothing is unfinished: no sequence, and no character. If nothing was
-/// unfinished before, a prefix of a start mark makes no call, the whole one calls `set_private_mode` of `SyncUpdate`,
-/// and an end mark calls `unset_private_mode` of it.
+/// unfinished before, a start mark makes one call, `set_private_mode` of `SyncUpdate`, and makes it at its last byte.
+/// An end mark then calls `unset_private_mode` of it.
 pub fn marks_are_read()
     ensures opens { StartMarksOpen }
     ensures start { StartMarksCall }

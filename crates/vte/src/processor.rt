@@ -72,8 +72,8 @@ impl<T: Timeout + Drop, A: Allocator> Processor<T, A> {
         self.held.len()
     }
 
-    /// Reads the next piece of the stream. Held bytes are parsed before later ones. If bytes are held and the timeout
-    /// is no longer pending, the hold is emptied first, as by `stop_sync`; so it is if the piece doesn't fit.
+    /// Reads the next piece of the stream. Held bytes are parsed before later ones. The hold is emptied first, as by
+    /// `stop_sync`, if the piece doesn't fit, or if bytes are held and the timeout is no longer pending.
     pub fn advance<H: Handler>(&mut self, handler: &mut H, bytes: &[u8])
         ensures advanced { (parsed held : List ℕ) → StandsAt self.old parsed held
             → Advanced T.ticking H.step false self.old parsed held bytes.now handler.old self.new handler.new }

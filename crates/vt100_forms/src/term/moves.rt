@@ -149,8 +149,8 @@ impl BufWrite for MoveRight {
     }
 }
 
-/// Moves the cursor from one position to another. It sends CR LF to the first column of the next row, CUF to the right
-/// within a row, nothing to the same position, and CUP to all others.
+/// Moves the cursor from one position to another: CR LF to the first column of the next row, CUF to the right within a
+/// row, CUP to all other positions. To the same position it has no bytes.
 #[derive(Debug, Drop)]
 pub struct MoveFromTo {
     from: Pos,
