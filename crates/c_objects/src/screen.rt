@@ -19,7 +19,7 @@ use std::alloc::Global;
 use std::num::NonZeroU16;
 use vt100::Parser;
 
-/// Makes a blank screen of this size that keeps at most so many rows. Refused for a size without cells, and if an
+/// Makes a blank screen of this size that keeps at most `scrollback` rows. Refused for a size without cells, and if an
 /// allocation fails.
 pub fn new_screen(
     alloc: Global,

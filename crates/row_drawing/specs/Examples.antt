@@ -67,10 +67,10 @@ pub record EachExampleIsWritten : Type 0 where
   -- the row above wraps into this one, which stays; the cursor is behind the last column of the row above
   pub flagged : (row_difference (record kept { above = true }) 3 (at_start 0 3)).forms ≡ text (codes "a") ++ Backspace
       ∷ []
-  -- the same, where this row begins with an empty column
+  -- the same, if this row begins with an empty column
   pub flagged_empty : (row_difference (record (row_job 4 [] []) { above = true }) 4 (at_start 0 4)).forms
       ≡ text (codes " ") ++ Backspace ∷ EraseChar 1 ∷ []
-  -- the same, where the first column becomes empty
+  -- the same, if the first column becomes empty
   pub flagged_erased : (row_difference (record (row_job 2 (letters (codes "ab")) (blank ∷ letters (codes "b"))) {
     above = true;
   }) 2 (at_start 0 2)).forms ≡ text (codes " ") ++ Backspace ∷ EraseChar 1 ∷ []

@@ -195,7 +195,7 @@ spelling (Sgr c) = sgr_text (sgr_numbers c)
 abbrev pub spell : List Form → List ℕ
 spell fs = flat_map spelling fs
 
--- bold where the bit for bold is set, whatever the bit for dim says
+-- bold if the bit for bold is set, whatever the bit for dim says
 abbrev pub intensity_of : Attrs → Intensity
 intensity_of a = if is_bold a then Bold else if is_dim a then Dim else Normal
 

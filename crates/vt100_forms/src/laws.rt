@@ -20,7 +20,7 @@ pub fn changes_lead()
     ensures { EachChangeLeads }
 {}
 
-/// A form of each kind has at most so many bytes (`longest`).
+/// A form has at most as many bytes as the definition `longest` says for its kind.
 pub fn spellings_are_short()
     ensures { EachSpellingIsShort }
 {}

@@ -73,7 +73,7 @@ color_of_thirds n ds = color_of_parts (leading (take n ds)) (leading (take n (dr
 abbrev pub hash_color : List ℕ → Option Rgb
 hash_color ds = option_and_then (λ n. color_of_thirds n ds) (lookup (length ds) third_rows)
 
--- 1 to 4 digits, scaled so that the greatest number of so many digits is 255, rounded down
+-- 1 to 4 digits, scaled so that the greatest number of as many digits is 255, rounded down
 abbrev pub scaled : List ℕ → Option ℕ
 scaled ds =
     if nat_lt 0 (length ds) && (nat_lt (length ds) 5 && are_hex ds)

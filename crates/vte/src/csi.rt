@@ -33,7 +33,7 @@ pub const SYNC_UPDATE_TIMEOUT_MILLIS: u64 = 150;
 /// The private mode of synchronized updates.
 const SYNC_UPDATE: u16 = 2026;
 
-/// The first number of the next group, or the default where it is absent or 0.
+/// The first number of the next group, or the default if there is none or it is 0.
 fn next_or(groups: &mut ParamsIter<'_>, default: u16) -> u16
     ensures number { result ≡ number_or default groups.old }
     ensures rest { groups.new ≡ rest groups.old }

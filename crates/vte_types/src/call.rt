@@ -27,25 +27,25 @@ pub enum Call<'a> {
     GotoLine(i32),
     /// Moves the cursor to a column, from 0 (CHA, HPA).
     GotoCol(usize),
-    /// Inserts so many blanks at the cursor (ICH).
+    /// Inserts a number of blanks at the cursor (ICH).
     InsertBlank(usize),
-    /// Moves the cursor up so many rows (CUU).
+    /// Moves the cursor up by a number of rows (CUU).
     MoveUp(usize),
-    /// Moves the cursor down so many rows (CUD, VPR).
+    /// Moves the cursor down by a number of rows (CUD, VPR).
     MoveDown(usize),
     /// Asks what terminal this is (DA). The first intermediate says which report is wanted.
     IdentifyTerminal(Option<char>),
     /// Asks for the report with this number (DSR).
     DeviceStatus(usize),
-    /// Moves the cursor right so many columns (CUF, HPR).
+    /// Moves the cursor right by a number of columns (CUF, HPR).
     MoveForward(usize),
-    /// Moves the cursor left so many columns (CUB).
+    /// Moves the cursor left by a number of columns (CUB).
     MoveBackward(usize),
-    /// Moves the cursor down so many rows, to column 0 (CNL).
+    /// Moves the cursor down by a number of rows, to column 0 (CNL).
     MoveDownAndCr(usize),
-    /// Moves the cursor up so many rows, to column 0 (CPL).
+    /// Moves the cursor up by a number of rows, to column 0 (CPL).
     MoveUpAndCr(usize),
-    /// Moves the cursor over so many tab stops (HT).
+    /// Moves the cursor over a number of tab stops (HT).
     PutTab(u16),
     /// Moves the cursor left one column (BS).
     Backspace,
@@ -61,21 +61,21 @@ pub enum Call<'a> {
     Newline,
     /// Sets a tab stop at the cursor's column (HTS).
     SetHorizontalTabstop,
-    /// Scrolls the region up so many rows (SU).
+    /// Scrolls the region up by a number of rows (SU).
     ScrollUp(usize),
-    /// Scrolls the region down so many rows (SD).
+    /// Scrolls the region down by a number of rows (SD).
     ScrollDown(usize),
-    /// Inserts so many blank lines at the cursor (IL).
+    /// Inserts a number of blank lines at the cursor (IL).
     InsertBlankLines(usize),
-    /// Deletes so many lines from the cursor on (DL).
+    /// Deletes a number of lines from the cursor on (DL).
     DeleteLines(usize),
-    /// Erases so many cells from the cursor on (ECH).
+    /// Erases a number of cells from the cursor on (ECH).
     EraseChars(usize),
-    /// Deletes so many cells from the cursor on (DCH).
+    /// Deletes a number of cells from the cursor on (DCH).
     DeleteChars(usize),
-    /// Moves the cursor back so many tab stops (CBT).
+    /// Moves the cursor back by a number of tab stops (CBT).
     MoveBackwardTabs(u16),
-    /// Moves the cursor forward so many tab stops (CHT).
+    /// Moves the cursor forward by a number of tab stops (CHT).
     MoveForwardTabs(u16),
     /// Saves the cursor (DECSC, SCOSC).
     SaveCursorPosition,
@@ -87,7 +87,7 @@ pub enum Call<'a> {
     ClearScreen(ClearMode),
     /// Clears tab stops (TBC).
     ClearTabs(TabulationClearMode),
-    /// Sets a tab stop every so many columns (DECST8C).
+    /// Sets a tab stop every n columns (DECST8C).
     SetTabs(u16),
     /// Resets the terminal to its initial state (RIS).
     ResetState,
@@ -146,7 +146,7 @@ pub enum Call<'a> {
     ReportKeyboardMode,
     /// Pushes keyboard modes on a stack (`CSI > u`).
     PushKeyboardMode(KeyboardModes),
-    /// Pops so many keyboard modes from the stack (`CSI < u`).
+    /// Pops a number of keyboard modes from the stack (`CSI < u`).
     PopKeyboardModes(u16),
     /// Changes the keyboard modes (`CSI = u`).
     SetKeyboardMode(KeyboardModes, KeyboardModesApplyBehavior),

@@ -101,21 +101,21 @@ pub trait Handler {
         self.call(Call::GotoCol(col))
     }
 
-    /// Inserts so many blanks at the cursor (ICH).
+    /// Inserts `count` blanks at the cursor (ICH).
     fn insert_blank(&mut self, count: usize)
         ensures { step self.old (said.insert_blank count) self.new }
     {
         self.call(Call::InsertBlank(count))
     }
 
-    /// Moves the cursor up so many rows (CUU).
+    /// Moves the cursor up by `rows` rows (CUU).
     fn move_up(&mut self, rows: usize)
         ensures { step self.old (said.move_up rows) self.new }
     {
         self.call(Call::MoveUp(rows))
     }
 
-    /// Moves the cursor down so many rows (CUD, VPR).
+    /// Moves the cursor down by `rows` rows (CUD, VPR).
     fn move_down(&mut self, rows: usize)
         ensures { step self.old (said.move_down rows) self.new }
     {
@@ -136,35 +136,35 @@ pub trait Handler {
         self.call(Call::DeviceStatus(code))
     }
 
-    /// Moves the cursor right so many columns (CUF, HPR).
+    /// Moves the cursor right by `cols` columns (CUF, HPR).
     fn move_forward(&mut self, cols: usize)
         ensures { step self.old (said.move_forward cols) self.new }
     {
         self.call(Call::MoveForward(cols))
     }
 
-    /// Moves the cursor left so many columns (CUB).
+    /// Moves the cursor left by `cols` columns (CUB).
     fn move_backward(&mut self, cols: usize)
         ensures { step self.old (said.move_backward cols) self.new }
     {
         self.call(Call::MoveBackward(cols))
     }
 
-    /// Moves the cursor down so many rows, to column 0 (CNL).
+    /// Moves the cursor down by `rows` rows, to column 0 (CNL).
     fn move_down_and_cr(&mut self, rows: usize)
         ensures { step self.old (said.move_down_and_cr rows) self.new }
     {
         self.call(Call::MoveDownAndCr(rows))
     }
 
-    /// Moves the cursor up so many rows, to column 0 (CPL).
+    /// Moves the cursor up by `rows` rows, to column 0 (CPL).
     fn move_up_and_cr(&mut self, rows: usize)
         ensures { step self.old (said.move_up_and_cr rows) self.new }
     {
         self.call(Call::MoveUpAndCr(rows))
     }
 
-    /// Moves the cursor over so many tab stops (HT).
+    /// Moves the cursor over `count` tab stops (HT).
     fn put_tab(&mut self, count: u16)
         ensures { step self.old (said.put_tab count) self.new }
     {
@@ -220,56 +220,56 @@ pub trait Handler {
         self.call(Call::SetHorizontalTabstop)
     }
 
-    /// Scrolls the region up so many rows (SU).
+    /// Scrolls the region up by `rows` rows (SU).
     fn scroll_up(&mut self, rows: usize)
         ensures { step self.old (said.scroll_up rows) self.new }
     {
         self.call(Call::ScrollUp(rows))
     }
 
-    /// Scrolls the region down so many rows (SD).
+    /// Scrolls the region down by `rows` rows (SD).
     fn scroll_down(&mut self, rows: usize)
         ensures { step self.old (said.scroll_down rows) self.new }
     {
         self.call(Call::ScrollDown(rows))
     }
 
-    /// Inserts so many blank lines at the cursor (IL).
+    /// Inserts `count` blank lines at the cursor (IL).
     fn insert_blank_lines(&mut self, count: usize)
         ensures { step self.old (said.insert_blank_lines count) self.new }
     {
         self.call(Call::InsertBlankLines(count))
     }
 
-    /// Deletes so many lines from the cursor on (DL).
+    /// Deletes `count` lines from the cursor on (DL).
     fn delete_lines(&mut self, count: usize)
         ensures { step self.old (said.delete_lines count) self.new }
     {
         self.call(Call::DeleteLines(count))
     }
 
-    /// Erases so many cells from the cursor on (ECH).
+    /// Erases `count` cells from the cursor on (ECH).
     fn erase_chars(&mut self, count: usize)
         ensures { step self.old (said.erase_chars count) self.new }
     {
         self.call(Call::EraseChars(count))
     }
 
-    /// Deletes so many cells from the cursor on (DCH).
+    /// Deletes `count` cells from the cursor on (DCH).
     fn delete_chars(&mut self, count: usize)
         ensures { step self.old (said.delete_chars count) self.new }
     {
         self.call(Call::DeleteChars(count))
     }
 
-    /// Moves the cursor back so many tab stops (CBT).
+    /// Moves the cursor back by `count` tab stops (CBT).
     fn move_backward_tabs(&mut self, count: u16)
         ensures { step self.old (said.move_backward_tabs count) self.new }
     {
         self.call(Call::MoveBackwardTabs(count))
     }
 
-    /// Moves the cursor forward so many tab stops (CHT).
+    /// Moves the cursor forward by `count` tab stops (CHT).
     fn move_forward_tabs(&mut self, count: u16)
         ensures { step self.old (said.move_forward_tabs count) self.new }
     {
@@ -311,7 +311,7 @@ pub trait Handler {
         self.call(Call::ClearTabs(mode))
     }
 
-    /// Sets a tab stop every so many columns (DECST8C).
+    /// Sets a tab stop every `interval` columns (DECST8C).
     fn set_tabs(&mut self, interval: u16)
         ensures { step self.old (said.set_tabs interval) self.new }
     {
@@ -515,7 +515,7 @@ pub trait Handler {
         self.call(Call::PushKeyboardMode(mode))
     }
 
-    /// Pops so many keyboard modes from the stack (`CSI < u`).
+    /// Pops `count` keyboard modes from the stack (`CSI < u`).
     fn pop_keyboard_modes(&mut self, count: u16)
         ensures { step self.old (said.pop_keyboard_modes count) self.new }
     {
