@@ -8,7 +8,7 @@ use Rattle.takers.proofs.SendLemmas.{text-appends}
 abbrev held : Vec ℕ → Option (List ℕ)
 held v = Some v.items
 
--- an empty vector holds the text then
+-- an empty vector then holds the text
 pub row-text : (w v : Vec ℕ) (text : List ℕ) (u : Unit {0}) → SendsText (Writes held) w text (Ok u) v → w.items ≡ []
     → v.items ≡ text
 row-text w v text u sends none =

@@ -1,4 +1,4 @@
--- A call from C is one of the library's, or none where nothing changes.
+-- A call from C is one call of the library, or none if nothing changes.
 use Rattle.std.proofs.Common.{◌≡◌, ◌≢◌, ◌⊎◌, ℕ, zero, suc, ◌+◌, ◌-◌, ◌*◌, ◌<◌, ◌≤◌, ◌==◌, ℤ, pos, negsuc, List, [], ◌∷◌, ◌++◌, map}
 use Rattle.std.proofs.Common.{length, take, drop, min, nat_le, Result, Ok, Err, Option, Some, None, MatchOption}
 use Rattle.std.proofs.Common.{if◌then◌else◌, inl, inr, refl, sym, ap, subst, arith}
@@ -25,7 +25,7 @@ use Rattle.c_objects.specs.Hubs.{Feeds, Resizes, Attached, Attaches, Detaches, F
 use Rattle.c_objects.specs.Runs.{FromC, Feed, Resize, Attach, Detach, Frame, Sent, IsFromC, Does, sessions_after, RunsFromC}
 use Rattle.c_objects.specs.Runs.{EachRunFromCIsLogged}
 
--- from a hub h and sessions ss to g and ts: by no call, or by one
+-- the hub h and the sessions ss become g and ts by one call, or by none
 abbrev Steps : HubState as_kept → List SessionView → HubState as_kept → List SessionView → Type 0
 Steps h ss g ts =
     ((g ≡ h) × (ts ≡ ss))
@@ -79,7 +79,7 @@ detached h g key ss (Err (Write e)) did =
 
 -- ---- bytes that were sent, as a pump
 
--- a writer takes so many of these bytes, and no more
+-- a writer takes the first `count` of these bytes, and no more
 record Taking (owed : List ℕ) (count : ℕ) : Type 0 where
   takes : List Take
   answer : Result (Unit {0}) Error
@@ -99,7 +99,7 @@ takes-none e [] = record { takes = []; answer = Ok tt; rest = []; pumps = Pumps.
 takes-none e (x ∷ xs) =
     record { takes = Fault ∷ []; answer = Err e; rest = []; pumps = faults e x xs; taken = refl }
 
--- how a writer that takes no more ends it
+-- the result of a pump to a writer that takes no more
 left-answer : Error → List ℕ → Result (Unit {0}) Error
 left-answer e [] = Ok tt
 left-answer e (x ∷ xs) = Err e

@@ -1,4 +1,4 @@
--- What each call answers, as a number: 0 and more where it was done, and less where it was refused.
+-- The numbers that calls return: 0 or more for success, less than 0 for a refusal.
 use Rattle.std.specs.Prelude.{ℤ, pos, negsuc, Ok, Err, Result}
 use Rattle.termrelay.specs.declared.answer.Answer.{Answer}
 use Rattle.termrelay.specs.declared.answer.Answer.TheVariants.{Full, Difference, Unsure, Unchanged, Behind, Held, TooLong}
@@ -35,12 +35,12 @@ not_owed = negsuc 6
 abbrev pub no_cell : ℤ
 no_cell = negsuc 7
 
--- a number that is less than 0
+-- the number of a refusal is less than 0
 abbrev pub IsRefusal : ℤ → Type 0
 IsRefusal (pos n) = ⊥
 IsRefusal (negsuc n) = Unit {0}
 
--- no call here hands bytes to a writer that can fail
+-- no call here uses a writer that can fail
 abbrev pub refusal_code : HubError → ℤ
 refusal_code Memory = memory
 refusal_code Failed = failed

@@ -1,4 +1,4 @@
--- What each call does to a hub, as the library's call, and how it is answered.
+-- What each call does to a hub, by the library's call, and the number that it returns.
 use Rattle.std.specs.Prelude.{◌≡◌, ◌≢◌, ◌⊎◌, ℕ, ◌≤◌, ◌<◌, ◌*◌, ℤ, false, List, length, drop, Some, Ok, Err, Result, IfOk, OnOk}
 use Rattle.std.specs.Prelude.{MatchOption, encode_utf8_all}
 use Rattle.vt100_core.specs.Grid.{visible_row_at, cell_in}
@@ -26,7 +26,7 @@ IsNewHubOf rows cols (Hub h) = IsNewHub rows cols h
 IsNewHubOf rows cols (View v) = ⊥
 IsNewHubOf rows cols (Screen m) = ⊥
 
--- why there is no new object: a size of no cells, or no memory
+-- the number if there is no new object: the size has no cells, or an allocation failed
 abbrev pub IsNoObjectCode : ℕ → ℕ → ℤ → Type 0
 IsNoObjectCode rows cols code = ((rows * cols ≡ 0) × (code ≡ bad_size)) ⊎ (code ≡ memory)
 
@@ -42,7 +42,7 @@ Resizes rows cols h code g =
     ⊎ ((0 < rows) × (0 < cols) × (answer : Result (Unit {0}) HubError) × hub.Resizes h rows cols answer g
     × (code ≡ code_of answer))
 
--- the key is written where there is one
+-- the key is stored if there is one
 abbrev pub Attached : Result ℕ HubError → ℕ → ℕ → ℤ → Type 0
 Attached (Ok key) old new code = (code ≡ ok) × (new ≡ key)
 Attached (Err e) old new code = (code ≡ refusal_code e) × (new ≡ old)
@@ -63,7 +63,7 @@ pub record Frames (key : ℕ) (h : HubState as_kept) (code : ℤ) (g : HubState 
   pub local : IfOk answer (λ a. a ≡ Difference → OwesLocalFrame h key g)
   pub small : IfOk answer (λ a. (size_in h).rows * (size_in h).cols ≤ 2000 → a ≢ TooLong)
 
--- so many bytes were sent to the client
+-- the first `count` owed bytes were sent to the client
 abbrev pub Sends : ℕ → ℕ → HubState as_kept → ℤ → HubState as_kept → Type 0
 Sends key count h code g =
     MatchOption (clients_in h key) ((code ≡ unknown_client) × (g ≡ h))
@@ -72,12 +72,13 @@ Sends key count h code g =
 
 -- ---- calls that read it
 
--- what the client is owed is copied, as much as fits, and counted; it is no more than the longest frame
+-- the bytes that the client is owed are copied, as many as fit, and counted; they are no more than the longest frame
+-- has
 pub record Owes (key : ℕ) (old new : List ℕ) (count : ℕ) (h : HubState as_kept) (code : ℤ) : Type 0 where
   pub owed : MatchOption (clients_in h key) (code ≡ unknown_client) (λ c. (code ≡ ok) × IsCopied c.owed old new count)
   pub short : is_failed h ≡ false → OwesOneFrame h key
 
--- of a screen
+-- a cell of a screen is copied, or the place is outside it
 abbrev pub ShowsCell : ScreenView → ℕ → ℕ → CCell → ℤ → Type 0
 ShowsCell v row col cell code =
     MatchOption (cell_in (visible_row_at v.state.shown row) col) (code ≡ no_cell)
@@ -91,7 +92,7 @@ abbrev pub ShowsContents : ScreenView → List ℕ → List ℕ → ℕ → ℤ 
 ShowsContents v old new count code =
     CopiesText (newlines_cut (encode_utf8_all (text_lines v.state.shown (length v.state.shown.rows)))) old new count code
 
--- and of a hub's
+-- the size, the cursor and the modes of a hub's screen are copied
 abbrev pub Looks : CLook → HubState as_kept → ℤ → Type 0
 Looks look h code = (code ≡ ok) × (look ≡ screen_look (screen_in h))
 

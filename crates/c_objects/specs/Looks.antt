@@ -1,4 +1,4 @@
--- What C is shown of a screen or a view, as numbers.
+-- The values that C reads from a screen or a view.
 use Rattle.std.specs.Prelude.{ℕ, Bool, true, false, List, length, replicate, encode_utf8_all, min, if◌then◌else◌}
 use Rattle.vt100_forms.specs.declared.attrs.Color.{Color}
 use Rattle.vt100_forms.specs.declared.attrs.Color.TheVariants.{Default, Idx, Rgb}

@@ -1,4 +1,4 @@
--- What a call does to what a word may hold.
+-- What a call does to the object in a word.
 use Rattle.std.specs.Prelude.{◌≡◌, ℤ}
 use Rattle.termrelay.specs.Hub.{HubState, as_kept}
 use Rattle.c_objects.specs.Codes.{other_kind}
@@ -9,19 +9,19 @@ use Rattle.c_objects.specs.declared.object.Object.TheVariants.{Hub, View, Screen
 
 -- ---- calls that change it
 
--- a hub changes so; another object refuses
+-- the call changes a hub so; an object of another kind is refused
 abbrev pub HubDoes : (HubState as_kept → ℤ → HubState as_kept → Type 0) → Object → ℤ → Object → Type 0
 HubDoes step (Hub h) code y = (g : HubState as_kept) × step h code g × (y ≡ Hub g)
 HubDoes step (View v) code y = (code ≡ other_kind) × (y ≡ View v)
 HubDoes step (Screen m) code y = (code ≡ other_kind) × (y ≡ Screen m)
 
--- a view changes so; another object refuses
+-- the call changes a view so; an object of another kind is refused
 abbrev pub ViewDoes : (ViewState → ℤ → ViewState → Type 0) → Object → ℤ → Object → Type 0
 ViewDoes step (Hub h) code y = (code ≡ other_kind) × (y ≡ Hub h)
 ViewDoes step (View v) code y = (w : ViewState) × step v code w × (y ≡ View w)
 ViewDoes step (Screen m) code y = (code ≡ other_kind) × (y ≡ Screen m)
 
--- a screen changes so; another object refuses
+-- the call changes a screen so; an object of another kind is refused
 abbrev pub ScreenDoes : (Marked → ℤ → Marked → Type 0) → Object → ℤ → Object → Type 0
 ScreenDoes step (Hub h) code y = (code ≡ other_kind) × (y ≡ Hub h)
 ScreenDoes step (View v) code y = (code ≡ other_kind) × (y ≡ View v)
@@ -29,19 +29,19 @@ ScreenDoes step (Screen m) code y = (n : Marked) × step m code n × (y ≡ Scre
 
 -- ---- calls that read it
 
--- a hub says so; another object refuses
+-- the call reads this from a hub; an object of another kind is refused
 abbrev pub HubSays : (HubState as_kept → ℤ → Type 0) → Object → ℤ → Type 0
 HubSays says (Hub h) code = says h code
 HubSays says (View v) code = code ≡ other_kind
 HubSays says (Screen m) code = code ≡ other_kind
 
--- a view says so; another object refuses
+-- the call reads this from a view; an object of another kind is refused
 abbrev pub ViewSays : (ViewState → ℤ → Type 0) → Object → ℤ → Type 0
 ViewSays says (Hub h) code = code ≡ other_kind
 ViewSays says (View v) code = says v code
 ViewSays says (Screen m) code = code ≡ other_kind
 
--- a screen says so; another object refuses
+-- the call reads this from a screen; an object of another kind is refused
 abbrev pub ScreenSays : (Marked → ℤ → Type 0) → Object → ℤ → Type 0
 ScreenSays says (Hub h) code = code ≡ other_kind
 ScreenSays says (View v) code = code ≡ other_kind

@@ -1,4 +1,4 @@
--- What a program asks of its terminal beyond drawing, in a queue.
+-- The queue of what a program asks of its terminal beyond drawing.
 use Rattle.std.specs.Prelude.{◌≡◌, ◌⊎◌, ◌<◌, ◌≤◌, ◌+◌, ℕ, ℤ, pos, nat_le, List, [], ◌∷◌, ◌++◌, length, min, Option, Some, None}
 use Rattle.std.specs.Prelude.{if◌then◌else◌}
 use Rattle.screen_model.specs.Call.{Call, ScreenView, audible_bell, visual_bell, resize, set_window_icon_name}
@@ -6,7 +6,8 @@ use Rattle.screen_model.specs.Call.{set_window_title, copy_to_clipboard, paste_f
 use Rattle.c_objects.specs.Texts.{with_front}
 use Rattle.c_objects.specs.declared.plain.CRequest.{CRequest}
 
--- the kind; the rows and columns that are asked for; how many bytes of the text are letters of clipboards; the text
+-- A request: its kind; the rows and columns that are asked for; how many bytes of the text are letters of clipboards;
+-- the text.
 pub record RequestView : Type 0 where
   pub kind : ℕ
   pub rows : ℕ
@@ -14,7 +15,7 @@ pub record RequestView : Type 0 where
   pub letters : ℕ
   pub text : List ℕ
 
--- the requests that wait, the oldest first, and how many weren't queued
+-- the waiting requests, the oldest first, and how many requests weren't queued
 pub record RequestsView : Type 0 where
   pub waiting : List RequestView
   pub dropped : ℕ
@@ -27,7 +28,7 @@ no_requests = record { waiting = []; dropped = 0 }
 abbrev pub of_kind : ℕ → List ℕ → RequestView
 of_kind kind text = record { kind = kind; rows = 0; cols = 0; letters = 0; text = text }
 
--- a call of a program's, where C can be told of it
+-- the request for a callback of the screen, if C can receive it
 abbrev pub request_of : Call → Option RequestView
 request_of audible_bell = Some (of_kind 1 [])
 request_of visual_bell = Some (of_kind 2 [])
@@ -38,13 +39,13 @@ request_of (copy_to_clipboard letters base64) = Some (record (of_kind 6 (letters
 request_of (paste_from_clipboard letters) = Some (record (of_kind 7 letters) { letters = length letters })
 request_of _ = None
 
--- there is room for a request r in the queue q, and it is then the newest one
+-- the request r fits into the queue q, and becomes the newest one
 pub record Gets (q : RequestsView) (r : RequestView) (new : RequestsView) : Type 0 where
   pub room : length q.waiting < 256
   pub short : length r.text ≤ 1024
   pub new_is : new ≡ record q { waiting = q.waiting ++ r ∷ [] }
 
--- it is queued, or it is dropped and counted; the count stops at the greatest number of 64 bits
+-- the request is queued, or it is counted as dropped; the count stops at the greatest number of 64 bits
 abbrev pub Queues : RequestsView → RequestView → RequestsView → Type 0
 Queues q r new = Gets q r new ⊎ (new ≡ record q { dropped = min (q.dropped + 1) 18446744073709551615 })
 
@@ -52,13 +53,13 @@ abbrev pub HearsOf : RequestsView → Option RequestView → RequestsView → Ty
 HearsOf q None new = new ≡ q
 HearsOf q (Some r) new = Queues q r new
 
--- the queue and the screen before a call of the program's, and after it: the screen stays as it is
+-- a callback changes the queue so; the screen stays as it is
 abbrev pub Hears : RequestsView → ScreenView → Call → RequestsView → ScreenView → Type 0
 Hears q v call new w = (w ≡ v) × HearsOf q (request_of call) new
 
 -- ---- what is taken out
 
--- a request, for C, while so many were dropped
+-- a request as C reads it, after so many were dropped
 abbrev pub told_of : RequestView → ℕ → CRequest
 told_of r dropped = record {
   length = length r.text;
@@ -69,7 +70,7 @@ told_of r dropped = record {
   kind = r.kind;
 }
 
--- the oldest of these requests is told of, and its text copied; it goes where the text fits
+-- the oldest of these requests is copied, and removed if its text fits
 abbrev pub TakesOldest : List RequestView → List ℕ → List ℕ → CRequest → RequestsView → ℤ → RequestsView → Type 0
 TakesOldest [] old new told q code after =
     (code ≡ pos 0) × (told ≡ told_of (of_kind 0 []) q.dropped) × (new ≡ old) × (after ≡ q)

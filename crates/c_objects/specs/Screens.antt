@@ -1,4 +1,4 @@
--- What each call does to a screen, as the library's call, and how it is answered.
+-- What each call does to a screen, by the library's call, and the number that it returns.
 use Rattle.std.specs.Prelude.{◌≡◌, ◌⊎◌, ℕ, ◌<◌, ◌*◌, ℤ, true, false, List, [], ◌∷◌, ◌++◌, length, min, Option, Some, None, Ok, Err, Result}
 use Rattle.std.specs.Prelude.{String}
 use Rattle.std.specs.Global.{Global}
@@ -32,7 +32,7 @@ use Rattle.c_objects.specs.declared.object.Object.TheVariants.{Hub, View, Screen
 
 -- ---- new
 
--- blank, without a mark and without requests
+-- a new screen: blank, without a mark and without requests
 pub record IsNewScreen (rows cols capacity : ℕ) (m : Marked) : Type 0 where
   pub stands : ParserStandsAt m.parser rows cols capacity []
   pub requests : m.parser.callbacks ≡ no_requests
@@ -45,7 +45,7 @@ IsNewScreenOf rows cols capacity (Screen m) = IsNewScreen rows cols capacity m
 
 -- ---- calls that change it
 
--- a report of a row that leaves changes no queue
+-- the report of a row that scrolls off doesn't change the queue
 abbrev pub keeps_queue : {R A : Type 0} → RequestsView → R → A → RequestsView → Type 0
 keeps_queue q row alternate r = q ≡ r
 
@@ -82,7 +82,7 @@ pub record Resizes (rows cols : ℕ) (p : ParserView RequestsView) (answer : Res
   pub made : (height width capacity : ℕ) (acts : List Act) → ParserStandsAt p height width capacity acts
       → OnOk answer (ParserStandsAt q height width capacity (acts ++ Resized rows cols ∷ []))
 
--- the mark is forgotten where it is done
+-- the mark is dropped if the resize succeeds
 abbrev pub mark_after : Result (Unit {0}) ScreenError → Option ScreenView → Option ScreenView
 mark_after (Ok u) mark = None
 mark_after (Err e) mark = mark
@@ -97,7 +97,7 @@ abbrev pub ResizesMarked : ℕ → ℕ → Marked → ℤ → Marked → Type 0
 ResizesMarked rows cols m code n =
     ((rows * cols ≡ 0) × (code ≡ bad_size) × (n ≡ m)) ⊎ ((0 < rows) × (0 < cols) × ResizesTo rows cols m code n)
 
--- kept rows of a screen v, which is then w, are shown, with all that the library's call promises of it
+-- some kept rows of the screen v are shown, which takes it to w, with all that the library's call promises of it
 pub record Scrolls (rows : ℕ) (v : ScreenView) (answer : Result (Unit {0}) ScreenError) (w : ScreenView) : Type 0 where
   pub tries : TriesAlone (kept_shown rows) v answer w
   pub bounds : SameBounds v.state w.state
@@ -106,7 +106,7 @@ pub record Scrolls (rows : ℕ) (v : ScreenView) (answer : Result (Unit {0}) Scr
       → IsShownWide (record (v.state.shown.kept) { offset = min rows (length v.state.shown.kept.rows) })
       v.state.shown.height v.state.shown.width → IsOk answer
 
--- with this screen, and else as it was
+-- the object with this screen, and otherwise as it was
 abbrev pub with_screen : Marked → ScreenView → Marked
 with_screen m w = record m { parser = record (m.parser) { screen = w } }
 
@@ -115,16 +115,16 @@ ScrollsMarked rows m code n =
     (answer : Result (Unit {0}) ScreenError) × Scrolls rows m.parser.screen answer n.parser.screen
     × (code ≡ screen_code answer) × (n ≡ with_screen m n.parser.screen)
 
--- the screen as it is now is kept
+-- the screen is marked as it is now
 abbrev pub Marks : Marked → ℤ → Marked → Type 0
 Marks m code n =
     ((code ≡ ok) × (n ≡ record m { mark = Some (m.parser.screen) })) ⊎ ((code ≡ memory) × (n ≡ m))
 
--- with this queue, and else as it was
+-- the object with this queue, and otherwise as it was
 abbrev pub with_requests : Marked → RequestsView → Marked
 with_requests m q = record m { parser = record (m.parser) { callbacks = q } }
 
--- the oldest request is told of
+-- the oldest request is copied
 abbrev pub TellsOldest : List ℕ → List ℕ → CRequest → Marked → ℤ → Marked → Type 0
 TellsOldest old new told m code n =
     Takes old new told m.parser.callbacks code n.parser.callbacks × (n ≡ with_requests m n.parser.callbacks)
@@ -160,7 +160,7 @@ abbrev pub HasState : List ℕ → List ℕ → ℕ → Marked → ℤ → Type 
 HasState old new count m code =
     CopiesGiven (GivesRedraw state_formatted picture.state_formatted 1008 (m.parser.screen.state)) old new count code
 
--- from the mark, and without one from any picture
+-- the bytes take a terminal from what the mark shows; without a mark they are those of the whole state
 abbrev pub DiffersFrom : Option ScreenView → List ℕ → List ℕ → ℕ → Marked → ℤ → Type 0
 DiffersFrom None old new count m code = HasState old new count m code
 DiffersFrom (Some mark) old new count m code =

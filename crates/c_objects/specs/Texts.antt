@@ -3,19 +3,19 @@ use Rattle.std.specs.Prelude.{◌≡◌, ◌⊎◌, ℕ, ℤ, List, ◌++◌, le
 use Rattle.vt100.specs.declared.error.ScreenError.{ScreenError}
 use Rattle.c_objects.specs.Codes.{ok, memory, screen_refusal}
 
--- these bytes, with as much of the front of others as fits
+-- `to`, with as long a prefix of `from` as fits written over its start
 abbrev pub with_front : List ℕ → List ℕ → List ℕ
 with_front from to = let n = min (length from) (length to) in take n from ++ drop n to
 
--- as much of this text as fits is copied, and its bytes are counted
+-- as long a prefix of the text as fits is copied, and all its bytes are counted
 abbrev pub IsCopied : List ℕ → List ℕ → List ℕ → ℕ → Type 0
 IsCopied text old new count = (new ≡ with_front text old) × (count ≡ length text)
 
--- it is copied, unless there is no memory
+-- the text is copied, or an allocation failed
 abbrev pub CopiesText : List ℕ → List ℕ → List ℕ → ℕ → ℤ → Type 0
 CopiesText text old new count code = ((code ≡ ok) × IsCopied text old new count) ⊎ (code ≡ memory)
 
--- the text that a library's call has given
+-- the text that the library's call returns is copied
 abbrev pub Copies : {Z : Type 0} → Result (String Z) ScreenError → List ℕ → List ℕ → ℕ → ℤ → Type 0
 Copies (Ok text) old new count code = (code ≡ ok) × IsCopied (string_bytes text) old new count
 Copies (Err e) old new count code = code ≡ screen_refusal e

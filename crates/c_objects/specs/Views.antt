@@ -1,4 +1,4 @@
--- What each call does to a view, as the library's call, and how it is answered.
+-- What each call does to a view, by the library's call, and the number that it returns.
 use Rattle.std.specs.Prelude.{◌≡◌, ℕ, ◌≤◌, ℤ, List, [], ◌++◌, length, Option, None, MatchOption, encode_utf8_all}
 use Rattle.vte.specs.Timeout.{IsExact}
 use Rattle.vte.specs.Hold.{held_of}
@@ -34,14 +34,14 @@ IsNewViewOf rows cols (Screen m) = ⊥
 
 -- ---- calls that change it
 
--- it reads a piece of the stream
+-- the view reads a piece of the stream
 pub record Advances (bytes : List ℕ) (v : ViewState) (code : ℤ) (w : ViewState) : Type 0 where
   pub code_is : code ≡ ok
   pub advanced : (parsed held : List ℕ) → ViewStandsAt v parsed held → Advanced until_cleared v parsed held bytes w
   pub exact : (parsed : List ℕ) (hold : Option (List ℕ)) → IsExact until_cleared → HoldsAt until_cleared v parsed hold
       → Taken until_cleared v parsed hold bytes w
 
--- it parses what it holds
+-- the view parses the bytes that it holds back
 pub record Stops (v : ViewState) (code : ℤ) (w : ViewState) : Type 0 where
   pub code_is : code ≡ ok
   pub emptied : (parsed held : List ℕ) → ViewStandsAt v parsed held → Emptied until_cleared v parsed held w
@@ -50,7 +50,7 @@ pub record Stops (v : ViewState) (code : ℤ) (w : ViewState) : Type 0 where
 
 -- ---- calls that read it
 
--- how many bytes it holds
+-- how many bytes the view holds back
 pub record Holds (count : ℕ) (v : ViewState) (code : ℤ) : Type 0 where
   pub code_is : code ≡ ok
   pub count_is : (parsed held : List ℕ) → ViewStandsAt v parsed held → count ≡ length held

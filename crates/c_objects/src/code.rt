@@ -1,41 +1,41 @@
-//! What a call answers.
+//! The numbers that calls return: 0 or more for success, less than 0 for a refusal.
 ghost use Rattle.std.specs.Prelude.{◌≡◌};
 ghost use Rattle.c_objects.specs.Codes.{refusal_code, code_of, frame_code, screen_refusal, screen_code};
 
 use termrelay::{Answer, HubError};
 use vt100::ScreenError;
 
-/// It was done.
+/// Success.
 pub const OK: i32 = 0;
 
-/// The word holds nothing.
+/// The word holds no object.
 pub const CLOSED: i32 = -1;
 
-/// It holds another kind of object.
+/// The word holds an object of another kind.
 pub(crate) const OTHER_KIND: i32 = -2;
 
-/// No rows, or no columns.
+/// The size has no rows, or no columns.
 pub(crate) const BAD_SIZE: i32 = -3;
 
-/// There was no memory.
+/// An allocation failed.
 pub(crate) const MEMORY: i32 = -4;
 
-/// The screen has failed.
+/// The screen has failed: an allocation failed in an earlier call.
 pub(crate) const FAILED: i32 = -5;
 
-/// The client has ended, or never was.
+/// There is no such client: it has ended, or never was.
 pub(crate) const UNKNOWN_CLIENT: i32 = -6;
 
-/// Fewer bytes are owed.
+/// Fewer bytes than that are owed to the client.
 pub(crate) const NOT_OWED: i32 = -7;
 
-/// The place is outside the screen.
+/// The row or the column is outside the screen.
 pub(crate) const NO_CELL: i32 = -8;
 
-/// A writer failed. No call here has one that can.
+/// A writer failed. No call here uses a writer that can fail.
 const NOT_WRITTEN: i32 = -9;
 
-/// The code of a hub's refusal.
+/// The number for a hub's error.
 pub(crate) fn refusal_code(error: HubError) -> i32
     ensures { result ≡ refusal_code error }
 {
@@ -47,7 +47,7 @@ pub(crate) fn refusal_code(error: HubError) -> i32
     }
 }
 
-/// The code of a hub's answer.
+/// The number for the result of a hub's call.
 pub(crate) fn code_of(answer: Result<(), HubError>) -> i32
     ensures { result ≡ code_of answer }
 {
@@ -57,7 +57,7 @@ pub(crate) fn code_of(answer: Result<(), HubError>) -> i32
     }
 }
 
-/// The code of what a request for a frame is answered.
+/// The number for the result of a request for a frame.
 pub(crate) fn frame_code(answer: Result<Answer, HubError>) -> i32
     ensures { result ≡ frame_code answer }
 {
@@ -73,7 +73,7 @@ pub(crate) fn frame_code(answer: Result<Answer, HubError>) -> i32
     }
 }
 
-/// The code of a screen's refusal.
+/// The number for a screen's error.
 pub(crate) fn screen_refusal(error: ScreenError) -> i32
     ensures { result ≡ screen_refusal error }
 {
@@ -83,7 +83,7 @@ pub(crate) fn screen_refusal(error: ScreenError) -> i32
     }
 }
 
-/// The code of a screen's answer.
+/// The number for the result of a screen's call.
 pub(crate) fn screen_code(answer: Result<(), ScreenError>) -> i32
     ensures { result ≡ screen_code answer }
 {

@@ -1,4 +1,4 @@
-//! Bytes that go into the caller's memory.
+//! Bytes that are copied into the caller's memory.
 ghost use Rattle.std.specs.Prelude.{◌≡◌, length};
 ghost use Rattle.c_objects.specs.Codes.{IsRefusal};
 ghost use Rattle.c_objects.specs.Texts.{with_front, Copies};
@@ -6,7 +6,7 @@ ghost use Rattle.c_objects.specs.Texts.{with_front, Copies};
 use crate::code::{OK, screen_refusal};
 use vt100::ScreenError;
 
-/// Copies as much of the front as fits, and says how many bytes there are in all.
+/// Copies as long a prefix of the bytes as fits, and sets `count` to how many bytes there are in all.
 pub(crate) fn copy_front(from: &[u8], to: &mut [u8], count: &mut usize)
     ensures bytes { to.new ≡ with_front from.now to.old }
     ensures count { count.new ≡ length from.now }
@@ -16,7 +16,7 @@ pub(crate) fn copy_front(from: &[u8], to: &mut [u8], count: &mut usize)
     to[..n].copy_from_slice(&from[..n]);
 }
 
-/// Copies a text, if there was memory for it.
+/// Copies a text as `copy_front` does, or returns the error's number.
 pub(crate) fn copy_text(text: Result<String, ScreenError>, to: &mut [u8], count: &mut usize) -> i32
     ensures copied { Copies text to.old to.new count.new result }
     ensures refused { IsRefusal result → (to.new ≡ to.old) × (count.new ≡ count.old) }

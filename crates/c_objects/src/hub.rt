@@ -1,4 +1,4 @@
-//! Hubs.
+//! The calls of a hub.
 ghost use Rattle.std.specs.Prelude.{◌≡◌, IfOk, IfErr};
 ghost use Rattle.c_objects.specs.Codes.{IsRefusal};
 ghost use Rattle.c_objects.specs.Objects.{HubDoes, HubSays};
@@ -19,7 +19,8 @@ use std::num::NonZeroU16;
 use termrelay::{Client, Hub};
 use vt100::Screen;
 
-/// A hub with a blank screen of this size and without clients.
+/// Makes a hub with a blank screen of this size, and without clients. Refused for a size without cells, and if an
+/// allocation fails.
 pub fn new_hub(alloc: Global, rows: u16, cols: u16) -> Result<Box<Object>, i32>
     ensures new { IfOk result (λ b. IsNewHubOf rows cols b.value) }
     ensures refused { IfErr result (λ code. IsNoObjectCode rows cols code) }
@@ -37,7 +38,7 @@ pub fn new_hub(alloc: Global, rows: u16, cols: u16) -> Result<Box<Object>, i32>
     }
 }
 
-/// Gives the program's next bytes to a hub.
+/// Feeds the program's next bytes to a hub.
 pub fn feed(object: &mut Object, bytes: &[u8]) -> i32
     ensures { HubDoes (Feeds bytes.now) object.old result object.new }
 {
@@ -56,7 +57,7 @@ fn resize_hub(hub: &mut Hub, rows: u16, cols: u16) -> i32
     }
 }
 
-/// Gives a hub's screen another size.
+/// Gives a hub's screen another size. All clients end.
 pub fn resize(object: &mut Object, rows: u16, cols: u16) -> i32
     ensures { HubDoes (Resizes rows cols) object.old result object.new }
 {
@@ -79,7 +80,7 @@ fn attach_to(hub: &mut Hub, client: &mut usize) -> i32
     }
 }
 
-/// A new client of a hub.
+/// Attaches a new client to a hub, and sets `client` to its key.
 pub fn attach(object: &mut Object, client: &mut usize) -> i32
     ensures attached { HubDoes (Attaches client.old client.new) object.old result object.new }
     ensures refused { IsRefusal result → client.new ≡ client.old }
@@ -90,7 +91,7 @@ pub fn attach(object: &mut Object, client: &mut usize) -> i32
     }
 }
 
-/// A client of a hub ends.
+/// Detaches a client from a hub.
 pub fn detach(object: &mut Object, client: usize) -> i32
     ensures { HubDoes (Detaches client) object.old result object.new }
 {
@@ -100,7 +101,7 @@ pub fn detach(object: &mut Object, client: usize) -> i32
     }
 }
 
-/// Asks a hub for a frame for a client.
+/// Asks a hub for a frame for a client. The bytes of a new frame are then owed to the client.
 pub fn frame(object: &mut Object, client: usize) -> i32
     ensures { HubDoes (Frames client) object.old result object.new }
 {
@@ -123,7 +124,7 @@ fn copy_owed(hub: &Hub, client: Client, to: &mut [u8], count: &mut usize) -> i32
     }
 }
 
-/// Copies what a hub owes a client.
+/// Copies as many as fit of the bytes that a hub owes to a client, and sets `count` to how many it owes.
 pub fn owed(object: &Object, client: usize, to: &mut [u8], count: &mut usize) -> i32
     ensures owed { HubSays (Owes client to.old to.new count.new) object.now result }
     ensures refused { IsRefusal result → (to.new ≡ to.old) × (count.new ≡ count.old) }
@@ -146,12 +147,12 @@ fn tell_sent(hub: &mut Hub, client: Client, count: usize) -> i32
         Err(_) => return UNKNOWN_CLIENT,
     }
     let mut so_many = SoMany { left: count };
-    // A write that takes nothing ends it, where that isn't all.
+    // A write that takes no byte ends the pump, if bytes are left.
     let _end = hub.pump(client, &mut so_many);
     OK
 }
 
-/// Tells a hub that so many bytes were sent to a client.
+/// Reports to a hub that the first `count` owed bytes were sent to a client.
 pub fn sent(object: &mut Object, client: usize, count: usize) -> i32
     ensures { HubDoes (Sends client count) object.old result object.new }
 {
@@ -161,7 +162,7 @@ pub fn sent(object: &mut Object, client: usize, count: usize) -> i32
     }
 }
 
-/// Size, cursor and modes of a hub's screen.
+/// Reads the size, the cursor and the modes of a hub's screen.
 pub fn look(object: &Object, look: &mut CLook) -> i32
     ensures looks { HubSays (Looks look.new) object.now result }
     ensures refused { IsRefusal result → look.new ≡ look.old }
@@ -175,7 +176,7 @@ pub fn look(object: &Object, look: &mut CLook) -> i32
     }
 }
 
-/// A cell of a screen.
+/// Copies a cell of a screen. Refused for a place outside it.
 pub(crate) fn copy_cell(screen: &Screen, row: u16, col: u16, to: &mut CCell) -> i32
     ensures cell { ShowsCell screen.now row col to.new result }
     ensures refused { IsRefusal result → to.new ≡ to.old }
@@ -189,7 +190,7 @@ pub(crate) fn copy_cell(screen: &Screen, row: u16, col: u16, to: &mut CCell) -> 
     }
 }
 
-/// A cell of a hub's screen.
+/// Copies a cell of a hub's screen. Refused for a place outside it.
 pub fn cell(object: &Object, row: u16, col: u16, to: &mut CCell) -> i32
     ensures cell { HubSays (HasCell row col to.new) object.now result }
     ensures refused { IsRefusal result → to.new ≡ to.old }
@@ -200,7 +201,7 @@ pub fn cell(object: &Object, row: u16, col: u16, to: &mut CCell) -> i32
     }
 }
 
-/// The text of a row of a screen.
+/// Copies the text of a row of a screen, as UTF-8.
 pub(crate) fn copy_row(screen: &Screen, row: u16, to: &mut [u8], count: &mut usize) -> i32
     ensures text { ShowsRow screen.now row to.old to.new count.new result }
     ensures refused { IsRefusal result → (to.new ≡ to.old) × (count.new ≡ count.old) }
@@ -209,7 +210,7 @@ pub(crate) fn copy_row(screen: &Screen, row: u16, to: &mut [u8], count: &mut usi
     copy_text(screen.contents_between(row, 0, row, cols), to, count)
 }
 
-/// The text of a row of a hub's screen.
+/// Copies the text of a row of a hub's screen, as UTF-8.
 pub fn row_text(object: &Object, row: u16, to: &mut [u8], count: &mut usize) -> i32
     ensures text { HubSays (HasRow row to.old to.new count.new) object.now result }
     ensures refused { IsRefusal result → (to.new ≡ to.old) × (count.new ≡ count.old) }
@@ -220,7 +221,7 @@ pub fn row_text(object: &Object, row: u16, to: &mut [u8], count: &mut usize) -> 
     }
 }
 
-/// The text of all rows of a screen.
+/// Copies the text of all rows of a screen, as UTF-8.
 pub(crate) fn copy_contents(screen: &Screen, to: &mut [u8], count: &mut usize) -> i32
     ensures text { ShowsContents screen.now to.old to.new count.new result }
     ensures refused { IsRefusal result → (to.new ≡ to.old) × (count.new ≡ count.old) }
@@ -228,7 +229,7 @@ pub(crate) fn copy_contents(screen: &Screen, to: &mut [u8], count: &mut usize) -
     copy_text(screen.contents(), to, count)
 }
 
-/// The text of all rows of a hub's screen.
+/// Copies the text of all rows of a hub's screen, as UTF-8.
 pub fn contents(object: &Object, to: &mut [u8], count: &mut usize) -> i32
     ensures text { HubSays (HasContents to.old to.new count.new) object.now result }
     ensures refused { IsRefusal result → (to.new ≡ to.old) × (count.new ≡ count.old) }

@@ -1,7 +1,7 @@
-//! What a word of C may hold, a hub, a view or a screen, and what each call from C does to it.
+//! The objects that C calls (a hub, a view or a screen), and what each call from C does to them.
 //!
-//! Each function calls one of the libraries', and says what it says. It answers a number: less than 0 is a refusal, after
-//! which nothing has changed but what its contract says.
+//! Each function calls one function of the libraries, and returns its result as a number. A number less than 0 is a
+//! refusal. After a refusal nothing has changed but what the function's contract says.
 #![tactic(auto)]
 
 mod code;

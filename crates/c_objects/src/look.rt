@@ -1,4 +1,4 @@
-//! What C is shown of a screen or a view.
+//! The values that C reads from a screen or a view.
 ghost use Rattle.std.specs.Prelude.{◌≡◌, ◌≤◌, replicate};
 ghost use Rattle.vt100_cells.specs.Cell.{IsCell};
 ghost use Rattle.c_objects.specs.Texts.{with_front};
@@ -10,7 +10,7 @@ use crate::plain::{CCell, CColor, CLook};
 use termview::{UntilCleared, View};
 use vt100::{Cell, Color, CursorStyle, MouseProtocolEncoding, MouseProtocolMode, Screen};
 
-/// 1 where it is so, else 0.
+/// 1 for true, 0 for false.
 fn switch(on: bool) -> u8
     ensures { result ≡ switch on }
 {
@@ -33,7 +33,7 @@ fn color_of(color: Color) -> CColor
     }
 }
 
-/// How many columns a cell takes; 0 of the second half of a wide one.
+/// How many columns a cell takes: 1 or 2, and 0 for the second half of a wide one.
 fn width_of(cell: &Cell) -> u8
     ensures value { result ≡ width_of cell.now }
     ensures valid { IsCell cell.now }
@@ -48,7 +48,7 @@ fn width_of(cell: &Cell) -> u8
     }
 }
 
-/// The length of a cell's text.
+/// The length of a cell's text, in bytes.
 fn byte_of(length: usize) -> u8
     requires { length ≤ 21 }
     ensures { result ≡ length }
@@ -56,7 +56,7 @@ fn byte_of(length: usize) -> u8
     length as u8
 }
 
-/// A text with zeros after it.
+/// A text, padded with zeros.
 fn padded(contents: &[u8]) -> [u8; 32]
     ensures { result ≡ with_front contents.now (replicate 32 0) }
 {
@@ -66,7 +66,7 @@ fn padded(contents: &[u8]) -> [u8; 32]
     text
 }
 
-/// A cell, for C.
+/// A cell as C reads it.
 pub(crate) fn cell_of(cell: &Cell) -> CCell
     ensures { result ≡ cell_of cell.now }
 {

@@ -5,7 +5,7 @@ use termrelay::Hub;
 use termview::{UntilCleared, View};
 use vt100::{Parser, Screen};
 
-/// A screen with what the program has asked for, and the screen as it was when it was marked.
+/// A screen with its queue of requests, and a copy of the screen from when it was marked.
 #[derive(Drop)]
 pub struct Marked {
     pub(crate) parser: Parser<Requests>,
@@ -15,7 +15,10 @@ pub struct Marked {
 /// What a word may hold.
 #[derive(Drop)]
 pub enum Object {
+    /// A hub.
     Hub(Hub),
+    /// A view.
     View(View<UntilCleared>),
+    /// A screen.
     Screen(Marked),
 }

@@ -1,25 +1,36 @@
-//! Structs that C reads.
+//! Structs that C reads; `bindings/include/jeihpal.h` has the same.
 
-/// A colour. Its kind is 0 for the terminal's own, 1 for a numbered one and 2 for red, green and blue.
+/// A colour. Its kind is 0 for the terminal's own, 1 for a numbered one, and 2 for red, green and blue.
 #[repr(C)]
 #[derive(Clone, Copy)]
 pub struct CColor {
+    /// The kind: 0, 1 or 2.
     pub kind: u8,
+    /// Red, or the number; else 0.
     pub red_or_index: u8,
+    /// Green; else 0.
     pub green: u8,
+    /// Blue; else 0.
     pub blue: u8,
 }
 
-/// A cell: its text as UTF-8 with zeros after it, how many bytes that has, and how many columns the cell takes.
+/// A cell: its text, how many columns it takes, its attributes and its colours.
 #[repr(C)]
 #[derive(Clone, Copy)]
 pub struct CCell {
+    /// The text as UTF-8, padded with zeros.
     pub text: [u8; 32],
+    /// How many bytes the text has.
     pub length: u8,
+    /// How many columns the cell takes: 1 or 2, and 0 for the second half of a wide one.
     pub width: u8,
+    /// Bits: 1 bold, 2 dim, 4 italic, 8 underlined, 16 inverse.
     pub attributes: u8,
+    /// 0.
     pub reserved: u8,
+    /// The text's colour.
     pub foreground: CColor,
+    /// The background's colour.
     pub background: CColor,
 }
 
@@ -27,33 +38,54 @@ pub struct CCell {
 #[repr(C)]
 #[derive(Clone, Copy)]
 pub struct CLook {
+    /// How many rows have scrolled off the top and are kept.
     pub kept: usize,
+    /// How many of the kept rows are shown, above the others.
     pub scrolled: usize,
+    /// The number of rows.
     pub rows: u16,
+    /// The number of columns.
     pub cols: u16,
+    /// The cursor's row, from 0.
     pub row: u16,
+    /// The cursor's column, from 0; `cols` if the next character would wrap.
     pub col: u16,
+    /// Whether the cursor is hidden.
     pub hidden: u8,
+    /// The cursor's style: the number of DECSCUSR, 0 to 6.
     pub style: u8,
+    /// Which mouse events are reported: 0 none, 1 to 4 xterm's modes 9, 1000, 1002 and 1003.
     pub mouse: u8,
+    /// The encoding of mouse reports: 0 the default, 1 UTF-8 (1005), 2 decimal numbers (1006).
     pub encoding: u8,
+    /// Whether the keypad sends application sequences.
     pub keypad: u8,
+    /// Whether the cursor keys send application sequences.
     pub cursor_keys: u8,
+    /// Whether pasted text is bracketed (private mode 2004).
     pub paste: u8,
+    /// Whether the alternate screen is shown; 0 for a view.
     pub alternate: u8,
+    /// Whether the program is in a synchronized update of its own; 0 for a view.
     pub updating: u8,
+    /// Whether the screen has failed; 0 for a view.
     pub failed: u8,
 }
 
-/// What a program has asked for: how many bytes of text it has, how many of these are letters of clipboards, and how many
-/// requests weren't queued so far.
+/// A request of the program, beyond drawing.
 #[repr(C)]
 #[derive(Clone, Copy)]
 pub struct CRequest {
+    /// How many bytes of text the request has.
     pub length: usize,
+    /// How many of these, at the start, are letters of clipboards.
     pub letters: usize,
+    /// How many requests weren't queued so far.
     pub dropped: usize,
+    /// The rows that are asked for; 0 unless a size is.
     pub rows: u16,
+    /// The columns that are asked for; 0 unless a size is.
     pub cols: u16,
+    /// The kind of the request; 0 if none is waiting.
     pub kind: u8,
 }

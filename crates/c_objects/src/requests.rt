@@ -1,4 +1,4 @@
-//! What a program asks of its terminal beyond drawing, in a queue.
+//! The queue of what a program asks of its terminal beyond drawing.
 ghost use Rattle.std.specs.Prelude.{◌≡◌, ◌∷◌, ◌++◌, [], length, true, false};
 ghost use Rattle.c_objects.specs.Requests.{no_requests, request_of, Queues, Gets, Takes};
 
@@ -9,13 +9,13 @@ use std::marker::Model;
 use vt100::capture::RowContents;
 use vt100::{Call, Callbacks, Screen};
 
-/// At most so many requests wait.
+/// The most requests that wait in the queue.
 const MOST_REQUESTS: usize = 256;
 
-/// At most so many bytes has the text of one.
+/// The most bytes of a request's text.
 const MOST_BYTES: usize = 1024;
 
-/// One request. Its text begins with so many letters of clipboards.
+/// One request. The first `letters` bytes of its text are letters of clipboards.
 #[derive(Drop)]
 pub struct Request {
     kind: u8,
@@ -39,7 +39,7 @@ impl Model for Request {
     } };
 }
 
-/// The requests that wait, the oldest first, and how many weren't queued.
+/// The waiting requests, the oldest first, and how many requests weren't queued.
 #[derive(Drop)]
 pub struct Requests {
     waiting: Vec<Request>,
@@ -59,7 +59,7 @@ impl Model for Requests {
 }
 
 impl Requests {
-    /// None.
+    /// An empty queue.
     pub(crate) fn new(alloc: Global) -> Requests
         ensures { result ≡ no_requests }
     {
@@ -70,7 +70,8 @@ impl Requests {
         }
     }
 
-    /// Queues a request of this kind, where there is room and memory for it, and else counts it.
+    /// Queues a request of this kind. If it is too long, the queue is full or an allocation fails, it is counted as
+    /// dropped.
     fn queue(&mut self, kind: u8, size: (u16, u16), letters: &[u8], text: &[u8])
         ensures { Queues self.old (record {
           kind = kind;
@@ -85,7 +86,7 @@ impl Requests {
         }
     }
 
-    /// Queues a request, where there is room and memory for it.
+    /// Queues a request and returns true. Returns false if it is too long, the queue is full or an allocation fails.
     fn find_room(&mut self, kind: u8, size: (u16, u16), letters: &[u8], text: &[u8]) -> bool
         ensures queued { result ≡ true → Gets self.old (record {
           kind = kind;
@@ -116,7 +117,7 @@ impl Requests {
         self.waiting.push(request).is_ok()
     }
 
-    /// Tells of the oldest request, and takes it out where its text fits.
+    /// Copies the oldest request and returns its kind, or 0 if there is none. The request is removed if its text fits.
     pub(crate) fn take(&mut self, to: &mut [u8], told: &mut CRequest) -> i32
         ensures { Takes to.old to.new told.new self.old result self.new }
     {
@@ -149,7 +150,7 @@ impl Requests {
     }
 }
 
-/// Queues what C can be told of, and leaves the screen as it is.
+/// Queues the calls that C can receive, and leaves the screen as it is.
 impl Callbacks for Requests {
     ghost use Rattle.c_objects.specs.Requests.{Hears};
 

@@ -1,4 +1,4 @@
-//! Screens.
+//! The calls of a screen.
 ghost use Rattle.std.specs.Prelude.{◌≡◌, IfOk, IfErr};
 ghost use Rattle.c_objects.specs.Codes.{IsRefusal};
 ghost use Rattle.c_objects.specs.Hubs.{IsNoObjectCode};
@@ -19,7 +19,8 @@ use std::alloc::Global;
 use std::num::NonZeroU16;
 use vt100::Parser;
 
-/// A blank screen of this size that keeps up to so many rows.
+/// Makes a blank screen of this size that keeps at most `scrollback` rows. Refused for a size without cells, and if an
+/// allocation fails.
 pub fn new_screen(
     alloc: Global,
     rows: u16,
@@ -80,7 +81,7 @@ fn resize_marked(marked: &mut Marked, rows: u16, cols: u16) -> i32
     }
 }
 
-/// Gives a screen another size, and forgets the mark.
+/// Gives a screen another size, and drops the mark if that succeeds.
 pub fn resize(object: &mut Object, rows: u16, cols: u16) -> i32
     ensures { ScreenDoes (ResizesMarked rows cols) object.old result object.new }
 {
@@ -96,7 +97,7 @@ fn scroll_marked(marked: &mut Marked, rows: usize) -> i32
     screen_code(marked.parser.screen_mut().set_scrollback(rows))
 }
 
-/// Shows the newest kept rows of a screen above the others.
+/// Shows the newest `rows` kept rows of a screen above the others.
 pub fn scroll(object: &mut Object, rows: usize) -> i32
     ensures { ScreenDoes (ScrollsMarked rows) object.old result object.new }
 {
@@ -118,7 +119,7 @@ fn mark_as_now(marked: &mut Marked) -> i32
     }
 }
 
-/// Keeps a screen as it is now.
+/// Marks the screen as it is now, for `difference`.
 pub fn mark(object: &mut Object) -> i32
     ensures { ScreenDoes Marks object.old result object.new }
 {
@@ -145,7 +146,7 @@ pub fn request(object: &mut Object, to: &mut [u8], told: &mut CRequest) -> i32
     }
 }
 
-/// Size, cursor and modes of a screen.
+/// Reads the size, the cursor and the modes of a screen.
 pub fn look(object: &Object, look: &mut CLook) -> i32
     ensures looks { ScreenSays (Looks look.new) object.now result }
     ensures refused { IsRefusal result → look.new ≡ look.old }
@@ -159,7 +160,7 @@ pub fn look(object: &Object, look: &mut CLook) -> i32
     }
 }
 
-/// A cell of a screen.
+/// Copies a cell of a screen. Refused for a place outside it.
 pub fn cell(object: &Object, row: u16, col: u16, to: &mut CCell) -> i32
     ensures cell { ScreenSays (HasCell row col to.new) object.now result }
     ensures refused { IsRefusal result → to.new ≡ to.old }
@@ -170,7 +171,7 @@ pub fn cell(object: &Object, row: u16, col: u16, to: &mut CCell) -> i32
     }
 }
 
-/// The text of a row of a screen.
+/// Copies the text of a row of a screen, as UTF-8.
 pub fn row_text(object: &Object, row: u16, to: &mut [u8], count: &mut usize) -> i32
     ensures text { ScreenSays (HasRow row to.old to.new count.new) object.now result }
     ensures refused { IsRefusal result → (to.new ≡ to.old) × (count.new ≡ count.old) }
@@ -181,7 +182,7 @@ pub fn row_text(object: &Object, row: u16, to: &mut [u8], count: &mut usize) -> 
     }
 }
 
-/// The text of all rows of a screen.
+/// Copies the text of all rows of a screen, as UTF-8.
 pub fn contents(object: &Object, to: &mut [u8], count: &mut usize) -> i32
     ensures text { ScreenSays (HasContents to.old to.new count.new) object.now result }
     ensures refused { IsRefusal result → (to.new ≡ to.old) × (count.new ≡ count.old) }
@@ -192,7 +193,7 @@ pub fn contents(object: &Object, to: &mut [u8], count: &mut usize) -> i32
     }
 }
 
-/// The text of a screen from one place up to another.
+/// Copies the text of a screen from one place up to another, as UTF-8.
 pub fn contents_between(
     object: &Object,
     start: (u16, u16),
@@ -216,7 +217,7 @@ pub fn contents_between(
     }
 }
 
-/// What takes a terminal to a screen's picture.
+/// Copies the bytes that take a terminal to a screen's picture.
 pub fn contents_formatted(object: &Object, to: &mut [u8], count: &mut usize) -> i32
     ensures text { ScreenSays (HasFormatted to.old to.new count.new) object.now result }
     ensures refused { IsRefusal result → (to.new ≡ to.old) × (count.new ≡ count.old) }
@@ -227,7 +228,7 @@ pub fn contents_formatted(object: &Object, to: &mut [u8], count: &mut usize) -> 
     }
 }
 
-/// What takes a fresh terminal to all that a screen shows.
+/// Copies the bytes that take a new terminal to all that a screen shows.
 pub fn state(object: &Object, to: &mut [u8], count: &mut usize) -> i32
     ensures text { ScreenSays (HasState to.old to.new count.new) object.now result }
     ensures refused { IsRefusal result → (to.new ≡ to.old) × (count.new ≡ count.old) }
@@ -249,7 +250,8 @@ fn copy_difference(marked: &Marked, to: &mut [u8], count: &mut usize) -> i32
     }
 }
 
-/// What takes a terminal from what a screen's mark shows to what the screen shows.
+/// Copies the bytes that take a terminal from what the mark shows to what the screen shows. Without a mark they are
+/// those of `state`.
 pub fn difference(object: &Object, to: &mut [u8], count: &mut usize) -> i32
     ensures text { ScreenSays (HasDifference to.old to.new count.new) object.now result }
     ensures refused { IsRefusal result → (to.new ≡ to.old) × (count.new ≡ count.old) }

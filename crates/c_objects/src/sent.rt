@@ -1,11 +1,11 @@
-//! What takes so many bytes.
+//! A sink that takes a given number of bytes.
 ghost use Rattle.std.specs.Prelude.{◌≡◌, ◌≤◌, length};
 ghost use Rattle.c_objects.specs.Taken.{takes_so_many};
 
 use std::io;
 use takers::Taker;
 
-/// Takes as many bytes as are left to take.
+/// A sink that takes `left` more bytes.
 #[derive(Drop)]
 pub(crate) struct SoMany {
     pub(crate) left: usize,

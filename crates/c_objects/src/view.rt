@@ -1,4 +1,4 @@
-//! Views.
+//! The calls of a view.
 ghost use Rattle.std.specs.Prelude.{◌≡◌, IfOk, IfErr};
 ghost use Rattle.c_objects.specs.Codes.{IsRefusal};
 ghost use Rattle.c_objects.specs.Hubs.{IsNoObjectCode};
@@ -14,7 +14,7 @@ use std::alloc::Global;
 use std::num::NonZeroU16;
 use termview::{UntilCleared, View};
 
-/// A view of this size that shows nothing.
+/// Makes a view of this size that shows nothing. Refused for a size without cells, and if an allocation fails.
 pub fn new_view(alloc: Global, rows: u16, cols: u16) -> Result<Box<Object>, i32>
     ensures new { IfOk result (λ b. IsNewViewOf rows cols b.value) }
     ensures refused { IfErr result (λ code. IsNoObjectCode rows cols code) }
@@ -32,7 +32,7 @@ pub fn new_view(alloc: Global, rows: u16, cols: u16) -> Result<Box<Object>, i32>
     }
 }
 
-/// A view reads the next piece of the stream.
+/// Reads the next piece of the stream.
 pub fn advance(object: &mut Object, bytes: &[u8]) -> i32
     ensures { ViewDoes (Advances bytes.now) object.old result object.new }
 {
@@ -45,7 +45,7 @@ pub fn advance(object: &mut Object, bytes: &[u8]) -> i32
     }
 }
 
-/// A view parses what it holds.
+/// Parses the bytes that a view holds back, and shows what they change.
 pub fn stop(object: &mut Object) -> i32
     ensures { ViewDoes Stops object.old result object.new }
 {
@@ -58,7 +58,7 @@ pub fn stop(object: &mut Object) -> i32
     }
 }
 
-/// How many bytes a view holds.
+/// Sets `count` to how many bytes a view holds back.
 pub fn held(object: &Object, count: &mut usize) -> i32
     ensures holds { ViewSays (Holds count.new) object.now result }
     ensures refused { IsRefusal result → count.new ≡ count.old }
@@ -72,7 +72,7 @@ pub fn held(object: &Object, count: &mut usize) -> i32
     }
 }
 
-/// Size, cursor and modes of what a view shows.
+/// Reads the size, the cursor and the modes of what a view shows.
 pub fn look(object: &Object, look: &mut CLook) -> i32
     ensures looks { ViewSays (Looks look.new) object.now result }
     ensures refused { IsRefusal result → look.new ≡ look.old }
@@ -99,7 +99,7 @@ fn copy_cell(view: &View<UntilCleared>, row: u16, col: u16, to: &mut CCell) -> i
     }
 }
 
-/// A cell that a view shows.
+/// Copies a cell that a view shows. Refused for a place outside it.
 pub fn cell(object: &Object, row: u16, col: u16, to: &mut CCell) -> i32
     ensures cell { ViewSays (HasCell row col to.new) object.now result }
     ensures refused { IsRefusal result → to.new ≡ to.old }
@@ -130,7 +130,7 @@ fn copy_row(
     }
 }
 
-/// The text of a row that a view shows.
+/// Copies the text of a row that a view shows, as UTF-8.
 pub fn row_text(alloc: Global, object: &Object, row: u16, to: &mut [u8], count: &mut usize) -> i32
     ensures text { ViewSays (HasRow row to.old to.new count.new) object.now result }
     ensures refused { IsRefusal result → (to.new ≡ to.old) × (count.new ≡ count.old) }

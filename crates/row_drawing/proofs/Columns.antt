@@ -64,7 +64,7 @@ pub wipe-loses : (n : ℕ) (f g : ℕ → CellView) (s e : ℕ) → ((g e).conti
     → wipe_unflags n g s e ≡ true → wipe_unflags n f s e ≡ true
 wipe-loses n f g s e half h = grind (arith, nat_tests, half)
 
--- the cursor is at the first of the columns that are to be erased, and draws with their attributes
+-- the cursor is at the first of the pending columns, and the terminal has their attributes
 record Arrives (S : ℕ → ℕ → Type 0) (s : Scene) (e : Erase) (p : Pen) (t : Term) : Type 0 where
   line : ℕ → CellView
   flags : ℕ → Bool
@@ -76,7 +76,7 @@ record Arrives (S : ℕ → ℕ → Type 0) (s : Scene) (e : Erase) (p : Pen) (t
   half : (m : ℕ) → e.from < m → (line m).continuation ≡ true → (s.job.old m).continuation ≡ true
   written : (k : ℕ) → k < e.from → line k ≡ s.job.new k
 
--- what is to be erased goes, up to a column or to the end
+-- the pending columns are erased, up to a column or to the end
 pub record Erased (S : ℕ → ℕ → Type 0) (s : Scene) (g : Writer) (p : Pen) (t : Term) (e : Erase) (n : ℕ) (b : Bool)
     : Type 0 where
   pub line : ℕ → CellView
@@ -120,7 +120,7 @@ unfolding draw mark mark_of
 draw-marks j n p x a is differs none closed e =
     rw (e, is, differs, ap has_text (sym is) ∙ none) (ap (λ o. mark_of j n o p) closed)
 
--- where columns wait to be erased
+-- if columns are pending
 pub draw-passes : (j : Job) (n : ℕ) (p : Pen) (e : Erase) → p.erase ≡ Some e → has_text (j.new n) ≡ false
     → draw j n p ≡ skip p
 unfolding draw mark mark_of
@@ -202,7 +202,7 @@ pub column-is_whole : (j : Job) (n : ℕ) (p : Pen) → ((j.new n).continuation 
 unfolding column
 column-is_whole j n p h = rw h refl
 
--- a second half stands behind a wide cell, and so nothing is to be erased there
+-- a second half follows a wide cell, and so no column is pending there
 half-closed : (s : Scene) (n : ℕ) (e : Erase) → IsScene s → Opens s.job n (Some e)
     → (s.job.new n).continuation ≡ true → ⊥
 half-closed s zero e h opens half = absurd (omega (arith, opens.0))

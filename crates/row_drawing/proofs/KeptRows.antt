@@ -1,4 +1,4 @@
--- Nothing is written for columns that stay, nor for a row that does.
+-- Nothing is written for columns that stay, nor for a row that stays.
 use Rattle.std.proofs.Common.{◌≡◌, ℕ, zero, suc, ◌+◌, ◌-◌, ◌≤◌, Bool, true, false, not, ◌&&◌, List, ◌++◌, ◌==◌}
 use Rattle.std.proofs.Common.{refl, sym, ap, ◌∙◌, inl, inr, Some, None, arith, subst}
 use Rattle.std.proofs.lemmas.Bool.Decides.{nat_tests}

@@ -9,7 +9,7 @@ use Rattle.vt100_cells.specs.Cell.{CellView, empty_cell, continuation_cell, cell
 use Rattle.vt100_cells.proofs.JoinedCells.{whole_if_wide}
 use Rattle.vt100_cells.specs.Line.{IsPaired, Bounded, put, wiped}
 
--- Below n the line is the new one, and past n the old one. At n it is the old one, but that a second half there may
+-- Below n the line is the new one, and after n the old one. At n it is the old one too, but a second half there may
 -- have become another cell, which is no half of a wide one.
 pub record Line (old new : ℕ → CellView) (n : ℕ) (f : ℕ → CellView) : Type 0 where
   pub written : (k : ℕ) → k < n → f k ≡ new k
@@ -19,7 +19,7 @@ pub record Line (old new : ℕ → CellView) (n : ℕ) (f : ℕ → CellView) : 
 
 -- ---- halves
 
--- where the terminal has a wide cell the earlier row has one
+-- the earlier row has a wide cell wherever the terminal has one
 pub line-wide_is : (old new : ℕ → CellView) (n : ℕ) (f : ℕ → CellView) → IsPaired old → Line old new n f
     → (f n).wide ≡ (old n).wide
 line-wide_is old new n f o l = grind (arith, nat_tests, l.here, l.broken, o.blank n)
@@ -75,7 +75,7 @@ line-erased old new s e a f o w l some empty =
       broken = λ h. (grind (arith, nat_tests, l.rest e some), grind (arith, nat_tests, l.rest e some));
     }
 
--- a space stood in the first column
+-- a space was printed in the first column
 pub line-spaced : (old new : ℕ → CellView) (e : ℕ) (b a : Attrs) (f : ℕ → CellView) → IsPaired old → Line old new 0 f
     → 0 < e → ((k : ℕ) → 0 ≤ k → k < e → new k ≡ empty_cell a)
     → Line old new e (wiped (put f 0 (cell_of 32 b) b) 0 e a)
@@ -92,7 +92,7 @@ line-spaced old new e b a f o l some empty =
       );
     }
 
--- what the erase takes from the row where a space stood in its first column, it takes from the earlier row too
+-- what erasing cuts from a row with a space in its first column, it cuts from the earlier row too
 pub spaced-half : (old new : ℕ → CellView) (e : ℕ) (b : Attrs) (f : ℕ → CellView) → IsPaired old → Line old new 0 f
     → 0 < e → (put f 0 (cell_of 32 b) b e).continuation ≡ true → (old e).continuation ≡ true
 spaced-half old new e b f o l some h =
@@ -145,7 +145,7 @@ line-whole old new n f l b c = fun_ext (λ k. grind (arith, nat_tests, l.written
 
 -- ---- the last cell
 
--- the cell that stands there, printed once more
+-- the line's own cell, printed once more
 pub line-reprinted : (f : ℕ → CellView) (n : ℕ) (a : Attrs) → IsPaired f → (f n).continuation ≡ false
     → put f n (f n) a ≡ f
 line-reprinted f n a p single =

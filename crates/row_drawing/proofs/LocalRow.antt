@@ -14,9 +14,9 @@ use Rattle.row_drawing.proofs.Lines.{Line, line-wide_is, space_narrow}
 
 -- ---- what may be touched
 
--- Of the row's columns C are those where something is to be done: those that differ, the ones that are to be empty
--- where some column differs, the first where the row above needs its flag, and the last where this one does. S are the
--- cells that may be touched: these, with their other halves.
+-- C are the columns of the row where something has to be done: those that differ, those that become empty if some
+-- column differs, the first if the row above needs its flag, and the last if this row does. S are the cells that may be
+-- touched: these, with their other halves.
 pub record IsRoom (s : Scene) (C : ℕ → Type 0) (S : ℕ → ℕ → Type 0) : Type 0 where
   pub close : (k : ℕ) → k < s.job.cols → C k → S s.job.row k
   pub second : (k : ℕ) → k + 1 < s.job.cols → C k → ((s.job.old k).wide || (s.job.new k).wide) ≡ true
@@ -27,7 +27,7 @@ pub record IsRoom (s : Scene) (C : ℕ → Type 0) (S : ℕ → ℕ → Type 0) 
   pub empty : (c k : ℕ) → c < s.job.cols → is_same s.job c ≡ false → k < s.job.cols
       → is_filled (s.job.new k) ≡ false → C k
 
--- where any cell may be touched
+-- any cell may be touched
 pub any-room : (s : Scene) → IsRoom s (λ _. Unit {0}) (λ _ _. Unit {0})
 any-room s = record {
   close = λ _ _ _. tt;
@@ -109,7 +109,7 @@ wipe-room s C S h o a b f x written half some up_to blank close k low touched =
           ]
     ]
 
--- a cell that is wide takes what a narrow one does
+-- a wide cell touches what a narrow one does
 pub touches-wider : (f : ℕ → CellView) (n : ℕ) (x y : CellView) (k : ℕ) → (y.wide ≡ true → x.wide ≡ true)
     → put_touches f n y k ≡ true → put_touches f n x k ≡ true
 touches-wider f n x y k wider h = grind (arith, nat_tests, wider)

@@ -1,4 +1,4 @@
--- The end of a row that is drawn: what is still to be erased, and the row's flag.
+-- The end of a row that is drawn: the pending columns, and the row's flag.
 use Rattle.std.proofs.Common.{◌≡◌, ℕ, ◌+◌, ◌-◌, ◌<◌, ◌≤◌, ◌==◌, Bool, true, false, cond, not, ◌&&◌, ◌||◌, nat_lt}
 use Rattle.std.proofs.Common.{nat_le, Option, Some, None, refl, arith, sym, ap, ◌∙◌, inl, inr, subst}
 use Rattle.std.proofs.lemmas.Bool.Decides.{nat_tests}
@@ -78,7 +78,7 @@ pub record IsLast (j : Job) : Type 0 where
   pub up_to : last_col_of j + span_of (last_cell_of j) ≡ j.cols
   pub whole : (last_cell_of j).continuation ≡ false
 
--- where the last column has a second half
+-- the last column is a second half
 wide-before : (s : Scene) → IsScene s → (s.job.new (s.job.cols - 1)).continuation ≡ true
     → (1 < s.job.cols) × ((s.job.new (s.job.cols - 2)).wide ≡ true)
 wide-before s h half =
@@ -146,7 +146,7 @@ pub mend-ends : (j : Job) (x : CellView) (p : Pen) → j.wrapped ≡ false → m
 unfolding mend
 mend-ends j x p h = rw h refl
 
--- where the last column shows something the last cell has a text
+-- if the last column shows something, the last cell has a text
 pub last-text : (s : Scene) → IsScene s → is_filled (s.job.new (s.job.cols - 1)) ≡ true
     → has_text (last_cell_of s.job) ≡ true
 last-text s h full =
@@ -173,12 +173,12 @@ own-flag s h =
 no-need : (a b lost : Bool) → (not (bool_eq a b) || (a && lost)) ≡ false → (a ≡ b) × ((lost ≡ true) → a ≡ false)
 no-need a b lost h = (grind (arith, nat_tests), λ g. grind (arith, nat_tests))
 
--- a row that goes on and kept its flag needs nothing
+-- a row that wraps and kept its flag needs nothing
 no-need_kept : (a b lost : Bool) → a ≡ true → (b && not lost) ≡ true
     → (not (bool_eq a b) || (a && lost)) ≡ false
 no-need_kept a b lost h g = grind (arith, nat_tests)
 
--- one that goes on and needs nothing kept its flag
+-- a row that wraps and needs nothing kept its flag
 kept-no_need : (a b lost : Bool) → a ≡ true → (not (bool_eq a b) || (a && lost)) ≡ false
     → (b && not lost) ≡ true
 kept-no_need a b lost h g = grind (arith, nat_tests)
@@ -237,7 +237,7 @@ end-room s C S h o last =
           })
     ]
 
--- the line shows nothing wide directly left of the last cell, and there at most what is wide itself
+-- the line has no wide cell right before the last cell, and one in its place only if the last cell is wide
 record IsOverEnd (s : Scene) (g : ℕ → CellView) : Type 0 where
   left : (k : ℕ) → k + 1 ≡ last_col_of s.job → (g k).wide ≡ false
   there : (g (last_col_of s.job)).wide ≡ true → (last_cell_of s.job).wide ≡ true
@@ -311,7 +311,7 @@ drawn-ended s F ha on off is = record {
 }
 
 module _ (s : Scene) (h : IsScene s) (S : ℕ → ℕ → Type 0) (room : IsEndRoom s S) where
-  -- the last cell is printed over a row that differs there alone
+  -- the last cell is printed over a row that differs only there
   last-printed : (F : ℕ → Bool) (g : ℕ → CellView) (a : Attrs) (lost : Bool) → IsProper a → IsOverEnd s g
       → has_text (last_cell_of s.job) ≡ true → put g (last_col_of s.job) (last_cell_of s.job)
       (last_cell_of s.job).attrs ≡ s.job.new

@@ -42,7 +42,7 @@ change-cases P old new none clears some =
 abbrev pub AreKept : (Form → Type 0) → (Pen → Type 0) → Drawn → Type 0
 AreKept Q I d = AllByRecursion Q d.forms × I d.pen
 
--- at a pen of which I is true, the writer appends forms of which Q is, and I stays true
+-- for a pen with I, the writer appends forms with Q, and the pen keeps I
 pub record Keeps (Q : Form → Type 0) (I : Pen → Type 0) (f : Writer) : Type 0 where
   pub at : (p : Pen) → I p → AreKept Q I (f p)
 
@@ -69,7 +69,7 @@ kept-here : {Q : Form → Type 0} {I : Pen → Type 0} (b : Bool) (p : Pen) {f g
 kept-here {Q = Q} {I = I} b p {f = f} {g = g} h k s =
     cond_both b (f p) (g p) (AreKept Q I) (λ _. h.at p s) (λ _. k.at p s)
 
--- the single writers of a row keep Q and I; B is true of the columns that they name
+-- the single writers of a row keep Q and I; the columns that they name fulfil B
 pub record EachKeeps (Q : Form → Type 0) (I : Pen → Type 0) (B : ℕ → Type 0) (j : Job) : Type 0 where
   pub goes : (c : ℕ) → B c → Keeps Q I (goto j.row c)
   pub turns : Keeps Q I (turn j.row)

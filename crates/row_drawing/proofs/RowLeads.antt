@@ -30,8 +30,8 @@ use Rattle.row_drawing.proofs.RowReads.{Ends}
 
 -- ---- what is true after n columns
 
--- the first column that is not yet as it should be: past the second half of a wide cell that is drawn, and the start of
--- what is still to be erased
+-- the first column that is not yet right: after the second half of a wide cell that is drawn, or the first pending
+-- column
 abbrev pub past : Job → ℕ → ℕ
 past j n = cond (j.new n).continuation (n + 1) n
 
@@ -39,13 +39,13 @@ abbrev pub edge : Option Erase → ℕ → ℕ
 edge None n = n
 edge (Some e) n = e.from
 
--- what is still to be erased is empty, with these attributes, and its first column differs
+-- the pending columns become empty, with these attributes, and the first of them differs
 abbrev pub Opens : Job → ℕ → Option Erase → Type 0
 Opens j n None = Unit {0}
 Opens j n (Some e) = (e.from < n) × IsProper e.attrs × ((k : ℕ) → e.from ≤ k → k < n → j.new k ≡ empty_cell e.attrs)
     × (is_same j e.from ≡ false)
 
--- nothing is drawn yet, and the row above has no flag: what is drawn first stands in the first column
+-- nothing is drawn yet, and the row above has no flag: the first character comes into the first column
 pub record IsDue (s : Scene) (F : ℕ → Bool) (p : Pos) (m : ℕ) : Type 0 where
   pub unset : F ≡ s.flags
   pub above : s.job.above ≡ true
@@ -88,7 +88,7 @@ After S s n f p t = Ends S s (At s n) f p t
 pub flags-on : (s : Scene) → s.job.above ≡ true → flags_above s ≡ update s.flags (s.job.row - 1) true
 flags-on s h = ap (λ b. cond b (update s.flags (s.job.row - 1) true) s.flags) h
 
--- once a character is printed from its end
+-- after a character is printed from its end
 pub wrapped-flags : (s : Scene) (F : ℕ → Bool) (p : Pen) (m r : ℕ) → IsScene s → s.job.above ≡ true
     → r + 1 ≡ s.job.row → Standing s F p m → Flags (update F r true) (flags_above s) s.job.row p.lost
 wrapped-flags s F p m r h above next (inl kept) =
@@ -100,7 +100,7 @@ wrapped-flags s F p m r h above next (inr due) =
     let is : r ≡ s.job.row - 1 = omega (arith, next) in
     inl (ap (λ G. update G r true) due.unset ∙ ap (λ i. update s.flags i true) is ∙ sym (flags-on s above))
 
--- where the flag is due, what comes first wraps
+-- if the flag is due, the first character wraps
 due-wraps : (s : Scene) (F : ℕ → Bool) (p : Pen) (m n : ℕ) → IsDue s F p.pos m → 0 < n
     → (wraps s.job n p && (m == 0)) ≡ true
 due-wraps s F p m n d some = grind (arith, nat_tests, d.above, d.row, d.col, d.none)
@@ -189,7 +189,7 @@ pub arrive-goto : (j : Job) (c n : ℕ) (p : Pen) → (wraps j n p && (c == 0)) 
 unfolding arrive
 arrive-goto j c n p h = rw h refl
 
--- the cursor comes there, and nothing else of the pen changes
+-- the cursor moves there, and nothing else of the pen changes
 pub arrive-pen : (j : Job) (c n : ℕ) (p : Pen)
     → (arrive j c n p).pen ≡ record p { pos = record { row = j.row; col = c } }
 unfolding turn goto

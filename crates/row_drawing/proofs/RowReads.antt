@@ -1,4 +1,4 @@
--- A row's writers, read by a terminal on which the row is drawn: where they lead, and which cells they touch.
+-- A row's writers, read by a terminal on which the row is drawn: what the terminal is then, and which cells they touch.
 use Rattle.std.proofs.Common.{◌≡◌, ℕ, ◌+◌, ◌-◌, ◌<◌, ◌≤◌, Bool, true, ◌||◌, Option, Some, None, refl, sym, ap, ◌∙◌, subst, arith}
 use Rattle.std.proofs.lemmas.Bool.{or_right}
 use Rattle.vt100_forms.specs.declared.attrs.Attrs.{Attrs}
@@ -18,7 +18,7 @@ use Rattle.row_drawing.proofs.Steps.{Takes, pen, kept_or_off, erase-line, IsSend
 use Rattle.row_drawing.proofs.Touches.{Stays, stays-then, form-idle, erase-within, stays-goto, stays-color}
 use Rattle.row_drawing.proofs.Touches.{stays-print, stays-erasing}
 
--- from the pen p and the terminal t the writer leads to q and u, and touches no cells but those of S
+-- the writer takes the pen p and the terminal t to q and u, and touches only cells of S
 pub record Reads (S : ℕ → ℕ → Type 0) (s : Scene) (f : Writer) (p : Pen) (t : Term) (q : Pen) (u : Term) : Type 0 where
   pub takes : Takes (scene_size s) f p t q u
   pub stays : Stays S (scene_size s) f p t
@@ -180,7 +180,7 @@ ends-then {S = S} {s = s} {g = g} {q = q} {u = u} {P = P} a b =
     record { takes = record { pen_is = refl; term_is = refl }; stays = b.stays } in
     ends {P = P} (reads-then a rest) b.there
 
--- behind what touches nothing else
+-- after a writer that touches nothing else
 pub ends-next : {S : ℕ → ℕ → Type 0} {s : Scene} {g : Writer} {p : Pen} {t : Term} {P : Pen → Term → Type 0} (f : Writer)
     → Stays S (scene_size s) f p t → Ends S s P g (f p).pen (run (scene_size s) (f p).forms t)
     → Ends S s P (f >> g) p t

@@ -1,4 +1,4 @@
--- A redraw ends at the end of a row that goes on in the next one.
+-- The redraw of a row that wraps ends at the row's end.
 use Rattle.std.proofs.Common.{◌≡◌, ℕ, suc, ◌+◌, ◌==◌, Bool, true, false, not, ◌&&◌}
 use Rattle.std.proofs.Common.{Option, Some, None, refl, arith, sym, ap, ◌∙◌, inl, inr, subst}
 use Rattle.std.proofs.lemmas.Bool.{and_from, cases_Bool, both_ways, or_left, false≢true}
@@ -22,7 +22,7 @@ use Rattle.row_drawing.proofs.RowEnd.{last-is, last-text, flags-off, flags-kept}
 use Rattle.row_drawing.proofs.RowStart.{redraw-filled}
 use Rattle.row_drawing.proofs.LocalRow.{any-room}
 
--- the pen stands behind column c, and nothing is to be erased
+-- the pen is behind column c, and no column is pending
 record IsBehind (j : Job) (n : ℕ) (p : Pen) : Type 0 where
   row : p.pos.row ≡ j.row
   col : p.pos.col ≡ n
@@ -59,7 +59,7 @@ column-behind s n p differs some single =
     (column-is_whole j n p (ap (λ b. b && not (n == j.start)) single)))
     (drawn-behind s n q differs some (flushed j n p.pos.row p.pos.col p.attrs p.erase p.lost some))
 
--- where the last cell is drawn, it is the last thing that is written
+-- if the last cell is drawn, it is drawn last
 columns-behind : (s : Scene) (p : Pen) → IsScene s → is_same s.job (last_col_of s.job) ≡ false
     → has_text (last_cell_of s.job) ≡ true → IsBehind s.job s.job.cols (columns s.job s.job.cols p).pen
 unfolding columns ◌>>◌ skip
@@ -100,7 +100,7 @@ redraw-behind s p h differs some =
     let at_end = columns-behind s (opening j p).pen h differs some in
     subst (λ (d : Drawn). IsBehind j j.cols d.pen) (sym (finish-is_none j q at_end.closed)) at_end
 
--- where a row goes on, and no flag was set, its last cell is drawn last
+-- if a row wraps, and no flag was set, its last cell is drawn last
 redraw-waits : (s : Scene) (p : Pen) → IsScene s → ((k : ℕ) → s.job.old k ≡ default_cell) → s.job.wrapped ≡ true
     → IsBehind s.job s.job.cols (row_redraw s.job s.job.cols p).pen
 redraw-waits s p h blank wraps =

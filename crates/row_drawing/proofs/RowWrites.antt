@@ -48,7 +48,7 @@ pub colored_col : {p q : Pen} {s t : List ℕ} (a : Attrs) → Wrote (color a) p
 unfolding color
 colored_col a w = ap (λ (x : Pen). x.pos.col) (sym w.pen_is)
 
--- at the start of a row two columns have room
+-- at the start of a row two columns fit
 pub turned_room : {q r : Pen} {s t : List ℕ} (row : ℕ) (a : Attrs) (p : Pen) → q ≡ (turn row p).pen
     → Wrote (color a) q s r t → r.pos.col + 2 < 65536
 turned_room {q = q} row a p e w =
@@ -67,7 +67,7 @@ unflagged_col {p = p} x w =
     ∙ cond_both (has_text x) (erasing 1 true) (color x.attrs >> erasing 1 true)
     (λ (f : Writer). (f p).pen.pos.col ≡ p.pos.col) (λ _. refl) (λ _. refl)
 
--- where the attributes are set
+-- the attributes are set
 pub drawn_here : {p q r : Pen} {s t u : List ℕ} (j : Job) (c n : ℕ) (a : Attrs) → Wrote (arrive j c n) p s q t
     → Wrote (color a) q t r u → IsAt j c r
 unfolding color
@@ -82,7 +82,7 @@ span_fits cells n x k is few paired inside here =
     let within = wide_within (length cells) (cell_at cells) n (Bounded-row cells) paired in
     rw is (grind (arith, nat_tests, within))
 
--- the last cell stands in the row
+-- the last cell is in the row
 pub last_inside : (j : Job) (c : ℕ) → 0 < j.cols → c ≡ last_col_of j → c < j.cols
 last_inside j c some e = rw e (grind (arith, nat_tests))
 
@@ -94,7 +94,7 @@ wrote_arrive_here j c n p s here =
     wrote_by (arrive-goto j c n p (grind (arith, nat_tests)))
     (goto_here p (record { row = j.row; col = c }) s (λ i. record { row = here.row i; col = here.col i }))
 
--- the cursor comes there, the attributes are set, and then the text is printed
+-- the cursor moves there, the attributes are set, and then the text is printed
 pub wrote_column_on : {p v r q : Pen} {s w u t : List ℕ} (j : Job) (c m : ℕ) (x : CellView) → x ≡ j.new c
     → m ≡ span_of x → BeginsRun j c p → Wrote (arrive j c m) p s v w → Wrote (color x.attrs) v w r u
     → Wrote (print x false) r u q t → Wrote (column j c) p s q t
@@ -107,7 +107,7 @@ pub colored_attrs : {p r : Pen} {s u : List ℕ} (a : Attrs) → Wrote (color a)
 unfolding color
 colored_attrs a h = sym (ap (λ (y : Pen). y.attrs) h.pen_is)
 
--- the attributes stay as the cursor comes there
+-- moving the cursor there leaves the attributes
 pub arrived_attrs : {p v : Pen} {s w : List ℕ} (j : Job) (c n : ℕ) → Wrote (arrive j c n) p s v w → v.attrs ≡ p.attrs
 arrived_attrs {p = p} j c n h = ap (λ (y : Pen). y.attrs) (sym h.pen_is ∙ arrive-pen j c n p)
 
@@ -167,7 +167,7 @@ second_half j m paired wide =
     let apart : (j.start + (m + 1) == j.start) ≡ false = ne_eqb (j.start + (m + 1)) j.start (λ f. omega (arith, f)) in
     rw (next, apart) refl
 
--- one cell more: the second half of a wide one comes with it
+-- one cell more, with the second half of a wide one
 pub goes_on : {j : Job} {n m : ℕ} {p q r : Pen} {s t u : List ℕ} (i k : ℕ) (x : CellView) → i ≡ behind x m k
     → IsPaired j.new → x ≡ j.new (j.start + m) → GoesTo j n m p s q t → Wrote (column j (j.start + m)) q t r u
     → GoesTo j n i p s r u
@@ -182,11 +182,11 @@ goes_on {j = j} {n = n} {m = m} {p = p} {r = r} {s = s} {u = u} i k x behind_is 
     ]) in
     subst (λ l. GoesTo j n l p s r u) (sym behind_is) moved
 
--- it lies behind
+-- the next column is after it
 pub behind-within : (x : CellView) (n k i : ℕ) → i ≡ behind x n k → n < k → (n < i) × (i ≤ k)
 behind-within x n k i e inside = rw e (grind (arith, nat_tests), grind (arith, nat_tests))
 
--- the cursor stands behind it
+-- the cursor is behind it
 pub here_behind : (j : Job) (n k i : ℕ) (p q : Pen) (x : CellView) → i ≡ behind x n k → q ≡ (print x false p).pen
     → IsAt j (j.start + n) p → i < k → IsAt j (j.start + i) q
 unfolding print

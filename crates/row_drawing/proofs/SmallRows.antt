@@ -1,4 +1,4 @@
--- The numbers of the forms that draw a row are of the code's types.
+-- The numbers of the forms that draw a row fit in the code's types.
 use Rattle.std.proofs.Common.{ℕ, ◌+◌, ◌-◌, ◌<◌, ◌≤◌, Some, None, arith, subst}
 use Rattle.std.specs.Prelude.{◌^◌}
 use Rattle.std.proofs.lemmas.Bool.{cond_both}

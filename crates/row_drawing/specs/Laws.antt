@@ -1,4 +1,4 @@
--- Where the redraw and the difference of a row lead.
+-- What the redraw and the difference of a row make of a terminal.
 use Rattle.std.specs.Prelude.{ℕ, ◌≡◌, true, false}
 use Rattle.vt100_cells.specs.Cell.{default_cell}
 use Rattle.terminal_model.specs.Term.{Shown}
@@ -11,32 +11,32 @@ use Rattle.row_drawing.specs.RowWriter.{Job, IsRowShown, row_redraw, row_differe
 use Rattle.row_drawing.specs.Texts.{AllDrawing, IsTextOf}
 use Rattle.row_drawing.specs.Scene.{Scene, IsScene, IsReady, IsDrawn, scene_size, with_row}
 
--- from a terminal that shows the earlier row, the difference leads to one that shows the present one, and nothing else
--- changes but the flag of the row above
+-- A terminal that shows the earlier row, and reads the difference, shows the present one. Nothing else changes but the
+-- flag of the row above.
 abbrev pub EachDifferenceLeads : Type 0
 EachDifferenceLeads = (s : Scene) (p : Pen) → IsScene s → IsReady s p
     → IsDrawn s (row_difference s.job s.job.cols p).pen (run (scene_size s) (row_difference s.job s.job.cols p).forms
     (with_row s s.job.old s.flags p.pos.row p.pos.col p.attrs))
 
--- so does the redraw where the earlier row has default cells and no flag
+-- the same of the redraw, if the earlier row has default cells and no flag
 abbrev pub EachRedrawLeads : Type 0
 EachRedrawLeads = (s : Scene) (p : Pen) → IsScene s → IsReady s p → ((k : ℕ) → s.job.old k ≡ default_cell)
     → s.job.was_wrapped ≡ false
     → IsDrawn s (row_redraw s.job s.job.cols p).pen (run (scene_size s) (row_redraw s.job s.job.cols p).forms
     (with_row s s.job.old s.flags p.pos.row p.pos.col p.attrs))
 
--- nothing is written for a row that stays, however many of its columns are drawn
+-- nothing is written for a row that stays, whatever number of its columns is drawn
 abbrev pub EachKeptRowIsLeft : Type 0
 EachKeptRowIsLeft = (j : Job) (n : ℕ) (p : Pen) → IsRowShown j p → row_difference j n p ≡ skip p
 
--- what is written sets no mode and no style, and each text in it is a space or the text of a cell of the row, whichever
--- columns are drawn
+-- The forms set no mode and no cursor style. Each text in them is a space or the text of a cell of the row, whichever
+-- columns are drawn.
 abbrev pub EachTextIsDrawn : Type 0
 EachTextIsDrawn = (j : Job) (n : ℕ) (p : Pen) → AllDrawing (IsTextOf j.new) (row_redraw j n p).forms
     × AllDrawing (IsTextOf j.new) (row_difference j n p).forms
 
--- The row of the job is one of two pictures of the screen, an earlier and a present one. Where the row above goes on in
--- it and has no flag in the terminal, one of the two rows differs.
+-- The row of the job is a row of two pictures of the screen, an earlier and a present one. If the row above wraps and
+-- has no flag in the terminal, one of the two rows differs.
 pub record IsPictured (s : Scene) (old new : Shown) : Type 0 where
   pub old_cells : old.cell s.job.row ≡ s.job.old
   pub new_cells : new.cell s.job.row ≡ s.job.new
@@ -44,7 +44,7 @@ pub record IsPictured (s : Scene) (old new : Shown) : Type 0 where
   pub new_flag : new.wrapped s.job.row ≡ s.job.wrapped
   pub above : s.job.above ≡ true → s.job.was_above ≡ false → IsNear (scene_size s) old new s.job.row
 
--- the difference touches no cells but local ones
+-- the difference touches only local cells
 abbrev pub EachDifferenceIsLocal : Type 0
 EachDifferenceIsLocal = (s : Scene) (old new : Shown) (p : Pen) → IsScene s → IsReady s p → IsPictured s old new
     → Within (IsLocal (scene_size s) old new) (scene_size s) (row_difference s.job s.job.cols p).forms

@@ -1,8 +1,8 @@
--- How a row is drawn where a terminal shows an earlier one: column by column, and each cell that differs.
+-- The forms that draw a row on a terminal that shows an earlier one: column by column, for each cell that differs.
 --
--- Empty columns with the same attributes are erased together: what is to be erased waits in the pen until a column
--- follows that ends it. Where the row above goes on in this one and its flag isn't set yet, the first character of
--- this row is printed from the end of that row, which sets it.
+-- Empty columns with the same attributes are erased together. They are pending in the pen until a column follows that
+-- isn't erased with them. If the row above wraps into this one and its flag isn't set yet, the first character of this
+-- row is printed from the end of that row, which sets it.
 use Rattle.std.specs.Prelude.{ℕ, zero, suc, ◌≡◌, ◌+◌, ◌-◌, ◌==◌, Bool, true, false, not, ◌&&◌, ◌||◌, nat_lt}
 use Rattle.std.specs.Prelude.{Option, Some, None, if◌then◌else◌}
 use Rattle.vt100_forms.specs.declared.attrs.Attrs.{Attrs}
@@ -14,9 +14,9 @@ use Rattle.row_drawing.specs.declared.pen.Pen.{Pen}
 use Rattle.row_drawing.specs.Writer.{Writer, ◌>>◌, skip, goto, turn, color, print, space, back, erasing, clearing}
 use Rattle.row_drawing.specs.Writer.{marking}
 
--- A row of so many columns, as it is (`new`) and as the terminal shows it (`old`), drawn from column `start` on; which
--- row of the screen it is; whether it goes on in the next row, and did; whether the row above goes on in this one, and
--- has its flag in the terminal.
+-- A row of `cols` columns, and number `row` on the screen. Its cells are `new`, the terminal shows `old`, and it is
+-- drawn from column `start` on. `wrapped` says whether it wraps into the next row, `was_wrapped` whether the old one
+-- did. `above` says whether the row above wraps into it, `was_above` whether the terminal has that row's flag.
 pub record Job : Type 0 where
   pub cols : ℕ
   pub row : ℕ
@@ -31,14 +31,14 @@ pub record Job : Type 0 where
 abbrev pub is_same : Job → ℕ → Bool
 is_same j c = cell_eq (j.new c) (j.old c)
 
--- n columns don't fit behind the cursor in the row above, which goes on in this one: what is printed now stands at the
--- start of this row
+-- n columns don't fit at the cursor in the row above, which wraps: what is printed now comes to the start of this row
 abbrev pub wraps : Job → ℕ → Pen → Bool
 wraps j n p = j.above && ((p.pos.row + 1 == j.row) && nat_lt j.cols (p.pos.col + n))
 
 -- ---- the first column
 
--- Where the first cell stays and the row above has no flag yet, the cell is printed once more: this sets the flag.
+-- The first cell stays, and the row above wraps and has no flag yet. Then the cell is printed once more, which sets the
+-- flag.
 abbrev pub owes_flag : Job → Pen → Bool
 owes_flag j p =
     (j.above && not j.was_above) && (is_same j j.start && wraps j (span_of (j.new j.start)) p)
@@ -60,7 +60,7 @@ to_erase j e p =
     if wraps j 1 p && (e.from == 0) then (turn j.row >> space >> back >> color e.attrs) p
     else (goto j.row e.from >> color e.attrs) p
 
--- x ends the columns that are erased with the attributes a
+-- x can't be erased together with columns that are erased with the attributes a
 abbrev pub is_end : CellView → Attrs → Bool
 is_end x a = has_text x || not (attrs_eq x.attrs a)
 
@@ -70,7 +70,7 @@ flush_of j c (Some e) =
     if is_end (j.new c) e.attrs then (to_erase j e >> erasing (c - e.from) (wipe_unflags j.cols j.old e.from c))
     else skip
 
--- the columns before c are erased if column c ends them
+-- the pending columns before c are erased, if column c isn't erased with them
 unfoldable pub flush : Job → ℕ → Writer
 flush j c p = flush_of j c p.erase p
 
@@ -78,7 +78,7 @@ unfoldable pub finish_of : Job → Option Erase → Writer
 finish_of j None = skip
 finish_of j (Some e) = to_erase j e >> clearing
 
--- what is still to be erased goes to the end of the row
+-- the pending columns are erased, to the end of the row
 unfoldable pub finish : Job → Writer
 finish j p = finish_of j p.erase p
 
@@ -103,11 +103,11 @@ draw j c =
     >> print (j.new c) (put_unflags j.cols j.old c (j.new c)))
     else mark j c
 
--- a second half comes with the first one, but in the first column it counts as empty
+-- a second half is drawn with the first one; in the first column it counts as empty
 unfoldable pub column : Job → ℕ → Writer
 column j c = if (j.new c).continuation && not (c == j.start) then skip else (flush j c >> draw j c)
 
--- n columns from the start on
+-- n columns, from column `start` on
 unfoldable pub columns : Job → ℕ → Writer
 columns j zero = skip
 columns j (suc n) = columns j n >> column j (j.start + n)
@@ -121,27 +121,27 @@ last_col_of j = if (j.new (j.cols - 1)).continuation then j.cols - 2 else j.cols
 abbrev pub last_cell_of : Job → CellView
 last_cell_of j = j.new (last_col_of j)
 
--- An erased last cell takes the flag away. A cell that has a text is printed again; an empty one is erased with its own
+-- Erasing the last cell resets the flag. A cell that has a text is printed again; an empty one is erased with its own
 -- attributes.
 unfoldable pub unflag : CellView → Writer
 unflag x = if has_text x then erasing 1 true else (color x.attrs >> erasing 1 true)
 
--- the last cell is printed, and the cursor waits behind it
+-- the last cell is printed, and the cursor is then behind it
 unfoldable pub print_last : CellView → Writer
 print_last x = if has_text x then (color x.attrs >> print x false) else skip
 
 unfoldable pub mend : Job → CellView → Writer
 mend j x = if j.wrapped then print_last x else (unflag x >> print_last x)
 
--- the row's flag changes, or the terminal may have lost it
+-- the last cell must be drawn again: the row's flag changes, or the terminal may have lost it
 abbrev pub owes_end : Job → Pen → Bool
 owes_end j p = not (bool_eq j.wrapped j.was_wrapped) || (j.wrapped && p.lost)
 
--- There the last cell is drawn again. A flag that is to be set is set by the next row.
+-- Draws the last cell again. A flag that is to be set is set by the first character of the next row.
 unfoldable pub closing : Job → Writer
 closing j p = if owes_end j p then (goto j.row (last_col_of j) >> mend j (last_cell_of j)) p else skip p
 
--- The row had its flag, and can't have lost it while it was drawn. Where it goes on, the next row is told so.
+-- The terminal still has the row's flag: it had it, and can't have lost it while the row was drawn.
 abbrev pub keeps_flag : Job → Pen → Bool
 keeps_flag j p = j.was_wrapped && not p.lost
 
@@ -155,7 +155,7 @@ row_redraw j n = opening j >> columns j n >> finish j
 unfoldable pub row_difference : Job → ℕ → Writer
 row_difference j n = row_redraw j n >> closing j
 
--- the terminal shows the row already, and nothing is owed to it or to the row above
+-- nothing has to be written: no cell and no flag differs, and the pen has nothing pending
 pub record IsRowShown (j : Job) (p : Pen) : Type 0 where
   pub cells : (k : ℕ) → j.new k ≡ j.old k
   pub flag : j.wrapped ≡ j.was_wrapped

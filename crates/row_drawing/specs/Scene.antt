@@ -1,4 +1,4 @@
--- A row that is drawn on a terminal: what must be true at its start, and what is true at its end.
+-- A row that is drawn on a terminal: what must be true before, and what is true afterwards.
 use Rattle.std.specs.Prelude.{ℕ, ◌+◌, ◌-◌, ◌<◌, ◌≡◌, ◌⊎◌, Bool, true, false, Contains, None}
 use Rattle.std.specs.Prelude.{if◌then◌else◌}
 use Rattle.vt100_forms.specs.Attrs.{IsProper}
@@ -10,8 +10,8 @@ use Rattle.terminal_model.specs.Term.{Size, Term}
 use Rattle.row_drawing.specs.declared.pen.Pen.{Pen}
 use Rattle.row_drawing.specs.RowWriter.{Job, keeps_flag}
 
--- A terminal of so many rows, and the columns of the job: its cells and flags before the row is drawn. Of `term` the
--- rest counts.
+-- A terminal of `rows` rows and the columns of the job; `cells` and `flags` are its own before the row is drawn. Of
+-- `term` only the other fields count.
 pub record Scene : Type 0 where
   pub rows : ℕ
   pub job : Job
@@ -26,19 +26,19 @@ scene_size s = record { rows = s.rows; cols = s.job.cols }
 abbrev pub with_row : Scene → (ℕ → CellView) → (ℕ → Bool) → ℕ → ℕ → Attrs → Term
 with_row s f W r c a = record (s.term) { cell = update s.cells s.job.row f; wrapped = W; row = r; col = c; attrs = a }
 
--- the flags, with that of the row above if it goes on in this one
+-- the flags, with that of the row above set if that row wraps
 abbrev pub flags_above : Scene → ℕ → Bool
 flags_above s = if s.job.above then update s.flags (s.job.row - 1) true else s.flags
 
--- what can be drawn: halves of wide cells stand together, nothing stands off the row, and a row that goes on shows
--- something in its last column
+-- What can be drawn: halves of wide cells are side by side, nothing is off the row, and a row that wraps shows
+-- something in its last column.
 pub record IsLine (n : ℕ) (f : ℕ → CellView) (wrapped : Bool) : Type 0 where
   pub paired : IsPaired f
   pub beyond : Bounded n f
   pub filled : wrapped ≡ true → is_filled (f (n - 1)) ≡ true
 
--- whole rows are drawn; the flags of the job are those of the terminal, and a row above that goes on shows something in
--- its last column
+-- Whole rows are drawn. The flags of the job are those of the terminal. A row above that wraps shows something in its
+-- last column.
 pub record IsScene (s : Scene) : Type 0 where
   pub whole : s.job.start ≡ 0
   pub some_col : 0 < s.job.cols
@@ -53,16 +53,15 @@ pub record IsScene (s : Scene) : Type 0 where
   pub above_filled : s.job.above ≡ true → is_filled (s.cells (s.job.row - 1) (s.job.cols - 1)) ≡ true
   pub above_flag : s.job.above ≡ true → s.job.was_above ≡ true → s.flags (s.job.row - 1) ≡ true
 
--- the pen at the start of the row: where the row above still needs its flag, the cursor waits at that row's end
+-- the pen at the start of the row: if the row above still needs its flag, the cursor is behind that row's last column
 pub record IsReady (s : Scene) (p : Pen) : Type 0 where
   pub closed : p.erase ≡ None
   pub kept : p.lost ≡ false
   pub proper : IsProper p.attrs
   pub waits : s.job.above ≡ true → s.job.was_above ≡ false → (p.pos.row + 1 ≡ s.job.row) × (p.pos.col ≡ s.job.cols)
 
--- The row is drawn, and the pen is right. The row has its flag; or it goes on in the next one, and its flag may be
--- missing, and then the cursor waits at its end. So what the next row is told of one that goes on is true: if it kept
--- its flag the terminal has it, and if it didn't the cursor waits.
+-- The row is drawn, and the pen is right. The terminal has the row's flag; or the row wraps, and the cursor is behind
+-- its last column, so that the next row sets the flag. `keeps_flag` says which, and the next row relies on it.
 pub record IsDrawn (s : Scene) (p : Pen) (t : Term) : Type 0 where
   pub flags : ℕ → Bool
   pub stands : t ≡ with_row s s.job.new flags p.pos.row p.pos.col p.attrs

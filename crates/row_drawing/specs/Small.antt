@@ -1,4 +1,4 @@
--- Numbers of the code's types: in what is drawn, and so in the forms that draw it.
+-- Numbers that fit in the code's types: those of a row and of the forms that draw it.
 use Rattle.std.specs.Prelude.{ℕ, ◌+◌, ◌^◌, ◌<◌, ◌≤◌, List, Option, Some, None}
 use Rattle.std.specs.List.{AllByRecursion}
 use Rattle.vt100_forms.specs.Attrs.{HasByteColors}
@@ -16,7 +16,7 @@ unfoldable pub SmallErase : Option Erase → Type 0
 SmallErase None = Unit {0}
 SmallErase (Some e) = (e.from < 2 ^ 16) × HasByteColors e.attrs
 
--- of the pen's numbers those that are written
+-- the numbers of the pen that get into forms
 unfoldable pub IsSmallPen : Pen → Type 0
 IsSmallPen p = HasByteColors p.attrs × SmallErase p.erase
 
@@ -29,7 +29,7 @@ pub record IsSmallDrawn (d : Drawn) : Type 0 where
   pub forms : AreSmall d.forms
   pub pen : IsSmallPen d.pen
 
--- whichever columns of the row are drawn, and whatever the earlier row is
+-- the forms' numbers fit, whichever columns are drawn and whatever the earlier row is
 abbrev pub EachNumberIsSmall : Type 0
 EachNumberIsSmall = (j : Job) (n : ℕ) (p : Pen) → IsSmallJob j → j.start + n ≤ j.cols → IsSmallPen p
     → IsSmallDrawn (row_redraw j n p) × IsSmallDrawn (row_difference j n p)

@@ -4,7 +4,7 @@ use Rattle.std.specs.List.{AllByRecursion}
 use Rattle.vt100_forms.specs.Form.{Form, Text, Keypad, CursorKeys, Paste, Mouse, Encoding, Style}
 use Rattle.vt100_cells.specs.Cell.{CellView, has_text}
 
--- a form that sets no mode and no style, and whose text, if it has one, is as P says
+-- a form that sets no mode and no cursor style, and whose text, if it has one, fulfils P
 abbrev pub IsDrawing : (List ℕ → Type 0) → Form → Type 0
 IsDrawing P (Text cs) = P cs
 IsDrawing P (Keypad b) = ⊥

@@ -1,4 +1,4 @@
--- Writers: what each appends, as forms, and how the pen goes on.
+-- Writers of forms. A writer maps a pen to the forms that it appends and the pen after them.
 use Rattle.std.specs.Prelude.{ℕ, ◌+◌, ◌-◌, Bool, true, ◌||◌, List, [], ◌∷◌, ◌++◌, Some, None}
 use Rattle.vt100_forms.specs.declared.attrs.Attrs.{Attrs}
 use Rattle.vt100_forms.specs.Form.{Form, Text, EraseChar, ClearRowForward, Backspace, moves, change}
@@ -22,22 +22,22 @@ unfoldable pub ◌>>◌ : Writer → Writer → Writer
 unfoldable pub skip : Writer
 skip p = record { pen = p; forms = [] }
 
--- the cursor goes to a place
+-- the cursor moves to a position
 unfoldable pub goto : ℕ → ℕ → Writer
 goto row col p = record {
   pen = record p { pos = record { row = row; col = col } };
   forms = moves p.pos (record { row = row; col = col });
 }
 
--- the next character is printed at the start of this row: it doesn't fit in the row above, where the cursor stands
+-- the next character wraps to the start of this row: it doesn't fit at the cursor in the row above
 unfoldable pub turn : ℕ → Writer
 turn row p = record { pen = record p { pos = record { row = row; col = 0 } }; forms = [] }
 
--- the terminal draws with these attributes
+-- the terminal gets these attributes
 unfoldable pub color : Attrs → Writer
 color a p = record { pen = record p { attrs = a }; forms = change p.attrs a }
 
--- the text of a cell; the row loses its flag where `loses` is set
+-- the text of a cell is printed; `loses` says whether the terminal then loses the row's flag
 unfoldable pub print : CellView → Bool → Writer
 print x loses p = record {
   pen = record p { pos = record (p.pos) { col = p.pos.col + span_of x }; lost = p.lost || loses };
@@ -58,6 +58,6 @@ erasing n loses p = record { pen = record p { erase = None; lost = p.lost || los
 unfoldable pub clearing : Writer
 clearing p = record { pen = record p { erase = None; lost = true }; forms = ClearRowForward ∷ [] }
 
--- the columns from this one on are still to be erased
+-- the columns from this one on become pending, to be erased with these attributes
 unfoldable pub marking : ℕ → Attrs → Writer
 marking from a p = record { pen = record p { erase = Some (record { from = from; attrs = a }) }; forms = [] }

@@ -1,4 +1,4 @@
-//! How a row ends, and the difference of a whole row. Where the row's flag changes its last cell is drawn again.
+//! The end of a row, and the difference of a whole row. If the row's flag changes, its last cell is drawn again.
 ghost use Rattle.std.specs.Prelude.{◌≡◌, ◌+◌, ◌<◌, ◌≤◌, ◌^◌, length, is_ok, IsTrue};
 ghost use Rattle.vt100_cells.specs.Cells.{AreSame, cell_at};
 ghost use Rattle.vt100_cells.specs.Line.{span_of};
@@ -28,15 +28,15 @@ impl<'a> Drawing<'a> {
         }
     }
 
-    /// Whether the row's flag changes, or the terminal may have lost it.
+    /// Whether the last cell must be drawn again: the row's flag changes, or the terminal may have lost it.
     fn owes_end(&self, pen: &Pen) -> bool
         ensures { result ≡ owes_end (job_of self.now) pen.now }
     {
         self.wrapped != self.was_wrapped || (self.wrapped && pen.lost)
     }
 
-    /// Draws the last cell, where the cursor stands, once more. If the row doesn't go on, the cell is erased first,
-    /// which takes the flag away.
+    /// Draws the last cell again, where the cursor is. If the row doesn't wrap, the cell is erased first, which resets
+    /// the flag.
     fn mend(&self, pen: &mut Pen, contents: &mut String, cell: &Cell) -> Result<(), GridError>
         requires { pen.old.pos.col + span_of cell.now < 2 ^ 16 }
         ensures { Writes (mend (job_of self.now) cell.now) pen.old contents.old (is_ok result) pen.new
@@ -49,8 +49,8 @@ impl<'a> Drawing<'a> {
         pen.print_last(contents, cell)
     }
 
-    /// Brings the row's flag in order, once its columns are drawn. A flag that is to be set is set by the next row: the
-    /// cursor waits at the end of this one.
+    /// Corrects the row's flag, after its columns are drawn. To set it, the cursor is left behind the last column: the
+    /// next row's first character then wraps.
     pub(crate) fn closing(&self, pen: &mut Pen, contents: &mut String) -> Result<(), GridError>
         requires { 0 < length self.now.cells.now }
         ensures { Writes (closing (job_of self.now)) pen.old contents.old (is_ok result) pen.new
@@ -77,7 +77,7 @@ impl<'a> Drawing<'a> {
         )
     }
 
-    /// Whether the terminal, which shows the first `same` cells already, shows all of them.
+    /// Whether the terminal shows all cells already, if it shows the first `same`.
     fn shows_all(&self, same: usize) -> bool
         requires { AreSame (cell_at self.now.cells.now) (cell_at self.now.earlier.now) 0 same }
         ensures { IsTrue result → self.now.cells.now ≡ self.now.earlier.now }
@@ -85,8 +85,8 @@ impl<'a> Drawing<'a> {
         same == self.cells.len() && same == self.earlier.len()
     }
 
-    /// Whether the terminal, which shows the first `same` cells already, shows the whole row, and nothing is owed to it
-    /// or to the row above.
+    /// Whether nothing has to be written: no cell and no flag differs, and the pen has nothing pending. The terminal
+    /// shows the first `same` cells.
     fn is_settled(&self, pen: &Pen, same: usize) -> bool
         requires { AreSame (cell_at self.now.cells.now) (cell_at self.now.earlier.now) 0 same }
         ensures { IsTrue result → IsSettled self.now pen.now }
@@ -98,10 +98,10 @@ impl<'a> Drawing<'a> {
             && self.shows_all(same)
     }
 
-    /// Draws `count` columns, from the first that is drawn on, where the terminal shows others, and sets the row's flag
-    /// or takes it away. A row that stays costs a comparison.
+    /// Draws those of `count` columns, from `start` on, that the terminal shows otherwise, and sets or resets the row's
+    /// flag. A row that stays costs one comparison.
     ///
-    /// Where it is refused for want of memory a part of the forms may have been appended.
+    /// Fails only if an allocation fails; `contents` may then have got some of the forms.
     pub fn difference(
         &self,
         pen: &mut Pen,
@@ -123,7 +123,7 @@ impl<'a> Drawing<'a> {
 }
 
 impl Pen {
-    /// Erases the last cell of a row, where the cursor stands, and with it the row's flag. An empty cell is erased with
+    /// Erases the last cell of a row, where the cursor is, and so resets the row's flag. An empty cell is erased with
     /// its own attributes.
     fn unflag(&mut self, contents: &mut String, cell: &Cell) -> Result<(), GridError>
         ensures { Writes (unflag cell.now) self.old contents.old (is_ok result) self.new
@@ -136,7 +136,7 @@ impl Pen {
         self.erase(contents, 1, true)
     }
 
-    /// Prints the last cell of a row, if it has a text; then the cursor waits behind it.
+    /// Prints the last cell of a row, if it has a text; the cursor is then behind the last column.
     fn print_last(&mut self, contents: &mut String, cell: &Cell) -> Result<(), GridError>
         requires { self.old.pos.col + span_of cell.now < 2 ^ 16 }
         ensures { Writes (print_last cell.now) self.old contents.old (is_ok result) self.new

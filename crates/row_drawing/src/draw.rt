@@ -1,4 +1,4 @@
-//! How one column of a row is drawn on a terminal that shows an earlier one.
+//! Drawing one column of a row on a terminal that shows an earlier one.
 ghost use Rattle.std.specs.Prelude.{ℕ, ◌≡◌, ◌+◌, ◌<◌, ◌≤◌, ◌^◌, ◌-◌, ◌==◌, ◌&&◌, not, false, List, ◌++◌, length};
 ghost use Rattle.std.specs.Prelude.{is_ok};
 ghost use Rattle.vt100_cells.specs.Cell.{has_text};
@@ -47,7 +47,7 @@ impl<'a> Drawing<'a> {
         }
     }
 
-    /// Whether `columns` columns don't fit behind the cursor in the row above, which goes on in this one.
+    /// Whether printing `columns` columns now would wrap from the row above into this one.
     pub(crate) fn wraps(&self, pen: &Pen, columns: u16) -> bool
         ensures { result ≡ wraps (job_of self.now) columns pen.now }
     {
@@ -56,15 +56,14 @@ impl<'a> Drawing<'a> {
             && u32::from(self.cols()) < u32::from(pen.pos.col) + u32::from(columns)
     }
 
-    /// Whether what covers `columns` columns, printed now at column `col`, stands at the start of this row, since it
-    /// doesn't fit in the row above.
+    /// Whether printing `columns` columns for column `col` reaches it by wrapping from the row above.
     fn is_wrapping(&self, pen: &Pen, columns: u16, col: u16) -> bool
         ensures { result ≡ (wraps (job_of self.now) columns pen.now && (col == 0)) }
     {
         self.wraps(pen, columns) && col == 0
     }
 
-    /// Brings the cursor to where `columns` columns are printed from `col` on.
+    /// Moves the cursor so that `columns` columns are printed from `col` on.
     fn arrive(
         &self,
         pen: &mut Pen,
@@ -82,7 +81,7 @@ impl<'a> Drawing<'a> {
         pen.goto(contents, Pos { row: self.row, col })
     }
 
-    /// Brings the terminal to a column, as `arrive` does, by bytes that are put into `run`: 14 at most.
+    /// Moves the cursor as `arrive` does, and appends the bytes to `run`, 14 at most.
     pub(crate) fn arrive_in(&self, pen: &mut Pen, run: &mut TextRun, col: u16, columns: u16)
         requires { length run.old + 14 ≤ 128 }
         ensures written { (t : List ℕ) → Wrote (arrive (job_of self.now) col columns) pen.old (t ++ run.old) pen.new
@@ -97,7 +96,7 @@ impl<'a> Drawing<'a> {
         pen.goto_in(run, pos);
     }
 
-    /// Brings the cursor to the first of the columns that are to be erased, and sets their attributes.
+    /// Moves the cursor to the first of the columns that are to be erased, and sets their attributes.
     fn to_erase(&self, pen: &mut Pen, contents: &mut String, erase: Erase) -> Result<(), GridError>
         ensures { Writes (to_erase (job_of self.now) erase) pen.old contents.old (is_ok result) pen.new
             contents.new }
@@ -116,7 +115,7 @@ impl<'a> Drawing<'a> {
         pen.color(contents, erase.attrs)
     }
 
-    /// Erases the columns before `col`, if there is something to be erased and this column ends it.
+    /// Erases the pending columns before `col`, if the cell at `col` isn't erased with them.
     fn flush(&self, pen: &mut Pen, contents: &mut String, col: u16) -> Result<(), GridError>
         requires { col < length self.now.cells.now }
         ensures { Writes (flush (job_of self.now) col) pen.old contents.old (is_ok result) pen.new
@@ -136,7 +135,7 @@ impl<'a> Drawing<'a> {
         )
     }
 
-    /// Erases what is still to be erased, to the end of the row.
+    /// Erases the pending columns, to the end of the row.
     pub(crate) fn finish(&self, pen: &mut Pen, contents: &mut String) -> Result<(), GridError>
         ensures { Writes (finish (job_of self.now)) pen.old contents.old (is_ok result) pen.new
             contents.new }
@@ -148,7 +147,7 @@ impl<'a> Drawing<'a> {
         pen.clear(contents)
     }
 
-    /// Draws the cell at `col`, since the terminal shows another one there. An empty cell is erased later.
+    /// Draws the cell at `col`, which differs from the terminal's. An empty cell becomes pending, and is erased later.
     fn draw(&self, pen: &mut Pen, contents: &mut String, col: u16) -> Result<(), GridError>
         requires in_row { col < length self.now.cells.now }
         requires other { is_same (job_of self.now) col ≡ false }
@@ -168,7 +167,7 @@ impl<'a> Drawing<'a> {
         Ok(())
     }
 
-    /// Whether the cell at `col` is a second half, which comes with the first one.
+    /// Whether the cell at `col` is the second half of a wide character, which is drawn with the first half.
     #[inline]
     fn is_half(&self, col: u16) -> bool
         requires { col < length self.now.cells.now }
@@ -177,8 +176,8 @@ impl<'a> Drawing<'a> {
         self.cell(col).is_wide_continuation() && col != self.start
     }
 
-    /// Draws one column, whatever stands there. The second half of a wide character comes with the first.
-    // Apart from the other columns, which are the most: what they need stays in registers.
+    /// Draws one column, if it differs. The second half of a wide character is drawn with the first.
+    // A function of its own, since most columns stay: what those need is kept in registers.
     #[inline(never)]
     pub(crate) fn change(
         &self,
@@ -201,9 +200,9 @@ impl<'a> Drawing<'a> {
     }
 }
 
-/// Which forms take the row's flag away.
+/// Which forms reset the row's flag.
 impl<'a> Drawing<'a> {
-    /// Whether the terminal loses the row's flag where the columns from `from` up to `to` are erased.
+    /// Whether erasing the columns from `from` up to `to` makes the terminal lose the row's flag.
     pub(crate) fn loses_by_erase(&self, from: u16, to: u16) -> bool
         ensures { result ≡ wipe_unflags (job_of self.now).cols (job_of self.now).old from to }
     {
@@ -213,7 +212,7 @@ impl<'a> Drawing<'a> {
             && (cols <= to || (to + 1 == cols && is_continuation_at(self.earlier, to)))
     }
 
-    /// Whether the terminal loses it where the cell at `col` is printed.
+    /// Whether printing the cell at `col` makes the terminal lose the row's flag.
     #[inline]
     pub(crate) fn loses_by_print(&self, col: u16) -> bool
         requires { col < length self.now.cells.now }
@@ -226,7 +225,7 @@ impl<'a> Drawing<'a> {
     }
 }
 
-/// Whether a cell ends the columns that are erased with these attributes.
+/// Whether a cell can't be erased together with columns before it that are erased with these attributes.
 fn is_end(cell: &Cell, attrs: Attrs) -> bool
     ensures { result ≡ is_end cell.now attrs }
 {

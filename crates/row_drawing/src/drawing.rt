@@ -5,24 +5,24 @@ ghost use Rattle.vt100_cells.specs.Line.{IsPaired};
 
 use vt100_cells::Cell;
 
-/// A row, and what the terminal shows in its place.
+/// A row, and the one that the terminal shows in its place. A row's flag says that the row wraps into the next one.
 #[derive(Clone, Copy)]
 pub struct Drawing<'a> {
     /// The row's cells.
     pub cells: &'a [Cell],
-    /// The cells that the terminal shows; past their end it shows default cells.
+    /// The cells that the terminal shows; after their end it shows default cells.
     pub earlier: &'a [Cell],
-    /// Whether the row goes on in the next one.
+    /// Whether the row wraps into the next one.
     pub wrapped: bool,
-    /// Whether it did.
+    /// Whether the row that the terminal shows wraps into the next one.
     pub was_wrapped: bool,
-    /// Whether the row above goes on in this one.
+    /// Whether the row above wraps into this one.
     pub above: bool,
-    /// Whether the terminal has that row's flag.
+    /// Whether the terminal has the flag of the row above.
     pub was_above: bool,
-    /// Which row it is, from the top of the screen.
+    /// The row's number, from 0 at the top of the screen.
     pub row: u16,
-    /// The column from which on it is drawn.
+    /// The first column that is drawn, from 0.
     pub start: u16,
     ghost few: { length cells.now < 2 ^ 16 },
     ghost paired: { IsPaired (cell_at cells.now) },

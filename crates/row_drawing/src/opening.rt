@@ -1,4 +1,4 @@
-//! How a row begins, and how it is drawn whole.
+//! The start of a row, and the redraw of a whole row.
 ghost use Rattle.std.specs.Prelude.{◌≡◌, ◌+◌, ◌<◌, ◌≤◌, ◌^◌, length, is_ok};
 ghost use Rattle.vt100_cells.specs.Cells.{AreSame, cell_at};
 ghost use Rattle.row_drawing.specs.Drawing.{job_of};
@@ -11,7 +11,7 @@ use vt100_cells::Cell;
 use vt100_forms::GridError;
 
 impl<'a> Drawing<'a> {
-    /// Whether the first cell is to be printed although it stays, since the row above has no flag yet.
+    /// Whether the first cell must be printed although it stays: the row above wraps, and has no flag yet.
     fn owes_flag(&self, pen: &Pen) -> bool
         requires { self.now.start < length self.now.cells.now }
         ensures { result ≡ owes_flag (job_of self.now) pen.now }
@@ -22,7 +22,7 @@ impl<'a> Drawing<'a> {
             && self.wraps(pen, span(self.cell(self.start)))
     }
 
-    /// Prints a cell over itself, and goes back to where it begins. An empty one is printed as a space and erased.
+    /// Prints a cell over itself, and moves back to its first column. An empty one is printed as a space and erased.
     fn reprint(&self, pen: &mut Pen, contents: &mut String, cell: &Cell) -> Result<(), GridError>
         requires { pen.old.pos.col + 2 < 2 ^ 16 }
         ensures { Writes (reprint (job_of self.now) cell.now) pen.old contents.old (is_ok result)
@@ -41,7 +41,7 @@ impl<'a> Drawing<'a> {
         pen.back(contents)
     }
 
-    /// Sets the flag of the row above where it is missing and no other cell would set it.
+    /// Sets the flag of the row above, if it is missing and no other cell would set it.
     fn opening(&self, pen: &mut Pen, contents: &mut String) -> Result<(), GridError>
         requires { self.now.start < length self.now.cells.now }
         ensures { Writes (opening (job_of self.now)) pen.old contents.old (is_ok result) pen.new
@@ -56,9 +56,9 @@ impl<'a> Drawing<'a> {
         self.reprint(pen, contents, first)
     }
 
-    /// Draws `count` columns, from the first that is drawn on, over a row that has no flag.
+    /// Draws `count` columns, from `start` on, over a row that has no flag.
     ///
-    /// Where it is refused for want of memory a part of the forms may have been appended.
+    /// Fails only if an allocation fails; `contents` may then have got some of the forms.
     pub fn redraw(&self, pen: &mut Pen, contents: &mut String, count: u16) -> Result<(), GridError>
         requires starts_inside { self.now.start < length self.now.cells.now }
         requires ends_inside { self.now.start + count ≤ length self.now.cells.now }
@@ -68,8 +68,8 @@ impl<'a> Drawing<'a> {
         self.redraw_behind(pen, contents, 0, count)
     }
 
-    /// Draws `count` columns, from the first that is drawn on, over a row that has no flag, of which the terminal shows
-    /// the first `same` cells already.
+    /// Draws `count` columns, from `start` on, over a row that has no flag. The terminal shows the first `same` cells
+    /// already.
     pub(crate) fn redraw_behind(
         &self,
         pen: &mut Pen,

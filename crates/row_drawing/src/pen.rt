@@ -1,4 +1,4 @@
-//! What a writer keeps between forms.
+//! What a writer of forms knows of the terminal.
 ghost use Rattle.std.specs.Prelude.{ℕ, ◌≡◌, ◌+◌, ◌<◌, ◌≤◌, ◌^◌, List, ◌++◌, length, is_ok, IfSome, OnErr};
 ghost use Rattle.std.specs.Prelude.{string_bytes, string_len, string_capacity};
 ghost use Rattle.std.specs.Prelude.{if◌then◌else◌, false};
@@ -14,7 +14,7 @@ use vt100_forms::position::Pos;
 use vt100_forms::term::{Backspace, BufWrite, ClearRowForward, EraseChar, MoveFromTo};
 use vt100_forms::{GridError, TextRun};
 
-/// Columns of a row that are still to be erased: from one on.
+/// Columns of a row, from one on, that are pending: they are erased when a later column, or the row's end, is reached.
 #[derive(Clone, Copy, Debug, Eq, PartialEq)]
 pub struct Erase {
     /// The first column.
@@ -23,24 +23,25 @@ pub struct Erase {
     pub attrs: Attrs,
 }
 
-/// What a writer knows of the terminal that reads its forms, and what it still owes to it.
+/// What a writer knows of the terminal that reads its forms, and which columns it has still to erase.
 ///
-/// A call that is refused for want of memory may have appended a part of its forms; then the pen says nothing more.
+/// A call fails only if an allocation fails. It may then have appended some of its forms, and the pen is no longer
+/// right.
 #[derive(Clone, Copy, Debug, Eq, PartialEq)]
 pub struct Pen {
-    /// Where the cursor stands.
+    /// The cursor's position. The column equals the number of columns if the next character would wrap.
     pub pos: Pos,
-    /// The attributes with which the terminal draws.
+    /// The terminal's current attributes.
     pub attrs: Attrs,
-    /// What is still to be erased in the row.
+    /// The pending columns of the row, if there are any.
     pub erase: Option<Erase>,
-    /// Whether the row may have lost its flag in the terminal.
+    /// Whether the terminal may have lost the row's flag (that the row wraps).
     pub lost: bool,
 }
 
 impl Pen {
-    /// Moves the cursor.
-    // Mostly it stands there already: this test is to cost no call.
+    /// Moves the cursor to `pos`.
+    // Mostly the cursor is there already, and this test costs no call.
     #[inline(always)]
     pub fn goto(&mut self, contents: &mut String, pos: Pos) -> Result<(), GridError>
         ensures { Writes (goto pos.row pos.col) self.old contents.old (is_ok result) self.new
@@ -61,7 +62,7 @@ impl Pen {
         Ok(())
     }
 
-    /// Moves the cursor by bytes that are put into `run`.
+    /// Moves the cursor, and appends the bytes to `run`.
     #[inline(always)]
     pub(crate) fn goto_in(&mut self, run: &mut TextRun, pos: Pos)
         requires { length run.old + 14 ≤ 128 }
@@ -84,7 +85,7 @@ impl Pen {
         self.pos = pos;
     }
 
-    /// The next character is printed at the start of this row: it doesn't fit in the row above.
+    /// Takes the cursor as at the start of this row: the next character doesn't fit in the row above, and wraps.
     #[tactic(auto, unfolding(crate::specs::Writer::turn))]
     pub fn turn(&mut self, row: u16)
         ensures { self.new ≡ (turn row self.old).pen }
@@ -92,7 +93,7 @@ impl Pen {
         self.pos = Pos { row, col: 0 };
     }
 
-    /// The columns from this one on are to be erased.
+    /// Makes the columns from `from` on pending, to be erased with these attributes.
     #[tactic(auto, unfolding(crate::specs::Writer::marking))]
     pub fn mark(&mut self, from: u16, attrs: Attrs)
         ensures { self.new ≡ (marking from attrs self.old).pen }
@@ -128,9 +129,9 @@ impl Pen {
         self.color(contents, cell.attrs())
     }
 
-    /// Sets the attributes of a cell by bytes that are put into `run`. If `like` is there, it is a cell with those with
-    /// which the terminal draws.
-    // Two cells are compared: so no colour has to be put together first.
+    /// Sets the attributes of a cell, and appends the bytes to `run`. `like`, if given, is a cell with the terminal's
+    /// current attributes.
+    // Whole cells are compared, so that no colour has to be put together first.
     #[inline(always)]
     pub(crate) fn color_in(&mut self, run: &mut TextRun, cell: &Cell, like: Option<&Cell>)
         requires room { length run.old + 58 ≤ 128 }
@@ -146,7 +147,7 @@ impl Pen {
         self.recolor_in(run, cell);
     }
 
-    // Apart, and given the whole cell: so its attributes aren't taken apart where they are only compared.
+    // A function of its own, which gets the whole cell: where attributes are only compared they aren't taken apart.
     #[inline(never)]
     fn recolor_in(&mut self, run: &mut TextRun, cell: &Cell)
         requires { length run.old + 58 ≤ 128 }
@@ -168,7 +169,7 @@ impl Pen {
         Ok(())
     }
 
-    /// Prints the text of a cell. The row loses its flag where `loses` is set.
+    /// Prints the text of a cell. `loses` says whether the terminal then loses the row's flag.
     #[inline(always)]
     pub fn print(
         &mut self,
@@ -186,7 +187,7 @@ impl Pen {
         Ok(())
     }
 
-    /// Goes on as after the text of a cell, which is printed later, together with others.
+    /// Moves as printing a cell does. Its text is written later, together with others.
     #[inline(always)]
     pub(crate) fn pass(&mut self, cell: &Cell)
         requires { self.old.pos.col + span_of cell.now < 2 ^ 16 }
@@ -216,7 +217,7 @@ impl Pen {
         Ok(())
     }
 
-    /// Erases `count` columns from the cursor on. The row loses its flag where `loses` is set.
+    /// Erases `count` columns from the cursor on. `loses` says whether the terminal then loses the row's flag.
     pub fn erase(&mut self, contents: &mut String, count: u16, loses: bool) -> Result<(), GridError>
         ensures { Writes (erasing count loses) self.old contents.old (is_ok result) self.new
             contents.new }
@@ -227,7 +228,7 @@ impl Pen {
         Ok(())
     }
 
-    /// Erases the columns from the cursor to the end of the row, which loses its flag.
+    /// Erases the columns from the cursor to the end of the row. The terminal loses the row's flag.
     pub fn clear(&mut self, contents: &mut String) -> Result<(), GridError>
         ensures { Writes clearing self.old contents.old (is_ok result) self.new
             contents.new }

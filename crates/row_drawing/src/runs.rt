@@ -1,4 +1,4 @@
-//! Several columns of a row: what needs nothing is passed over, and texts that go on are printed together.
+//! Several columns of a row: columns that need nothing are skipped, and texts in sequence are printed together.
 ghost use Rattle.std.specs.Prelude.{ℕ, ◌≡◌, ◌+◌, ◌<◌, ◌≤◌, List, ◌++◌, length, is_ok};
 ghost use Rattle.std.specs.Prelude.{IfSome, IsTrue};
 ghost use Rattle.vt100_cells.specs.Cells.{AreSame, cell_at};
@@ -16,8 +16,8 @@ use vt100_forms::{GridError, SHORT_BYTES, TextRun};
 const MOVE_CHANGE_AND_TEXT_BYTES: usize = 14 + 58 + SHORT_BYTES;
 
 impl<'a> Drawing<'a> {
-    /// The first column from `from` on, up to `to`, for which something may have to be written: what the terminal shows
-    /// already is passed over, and what is erased together with the columns before it.
+    /// The first column from `from` up to `to` for which something may have to be written. Skipped are columns that the
+    /// terminal shows already, and those that are erased with the columns before them.
     fn quiet_to(&self, pen: &Pen, from: usize, to: usize) -> usize
         requires some { from ≤ to }
         requires in_row { to ≤ length self.now.cells.now }
@@ -32,7 +32,7 @@ impl<'a> Drawing<'a> {
         }
     }
 
-    /// How many of `count` columns need no more than the first `n` did.
+    /// How many of `count` columns, of which the first `n` are drawn, need no more forms.
     fn after_quiet(&self, pen: &Pen, n: u16, count: u16) -> u16
         requires some { n ≤ count }
         requires in_row { self.now.start + count ≤ length self.now.cells.now }
@@ -44,7 +44,7 @@ impl<'a> Drawing<'a> {
         (to - start) as u16
     }
 
-    /// How many of `count` columns need nothing, where the terminal shows the first `same` cells of the row already.
+    /// How many of `count` columns need nothing, if the terminal shows the first `same` cells of the row already.
     fn same_columns(&self, pen: &Pen, same: usize, count: u16) -> u16
         requires { AreSame (cell_at self.now.cells.now) (cell_at self.now.earlier.now) 0 same }
         ensures within { result ≤ count }
@@ -57,8 +57,8 @@ impl<'a> Drawing<'a> {
         }
     }
 
-    /// Draws `count` columns, from the first that is drawn on, where the terminal shows the first `same` cells of the
-    /// row already: these aren't looked at again.
+    /// Draws `count` columns, from `start` on. The terminal shows the first `same` cells of the row already, and these
+    /// aren't compared again.
     pub(crate) fn columns(
         &self,
         pen: &mut Pen,
@@ -71,7 +71,7 @@ impl<'a> Drawing<'a> {
         ensures { Writes (columns (job_of self.now) count) pen.old contents.old (is_ok result) pen.new
             contents.new }
     {
-        // A cell with the attributes with which the terminal draws.
+        // A cell with the terminal's current attributes.
         let mut like = None;
         let mut run = TextRun::new();
         let mut n = self.same_columns(pen, same, count);
@@ -98,11 +98,11 @@ impl<'a> Drawing<'a> {
     }
 }
 
-/// Texts that are gathered.
+/// Texts that are written together.
 impl<'a> Drawing<'a> {
-    /// Whether the cell at `col` has a short text that differs and takes no flag away, and nothing is to be erased
-    /// before it.
-    // What the terminal shows is compared first: LLVM then takes the start of a cell at once, and not byte by byte.
+    /// Whether the cell at `col` can begin a run of texts: it has a short text, which differs and keeps the row's flag,
+    /// and no column is pending.
+    // The terminal's cell is compared first: LLVM then loads the start of a cell at once, and not byte by byte.
     #[inline(always)]
     fn begins_run(&self, pen: &Pen, col: u16) -> bool
         requires { col < length self.now.cells.now }
@@ -114,7 +114,8 @@ impl<'a> Drawing<'a> {
             && !self.loses_by_print(col)
     }
 
-    /// Whether the same holds where the cursor stands, and the cell is drawn like `like`.
+    /// Whether the cell at `col` can join a run of texts: it could begin one, the cursor is there, and its attributes
+    /// are those of `like`.
     #[inline(always)]
     fn joins_run(&self, pen: &Pen, like: &Cell, col: u16) -> bool
         requires in_row { col < length self.now.cells.now }
@@ -124,9 +125,9 @@ impl<'a> Drawing<'a> {
         self.begins_run(pen, col) && self.cell(col).has_attrs_of(like)
     }
 
-    /// Gathers the texts of columns from the `n`-th of `count` on, at which the cursor stands, behind those that are in
-    /// the run, and passes the pen over them. Answers the first that was not gathered.
-    // Each cell is compared with the last one that was gathered: LLVM keeps the parts of a cell that stays the same in
+    /// Appends to `run` the texts of columns from the `n`-th of `count` on, where the cursor is, and moves the pen over
+    /// them. Returns the first column that was not taken.
+    // Each cell is compared with the last one that was taken: LLVM keeps the parts of a cell that stays the same in
     // registers, and compares them one by one.
     fn gather(&self, pen: &mut Pen, run: &mut TextRun, like: &Cell, n: u16, count: u16) -> u16
         requires some { n ≤ count }
@@ -154,9 +155,9 @@ impl<'a> Drawing<'a> {
         m
     }
 
-    /// Puts what brings the cursor to the `n`-th of `count` columns and what sets its attributes into the run, its
-    /// text, and the texts after it, as long as they are drawn alike. Answers the first column that was not gathered.
-    // If `like` is there, it is a cell with the attributes with which the terminal draws.
+    /// Appends to `run` the move to the `n`-th of `count` columns, its attributes and its text, and the texts after it
+    /// that have the same attributes. Returns the first column that was not taken.
+    // `like`, if given, is a cell with the terminal's current attributes.
     fn texts(
         &self,
         pen: &mut Pen,
@@ -185,8 +186,7 @@ impl<'a> Drawing<'a> {
     }
 }
 
-/// The first of `count` columns behind the `n`-th, at which this cell stands: the second half of a wide one comes with
-/// it.
+/// The column after the cell at the `n`-th of `count` columns. A wide cell takes its second half with it.
 #[inline(always)]
 fn behind(cell: &Cell, n: u16, count: u16) -> u16
     requires { n < count }

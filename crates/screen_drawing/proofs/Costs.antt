@@ -1,4 +1,4 @@
--- A row has numbers of the code's types, and takes only so many bytes.
+-- The forms of a row have numbers that fit in the code's types, and a limited number of bytes.
 use Rattle.std.proofs.Common.{◌≡◌, ℕ, zero, suc, ◌+◌, ◌-◌, ◌*◌, ◌<◌, ◌≤◌, ◌==◌, Bool, true, false, cond, not, ◌&&◌}
 use Rattle.std.proofs.Common.{List, [], ◌∷◌, ◌++◌, length, length-append, Option, Some, None, ap, ◌∙◌, arith}
 use Rattle.std.specs.Prelude.{◌^◌}

@@ -1,4 +1,4 @@
--- How the cursor comes to its place: where the forms lead, and which cells they touch.
+-- Moving the cursor to its place: what the forms make of a terminal, and which cells they touch.
 use Rattle.std.proofs.Common.{◌≡◌, ℕ, ◌+◌, ◌-◌, ◌<◌, true, false, nat_lt, List, [], ◌∷◌, ◌++◌, Option, Some, None, arith}
 use Rattle.std.proofs.Common.{refl, sym, ap, subst, ◌∙◌}
 use Rattle.std.specs.Prelude.{replicate}
@@ -31,7 +31,7 @@ use Rattle.screen_drawing.proofs.LocalCursor.{wipes-within}
 
 -- ---- lists of forms
 
--- they lead from t to u, and touch cells of S alone
+-- they take t to u, and touch only cells of S
 record Comes (S : ℕ → ℕ → Type 0) (z : Size) (fs : List Form) (t u : Term) : Type 0 where
   leads : run z fs t ≡ u
   within : Within S z fs t
@@ -114,7 +114,7 @@ module _ (S : ℕ → ℕ → Type 0) (z : Size) (s : Shown) (h : IsDrawable z s
 
   -- ---- the cursor
 
-  -- what is shown is as before, but for the cursor, which is that of s
+  -- the picture is as before, but the cursor is that of s
   record IsPlaced (fs : List Form) (t : Term) (a : Attrs) (u : Term) : Type 0 where
     leads : shown_of (run z fs u) ≡ shown_of (at t s.cell s.wrapped s.row s.col a)
     within : Within S z fs u
@@ -160,7 +160,7 @@ module _ (S : ℕ → ℕ → Type 0) (z : Size) (s : Shown) (h : IsDrawable z s
         let there : s.col ≡ z.cols = omega (arith, past, h.shown.in_cols) in
         waits (row_with_end z s.cell s.row) there (ends z s s.row) (room there)))
 
--- where the cursor of s waits, the last cell of one row may be touched
+-- if the cursor of s is behind the last column, the last cell of one row may be touched
 pub cursor-within : (S : ℕ → ℕ → Type 0) (z : Size) (t : Term) (s : Shown) (p : Option Pos) (a : Attrs) (r c : ℕ)
     → IsDrawable z s → IsProper a → Known p r c → (s.col ≡ z.cols → IsEndRoom S z s (waiting_row z s))
     → Within S z (cursor_position_formatted z s p a) (at t s.cell s.wrapped r c a)

@@ -1,4 +1,4 @@
--- The forms by which the cursor comes to its place, and where each leads.
+-- The forms that move the cursor to its place, and what each makes of a terminal.
 use Rattle.std.proofs.Common.{◌≡◌, ℕ, zero, suc, ◌+◌, ◌-◌, ◌<◌, ◌≤◌, ◌==◌, Bool, true, false, ◌&&◌}
 use Rattle.std.proofs.Common.{[], ◌∷◌, min, Option, Some, None, refl, arith, sym, ap, subst, ◌∙◌, inl, inr}
 use Rattle.std.specs.Prelude.{replicate}
@@ -104,7 +104,7 @@ stays-at t C W a (Some p) r c row col k h =
     let parts = and_parts (p.row == row) (p.col == col) h in
     moved-at t C W a r row c col (k.0 ∙ eqb-true p.row row parts.0) (k.1 ∙ eqb-true p.col col parts.1)
 
--- the rows below come by line feeds
+-- the cursor moves to the rows below by line feeds
 pub fed : (z : Size) (t : Term) (C : ℕ → ℕ → CellView) (W : ℕ → Bool) (a : Attrs) (c n r row : ℕ) → r + n ≡ row
     → row < z.rows → run z (replicate n Lf) (at t C W r c a) ≡ at t C W row c a
 unfolding apply

@@ -1,4 +1,4 @@
--- How long redraws and differences of screens can be.
+-- How many bytes redraws and differences of screens can have.
 use Rattle.std.proofs.Common.{ℕ, zero, suc, ◌*◌, ◌<◌, ◌≤◌, length, arith}
 use Rattle.std.proofs.Math.Nat.{mul-suc}
 use Rattle.vt100_forms.specs.Form.{spell}

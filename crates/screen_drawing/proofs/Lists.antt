@@ -1,5 +1,5 @@
--- What is true of every list of forms that is written for a screen, where it is true of each part: that its forms
--- are of some kind, or that it has only so many bytes.
+-- What is true of every list of forms that is written for a screen, if it is true of each part: that its forms are of
+-- some kind, or that it has a limited number of bytes.
 use Rattle.std.proofs.Common.{◌≡◌, ℕ, zero, suc, ◌+◌, ◌-◌, ◌*◌, ◌<◌, ◌≤◌, Bool, true, nat_lt, List, [], ◌∷◌, ◌++◌}
 use Rattle.std.proofs.Common.{Option, Some, None, arith}
 use Rattle.std.specs.Prelude.{replicate}
@@ -30,7 +30,7 @@ use Rattle.screen_drawing.specs.Screen.{cursor_state_formatted}
 use Rattle.screen_drawing.specs.Laws.{IsTrueOfLists}
 use Rattle.screen_drawing.proofs.CursorForms.{Ends, ends}
 
--- W n fs says that the list fs is as wanted, with at most n bytes where they are counted
+-- W n fs says what is wanted of the list fs, which has at most n bytes if bytes are counted
 pub record IsMeasure (W : ℕ → List Form → Type 0) : Type 0 where
   pub none : (n : ℕ) → W n []
   pub join : (fs gs : List Form) (m n k : ℕ) → W m fs → W n gs → m + n ≤ k → W k (fs ++ gs)
@@ -39,7 +39,7 @@ pub record IsMeasure (W : ℕ → List Form → Type 0) : Type 0 where
 pub all-measure : (Q : Form → Type 0) → IsMeasure (λ n fs. AllByRecursion Q fs)
 all-measure Q = record { none = λ n. tt; join = λ fs gs m n k a b l. all-join Q fs gs a b }
 
--- what is drawn is as W says, and the pen as K does
+-- the forms fulfil W, and the pen fulfils K
 pub record IsWritten (W : ℕ → List Form → Type 0) (K : Pen → Type 0) (n : ℕ) (d : Drawn) : Type 0 where
   pub forms : W n d.forms
   pub pen : K d.pen
@@ -49,7 +49,7 @@ Writes W K f n = (p : Pen) → K p → IsWritten W K n (f p)
 
 -- ---- the parts
 
--- what is drawn of a screen, where A says which attributes are drawn with
+-- what is drawn of a screen, if the attributes fulfil A
 pub record Rules (W : ℕ → List Form → Type 0) (A : Attrs → Type 0) (K : Pen → Type 0)
     (z : Size) (s : Shown) : Type 0 where
   pub space : W 1 (Text (32 ∷ []) ∷ [])

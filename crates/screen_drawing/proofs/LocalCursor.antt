@@ -1,4 +1,4 @@
--- The cells that are touched while the cursor comes to its place.
+-- The cells that are touched while the cursor moves to its place.
 use Rattle.std.proofs.Common.{◌≡◌, ℕ, zero, suc, ◌+◌, ◌-◌, ◌<◌, ◌==◌, Bool, true, false, ◌&&◌, ◌||◌, nat_lt, nat_le}
 use Rattle.std.proofs.Common.{[], ◌∷◌, Option, Some, None, refl, arith, sym, ap, subst, ◌∙◌, inl, inr}
 use Rattle.std.specs.Prelude.{replicate}
@@ -73,7 +73,7 @@ spaced-left f n x a k e = grind (arith, nat_tests)
 
 module _ (S : ℕ → ℕ → Type 0) (z : Size) (s : Shown) (h : IsDrawable z s) (r : ℕ) (l : r < z.rows)
     (room : IsEndRoom S z s r) where
-  -- what is printed at the end of the row, and is wide only where a wide cell stood, touches no other cell
+  -- a cell that is printed at the end of the row, and is wide only if a wide cell was there, touches no other cell
   put-touched : (c : ℕ) (x : CellView) → c + span_of x ≡ z.cols → (s.cell r c).continuation ≡ false
       → (x.wide ≡ true → (s.cell r c).wide ≡ true) → (k : ℕ) → k < z.cols
       → put_touches (s.cell r) c x k ≡ true → S r k

@@ -17,7 +17,7 @@ use Rattle.screen_drawing.proofs.LostFlags.{lost-cause, inside-row, other-cell}
 use Rattle.screen_drawing.proofs.Rows.{Between, scene_of, scene-is, ready-is, here-is, differences, continued-later}
 
 module _ (z : Size) (t : Term) (old new : Shown) (ho : IsShown z old) (hn : IsDrawable z new) where
-  -- where row i is told that the row above goes on in it and has no flag, the row above differs
+  -- if row i is drawn as one below a row that wraps and has no flag, the row above differs
   abbrev IsOwed : ℕ → Pen → Type 0
   IsOwed i p = is_continued new.wrapped i ≡ true → (is_continued old.wrapped i && not p.lost) ≡ false
       → DiffersIn z old new (i - 1)

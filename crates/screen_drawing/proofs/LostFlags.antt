@@ -1,4 +1,4 @@
--- A row that goes on loses its flag, while its difference is written, only where one of its columns differs.
+-- A row that wraps loses its flag, while its difference is written, only if one of its columns differs.
 use Rattle.std.proofs.Common.{◌≡◌, ℕ, zero, suc, ◌+◌, ◌-◌, ◌<◌, ◌≤◌, ◌==◌, true, false, cond, not, ◌&&◌, ◌||◌}
 use Rattle.std.proofs.Common.{Option, Some, None, refl, arith, sym, ap, ◌∙◌, inl, inr, subst}
 use Rattle.std.proofs.lemmas.Bool.{cases_lt, both_ways, cond_both, and_parts, or_from, or_cases, false≢true}
@@ -18,11 +18,11 @@ use Rattle.row_drawing.proofs.RowEnd.{mend-wraps}
 use Rattle.row_drawing.proofs.LocalColumns.{IsMarked, columns-marked}
 use Rattle.row_drawing.proofs.Local.{opening-marked}
 
--- K is true where a column differs
+-- K is true if a column differs
 abbrev pub IsCause : Type 0 → Job → Type 0
 IsCause K j = (c : ℕ) → is_same j c ≡ false → K
 
--- and where the pen says that the flag is lost
+-- K is true if the pen says that the flag is lost
 abbrev IsBlamed : Type 0 → Pen → Type 0
 IsBlamed K q = q.lost ≡ true → K
 
@@ -87,7 +87,7 @@ opening-kept j p kept keeps =
 unflags-none : (n : ℕ) (f : ℕ → CellView) → 1 < n → (f 1).continuation ≡ false → wipe_unflags n f 0 1 ≡ false
 unflags-none n f more single = grind (arith, nat_tests)
 
--- an empty first cell isn't the last one of a row that goes on, nor directly left of a second half
+-- an empty first cell isn't the last one of a row that wraps, nor right before a second half
 first-keeps : (s : Scene) (p : Pen) → IsScene s → s.job.wrapped ≡ true → owes_flag s.job p ≡ true
     → has_text (s.job.new s.job.start) ≡ false → wipe_unflags s.job.cols s.job.old 0 1 ≡ false
 first-keeps s p h on owed none =

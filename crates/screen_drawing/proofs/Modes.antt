@@ -22,7 +22,7 @@ use Rattle.screen_drawing.specs.Laws.{EachModeIsSet, EachModeIsChanged, EachAttr
 
 -- ---- a mode from what the terminal has to another one
 
--- where each value is told by its number
+-- each value is determined by its number
 same-number : {X : Type 0} (number : X → ℕ) (of : ℕ → X) → ((a : X) → of (number a) ≡ a) → (to from : X)
     → (number to == number from) ≡ true → from ≡ to
 same-number number of told to from e =
@@ -86,7 +86,7 @@ bool_eq-is true false h = absurd (false≢true h)
 bool_eq-is false true h = absurd (false≢true h)
 bool_eq-is false false h = refl
 
--- `set b` is the terminal t with the switch at b, as it is where b is `has`
+-- `set b` is the terminal t with the switch at b; it is t itself if b is `has`
 form-switched : (z : Size) (t : Term) (f : Bool → Form) (set : Bool → Term) (has old new : Bool)
     → run z (f new ∷ []) t ≡ set new → t ≡ set has → has ≡ old → run z (switch f old new) t ≡ set new
 form-switched z t f set has old new sets is e =

@@ -1,4 +1,4 @@
--- Redraws and differences of screens have numbers of the code's types, and only so many bytes.
+-- Redraws and differences of screens have numbers that fit in the code's types, and a limited number of bytes.
 use Rattle.std.proofs.Common.{ℕ, ◌+◌, ◌*◌, ◌<◌, Bool, false, not, ◌&&◌, List}
 use Rattle.std.proofs.Common.{Option, Some, None, refl, arith}
 use Rattle.std.specs.Prelude.{◌^◌}
@@ -82,7 +82,7 @@ each-small z old new ha h =
     every-list IsSmallList small-measure HasByteColors IsSmallPen z new (small-rules z new h)
     small-modes old ha
 
--- lists of forms whose texts are as P says
+-- lists of forms whose texts fulfil P
 with-numbers : (P : List ℕ → Type 0) (z : Size) (old new : Shown) → HasByteColors old.attrs → IsSmallScreen z new
     → IsTrueOfEach (AllTexts P) z old new
     → IsTrueOfLists (AllByRecursion (λ f. HasText P f × HasSmallNumbers f)) HasByteColors z old new

@@ -44,7 +44,7 @@ arriving-drawing : (P : List ℕ → Type 0) (p : Option Pos) (q : Pos) → AllD
 arriving-drawing P None q = (tt, tt)
 arriving-drawing P (Some p) q = moves-drawing P p q
 
--- rows and the cursor are drawn by forms that set no mode, and the texts among them are as P says
+-- rows and the cursor are drawn by forms that set no mode, and whose texts fulfil P
 drawing-rules : (P : List ℕ → Type 0) (Q : Form → Type 0) (z : Size) (s : Shown)
     → ((f : Form) → IsDrawing P f → Q f)
     → TextsAre P s → Rules (λ n fs. AllByRecursion Q fs) (λ a. Unit {0}) (λ p. Unit {0}) z s

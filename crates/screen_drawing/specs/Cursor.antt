@@ -1,8 +1,8 @@
--- How the cursor comes to its place on a screen whose rows are drawn.
+-- The forms that move the cursor to its place, on a screen whose rows are drawn.
 --
--- A cursor waits behind the last column once a character is printed there. So the last cell of the row is printed
--- again; where it has no text, that of the nearest row above which has one, and the cursor goes down from there; where
--- no row has one, a space is printed, and erased again while the cursor is saved.
+-- A cursor is behind the last column only after a character is printed there. So the last cell of the row is printed
+-- again. If it has no text, that of the nearest row above that has one is printed, and the cursor moves down from
+-- there. If no row has one, a space is printed, and erased again while the cursor is saved.
 use Rattle.std.specs.Prelude.{ℕ, zero, suc, ◌-◌, ◌==◌, ◌&&◌, Bool, false, nat_lt, List, [], ◌∷◌, ◌++◌, replicate}
 use Rattle.std.specs.Prelude.{Option, Some, None, if◌then◌else◌}
 use Rattle.vt100_forms.specs.declared.attrs.Attrs.{Attrs}
@@ -15,7 +15,7 @@ use Rattle.terminal_model.specs.Term.{Size, Shown}
 abbrev pub place : ℕ → ℕ → Pos
 place row col = record { row = row; col = col }
 
--- the form, at most one, that takes the cursor to q: from p, or from a place that isn't known
+-- the form, at most one, that moves the cursor to q: from p, or from an unknown place
 abbrev pub arriving : Option Pos → Pos → List Form
 arriving None q = MoveTo q.row q.col ∷ []
 arriving (Some p) q = moves p q
@@ -37,39 +37,39 @@ end_col z cells r = if (cells r (z.cols - 1)).continuation then z.cols - 2 else 
 abbrev pub end_cell : Size → Cells → ℕ → CellView
 end_cell z cells r = cells r (end_col z cells r)
 
--- the nearest row whose last cell has a text, from row r on upwards
+-- the nearest row whose last cell has a text, from row r upwards
 abbrev pub row_with_end : Size → Cells → ℕ → Option ℕ
 row_with_end z cells zero = if has_text (end_cell z cells 0) then Some 0 else None
 row_with_end z cells (suc r) = if has_text (end_cell z cells (suc r)) then Some (suc r) else row_with_end z cells r
 
 -- ---- the cursor waits at the end of a row
 
--- the cell is printed, and the attributes a come back
+-- the cell is printed, and the attributes are then a again
 abbrev pub printed_with : Attrs → CellView → List Form
 printed_with a x = change a x.attrs ++ (Text x.text ∷ change x.attrs a)
 
--- at the end of row r, whose last cell has a text
+-- the cursor moves behind the last column of row r, whose last cell has a text
 unfoldable pub wait_behind : Size → Cells → Option Pos → Attrs → ℕ → List Form
 wait_behind z cells p a r =
     if is_pen_at p (place r z.cols) then []
     else arriving p (place r (end_col z cells r)) ++ printed_with a (end_cell z cells r)
 
--- the space behind which the cursor waits is erased with the attributes b, and the attributes a come back
+-- the space before the cursor is erased with the attributes b, and the attributes are then a again
 abbrev pub replaced : Attrs → Attrs → List Form
 replaced a b = change a b ++ SaveCursor ∷ Backspace ∷ EraseChar 1 ∷ RestoreCursor ∷ change b a
 
--- at the end of row r, where the cell x in the last column is empty
+-- the cursor moves behind the last column of row r, whose last cell x is empty
 unfoldable pub wait_on_empty : Size → Option Pos → Attrs → ℕ → CellView → List Form
 wait_on_empty z p a r x = arriving p (place r (z.cols - 1)) ++ Text (32 ∷ []) ∷ replaced a x.attrs
 
--- at the end of row q, below row r if a row is given
+-- the cursor moves behind the last column of row q, by way of the end of row r if one is given
 unfoldable pub wait : Size → Cells → Option Pos → Attrs → ℕ → Option ℕ → List Form
 wait z cells p a q (Some r) = wait_behind z cells p a r ++ replicate (q - r) Lf
 wait z cells p a q None = wait_on_empty z p a q (cells q (z.cols - 1))
 
 -- ---- the cursor
 
--- from p, if it is known, to the cursor of s, where the terminal draws with the attributes a
+-- the cursor moves to that of s, from p if that is known, with a as the terminal's attributes
 unfoldable pub cursor_position_formatted : Size → Shown → Option Pos → Attrs → List Form
 cursor_position_formatted z s p a =
     if nat_lt s.col z.cols then arriving p (place s.row s.col)

@@ -1,4 +1,4 @@
--- Small screens, and what is written for them.
+-- Small screens, and the forms that are written for them.
 use Rattle.std.specs.Prelude.{ℕ, ◌≡◌, Bool, true, false, List, [], ◌∷◌, ◌++◌, map, codes, slice_index_or, Some, None}
 use Rattle.vt100_forms.specs.declared.attrs.Attrs.{Attrs}
 use Rattle.vt100_forms.specs.declared.attrs.Color.TheVariants.{Default, Idx}
@@ -22,7 +22,7 @@ use Rattle.screen_drawing.specs.Screen.{cursor_state_formatted}
 abbrev pub size : ℕ → ℕ → Size
 size rows cols = record { rows = rows; cols = cols }
 
--- the cells row by row, which rows go on, and the cursor
+-- the cells row by row, which rows wrap, and the cursor
 abbrev pub screen : List (List CellView) → List Bool → ℕ → ℕ → Shown
 screen rows flags row col = record blank_shown {
   cell = λ r. cell_at (slice_index_or rows r []);
@@ -56,7 +56,7 @@ text cs = map (λ c. Text (c ∷ [])) cs
 abbrev pub dyed : ℕ → Form
 dyed i = Sgr (record no_change { fgcolor = Some (Idx i) })
 
--- what a redraw begins with, where the cursor isn't hidden
+-- what a redraw begins with, if the cursor isn't hidden
 abbrev pub start : List Form
 start = HideCursor false ∷ ClearAttrs ∷ ClearScreen ∷ []
 
@@ -71,35 +71,35 @@ green_word = record (screen ((plain_cells (codes "text is ") ++ letters (colored
   attrs = colored 2;
 }
 
--- the first row goes on in the second one; its last cell changes, and one in the second row goes
+-- the first row wraps into the second one; its last cell changes, and one in the second row is erased
 abbrev pub wrapped_row : Shown
 wrapped_row = screen (plain_cells (codes "abcd") ∷ plain_cells (codes "xyz") ∷ []) (true ∷ []) 1 3
 
 abbrev pub wrapped_changed : Shown
 wrapped_changed = screen (plain_cells (codes "abce") ∷ (plain_cells (codes "x") ++ blank ++ plain_cells (codes "z")) ∷ []) (true ∷ []) 1 1
 
--- the second half of a wide character, which a letter covers, takes the row's flag from the terminal
+-- a letter over the second half of a wide character, which makes the terminal lose the row's flag
 abbrev pub wide_end : Shown
 wide_end = screen ((plain_cells (codes "ab") ++ wide) ∷ plain_cells (codes "x") ∷ []) (true ∷ []) 1 1
 
 abbrev pub wide_covered : Shown
 wide_covered = screen ((plain_cells (codes "ab") ++ blank ++ plain_cells (codes "d")) ∷ plain_cells (codes "x") ∷ []) (true ∷ []) 0 4
 
--- so does a wide character that is put a column to the left
+-- a wide character one column to the left, which does the same
 abbrev pub wide_last : Shown
 wide_last = screen ((plain_cells (codes "an") ++ wide) ∷ plain_cells (codes "y") ∷ []) (true ∷ []) 1 1
 
 abbrev pub wide_moved : Shown
 wide_moved = screen ((plain_cells (codes "a") ++ wide ++ plain_cells (codes "x")) ∷ plain_cells (codes "y") ∷ []) (true ∷ []) 1 1
 
--- the cursor waits behind a row, and then behind the empty row
+-- the cursor is behind the last column of a full row, and then of the empty row
 abbrev pub full_row : Shown
 full_row = screen (plain_cells (codes "ab") ∷ []) [] 0 2
 
 abbrev pub emptied_row : Shown
 emptied_row = screen [] [] 0 2
 
--- it waits behind an empty row under a full one
+-- it is behind the last column of an empty row under a full one
 abbrev pub below_full : Shown
 below_full = screen (plain_cells (codes "ab") ∷ []) [] 1 2
 
@@ -138,7 +138,7 @@ pub record EachExampleIsWritten : Type 0 where
   pub modes_all : state_formatted (size 1 3) moded ≡ start ++ dyed 9 ∷ text (codes "A") ++ Keypad true ∷ CursorKeys true
       ∷ Paste false ∷ Mouse mouse.PressRelease mouse.None ∷ Encoding encoding.Sgr encoding.Default
       ∷ Style style.SteadyUnderline style.Default ∷ []
-  -- rows that go on: the cursor is moved to the column that is erased
+  -- rows that wrap: the cursor is moved to the column that is erased
   pub wrapped_redrawn : contents_formatted (size 2 4) wrapped_row ≡ start ++ text (codes "abcdxyz")
   pub wrapped_diff : contents_diff (size 2 4) wrapped_row wrapped_changed ≡ MoveTo 0 3 ∷ text (codes "e") ++ MoveTo 1 1
       ∷ EraseChar 1 ∷ []
@@ -147,7 +147,7 @@ pub record EachExampleIsWritten : Type 0 where
       ∷ MoveRight 1 ∷ text (codes "d") ++ MoveTo 0 3 ∷ text (codes "dx") ++ Backspace ∷ MoveTo 0 3 ∷ text (codes "d")
   pub moved_diff : contents_diff (size 2 4) wide_last wide_moved ≡ MoveTo 0 1 ∷ Text (0x4E2D ∷ [])
       ∷ text (codes "x") ++ MoveTo 0 3 ∷ text (codes "xy") ++ Backspace ∷ MoveRight 1 ∷ []
-  -- a cursor that waits
+  -- a cursor behind the last column
   pub full_redrawn : contents_formatted (size 2 2) full_row ≡ start ++ text (codes "ab")
   pub emptied_diff : contents_diff (size 2 2) full_row emptied_row ≡ MoveTo 0 0 ∷ ClearRowForward ∷ MoveRight 1
       ∷ Text (32 ∷ []) ∷ SaveCursor ∷ Backspace ∷ EraseChar 1 ∷ RestoreCursor ∷ []

@@ -1,4 +1,4 @@
--- Where redraws and differences of whole screens lead.
+-- What redraws and differences of whole screens make of a terminal.
 use Rattle.std.specs.Prelude.{ℕ, ◌≡◌, List, ◌++◌, Contains, Option, Some, None}
 use Rattle.std.specs.List.{AllByRecursion}
 use Rattle.vt100_forms.specs.declared.attrs.Attrs.{Attrs}
@@ -24,14 +24,14 @@ use Rattle.screen_drawing.specs.Screen.{state_formatted, contents_diff, state_di
 use Rattle.screen_drawing.specs.Screen.{contents_diffs, last_shown}
 use Rattle.screen_drawing.specs.Length.{IsSmallScreen}
 
--- What can be drawn: a screen's cells, flags and cursor. No text has U+FE0F, by which a terminal may make a cell wide.
+-- What can be drawn: a screen's cells, flags and cursor. No text has U+FE0F, which makes a cell wide in some terminals.
 pub record IsDrawable (z : Size) (s : Shown) : Type 0 where
   pub shown : IsShown z s
   pub cells : (r k : ℕ) → IsCell (s.cell r k)
   pub plain : (r k : ℕ) → Contains (s.cell r k).text 0xFE0F → ⊥
   pub proper : (r k : ℕ) → IsProper (s.cell r k).attrs
 
--- the same with the attributes that are drawn with
+-- the same, and proper attributes for the next character
 pub record IsDrawableScreen (z : Size) (s : Shown) : Type 0 where
   pub drawable : IsDrawable z s
   pub attrs : IsProper s.attrs
@@ -48,7 +48,7 @@ showing t s p = record t {
   attrs = p.attrs;
 }
 
--- on a blank screen
+-- the redraws of all rows, on a blank screen
 abbrev pub EachRowsRedrawLeads : Type 0
 EachRowsRedrawLeads = (z : Size) (t : Term) (s : Shown) (p : Pen) → IsDrawable z s → IsProper p.attrs → p.erase ≡ None
     → run z (rows_redraw z s z.rows p).forms (showing t blank_shown p) ≡ showing t s (rows_redraw z s z.rows p).pen
@@ -61,12 +61,12 @@ EachRowsDifferenceLeads = (z : Size) (t : Term) (old new : Shown) (p : Pen) → 
 
 -- ---- the cursor
 
--- the cursor stands at p, if that is known
+-- the cursor is at p, if p is known
 abbrev pub CursorIsAt : Option Pos → Shown → Type 0
 CursorIsAt None s = Unit {0}
 CursorIsAt (Some p) s = (s.row ≡ p.row) × (s.col ≡ p.col)
 
--- from the cells and flags of s the cursor comes to that of s, and nothing else changes
+-- on a terminal with the cells and flags of s, the cursor moves to that of s, and nothing else changes
 abbrev pub EachCursorIsPlaced : Type 0
 EachCursorIsPlaced = (z : Size) (s from : Shown) (p : Option Pos) → IsDrawable z s → IsProper from.attrs
     → from.cell ≡ s.cell → from.wrapped ≡ s.wrapped → CursorIsAt p from
@@ -125,7 +125,7 @@ abbrev pub EachStateRedrawLeads : Type 0
 EachStateRedrawLeads = (z : Size) (s from : Shown) → IsDrawableScreen z s → from.modes.mouse ≡ mouse.None
     → from.modes.encoding ≡ encoding.Default → from.style ≡ style.Default → Leads z (state_formatted z s) from s
 
--- whatever the modes and the style are
+-- the difference of two screens, whatever the modes and the cursor style are
 abbrev pub EachDifferenceLeads : Type 0
 EachDifferenceLeads = (z : Size) (old new : Shown) (m : Modes) (y : CursorStyle) → IsShown z old → IsProper old.attrs
     → IsDrawableScreen z new → Leads z (contents_diff z old new) (with_modes m y old) (with_modes m y new)
@@ -134,12 +134,12 @@ abbrev pub EachStateDifferenceLeads : Type 0
 EachStateDifferenceLeads = (z : Size) (old new : Shown) → IsShown z old → IsProper old.attrs → IsDrawableScreen z new
     → Leads z (state_diff z old new) old new
 
--- a redraw, and what differs in modes and style, from any terminal that has those of the old screen
+-- a redraw and the difference of the modes, from any terminal that has the modes and the cursor style of the old screen
 abbrev pub EachLaterRedrawLeads : Type 0
 EachLaterRedrawLeads = (z : Size) (old new from : Shown) → IsDrawableScreen z new → from.modes ≡ old.modes
     → from.style ≡ old.style → Leads z (contents_formatted z new ++ input_mode_diff old new) from new
 
--- a redraw, and differences after it, lead to the last of these screens
+-- a redraw, and differences after it, take a terminal to the last of these screens
 abbrev pub EachChainLeads : Type 0
 EachChainLeads = (z : Size) (s from : Shown) (xs : List Shown) → IsDrawableScreen z s → AllByRecursion (IsDrawableScreen z) xs
     → Leads z (contents_formatted z s ++ contents_diffs z s xs) from
@@ -147,7 +147,7 @@ EachChainLeads = (z : Size) (s from : Shown) (xs : List Shown) → IsDrawableScr
 
 -- ---- where U+FE0F is shown
 
--- the modes and the style are set all the same
+-- modes and cursor style are right, even if U+FE0F is shown
 pub record ModesAreSet (z : Size) (old new : Shown) (t : Term) : Type 0 where
   pub redrawn : t.modes.mouse ≡ mouse.None → t.modes.encoding ≡ encoding.Default → t.style ≡ style.Default
       → ((run z (state_formatted z new) t).modes ≡ new.modes) × ((run z (state_formatted z new) t).style ≡ new.style)
@@ -165,8 +165,8 @@ EachModeComesOut = (z : Size) (old new : Shown) (t : Term) → ModesAreSet z old
 
 -- ---- every list
 
--- what is true of each list of forms that is written for these states; the cursor's may be asked for with any
--- attributes that are as A says
+-- Q is true of each list of forms that is written for these states. The list for the cursor may be written for any
+-- attributes that fulfil A.
 pub record IsTrueOfLists (Q : List Form → Type 0) (A : Attrs → Type 0) (z : Size) (old new : Shown) : Type 0 where
   pub state_formatted : Q (state_formatted z new)
   pub contents_formatted : Q (contents_formatted z new)
@@ -183,30 +183,30 @@ pub record IsTrueOfLists (Q : List Form → Type 0) (A : Attrs → Type 0) (z : 
 abbrev pub IsTrueOfEach : (List Form → Type 0) → Size → Shown → Shown → Type 0
 IsTrueOfEach Q z old new = IsTrueOfLists Q (λ a. Unit {0}) z old new
 
--- cells of which none shows U+FFFD
+-- no cell shows U+FFFD
 pub record IsKnown (s : Shown) : Type 0 where
   pub cells : (r k : ℕ) → IsCell (s.cell r k)
   pub known : (r k : ℕ) → Contains (s.cell r k).text 0xFFFD → ⊥
 
--- the texts are those of cells
+-- the texts among the forms are those of cells, or spaces
 abbrev pub EachTextIsSent : Type 0
 EachTextIsSent = (z : Size) (old new : Shown) → IsKnown new → IsTrueOfEach (AllTexts IsSentText) z old new
 
--- so they have no ESC
+-- the texts among the forms have no ESC
 abbrev pub EachIsPlain : Type 0
 EachIsPlain = (z : Size) (old new : Shown) → IsKnown new → IsTrueOfEach (AllByRecursion HasPlainText) z old new
 
--- and no mark of a synchronized update stands in the bytes
+-- the bytes hold no mark of a synchronized update (private mode 2026)
 abbrev pub EachHasNoMark : Type 0
 EachHasNoMark = (z : Size) (old new : Shown) → IsKnown new → IsTrueOfEach HasNoMark z old new
 
--- and where no cell shows U+FE0F either, the texts are forms without it
+-- if no cell shows U+FE0F either, the texts among the forms don't have it
 abbrev pub EachTextIsAForm : Type 0
 EachTextIsAForm = (z : Size) (old new : Shown) → IsKnown new
     → ((r k : ℕ) → Contains (new.cell r k).text 0xFE0F → ⊥) → IsTrueOfEach (AllTexts IsFormText) z old new
 
--- With numbers of the code's types, too, each list is one of forms that writers send, whatever the old screen shows; and
--- where no cell shows U+FE0F, of forms that every reader takes alike.
+-- If the numbers also fit in the code's types, each list consists of forms that writers send, whatever the old screen
+-- shows. If no cell shows U+FE0F, they are forms that every reader takes alike.
 abbrev pub EachListIsSent : Type 0
 EachListIsSent = (z : Size) (old new : Shown) → HasByteColors old.attrs → IsSmallScreen z new → IsKnown new
     → IsTrueOfLists AreSentForms HasByteColors z old new

@@ -1,4 +1,4 @@
--- How long redraws and differences of screens can be.
+-- How many bytes redraws and differences of screens can have.
 use Rattle.std.specs.Prelude.{ℕ, ◌+◌, ◌*◌, ◌^◌, ◌<◌, ◌≤◌, List, length}
 use Rattle.vt100_forms.specs.Form.{Form, spell}
 use Rattle.vt100_forms.specs.Attrs.{HasByteColors}
@@ -8,7 +8,7 @@ use Rattle.screen_drawing.specs.Modes.{input_mode_formatted, input_mode_diff}
 use Rattle.screen_drawing.specs.Screen.{grid_contents_formatted, grid_difference, contents_formatted, state_formatted}
 use Rattle.screen_drawing.specs.Screen.{contents_diff, state_diff}
 
--- a screen whose numbers are of the code's types
+-- a screen whose numbers fit in the code's types
 pub record IsSmallScreen (z : Size) (s : Shown) : Type 0 where
   pub shown : IsShown z s
   pub cells : (r k : ℕ) → IsCell (s.cell r k)
@@ -17,7 +17,7 @@ pub record IsSmallScreen (z : Size) (s : Shown) : Type 0 where
   pub colors : (r k : ℕ) → HasByteColors (s.cell r k).attrs
   pub attrs : HasByteColors s.attrs
 
--- at most 1,024 bytes a cell, and so many more
+-- at most 1,024 bytes for each cell, and `more` bytes
 abbrev pub IsWithin : Size → ℕ → List Form → Type 0
 IsWithin z more fs = length (spell fs) ≤ 1024 * (z.rows * z.cols) + more
 
@@ -31,6 +31,6 @@ pub record AreShort (z : Size) (old new : Shown) : Type 0 where
   pub input_mode_formatted : length (spell (input_mode_formatted new)) ≤ 128
   pub input_mode_diff : length (spell (input_mode_diff old new)) ≤ 128
 
--- whatever the old screen shows
+-- the forms for the new screen are short, whatever the old screen shows
 abbrev pub EachIsShort : Type 0
 EachIsShort = (z : Size) (old new : Shown) → HasByteColors old.attrs → IsSmallScreen z new → AreShort z old new

@@ -1,4 +1,4 @@
--- The modes, the style of the cursor, and the attributes that are drawn with.
+-- The forms that set the modes, the cursor's style and the attributes.
 use Rattle.std.specs.Prelude.{List, [], ◌∷◌, ◌++◌, Bool, if◌then◌else◌}
 use Rattle.vt100_forms.specs.declared.modes.MouseProtocolMode.TheVariants as mouse
 use Rattle.vt100_forms.specs.declared.modes.MouseProtocolEncoding.TheVariants as encoding
@@ -8,11 +8,11 @@ use Rattle.vt100_forms.specs.Form.{Form, ClearAttrs, Keypad, CursorKeys, Paste, 
 use Rattle.vt100_cells.specs.Cell.{bool_eq}
 use Rattle.terminal_model.specs.Term.{Shown}
 
--- the form that sets a switch, where it changes
+-- the form that sets a switch, if it changes
 abbrev pub switch : (Bool → Form) → Bool → Bool → List Form
 switch form old new = if bool_eq new old then [] else form new ∷ []
 
--- The forms of the mouse and of the cursor's style have no bytes where nothing changes.
+-- The forms of the mouse modes and of the cursor's style have no bytes if nothing changes.
 unfoldable pub input_mode_formatted : Shown → List Form
 input_mode_formatted s =
     Keypad s.modes.keypad ∷ CursorKeys s.modes.cursor_keys ∷ Paste s.modes.paste ∷ Mouse s.modes.mouse mouse.None

@@ -6,27 +6,27 @@ use Rattle.row_drawing.specs.declared.pen.Pen.{Pen}
 use Rattle.row_drawing.specs.Writer.{Writer, ◌>>◌, skip}
 use Rattle.row_drawing.specs.RowWriter.{Job, row_redraw, row_difference}
 
--- the pen of a terminal whose cursor stands here and which draws with these attributes
+-- the pen of a terminal with this cursor and these attributes
 abbrev pub pen_at : ℕ → ℕ → Attrs → Pen
 pen_at row col a = record { pos = record { row = row; col = col }; attrs = a; erase = None; lost = false }
 
--- the pen at the start of a row, which has lost nothing yet
+-- the pen at the start of a row, whose flag the terminal can't have lost yet
 abbrev pub afresh : Pen → Pen
 afresh p = record p { lost = false }
 
--- whether the row above row i goes on in it
+-- whether the row above row i wraps into it
 abbrev pub is_continued : (ℕ → Bool) → ℕ → Bool
 is_continued wrapped zero = false
 is_continued wrapped (suc i) = wrapped i
 
 -- ---- one row after the other
 
--- how each row is drawn, which is told whether the row above has its flag in the terminal
+-- how each row is drawn, given whether the terminal has the flag of the row above
 abbrev pub RowWriters : Type 0
 RowWriters = ℕ → Bool → Writer
 
--- Row i, after those above. `had i` says whether the row above had its flag: it still has it, unless it lost it when it
--- was drawn.
+-- Row i, after those above. `had i` says whether the terminal had the flag of the row above. It still has it, unless it
+-- lost it when that row was drawn.
 unfoldable pub next_row : (ℕ → Bool) → RowWriters → ℕ → Writer
 next_row had rows i p = rows i (had i && not p.lost) (afresh p)
 
@@ -41,7 +41,8 @@ no_flags i = false
 
 -- ---- the rows of a picture
 
--- row i of the new picture over that of the old one; `flagged` says whether the row above has its flag in the terminal
+-- row i of the new picture, drawn over that of the old one; `flagged` says whether the terminal has the flag of the row
+-- above
 abbrev pub row_job : Size → Shown → Shown → ℕ → Bool → Job
 row_job z old new i flagged = record {
   cols = z.cols;

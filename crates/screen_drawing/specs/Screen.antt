@@ -10,7 +10,7 @@ use Rattle.screen_drawing.specs.Modes.{switch, input_mode_formatted, input_mode_
 
 -- ---- grids: cells, flags and the cursor
 
--- the cursor goes to that of s, and the attributes stay
+-- the cursor moves to that of s, and the attributes stay
 unfoldable pub cursor_placed : Size → Shown → Writer
 cursor_placed z s p = record {
   pen = record p { pos = record { row = s.row; col = s.col } };
@@ -21,7 +21,7 @@ cursor_placed z s p = record {
 unfoldable pub grid_redraw : Size → Shown → Drawn
 grid_redraw z s = (rows_redraw z s z.rows >> cursor_placed z s) (pen_at 0 0 default_attrs)
 
--- over the old screen, with its cursor and its attributes
+-- on a terminal that shows the old screen, with its cursor and its attributes
 unfoldable pub grid_difference : Size → Shown → Shown → Drawn
 grid_difference z old new =
     (rows_difference z old new z.rows >> cursor_placed z new) (pen_at old.row old.col old.attrs)
@@ -32,11 +32,11 @@ grid_difference z old new =
 abbrev pub cleared : Drawn → List Form
 cleared d = ClearAttrs ∷ ClearScreen ∷ d.forms
 
--- with the hiding of the cursor before it, and the attributes that are drawn with after it
+-- with whether the cursor is hidden before it, and the current attributes after it
 abbrev pub redraw_by : Shown → Drawn → List Form
 redraw_by s d = HideCursor s.hidden ∷ (cleared d ++ change d.pen.attrs s.attrs)
 
--- the same over the old screen
+-- the same, on a terminal that shows the old screen
 abbrev pub difference_by : Shown → Shown → Drawn → List Form
 difference_by old new d = switch HideCursor old.hidden new.hidden ++ d.forms ++ change d.pen.attrs new.attrs
 

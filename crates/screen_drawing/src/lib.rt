@@ -1,7 +1,7 @@
-//! Redraws and differences of whole screens, as lists of forms.
+//! Redraws and differences of whole screens, as lists of forms. A form is one escape sequence, or the text of one cell.
 //!
-//! This crate has no code. Its definitions say which forms bring a terminal from what it shows to what another one
-//! shows, as functions of the two shown states alone; its laws say where these forms lead, and which cells a difference
+//! This crate has no code. Its definitions give the forms that take a terminal from one picture to another; they depend
+//! on the two pictures only. Its laws say what a terminal shows after these forms, and which cells a difference
 //! touches. They are the contracts of functions that do nothing.
 #![tactic(auto)]
 

@@ -1,4 +1,4 @@
--- What is true of every terminal that bytes and resizes have made.
+-- What is true of every terminal after bytes and resizes.
 use Rattle.std.proofs.Common.{◌≡◌, ◌∙◌, ℕ, ◌<◌, ◌≤◌, Bool, cond, List, [], ◌∷◌, ◌++◌, length, refl, sym, ap, subst, All}
 use Rattle.std.proofs.Common.{⊎_elim, arith, Contains, ◌+◌, ◌-◌, true, false, nat_lt}
 use Rattle.std.proofs.lemmas.Bool.{cond_both, cases_lt}

@@ -1,4 +1,4 @@
--- What opens where a worked example is computed.
+-- What is unfolded when a worked example is computed.
 use Rattle.std.specs.Prelude.{⊤}
 use Rattle.unicode_width.specs.Width.{char_width}
 use Rattle.vt100_core.specs.Resize.{resized}

@@ -1,4 +1,4 @@
--- Whatever is done to a sheet, its cells stay proper, where proper attributes are drawn with.
+-- Whatever is done to a screen, its cells stay proper, if the current attributes are.
 use Rattle.std.proofs.Common.{ℕ, List, [], ◌∷◌, All}
 use Rattle.std.proofs.lemmas.List.Elements.{All-from_get_or}
 use Rattle.vt100_forms.specs.declared.attrs.Attrs.{Attrs}

@@ -1,5 +1,5 @@
--- What is true of each character and of the attributes that are drawn with stays true of the cells of a row, whatever
--- edits it. So no edit puts U+FFFD into a row, where none was put in.
+-- What is true of each character and of the current attributes stays true of the cells of a row, whatever edits it. So
+-- no edit puts U+FFFD into a row, if none was given.
 use Rattle.std.proofs.Common.{◌≡◌, ℕ, ◌+◌, ◌-◌, ◌<◌, ◌≤◌, Bool, cond, List, [], ◌∷◌}
 use Rattle.std.proofs.Common.{length, min, arith, sym, subst, nat_lt, All}
 use Rattle.std.proofs.Common.{⊎_elim}
@@ -35,11 +35,11 @@ IsKnown c = c ≡ 0xFFFD → ⊥
 pub space-known : IsKnown 32
 space-known = λ e. omega (arith, e)
 
--- those of a terminal that bytes made
+-- the traits of a terminal after bytes
 abbrev pub sound : Traits
 sound = record { of_char = IsKnown; of_attrs = IsProper; space = space-known; default = default-proper }
 
--- and of each screen
+-- the traits of each screen
 abbrev pub proper : Traits
 proper = record { of_char = λ c. Unit {0}; of_attrs = IsProper; space = tt; default = default-proper }
 

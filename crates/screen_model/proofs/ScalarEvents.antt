@@ -253,7 +253,7 @@ device-told cut s =
     (All-map IsTold Put (filter is_put (before ends_device s)) (λ k d l. tt))
     (device_end-told cut (from ends_device s))
 
--- what ends a header aborts it, or does what it says, if that is well formed
+-- the byte after a header aborts it, or completes it if it is well formed
 header_end-told : (cut : Bool) (h : List ℕ) (b : ℕ) (rest : List ℕ) (acts others : List Event) → Told acts → Told others
     → Told (cond (is_abort b) (aborted cut b rest) (cond (is_well_formed h) acts others))
 header_end-told cut h b rest acts others p q =

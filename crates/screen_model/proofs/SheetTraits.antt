@@ -1,5 +1,5 @@
--- What is true of each character and of the attributes that are drawn with stays true of the cells of a sheet, those
--- that are drawn and those that are kept, whatever is done to it.
+-- What is true of each character and of the current attributes stays true of the cells of a screen and of its kept
+-- rows, whatever is done to it.
 use Rattle.std.proofs.Common.{ℕ, ◌+◌, ◌-◌, ◌==◌, Bool, true, false, cond, not, ◌&&◌, List, [], ◌++◌, length}
 use Rattle.std.proofs.Common.{drop, map, min, replicate, nat_lt, nat_le, All}
 use Rattle.std.proofs.lemmas.Bool.{cond_both}
@@ -32,7 +32,7 @@ use Rattle.screen_model.proofs.RowTraits.{clean-joined, clean-inserted, clean-re
 use Rattle.screen_model.proofs.RowTraits.{clean-trimmed, clean-row, clean-rows, clean-moved_up, clean-opened_line}
 use Rattle.screen_model.proofs.RowTraits.{clean-erased_forward, clean-erased_backward, clean-first}
 
--- what stays true of a row without its blank end is true of the kept rows, after others have left
+-- what is true of a row, and stays so without its blank end, is true of the kept rows after others have left
 pub kept-all : (P : RowView → Type 0) → ((v : RowView) → P v → P (trimmed v)) → (k : KeptPart) (left : List RowView)
     → All P k.rows → All P left → All P (kept_after k left).rows
 kept-all P trims k left old new =

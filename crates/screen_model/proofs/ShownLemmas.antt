@@ -1,4 +1,4 @@
--- What a terminal shows is what its screen tells.
+-- What a terminal shows is what its screen's getters return.
 use Rattle.std.proofs.Common.{◌≡◌, ◌∙◌, ℕ, ◌+◌, ◌-◌, ◌<◌, ◌≤◌, ◌==◌, Bool, true, false, cond, ◌&&◌, List, [], ◌∷◌}
 use Rattle.std.proofs.Common.{length, refl, sym, ap, arith, ⊎_elim, nat_lt, Some, None, Option, subst}
 use Rattle.std.proofs.Common.{Contains}

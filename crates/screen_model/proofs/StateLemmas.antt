@@ -9,7 +9,7 @@ drawn : (b : Bool) (g h : GridView) → IsAllocated g → (b ≡ true → IsAllo
 drawn true g h p q = q refl
 drawn false g h p q = p
 
--- what the flag says of the main sheet and of the alternate one
+-- what the flag says of the main and of the alternate screen
 sheets_keep : (b : Bool) (g h : GridView) → g.kept.keeps ≡ not b → h.kept.keeps ≡ b
     → ((if b then h else g).kept.keeps ≡ true) × ((if b then g else h).kept.keeps ≡ false)
 sheets_keep true g h p q = (q, p)

@@ -1,4 +1,4 @@
--- What is true of each sheet of a terminal that shows no kept row: it stays true.
+-- What is true of each screen (main or alternate) of a terminal that shows no kept row, and stays true.
 use Rattle.std.proofs.Common.{◌≡◌, ℕ, ◌+◌, ◌-◌, ◌^◌, ◌<◌, ◌≤◌, ◌==◌, Bool, true, cond, ◌&&◌, List, []}
 use Rattle.std.proofs.Common.{◌++◌, length, set, drop, map, min, max, sym, ap, ◌∙◌, arith}
 use Rattle.std.proofs.Common.{subst, length-set, length-append, nat_lt, All}
@@ -26,7 +26,7 @@ use Rattle.vt100_core.proofs.KeepLemmas.{IsShownWide-none}
 use Rattle.vt100_core.proofs.StayLemmas.{widened-none}
 use Rattle.screen_model.proofs.SheetTraits.{kept-all}
 
--- a sheet's size, and how many rows it keeps, if any
+-- a screen's size, and how many rows it can keep, if any
 pub record Limits : Type 0 where
   pub height : ℕ
   pub width : ℕ
@@ -178,7 +178,7 @@ cursors-drawn l g h d row col saved_row saved_col =
     region-drawn l g (record h { top = g.top; bottom = g.bottom }) d row col saved_row saved_col i.region i.region_end
     i.region_lines
 
--- the cursor goes to a place of the screen
+-- the cursor moves to a place of the screen
 pub drawn-at : (l : Limits) (g : GridView) (row col : ℕ) → row < g.height → col ≤ g.width → IsShownSheet l g
     → IsShownSheet l (record g { row = row; col = col })
 drawn-at l g row col r c d =

@@ -1,4 +1,4 @@
--- New sheets, other sizes, and what is kept by itself.
+-- New screens, other sizes, and the kept rows by themselves.
 use Rattle.std.proofs.Common.{◌≡◌, ℕ, ◌-◌, ◌^◌, ◌<◌, ◌≤◌, ◌==◌, false, ◌&&◌, []}
 use Rattle.std.proofs.Common.{length, min, replicate, refl, sym, ap, ◌∙◌, arith, subst, ⊎_elim}
 use Rattle.std.proofs.Common.{nat_lt}
@@ -169,7 +169,7 @@ longer-fine l g height d higher small top = record {
   grid = IsGrid-lengthened g height d.grid higher small top d.limits.hidden;
 }
 
--- of a sheet without rows none scrolls off
+-- from a screen without rows none scrolls off
 scrolled-fine : (l : Limits) (g : GridView) (height : ℕ) → IsFineSheet l g → 0 < height
     → IsFineSheet l (scrolled_up (whole_screen g) (up_rows g height)).grid
 scrolled-fine l g height d some =
@@ -202,7 +202,7 @@ higher-fine l g height width d higher few_rows some_cols few_cols =
     longer-fine (sized l l.height width) (with_width (whole_screen g) width) height
     (width-fine l (whole_screen g) width (whole-fine l g d) some_cols few_cols) higher few_rows refl
 
--- the sheet itself where the size stays, or a lower or a higher one
+-- the screen itself if the size stays, or a lower or a higher one
 resized-either : (P : GridView → Type 0) (g : GridView) (height width : ℕ) → (height ≡ g.height → width ≡ g.width → P g)
     → (height < g.height
     → P (with_width (shortened (scrolled_up (whole_screen g) (up_rows g height)).grid (up_rows g height) height) width))

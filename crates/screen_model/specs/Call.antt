@@ -1,4 +1,4 @@
--- What a terminal tells the program around it.
+-- The calls of a terminal's callbacks.
 use Rattle.std.specs.Prelude.{◌≡◌, ℕ, Bool, List, [], ◌∷◌, Option}
 use Rattle.vt100_rows.specs.Row.{RowView}
 use Rattle.screen_model.specs.State.{State}
@@ -23,19 +23,20 @@ pub data Call : Type 0 where
   unhandled_csi : Option ℕ → Option ℕ → List (List ℕ) → ℕ → Call
   unhandled_osc : List (List ℕ) → Call
 
--- a screen: its state, and whether it has failed for want of memory
+-- a screen: its state, and whether an allocation has failed in the middle of a change
 pub record ScreenView : Type 0 where
   pub state : State
   pub failed : Bool
 
--- callbacks c and the screen v that they are lent have gone through these calls, in order and each once, and are d and
--- w; `step` says what one call does
+-- The callbacks c, which borrow the screen v, receive these calls, in order and each once, and are then d and w; `step`
+-- says what one call does.
 abbrev pub Calls : {C : Type 0} → (C → ScreenView → Call → C → ScreenView → Type 0) → C → ScreenView → List Call → C
     → ScreenView → Type 0
 Calls step c v [] d w = (c ≡ d) × (v ≡ w)
 Calls {C} step c v (k ∷ ks) d w = (b : C) × (u : ScreenView) × step c v k b u × Calls step b u ks d w
 
--- callbacks c have been told of these rows, in order and each once, and are d; `scrolls` says what one report does
+-- The callbacks c receive reports of these rows, in order and each once, and are then d; `scrolls` says what one report
+-- does.
 abbrev pub Hears : {C : Type 0} → (C → RowView → Bool → C → Type 0) → C → List Report → C → Type 0
 Hears scrolls c [] d = c ≡ d
 Hears {C} scrolls c (r ∷ rs) d = (b : C) × scrolls c r.row r.alternate b × Hears scrolls b rs d

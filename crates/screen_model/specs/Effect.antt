@@ -20,7 +20,7 @@ use Rattle.screen_model.specs.Step.{erased_kept, erased_right, erased_left, eras
 use Rattle.screen_model.specs.Step.{cells_taken, lines_added, lines_taken, region_up, region_down, with_keypad}
 use Rattle.screen_model.specs.Step.{with_style, made_anew}
 
--- the state after an event's own change, the rows that left on the way, and the calls that are made then
+-- the state after an event, the rows that have left for good, and the calls that are then made
 pub record Effect : Type 0 where
   pub state : State
   pub reports : List Report
@@ -79,7 +79,7 @@ escape_effect (i ∷ is) b s = calling (call.unhandled_escape (Some i) (first is
 
 -- ---- the numbers of a control sequence
 
--- the first number of the first group, if there is one
+-- the first number of the first parameter, if there is one
 abbrev pub given : List (List ℕ) → Option ℕ
 given [] = None
 given (g ∷ gs) = first g
@@ -88,17 +88,17 @@ abbrev pub later : List (List ℕ) → List (List ℕ)
 later [] = []
 later (g ∷ gs) = gs
 
--- that number, or a default where it is absent or 0
+-- that number; a default if there is none, or it is 0
 abbrev pub number_or : ℕ → List (List ℕ) → ℕ
 number_or d gs = if nat_eq (unwrap_or (given gs) 0) 0 then d else unwrap_or (given gs) 0
 
--- a count or a place
+-- a count or a position: 1 if there is none, or it is 0
 abbrev pub count : List (List ℕ) → ℕ
 count gs = number_or 1 gs
 
 -- ---- control sequences
 
--- what an unhandled one tells: the first two intermediates, the parameters and the final byte
+-- the call for an unhandled sequence: the first two intermediates, the parameters and the final byte
 abbrev pub csi_call : List ℕ → List (List ℕ) → ℕ → Call
 csi_call ms gs b = call.unhandled_csi (first ms) (second ms) gs b
 
@@ -117,7 +117,7 @@ style_rows =
     ∷ (4, style.SteadyUnderline)
     ∷ (5, style.BlinkVerticalBar) ∷ (6, style.SteadyVerticalBar) ∷ []
 
--- a row of a table, where there is one
+-- the effect of a table's row; unhandled if there is none
 abbrev pub row_partly : Option (State → Stepped) → State → Partly
 row_partly None s = record { state = s; reports = []; unhandled = 1 }
 row_partly (Some f) s = record { state = (f s).state; reports = (f s).reports; unhandled = 0 }
@@ -139,11 +139,11 @@ attributes_read gs s = record {
   unhandled = (sgr_read gs s.attrs).unhandled;
 }
 
--- the call is made once for each part that is unhandled
+-- the effect of a sequence, with the call made once for each part that is unhandled
 abbrev pub partly : Partly → Call → Effect
 partly x k = record { state = x.state; reports = x.reports; calls = replicate x.unhandled k }
 
--- 8 asks for a size, of which an absent number is the screen's
+-- window operation 8 asks for a size; the screen's own stands for an absent number
 abbrev pub window_effect : List (List ℕ) → Call → State → Effect
 window_effect gs k s =
     if nat_eq (unwrap_or (given gs) 0) 8
@@ -151,7 +151,7 @@ window_effect gs k s =
     (unwrap_or (given (later (later gs))) s.shown.width) ∷ []) s
     else calling (k ∷ []) s
 
--- finals that take a count or places: @ A B C D E F G H L M P S T X ` b d f r
+-- final bytes that take a count or a position: @ A B C D E F G H L M P S T X ` b d f r
 abbrev pub plain_rows : List (ℕ × (List (List ℕ) → State → Effect))
 plain_rows =
     (0x40, λ gs s. changes (cells_added (count gs) s)) ∷ (0x41, λ gs s. changes (cursor_up (count gs) s))
@@ -169,7 +169,7 @@ plain_rows =
     ∷ (0x62, λ gs s. steps (repeated (count gs) s))
     ∷ (0x72, λ gs s. changes (in_region (count gs - 1) (number_or s.shown.height (later gs) - 1) s)) ∷ []
 
--- J K m t, which can be unhandled by their numbers
+-- J K m t, which some numbers make unhandled
 abbrev pub other_rows : List (ℕ × (List (List ℕ) → Call → State → Effect))
 other_rows =
     (0x4A, λ gs k s. partly (display_erased (number_or 0 gs) s) k)
@@ -191,7 +191,7 @@ abbrev pub plain_effect : Option (List (List ℕ) → State → Effect) → List
 plain_effect None gs b s = row_effect (lookup b other_rows) gs (csi_call [] gs b) s
 plain_effect (Some f) gs b s = f gs s
 
--- the first intermediate alone chooses; after a space the unhandled call doesn't tell it
+-- Only the first intermediate chooses the table. After a space, the unhandled call leaves it out.
 abbrev pub csi_effect : List (List ℕ) → List ℕ → ℕ → State → Effect
 csi_effect gs [] b s = plain_effect (lookup b plain_rows) gs b s
 csi_effect gs (m ∷ ms) b s =
@@ -202,18 +202,18 @@ csi_effect gs (m ∷ ms) b s =
 
 -- ---- operating system commands
 
--- 0, 1 and 2 with one more piece
+-- OSC 0, 1 and 2, with one more piece
 abbrev pub title_rows : List (ℕ × (List ℕ → List Call))
 title_rows =
     (0x30, λ p. call.set_window_icon_name p ∷ call.set_window_title p ∷ [])
     ∷ (0x31, λ p. call.set_window_icon_name p ∷ [])
     ∷ (0x32, λ p. call.set_window_title p ∷ []) ∷ []
 
--- c p q s, 0 to 7
+-- the letters of clipboards: c p q s, 0 to 7
 abbrev pub is_selector : ℕ → Bool
 is_selector b = (is_in_range 0x30 0x37 b || (nat_eq b 0x63 || nat_eq b 0x70)) || (nat_eq b 0x71 || nat_eq b 0x73)
 
--- letters, digits, + / =
+-- the characters of base64: letters, digits, + / =
 abbrev pub is_base64 : ℕ → Bool
 is_base64 b =
     (is_in_range 0x41 0x5A b || (is_in_range 0x61 0x7A b || is_in_range 0x30 0x39 b))

@@ -1,4 +1,4 @@
--- What is true of every terminal that bytes and resizes have made.
+-- What is true of every terminal after bytes and resizes.
 use Rattle.std.specs.Prelude.{ℕ, ◌^◌, ◌<◌, ◌≡◌, List, [], ◌∷◌, All, Contains, false}
 use Rattle.vt100_forms.specs.Attrs.{IsProper, HasByteColors}
 use Rattle.vt100_cells.specs.Cell.{IsCell}
@@ -8,7 +8,7 @@ use Rattle.screen_model.specs.State.{State, IsState, main_sheet}
 use Rattle.screen_model.specs.Step.{resized_to, with_updating}
 use Rattle.screen_model.specs.Made.{Act, Fed, Resized, made}
 
--- how many rows, and columns, a screen can have
+-- a number of rows, or of columns, that a screen can have
 abbrev pub IsSide : ℕ → Type 0
 IsSide n = (0 < n) × (n < 2 ^ 16)
 
@@ -16,7 +16,7 @@ abbrev pub IsAct : Act → Type 0
 IsAct (Fed bytes) = Unit {0}
 IsAct (Resized rows cols) = IsSide rows × IsSide cols
 
--- acts on a terminal of this size, which keeps so many rows
+-- bytes and resizes of a terminal that had this size at first, and keeps at most `capacity` rows
 pub record AreActs (rows cols capacity : ℕ) (acts : List Act) : Type 0 where
   pub height : IsSide rows
   pub width : IsSide cols
@@ -34,12 +34,12 @@ last_cols cols [] = cols
 last_cols cols (Fed bytes ∷ acts) = last_cols cols acts
 last_cols cols (Resized height width ∷ acts) = last_cols width acts
 
--- it is a state of a terminal
+-- bytes and resizes lead to a valid state of a terminal
 abbrev pub MakesStates : Type 0
 MakesStates = (rows cols capacity : ℕ) (acts : List Act) → AreActs rows cols capacity acts
     → IsState (made rows cols capacity acts)
 
--- both sheets have the last size
+-- both the main and the alternate screen have the last size
 pub record HasSize (s : State) (rows cols : ℕ) : Type 0 where
   pub height : s.shown.height ≡ rows
   pub width : s.shown.width ≡ cols
@@ -50,12 +50,12 @@ abbrev pub MakesLastSize : Type 0
 MakesLastSize = (rows cols capacity : ℕ) (acts : List Act) → AreActs rows cols capacity acts
     → HasSize (made rows cols capacity acts) (last_rows rows acts) (last_cols cols acts)
 
--- its main sheet keeps as many rows at most as at first
+-- the main screen's capacity for kept rows stays
 abbrev pub MakesCapacity : Type 0
 MakesCapacity = (rows cols capacity : ℕ) (acts : List Act) → AreActs rows cols capacity acts
     → (main_sheet (made rows cols capacity acts)).kept.capacity ≡ capacity
 
--- no kept row is shown, on neither sheet
+-- no kept row is shown, on either screen
 pub record ShowsNoKeptRow (s : State) : Type 0 where
   pub shown : s.shown.kept.offset ≡ 0
   pub other : s.other.kept.offset ≡ 0
@@ -81,7 +81,7 @@ abbrev pub MakesProperCells : Type 0
 MakesProperCells = (rows cols capacity : ℕ) (acts : List Act) → AreActs rows cols capacity acts
     → ShowsProperCells (made rows cols capacity acts)
 
--- the colours of each cell that is shown, and those that are drawn with, are numbered from 0 to 255
+-- the colours of each cell that is shown, and the current ones, are numbered from 0 to 255
 pub record ShowsByteColors (s : State) : Type 0 where
   pub cells : (r c : ℕ) → HasByteColors (cell_at (visible_at s.shown r).cells c).attrs
   pub drawn : HasByteColors s.attrs
@@ -90,7 +90,7 @@ abbrev pub MakesByteColors : Type 0
 MakesByteColors = (rows cols capacity : ℕ) (acts : List Act) → AreActs rows cols capacity acts
     → ShowsByteColors (made rows cols capacity acts)
 
--- the size that a terminal has already changes nothing but that the program's update ends, and no row leaves
+-- a resize to the terminal's own size only ends the program's synchronized update, and no row leaves
 abbrev pub KeepsAtSameSize : Type 0
 KeepsAtSameSize = (s : State) → IsState s
     → resized_to s.shown.height s.shown.width s ≡ record { state = with_updating false s; reports = [] }

@@ -30,7 +30,7 @@ mouse_set m s = with_modes s (record (s.modes) { mouse = m })
 abbrev pub encoding_set : MouseProtocolEncoding → State → State
 encoding_set m s = with_modes s (record (s.modes) { encoding = m })
 
--- only the mode that is set is reset
+-- the mouse mode is reset, if it is the one that is set
 abbrev pub mouse_reset : MouseProtocolMode → State → State
 mouse_reset m s = if is_mouse s.modes.mouse m then mouse_set mouse.None s else s
 
@@ -54,12 +54,12 @@ reset_rows =
     ∷ (1005, encoding_reset encoding.Utf8) ∷ (1006, encoding_reset encoding.Sgr) ∷ (1049, alternate_left)
     ∷ (2004, with_paste false) ∷ (2026, with_updating false) ∷ []
 
--- what stands in a table for a group; a group of more numbers than one is in no row
+-- a table's row for a parameter; a parameter of more than one number has none
 abbrev pub row_of : List (ℕ × (State → State)) → List ℕ → Option (State → State)
 row_of rows (n ∷ []) = lookup n rows
 row_of rows ns = None
 
--- the state that a row leads to; where there is none nothing changes
+-- the state after a row's change; the same state if there is no row
 abbrev pub row_state : Option (State → State) → State → State
 row_state None s = s
 row_state (Some f) s = f s
@@ -72,7 +72,7 @@ partly_on o x = record {
       else x.unhandled + 1;
 }
 
--- the groups in order
+-- the parameters, in order
 abbrev pub modes_from : List (ℕ × (State → State)) → Partly → List (List ℕ) → Partly
 modes_from rows x [] = x
 modes_from rows x (g ∷ gs) = modes_from rows (partly_on (row_of rows g) x) gs

@@ -11,22 +11,22 @@ use Rattle.screen_model.specs.Call.{Call}
 use Rattle.screen_model.specs.Effect.{effect}
 use Rattle.screen_model.specs.Made.{Act, Fed, Resized, made}
 
--- ESC and what follows it
+-- ESC, and what follows it
 abbrev pub esc : List ℕ → List ℕ
 esc cs = 0x1B ∷ cs
 
--- what bytes make of a new terminal that keeps no rows
+-- a new terminal that keeps no rows, after these bytes
 abbrev pub shown_by : ℕ → ℕ → List ℕ → State
 shown_by rows cols bytes = made rows cols 0 (Fed bytes ∷ [])
 
--- what stands at a place, and in a row
+-- the cell at a place, and the text of a row
 abbrev pub cell_shown : State → ℕ → ℕ → CellView
 cell_shown s r c = cell_at (visible_at s.shown r).cells c
 
 abbrev pub text_shown : State → ℕ → List ℕ
 text_shown s r = row_text (visible_at s.shown r) 0 s.shown.width
 
--- the calls of events, where no callback changes the state
+-- the calls of events, if no callback changes the state
 abbrev pub calls_made : List Event → State → List Call
 calls_made [] s = []
 calls_made (e ∷ es) s = (effect e s).calls ++ calls_made es (effect e s).state
@@ -44,10 +44,10 @@ three_lines = codes "a" ++ 13 ∷ 10 ∷ codes "b" ++ 13 ∷ 10 ∷ codes "c"
 abbrev pub red_word : List ℕ
 red_word = codes "T" ++ esc (codes "[31mRED") ++ esc (codes "[m")
 
--- a red letter, where another size comes in the middle of its sequence
+-- a red letter, with a resize in the middle of its sequence
 abbrev pub cut_red : List Act
 cut_red = Fed (esc (codes "[3")) ∷ Resized 1 4 ∷ Fed (codes "1mA") ∷ []
 
--- two letters, and one on the alternate sheet
+-- two letters, and one on the alternate screen
 abbrev pub on_alternate : List ℕ
 on_alternate = codes "ab" ++ esc (codes "[?1049h") ++ codes "c"

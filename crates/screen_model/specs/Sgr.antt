@@ -1,4 +1,4 @@
--- What the groups of an SGR sequence do to the drawing attributes (ECMA-48 8.3.117; colours by ITU-T T.416).
+-- What the groups of an SGR sequence do to the current attributes (ECMA-48 8.3.117; colours by ITU-T T.416).
 use Rattle.std.specs.Prelude.{ℕ, zero, suc, ◌+◌, ◌-◌, Bool, true, false, List, [], ◌∷◌, get_or, Option, Some, None}
 use Rattle.std.specs.Prelude.{option_map, nat_eq, nat_lt, if◌then◌else◌}
 use Rattle.std.specs.Int.{is_in_range}
@@ -34,16 +34,16 @@ code_row n =
 
 -- ---- colours
 
--- a colour's values are below 256
+-- a value of a colour, if it is below 256
 abbrev pub value : ℕ → Option ℕ
 value n = if nat_lt n 256 then Some n else None
 
--- the value of a group that has no other number
+-- the value of a group of one number
 abbrev pub alone : List ℕ → Option ℕ
 alone (n ∷ []) = value n
 alone ns = None
 
--- that of the group at k
+-- the value of the group at k
 abbrev pub value_at : List (List ℕ) → ℕ → Option ℕ
 value_at gs k = alone (get_or gs k [])
 
@@ -54,13 +54,13 @@ rgb r g b = None
 -- ---- what the groups at the front of a list ask for
 
 pub data Asks : Type 0 where
-  -- a change, told by the first group and so many after it
+  -- a change, by the first group and so many after it
   change : (Attrs → Attrs) → ℕ → Asks
-  -- the first group is unhandled, and the next one is read as ever
+  -- the first group is unhandled, and the next one is read as usual
   passed_over : Asks
-  -- the list ends: a value is missing, past 255, or in a group with others
+  -- reading ends: a value is missing, is over 255, or is in a group with others
   ends : Asks
-  -- the same, and a group is unhandled: the kind is neither 2 nor 5
+  -- reading ends, and a group is unhandled: the kind of colour is neither 2 nor 5
   ends_unhandled : Asks
 
 abbrev pub color_change : Bool → Option Color → ℕ → Asks
@@ -76,7 +76,7 @@ separate_color t ((n ∷ []) ∷ gs) =
     else ends_unhandled
 separate_color t (g ∷ gs) = ends_unhandled
 
--- the same in one group with 38 or 48
+-- a colour in one group with 38 or 48
 abbrev pub group_color : Bool → List ℕ → Asks
 group_color t (n ∷ i ∷ []) = if nat_eq n 5 then color_change t (option_map Idx (value i)) 0 else passed_over
 group_color t (n ∷ r ∷ g ∷ b ∷ []) =
@@ -115,13 +115,13 @@ read_on rest a passed_over = one_more (rest 0 a)
 read_on rest a ends = record { attrs = a; unhandled = 0 }
 read_on rest a ends_unhandled = record { attrs = a; unhandled = 1 }
 
--- these groups, of which the first k belong to a colour that is read
+-- the attributes after these groups, of which the first k belong to a colour that is read already
 abbrev pub read_groups : List (List ℕ) → ℕ → Attrs → Read
 read_groups [] k a = record { attrs = a; unhandled = 0 }
 read_groups (g ∷ gs) (suc k) a = read_groups gs k a
 read_groups (g ∷ gs) zero a = read_on (read_groups gs) a (asks g gs)
 
--- without any group the attributes are the default ones
+-- the attributes after an SGR; without any group they are the default ones
 abbrev pub sgr_read : List (List ℕ) → Attrs → Read
 sgr_read [] a = record { attrs = default_attrs; unhandled = 0 }
 sgr_read (g ∷ gs) a = read_groups (g ∷ gs) 0 a

@@ -1,4 +1,4 @@
--- What a terminal shows, and how the calls that ask a screen about it tell that.
+-- What a terminal shows, and what the getters of a screen return.
 use Rattle.std.specs.Prelude.{ℕ, ◌<◌, ◌≡◌, Bool, false, Option, Some, unwrap_or, Contains}
 use Rattle.std.specs.Option.{option_map}
 use Rattle.vt100_forms.specs.Attrs.{flags_of}
@@ -8,7 +8,7 @@ use Rattle.vt100_core.specs.Grid.{visible_row_at, cell_in}
 use Rattle.vt100_core.specs.Picture.{Extras, visible_lines, visible_wraps}
 use Rattle.screen_model.specs.State.{State, IsState}
 
--- what it has beside its sheets
+-- what a terminal has beside its two screens: whether the cursor is hidden, attributes, modes and cursor style
 abbrev pub extras_of : State → Extras
 extras_of s = record {
   hidden = s.hidden;
@@ -18,7 +18,7 @@ extras_of s = record {
   style = s.style;
 }
 
--- the picture of the shown sheet, the input modes and the cursor's style
+-- the picture of the shown screen, the input modes and the cursor's style
 abbrev pub shown_state : State → Shown
 shown_state s = record {
   cell = visible_lines s.shown;
@@ -31,14 +31,14 @@ shown_state s = record {
   style = s.style;
 }
 
--- the cell that is told at a place, and the flag of a row
+-- the cell that `Screen::cell` returns at a place, and the flag that `Screen::row_wrapped` returns
 abbrev pub told_cell : State → ℕ → ℕ → Option CellView
 told_cell s r c = cell_in (visible_row_at s.shown r) c
 
 abbrev pub told_wrap : State → ℕ → Bool
 told_wrap s r = unwrap_or (option_map (λ v. v.wrapped) (visible_row_at s.shown r)) false
 
--- at each place of the screen a cell is told, and it is the one that is shown
+-- at each place of the screen the getter returns the cell that is shown
 abbrev pub EachCellIsTold : Type 0
 EachCellIsTold = (s : State) → IsState s → (r c : ℕ) → r < s.shown.height → c < s.shown.width
     → told_cell s r c ≡ Some ((shown_state s).cell r c)
@@ -46,11 +46,11 @@ EachCellIsTold = (s : State) → IsState s → (r c : ℕ) → r < s.shown.heigh
 abbrev pub EachWrapIsTold : Type 0
 EachWrapIsTold = (s : State) → IsState s → (r : ℕ) → told_wrap s r ≡ (shown_state s).wrapped r
 
--- a character stands in the text of a cell that is shown
+-- a character is in the text of a cell that is shown
 abbrev pub IsShownSomewhere : State → ℕ → Type 0
 IsShownSomewhere s c = (row : ℕ) × (col : ℕ) × Contains ((shown_state s).cell row col).text c
 
--- and in the text of a cell that is told at a place of the screen
+-- a character is in the text of a cell that the getter returns for a place of the screen
 pub record IsToldSomewhere (s : State) (c : ℕ) : Type 0 where
   pub row : ℕ
   pub col : ℕ
@@ -60,7 +60,7 @@ pub record IsToldSomewhere (s : State) (c : ℕ) : Type 0 where
   pub told : told_cell s row col ≡ Some cell
   pub stands : Contains cell.text c
 
--- the one is so exactly where the other is
+-- the one is true exactly when the other is
 pub record IsToldWhereShown (s : State) (c : ℕ) : Type 0 where
   pub told : IsShownSomewhere s c → IsToldSomewhere s c
   pub shown : IsToldSomewhere s c → IsShownSomewhere s c
@@ -68,7 +68,7 @@ pub record IsToldWhereShown (s : State) (c : ℕ) : Type 0 where
 abbrev pub EachCharacterIsTold : Type 0
 EachCharacterIsTold = (s : State) → IsState s → (c : ℕ) → IsToldWhereShown s c
 
--- two screens of one size of which all these calls tell the same
+-- two screens of one size, for which all getters return the same
 pub record AreToldAlike (s t : State) : Type 0 where
   pub height : s.shown.height ≡ t.shown.height
   pub width : s.shown.width ≡ t.shown.width
@@ -84,6 +84,6 @@ pub record AreToldAlike (s t : State) : Type 0 where
   pub modes : s.modes ≡ t.modes
   pub style : s.style ≡ t.style
 
--- show the same
+-- screens for which all getters return the same show the same
 abbrev pub AlikeShowTheSame : Type 0
 AlikeShowTheSame = (s t : State) → IsState s → IsState t → AreToldAlike s t → shown_state s ≡ shown_state t

@@ -1,4 +1,4 @@
--- The state of a terminal: two sheets, and what they share.
+-- The state of a terminal: the main and the alternate screen (its two sheets), and what they share.
 use Rattle.std.specs.Prelude.{ℕ, ◌+◌, ◌≡◌, ◌==◌, Bool, true, false, not, ◌&&◌, List, Option, None, if◌then◌else◌}
 use Rattle.vt100_forms.specs.Attrs.{default_attrs, IsProper}
 use Rattle.vt100_forms.specs.declared.attrs.Attrs.{Attrs}
@@ -17,7 +17,7 @@ pub record State : Type 0 where
   pub other : GridView
   -- whether the shown sheet is the alternate one
   pub alternate : Bool
-  -- the drawing attributes, and those that were saved with a cursor
+  -- the current attributes, and those that were saved with a cursor
   pub attrs : Attrs
   pub saved_attrs : Attrs
   -- whether the cursor is hidden
@@ -26,7 +26,7 @@ pub record State : Type 0 where
   -- whether the program is in a synchronized update of its own
   pub updating : Bool
   pub style : CursorStyle
-  -- the last character that was drawn in a cell of its own
+  -- the last character that was drawn in a cell of its own, for REP
   pub last : Option ℕ
 
 abbrev pub main_sheet : State → GridView
@@ -37,7 +37,8 @@ alternate_sheet s = if s.alternate then s.shown else s.other
 
 -- ---- at first
 
--- a blank main sheet that keeps so many rows, and an alternate one that has no rows until it is used and keeps none
+-- A blank main screen that keeps at most so many rows, and an alternate one. The alternate one has no rows until it is
+-- shown, and keeps none.
 abbrev pub fresh_state : ℕ → ℕ → ℕ → State
 fresh_state height width capacity = record {
   shown = allocated (new_grid height width (Enabled capacity));
@@ -54,7 +55,7 @@ fresh_state height width capacity = record {
 
 -- ---- what is true of every state
 
--- the attributes of each cell are such as control sequences can set, in the rows that are drawn on and in the kept ones
+-- the attributes of each cell are proper (SGR can set them), on the screen and in the kept rows
 pub record HasProperCells (rows kept_rows : List RowView) : Type 0 where
   pub drawn : (r k : ℕ) → IsProper (cell_at (row_at rows r).cells k).attrs
   pub kept : (r k : ℕ) → IsProper (cell_at (row_at kept_rows r).cells k).attrs
@@ -65,7 +66,7 @@ IsProperSheet g = HasProperCells g.rows g.kept.rows
 pub record IsState (s : State) : Type 0 where
   pub shown : IsGrid s.shown
   pub other : IsGrid s.other
-  -- the main sheet always has rows; the alternate one at the latest when it is shown
+  -- the main screen always has rows; the alternate one has them once it is shown
   pub drawn : IsAllocated s.shown
   pub main_drawn : IsAllocated (main_sheet s)
   pub height : s.other.height ≡ s.shown.height
@@ -77,8 +78,8 @@ pub record IsState (s : State) : Type 0 where
   pub proper : IsProperSheet s.shown
   pub other_proper : IsProperSheet s.other
 
--- the main sheet is shown, with no kept row, one region and places counted from the screen's top: where a redraw is
--- read as it was meant
+-- The main screen is shown, with no kept row, the whole screen as scroll region, and positions counted from its top. A
+-- redraw is then read as it was meant.
 abbrev pub is_plain : State → Bool
 is_plain s =
     not s.alternate && ((s.shown.kept.offset == 0) && ((s.shown.top == 0) && (((s.shown.bottom + 1) == s.shown.height)

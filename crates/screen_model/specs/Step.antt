@@ -1,4 +1,4 @@
--- What each control does to a state, over the maps of its sheets.
+-- What each control does to a state.
 use Rattle.std.specs.Prelude.{ℕ, zero, suc, ◌+◌, ◌-◌, Bool, true, false, min, List, [], ◌++◌, map, Option, Some, None}
 use Rattle.std.specs.Prelude.{if◌then◌else◌}
 use Rattle.vt100_forms.specs.declared.modes.CursorStyle.{CursorStyle}
@@ -17,7 +17,7 @@ use Rattle.vt100_core.specs.declared.printed.Printed.TheVariants.{Nothing, Spaci
 use Rattle.terminal_model.specs.Term.{Modes}
 use Rattle.screen_model.specs.State.{State, main_sheet, alternate_sheet, fresh_state}
 
--- a row that has left for good, and whether it was one of the alternate sheet
+-- a row that has left the screen and isn't kept, and whether it left the alternate screen
 pub record Report : Type 0 where
   pub row : RowView
   pub alternate : Bool
@@ -25,12 +25,12 @@ pub record Report : Type 0 where
 abbrev pub reports_of : Bool → List RowView → List Report
 reports_of alternate rows = map (λ v. record { row = v; alternate = alternate }) rows
 
--- a state, and the rows that have left for good on the way to it, the first to leave first
+-- a state, and the rows that have left for good on the way to it, the oldest first
 pub record Stepped : Type 0 where
   pub state : State
   pub reports : List Report
 
--- the same of a sequence of which parts can be unknown, and how many of them were
+-- the same for a sequence that can have unknown parts, and how many of these there were
 pub record Partly : Type 0 where
   pub state : State
   pub reports : List Report
@@ -40,11 +40,11 @@ pub record Partly : Type 0 where
 abbrev pub quietly : State → Stepped
 quietly s = record { state = s; reports = [] }
 
--- the shown sheet becomes this one
+-- the shown screen is replaced by this one
 abbrev pub with_shown : State → GridView → State
 with_shown s g = record s { shown = g }
 
--- the shown sheet scrolls, and what leaves it is reported
+-- the shown screen scrolls, and the rows that leave it for good are reported
 abbrev pub with_scrolled : State → Scrolled → Stepped
 with_scrolled s x = record { state = record s { shown = x.grid }; reports = reports_of s.alternate x.sunk }
 
@@ -72,7 +72,7 @@ typed_times (suc n) c s =
     let u = typed c t.state in
     record { state = u.state; reports = t.reports ++ u.reports }
 
--- the last drawn character n times, where there is one (REP)
+-- the last drawn character n times, if there is one (REP)
 abbrev pub repeated_last : Option ℕ → ℕ → State → Stepped
 repeated_last None n s = quietly s
 repeated_last (Some c) n s = typed_times n c s
@@ -99,7 +99,7 @@ at_column col s = with_shown s (record (s.shown) { col = min col (s.shown.width 
 abbrev pub at_row : ℕ → State → State
 at_row row s = with_shown s (record (s.shown) { row = min row (s.shown.height - 1) })
 
--- to a place (CUP, HVP)
+-- to a position (CUP, HVP)
 abbrev pub at_place : ℕ → ℕ → State → State
 at_place row col s = with_shown s (cursor_at s.shown row col)
 
@@ -116,7 +116,7 @@ line_above n s = cursor_up n (at_column 0 s)
 abbrev pub line_below : ℕ → State → State
 line_below n s = cursor_down n (at_column 0 s)
 
--- a row down, or up, where the region scrolls at its end (LF, RI)
+-- a row down, or up; the scroll region scrolls at its end (LF, RI)
 abbrev pub line_fed : State → Stepped
 line_fed s = with_scrolled s (fed s.shown 1)
 
@@ -127,7 +127,7 @@ line_fed_back s = with_shown s (fed_up s.shown 1)
 abbrev pub in_region : ℕ → ℕ → State → State
 in_region top bottom s = with_shown s (with_region s.shown top bottom)
 
--- the cursor, origin mode and the attributes are saved, and come back (DECSC, DECRC)
+-- the cursor, origin mode and the attributes are saved, and restored (DECSC, DECRC)
 abbrev pub saved : State → State
 saved s = record s { shown = cursor_saved s.shown; saved_attrs = s.attrs }
 
@@ -146,7 +146,7 @@ erased_above s = with_shown s (all_erased_backward s.shown s.attrs)
 abbrev pub erased_all : State → State
 erased_all s = with_shown s (all_erased s.shown s.attrs)
 
--- ED 3: the kept rows go, and are reported
+-- ED 3: the kept rows are removed, and reported
 abbrev pub erased_kept : State → Stepped
 erased_kept s = record {
   state = record s { shown = scrollback_erased s.shown };
@@ -163,7 +163,7 @@ erased_left s = with_shown s (columns_erased s.shown 0 (columns_to_cursor s.show
 abbrev pub erased_row : State → State
 erased_row s = with_shown s (row_erased s.shown s.attrs)
 
--- n cells are erased (ECH), come in (ICH), go (DCH)
+-- n cells are erased (ECH), inserted (ICH), deleted (DCH)
 abbrev pub cells_erased : ℕ → State → State
 cells_erased n s = with_shown s (columns_erased s.shown s.shown.col (min (s.shown.col + n) s.shown.width) s.attrs)
 
@@ -173,7 +173,7 @@ cells_added n s = with_shown s (cells_inserted s.shown n)
 abbrev pub cells_taken : ℕ → State → State
 cells_taken n s = with_shown s (cells_deleted s.shown n)
 
--- n lines come in (IL), go (DL); the region scrolls up (SU) or down (SD)
+-- n lines are inserted (IL), deleted (DL); the scroll region scrolls up (SU) or down (SD)
 abbrev pub lines_added : ℕ → State → State
 lines_added n s = with_shown s (lines_inserted s.shown n)
 
@@ -204,33 +204,35 @@ with_paste b s = with_modes s (record (s.modes) { paste = b })
 abbrev pub with_hidden : Bool → State → State
 with_hidden b s = record s { hidden = b }
 
--- a synchronized update of the program's own begins, or ends
+-- a synchronized update of the program's own begins or ends
 abbrev pub with_updating : Bool → State → State
 with_updating b s = record s { updating = b }
 
 abbrev pub with_style : CursorStyle → State → State
 with_style x s = record s { style = x }
 
--- places are counted from the region's top or not, and the cursor goes to the first one (DECOM)
+-- positions are counted from the top of the scroll region or of the screen, and the cursor moves to the first one
+-- (DECOM)
 abbrev pub with_origin_mode : Bool → State → State
 with_origin_mode b s = with_shown s (with_origin s.shown b)
 
 -- ---- the alternate sheet
 
--- it is shown, with rows (mode 47 set); no kept row is shown any more where it was
+-- the alternate screen is shown, with rows (mode 47 set); if it was shown already, its kept rows no longer are
 abbrev pub alternate_shown : State → State
 alternate_shown s =
     if s.alternate then with_shown s (scrollback_shown s.shown 0)
     else record s { shown = allocated s.other; other = scrollback_shown s.shown 0; alternate = true }
 
--- the main one is shown (mode 47 reset)
+-- the main screen is shown (mode 47 reset)
 abbrev pub main_shown : State → State
 main_shown s = if s.alternate then record s { shown = s.other; other = s.shown; alternate = false } else s
 
 abbrev pub alternate_cleared : State → State
 alternate_cleared s = if s.alternate then with_shown s (cleared s.shown) else record s { other = cleared s.other }
 
--- mode 1049: what 47 does, with the cursor saved and the sheet blank; and back, with the cursor that was saved
+-- mode 1049 set: as mode 47, but the cursor is saved, and the alternate screen is cleared. Reset: as mode 47, and the
+-- cursor is restored.
 abbrev pub alternate_entered : State → State
 alternate_entered s = alternate_shown (alternate_cleared (saved s))
 
@@ -239,11 +241,11 @@ alternate_left s = restored (main_shown s)
 
 -- ---- whole screens
 
--- everything as at first, at this size and capacity (RIS)
+-- all is as in a new terminal of this size and capacity (RIS)
 abbrev pub made_anew : State → State
 made_anew s = fresh_state (main_sheet s).height (main_sheet s).width (main_sheet s).kept.capacity
 
--- both sheets get another size; the rows of the main one are reported first
+-- both screens get another size; the rows of the main one are reported first
 abbrev pub sheets_resized : ℕ → ℕ → State → Stepped
 sheets_resized height width s = record {
   state = record s { shown = (resized s.shown height width).grid; other = (resized s.other height width).grid };
@@ -252,14 +254,14 @@ sheets_resized height width s = record {
       ++ reports_of true (resized (alternate_sheet s) height width).sunk;
 }
 
--- and the program's update ends, also where the size stays
+-- the same, and the program's update ends, even if the size stays
 abbrev pub resized_to : ℕ → ℕ → State → Stepped
 resized_to height width s = record {
   state = with_updating false (sheets_resized height width s).state;
   reports = (sheets_resized height width s).reports;
 }
 
--- n of the kept rows are shown, and they go unreported: two calls of the screen's own
+-- two calls of the screen's own: n of the kept rows are shown, and the kept rows are removed without a report
 abbrev pub kept_shown : ℕ → State → State
 kept_shown n s = with_shown s (scrollback_shown s.shown n)
 

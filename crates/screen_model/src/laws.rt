@@ -11,7 +11,7 @@ ghost use Rattle.screen_model.specs.Step.{kept_shown, kept_dropped};
 ghost use Rattle.screen_model.specs.Rows.{esc, shown_by, cell_shown, text_shown, calls_by, three_lines, red_word};
 ghost use Rattle.screen_model.specs.Rows.{cut_red, on_alternate};
 
-/// A style, a request for a size, and a private mode that is unknown.
+/// Calls for a style, a request for a size, and an unknown private mode.
 pub fn requests_are_told()
     ensures style { (shown_by 1 2 (esc (codes "[5 q"))).style ≡ style.BlinkVerticalBar }
     ensures size { calls_by 1 2 (esc (codes "[8;30;90t")) ≡ call.resize 30 90 ∷ [] }
@@ -20,12 +20,12 @@ pub fn requests_are_told()
         ≡ call.unhandled_osc (codes "2" ∷ codes "a" ∷ codes "b" ∷ []) ∷ [] }
 {}
 
-/// A red word.
+/// A red word is drawn.
 pub fn red_is_drawn()
     ensures { (cell_shown (shown_by 1 5 red_word) 0 3).attrs.fgcolor ≡ Idx 1 }
 {}
 
-/// One row is kept, shown, and dropped.
+/// One row is kept, shown and dropped.
 pub fn row_is_kept()
     ensures kept { length (made 2 4 1 (Fed three_lines ∷ [])).shown.kept.rows ≡ 1 }
     ensures shown { text_lines (kept_shown 1 (made 2 4 1 (Fed three_lines ∷ []))).shown 2 ≡ codes "a" ++ 10
@@ -34,21 +34,22 @@ pub fn row_is_kept()
         ++ 10 ∷ codes "c" ++ 10 ∷ [] }
 {}
 
-/// A sequence that a resize cuts acts after it.
+/// A sequence with a resize in its middle takes effect after the resize.
 pub fn events_stand_where_they_end()
     ensures text { text_shown (made 1 2 0 cut_red) 0 ≡ codes "A" }
     ensures red { (cell_shown (made 1 2 0 cut_red) 0 0).attrs.fgcolor ≡ Idx 1 }
     ensures width { (made 1 2 0 cut_red).shown.width ≡ 4 }
 {}
 
-/// On a higher screen a row comes back for the one that scrolled off, blank since it wasn't kept.
+/// On a screen that gets more rows, a blank row appears above for the one that scrolled off, since it wasn't kept.
 pub fn rows_come_back()
     ensures cursor { (made 2 4 0 (Fed three_lines ∷ Resized 4 4 ∷ [])).shown.row ≡ 2 }
     ensures first { text_shown (made 2 4 0 (Fed three_lines ∷ Resized 4 4 ∷ [])) 0 ≡ [] }
     ensures second { text_shown (made 2 4 0 (Fed three_lines ∷ Resized 4 4 ∷ [])) 1 ≡ codes "b" }
 {}
 
-/// The alternate sheet has a cursor of its own and comes blank; the main one comes back as it was, with its cursor.
+/// The alternate screen has a cursor of its own, and is blank when it is entered. When it is left the main one is as it
+/// was, with its cursor.
 pub fn main_sheet_comes_back()
     ensures alternate { text_shown (shown_by 1 4 on_alternate) 0 ≡ codes "c" }
     ensures main { text_shown (shown_by 1 4 (on_alternate ++ esc (codes "[?1049l"))) 0 ≡ codes "ab" }

@@ -1,8 +1,8 @@
-//! What a terminal is, and what a program's bytes make of it.
+//! The state of a terminal, and what a program's bytes make of it.
 //!
-//! This crate has no code. Its definitions say what the state of a terminal is, and what each event of a parser and each
-//! resize makes of it; its laws, the contracts of functions that do nothing, say what is true of every state that is
-//! made so.
+//! This crate has no code. Its definitions give the state of a terminal, and the state after each event of a parser and
+//! each resize. Its laws are the contracts of functions that do nothing, and say what is true of every state that is
+//! reached so.
 #![tactic(auto)]
 
 pub mod holds;

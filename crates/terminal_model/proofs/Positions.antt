@@ -18,7 +18,7 @@ pub update-twice : {A : Type 0} (f : ℕ → A) (i : ℕ) (v w : A) → update (
 unfolding update
 update-twice f i v w = fun_ext (λ k. grind (arith, nat_tests))
 
--- what stands there, written again
+-- the same value, written again
 pub update-kept : {A : Type 0} (f : ℕ → A) (i : ℕ) (v : A) → v ≡ f i → update f i v ≡ f
 unfolding update
 update-kept f i v e = fun_ext (λ k. grind (arith, nat_tests))

@@ -1,4 +1,4 @@
--- The text of a cell, read character by character, puts the cell.
+-- The text of a cell, read character by character, prints the cell.
 use Rattle.std.proofs.Common.{◌≡◌, ℕ, suc, ◌+◌, ◌-◌, ◌<◌, ◌≤◌, ◌==◌, true, false, cond, not, ◌&&◌, nat_lt, List, []}
 use Rattle.std.proofs.Common.{◌∷◌, length, min, Option, Some, None, sym, refl, ap, subst, ◌∙◌, arith}
 use Rattle.std.specs.Prelude.{Contains, All, unwrap_or, is_none}

@@ -95,7 +95,7 @@ and-off : (a b : Bool) → (a ≡ true → ⊥) → (a && b) ≡ false
 and-off true b h = absurd (h refl)
 and-off false b h = refl
 
--- the terminal with other flags, and the cursor in another column, goes down by a row
+-- the terminal with other flags, and the cursor in another column, moves down by a row
 IsTerm-gone_down : (z : Size) (t : Term) (w : ℕ → Bool) (col : ℕ) → IsTerm z t
     → ((r : ℕ) → w r ≡ true → is_filled (t.cell r (z.cols - 1)) ≡ true) → ((r : ℕ) → z.rows ≤ r → w r ≡ false)
     → (t.row + 1 < z.rows → w (z.rows - 1) ≡ false) → col ≤ z.cols
@@ -218,7 +218,7 @@ IsTerm-print z x t h c y l =
 
 -- ---- a zero-width character
 
--- another cell of the same width, where no second half stands
+-- another cell of the same width, in a place that is no second half
 IsPaired-updated : (f : ℕ → CellView) (i : ℕ) (x : CellView) → IsPaired f → x.wide ≡ (f i).wide
     → x.continuation ≡ false → (f i).continuation ≡ false → IsPaired (update f i x)
 unfolding update

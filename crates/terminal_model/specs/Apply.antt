@@ -14,7 +14,7 @@ use Rattle.terminal_model.specs.Term.{Size, Term}
 
 -- ---- the cursor's line
 
--- g in place of the cursor's line; the row goes on in the next one only if it `stays` so
+-- the cursor's line becomes g; the row still wraps into the next one only if `stays` is true
 unfoldable pub with_line : Term → (ℕ → CellView) → Bool → Term
 with_line t g stays = record t {
   cell = update t.cell t.row g;
@@ -26,12 +26,12 @@ with_line t g stays = record t {
 unfoldable pub erase : Size → ℕ → Term → Term
 erase z e t = with_line t (wiped (t.cell t.row) t.col e t.attrs) (not (wipe_unflags z.cols (t.cell t.row) t.col e))
 
--- x is put at the cursor, which goes on behind it
+-- x is put at the cursor, which moves behind it
 unfoldable pub print : Size → CellView → Term → Term
 print z x t = record (with_line t (put (t.cell t.row) t.col x t.attrs)
     (not (put_unflags z.cols (t.cell t.row) t.col x))) { col = t.col + span_of x }
 
--- a zero-width character joins the cell left of the cursor
+-- a zero-width character is added to the cell left of the cursor
 unfoldable pub join : ℕ → Term → Term
 join c t =
     let i = base_col (t.cell t.row) t.col in
@@ -39,7 +39,7 @@ join c t =
 
 -- ---- the next row
 
--- the cursor goes down by a row; in the last one the rows go up instead, and a blank one comes
+-- the cursor moves down by a row; in the last row the screen scrolls up instead, and a blank row appears at the bottom
 unfoldable pub down : Size → Term → Term
 down z t =
     if nat_lt (t.row + 1) z.rows then record t { row = t.row + 1 }
@@ -48,18 +48,18 @@ down z t =
       wrapped = (λ r. nat_lt (r + 1) z.rows && t.wrapped (r + 1));
     }
 
--- the row goes on in the next one if its last column shows something, and the cursor goes to the start of that one
+-- the row wraps into the next one if its last column shows something, and the cursor moves to the start of that one
 unfoldable pub wrap : Size → Term → Term
 wrap z t = down z (record t { wrapped = update t.wrapped t.row (is_filled (t.cell t.row (z.cols - 1))); col = 0 })
 
--- in the next row where too few columns are left for n more
+-- wraps first if fewer than n columns are left in the row
 unfoldable pub made_to_fit : Size → ℕ → Term → Term
 made_to_fit z n t = if nat_le (t.col + n) z.cols then t else wrap z t
 
 -- ---- characters
 
--- what isn't shown on a screen of `width` columns where the cursor stands at `col`: control characters, what is wider
--- than the screen, and zero-width characters with no cell to their left
+-- Whether a character isn't shown on a screen of `width` columns with the cursor at `col`. Not shown are control
+-- characters, characters wider than the screen, and zero-width ones with no cell to their left.
 abbrev pub is_dropped : ℕ → ℕ → ℕ → Bool
 is_dropped width col c = is_undrawable c || (nat_lt width (columns_of c) || ((columns_of c == 0) && (col == 0)))
 
@@ -76,8 +76,8 @@ inputs z (c ∷ cs) t = inputs z cs (input z c t)
 
 -- ---- modes
 
--- a form takes a mode from `from` to `to`, by their numbers, where 0 is the default; `now` is what the terminal has.
--- The default is reached by a reset of `from`, which does nothing where another mode is set.
+-- A form changes a mode from `from` to `to`, given by their numbers, where 0 is the default; `now` is what the terminal
+-- has. The default is reached by a reset of `from`, which does nothing if another mode is set.
 abbrev pub switched : {A : Type 0} → (A → ℕ) → A → A → A → A
 switched number to from now =
     if number to == number from then now
@@ -119,7 +119,7 @@ apply z (Encoding to from) t = record t {
 apply z (Style to from) t = record t { style = if style_number to == style_number from then t.style else to }
 apply z (Sgr c) t = record t { attrs = with_change c t.attrs }
 
--- the forms one after the other
+-- the terminal after the forms, read one after the other
 abbrev pub run : Size → List Form → Term → Term
 run z [] t = t
 run z (f ∷ fs) t = run z fs (apply z f t)

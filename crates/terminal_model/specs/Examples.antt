@@ -44,7 +44,8 @@ pub record EachExampleHolds : Type 0 where
       ∷ (each (codes "xyz") ++ [] ∷ []) ∷ []
   pub differed_texts : texts (screen 2 4) differed ≡ each (codes "abce") ∷ ((120 ∷ []) ∷ [] ∷ (122 ∷ []) ∷ [] ∷ []) ∷ []
   pub differed_flag : differed.wrapped 0 ≡ true
-  -- behind the last column the cursor waits; a move to the right ends in the last one, and a move by none leaves it
+  -- after a full row the cursor is behind the last column; a move to the right ends in the last one, and a move by 0
+  -- stays
   pub waiting : (after (screen 1 2) (typed (codes "ab"))).col ≡ 2
   pub moved_right : (after (screen 1 2) (typed (codes "ab") ++ MoveRight 1 ∷ [])).col ≡ 1
   pub moved_by_none : (after (screen 1 2) (typed (codes "ab") ++ MoveRight 0 ∷ [])).col ≡ 2
@@ -52,23 +53,23 @@ pub record EachExampleHolds : Type 0 where
   pub scrolled_texts : texts (screen 2 2) (after (screen 2 2) (typed (codes "abcde"))) ≡ each (codes "cd")
       ∷ ((101 ∷ []) ∷ [] ∷ []) ∷ []
   pub scrolled_flags : map (after (screen 2 2) (typed (codes "abcde"))).wrapped (0 ∷ 1 ∷ []) ≡ true ∷ false ∷ []
-  -- the screen is cleared with the colour that is drawn with, and nothing off it
+  -- the screen is cleared with the current background colour, and nothing off it
   pub cleared : (after (screen 2 2) (reddened ∷ ClearScreen ∷ [])).cell 1 1 ≡ empty_cell red
   pub cleared_beyond : (after (screen 2 2) (reddened ∷ ClearScreen ∷ [])).cell 1 2 ≡ default_cell
-  -- what is saved comes back
+  -- the saved cursor and attributes are restored
   pub restored : (after (screen 1 3) (reddened ∷ Text (97 ∷ []) ∷ SaveCursor ∷ MoveTo 0 0 ∷ ClearAttrs ∷ RestoreCursor
       ∷ [])).attrs ≡ red
   -- a wide character w, of which the second half is erased
   pub halved : (w : ℕ) → columns_of w ≡ 2 → is_undrawable w ≡ false
       → texts (screen 1 3) (after (screen 1 3) (Text (w ∷ []) ∷ MoveTo 0 1 ∷ EraseChar 1 ∷ [])) ≡ ([] ∷ [] ∷ [] ∷ [])
       ∷ []
-  -- in the last column there is no room for it, and the row that it leaves doesn't go on
+  -- it doesn't fit in the last column, and the row that it leaves doesn't wrap
   pub wrapped_wide : (w : ℕ) → columns_of w ≡ 2 → is_undrawable w ≡ false
       → texts (screen 2 3) (after (screen 2 3) (typed (codes "ab") ++ Text (w ∷ []) ∷ []))
       ≡ (each (codes "ab") ++ [] ∷ []) ∷ ((w ∷ []) ∷ [] ∷ [] ∷ []) ∷ []
   pub wrapped_flag : (w : ℕ) → columns_of w ≡ 2 → is_undrawable w ≡ false
       → (after (screen 2 3) (typed (codes "ab") ++ Text (w ∷ []) ∷ [])).wrapped 0 ≡ false
-  -- a zero-width character m joins the letter before it, also where the cursor waits
+  -- a zero-width character m is added to the letter before it, also if the cursor is behind the last column
   pub joined : (m : ℕ) → columns_of m ≡ 0 → is_undrawable m ≡ false
       → texts (screen 1 2) (after (screen 1 2) (Text (97 ∷ []) ∷ Text (98 ∷ m ∷ []) ∷ []))
       ≡ ((97 ∷ []) ∷ (98 ∷ m ∷ []) ∷ []) ∷ []

@@ -1,5 +1,5 @@
--- A plain terminal: its main sheet at offset 0, with the whole screen as its region. What it shows is given by
--- position.
+-- A plain terminal: it shows the main screen, no rows kept above it, and its scroll region is the whole screen. What it
+-- shows is given as functions of the position.
 use Rattle.std.specs.Prelude.{ℕ, ◌-◌, ◌<◌, ◌≤◌, ◌≡◌, Bool, true, false}
 use Rattle.vt100_forms.specs.declared.attrs.Attrs.{Attrs}
 use Rattle.vt100_forms.specs.declared.modes.MouseProtocolMode.{MouseProtocolMode}
@@ -12,6 +12,7 @@ use Rattle.vt100_forms.specs.Attrs.{default_attrs}
 use Rattle.vt100_cells.specs.Cell.{CellView, default_cell, is_filled}
 use Rattle.vt100_cells.specs.Line.{IsPaired, Bounded}
 
+-- the size of a screen
 pub record Size : Type 0 where
   pub rows : ℕ
   pub cols : ℕ
@@ -24,9 +25,9 @@ pub record Modes : Type 0 where
   pub mouse : MouseProtocolMode
   pub encoding : MouseProtocolEncoding
 
--- the cell at each row and column, and a default cell off the screen; which rows go on in the next one; the cursor,
--- whose column is the number of columns where it waits to go on in the next row; whether it is hidden; the attributes
--- with which the next character is drawn
+-- What a terminal shows. `cell` is the cell at each row and column, and a default cell off the screen. `wrapped` says
+-- which rows wrap into the next one. The cursor's `col` equals the number of columns if the next character would wrap.
+-- `attrs` are those of the next character.
 pub record Shown : Type 0 where
   pub cell : ℕ → ℕ → CellView
   pub wrapped : ℕ → Bool
@@ -37,13 +38,13 @@ pub record Shown : Type 0 where
   pub modes : Modes
   pub style : CursorStyle
 
--- the cursor and the attributes that were saved
+-- the cursor and the attributes that were saved (DECSC)
 pub record Saved : Type 0 where
   pub row : ℕ
   pub col : ℕ
   pub attrs : Attrs
 
--- both together
+-- what a terminal shows, and what it has saved
 pub record Term : Type 0 where
   pub cell : ℕ → ℕ → CellView
   pub wrapped : ℕ → Bool
@@ -72,7 +73,7 @@ shown_of t = record {
 abbrev pub saved_of : Term → Saved
 saved_of t = record { row = t.saved_row; col = t.saved_col; attrs = t.saved_attrs }
 
--- the terminal that shows this and has saved that
+-- the terminal that shows s and has saved v
 abbrev pub term_of : Shown → Saved → Term
 term_of s v = record {
   cell = s.cell;
@@ -123,8 +124,8 @@ pub record IsSaved (z : Size) (v : Saved) : Type 0 where
   pub in_rows : v.row < z.rows
   pub in_cols : v.col ≤ z.cols
 
--- halves of wide cells stand together, nothing stands off the screen, a row that goes on shows something in its last
--- column and isn't the last row, and both cursors are on the screen. Of a cell's text nothing is said.
+-- The halves of wide cells are side by side, and nothing is off the screen. A row that wraps shows something in its
+-- last column, and isn't the last row. Both cursors are on the screen. Nothing is said of the texts of cells.
 pub record IsTerm (z : Size) (t : Term) : Type 0 where
   pub some_row : 0 < z.rows
   pub some_col : 0 < z.cols

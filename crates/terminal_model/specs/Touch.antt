@@ -1,5 +1,5 @@
--- The cells that a form touches: those that it fills, clears or erases, with the second halves; and every cell where it
--- scrolls.
+-- The cells that a form touches: those that it fills, clears or erases, with their other halves. A form that scrolls
+-- touches every cell.
 use Rattle.std.specs.Prelude.{ℕ, ◌+◌, ◌≡◌, ◌==◌, Bool, true, false, ◌&&◌, ◌||◌, nat_lt, nat_le, min, List, [], ◌∷◌}
 use Rattle.std.specs.Prelude.{if◌then◌else◌}
 use Rattle.vt100_forms.specs.Form.{Form, Text, MoveTo, MoveRight, EraseChar, ClearRowForward, ClearScreen, ClearAttrs}
@@ -10,15 +10,15 @@ use Rattle.vt100_cells.specs.Line.{base_col}
 use Rattle.terminal_model.specs.Term.{Size, Term}
 use Rattle.terminal_model.specs.Apply.{is_dropped, input, apply}
 
--- x put at column i of the line f: its columns, the rest of a wide cell that it covers, and one whose second half it
--- covers
+-- x is put at column i of the line f. It touches its own columns and the rest of a wide cell that it covers. If it
+-- covers a second half, it touches the first half too.
 abbrev pub put_touches : (ℕ → CellView) → ℕ → CellView → ℕ → Bool
 put_touches f i x k =
     (k == i)
     || (((k == (i + 1)) && (x.wide || (f i).wide))
     || ((((k + 1) == i) && (f k).wide) || ((k == (i + 2)) && (x.wide && (f (i + 1)).wide))))
 
--- the columns from s up to e erased
+-- the columns from s up to e are erased, with the other half of each wide cell that is cut
 abbrev pub wipe_touches : (ℕ → CellView) → ℕ → ℕ → ℕ → Bool
 wipe_touches f s e k =
     (nat_le s k && nat_lt k e) || (nat_lt s e && ((((k + 1) == s) && (f k).wide) || ((k == e) && (f k).continuation)))
@@ -64,7 +64,7 @@ form_touches z (Sgr c) t r k = false
 unfoldable pub touches : Size → Form → Term → ℕ → ℕ → Bool
 touches z f t r k = (nat_lt r z.rows && nat_lt k z.cols) && form_touches z f t r k
 
--- the forms, read from t on, touch cells of S alone
+-- the forms, read by t one after the other, touch only cells of S
 abbrev pub Within : (ℕ → ℕ → Type 0) → Size → List Form → Term → Type 0
 Within S z [] t = Unit {0}
 Within S z (f ∷ fs) t = ((r k : ℕ) → touches z f t r k ≡ true → S r k) × Within S z fs (apply z f t)

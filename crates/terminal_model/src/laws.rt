@@ -4,22 +4,24 @@ ghost use Rattle.terminal_model.specs.FormText.{EachCellIsSent, EachTextIsPlain,
 ghost use Rattle.terminal_model.specs.Laws.{EachEmptyFormIsIdle, EachFormKeepsTerminals, EachListJoins, EachPathJoins};
 ghost use Rattle.terminal_model.specs.Laws.{EachMoveLeads, EachChangeIsRead, EachCellIsPrinted, EachUntouchedCellStays};
 
-/// A form that is spelled by no bytes changes nothing.
+/// A form without bytes changes nothing.
 pub fn empty_forms_are_idle()
     ensures { EachEmptyFormIsIdle }
 {}
 
-/// What is true of every terminal stays true under every form.
+/// Each form keeps what is true of every terminal (`IsTerm`): the cursor is on the screen, halves of wide cells are
+/// together.
 pub fn forms_keep_terminals()
     ensures { EachFormKeepsTerminals }
 {}
 
-/// Joined lists of forms are read one after the other.
+/// Reading two joined lists of forms is the same as reading the first and then the second.
 pub fn lists_join()
     ensures { EachListJoins }
 {}
 
-/// Where one list of forms leads to a picture and another leads on from it, the joined list leads all the way.
+/// If one list of forms takes a terminal from `a` to `b`, and another from `b` to `c`, both together take it from `a`
+/// to `c`.
 pub fn paths_join()
     ensures { EachPathJoins }
 {}
@@ -29,23 +31,22 @@ pub fn moves_lead()
     ensures { EachMoveLeads }
 {}
 
-/// After a change of attributes the terminal draws with the new ones, where both are proper, and nothing else has
-/// changed.
+/// After a change between proper attributes the terminal draws with the new ones, and nothing else has changed.
 pub fn changes_are_read()
     ensures { EachChangeIsRead }
 {}
 
-/// The text of a cell, read with the cell's attributes, puts that cell, where it has no U+FE0F.
+/// A cell's text without U+FE0F, read by a terminal that draws with the cell's attributes, prints that cell.
 pub fn cells_are_printed()
     ensures { EachCellIsPrinted }
 {}
 
-/// A cell that a form doesn't touch stays.
+/// A form changes no cell but those that it touches.
 pub fn untouched_cells_stay()
     ensures { EachUntouchedCellStays }
 {}
 
-/// What a cell shows can be sent as a form, but for U+FFFD.
+/// The text of a cell can be sent as a form, unless it holds U+FFFD.
 pub fn cells_are_sent()
     ensures { EachCellIsSent }
 {}
@@ -55,13 +56,13 @@ pub fn texts_are_plain()
     ensures { EachTextIsPlain }
 {}
 
-/// A form whose text has no U+FE0F is one that writers send, and the text in one of those holds no ESC.
+/// A form without U+FE0F is one of those that writers send, and the texts of those hold no ESC.
 pub fn forms_are_sent()
     ensures sent { EachFormIsSent }
     ensures plain { EachSentFormIsPlain }
 {}
 
-/// What some lists of forms make of small screens.
+/// Small screens, and what they show after some forms.
 pub fn examples_hold()
     ensures { EachExampleHolds }
 {}

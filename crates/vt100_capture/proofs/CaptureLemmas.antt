@@ -1,4 +1,4 @@
--- What a row adds to a capture, and what several do.
+-- What one row adds to a capture, and what several rows add.
 use Rattle.std.proofs.Common.{◌≡◌, ℕ, List, [], ◌∷◌, ◌++◌, true, false, cond, refl, sym, ap, subst, ◌∙◌, arith}
 use Rattle.std.proofs.Common.{append_assoc, append-nil}
 use Rattle.std.specs.Prelude.{encode_utf8}
@@ -81,7 +81,7 @@ after_rows-append s (x ∷ xs) ys = after_rows-append (after_row s x) xs ys
 
 -- ---- where nothing is to be written
 
--- the first of the rows that are left writes nothing
+-- the first of the remaining rows writes nothing
 pub left-none : {W : Type 0} (gives : W → List ℕ → W → Type 0) (s : CaptureView) (rows : List RowView) (w : W)
     (from left : List RowView) (x : RowView) (t : CaptureView) (v : W) → from ≡ x ∷ left
     → IsCaptured gives s rows w from t v → captured s rows ≡ [] → captured_row t x ≡ []

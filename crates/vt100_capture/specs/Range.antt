@@ -1,4 +1,4 @@
--- Where a capture of a range goes on, and where it leaves the next one to go on.
+-- The state before and after a capture of a range of rows.
 use Rattle.std.specs.Prelude.{◌≡◌, ◌⊎◌, ⊤}
 use Rattle.std.proofs.Common.{inl}
 use denote.Ref.{MutBor}
@@ -6,12 +6,12 @@ use Rattle.vt100_capture.specs.Capture.{CaptureView, new_capture}
 use Rattle.vt100_capture.specs.declared.state.BasicFormattedCaptureRange.{BasicFormattedCaptureRange}
 use Rattle.vt100_capture.specs.declared.state.BasicFormattedCaptureRange.TheVariants.{Full, Visible}
 
--- the state that is handed in, or a new one
+-- the given state, or a new one
 abbrev pub start_of : BasicFormattedCaptureRange → CaptureView
 start_of (Full state) = state.now
 start_of Visible = new_capture
 
--- a state that was handed in is s at the end
+-- a state that was given is s at the end
 abbrev pub LeavesState : CaptureView → BasicFormattedCaptureRange
     → (MutBor CaptureView × Unit {0}) ⊎ (Unit {0} ⊎ ⊥) → Type 0
 LeavesState s (Full old) (inl new) = new.0.now ≡ s

@@ -1,7 +1,7 @@
-//! Captures: what a terminal showed, as text with its attributes, and the plain text and the rows of such a text.
+//! Captures: what a terminal showed, as text with its attributes; and the plain text and the rows of a capture.
 //!
-//! A capture holds no control sequences but SGR, and no control characters but newlines. The range, its state and a row
-//! that writes itself are in [`state`], the plain pieces in [`plain`], the rows in [`rows`].
+//! A capture holds no control sequences but SGR, and no control characters but newlines. [`state`] has the range of
+//! rows, the state between captures and a row that writes itself; [`plain`] has the plain text, [`rows`] the rows.
 #![tactic(auto)]
 
 pub mod plain;

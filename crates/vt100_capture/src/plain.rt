@@ -32,12 +32,12 @@ impl<'a> Iterator for BasicFormattedToPlain<'a> {
     }
 }
 
-/// An iterator over the plain pieces of a capture and their places.
+/// An iterator over the plain pieces of a capture, each with its index in the capture, in bytes.
 #[derive(Drop)]
 pub struct BasicFormattedToPlainIndexed<'a> {
-    /// What is left of the capture.
+    /// The part of the capture that isn't read yet.
     capture: &'a str,
-    /// The place where it begins.
+    /// The index at which it begins, in bytes.
     index: usize,
 }
 
@@ -53,7 +53,7 @@ impl<'a> Model for BasicFormattedToPlainIndexed<'a> {
 }
 
 impl<'a> Iterator for BasicFormattedToPlainIndexed<'a> {
-    /// Where the piece begins in the capture, in bytes, and the piece.
+    /// The index of the piece in the capture, in bytes, and the piece.
     type Item = (usize, &'a str);
 
     ghost next_gives = { YieldsFirstBy (λ x. (x.0, x.1.now)) (λ s. s) };
@@ -74,7 +74,7 @@ impl<'a> Iterator for BasicFormattedToPlainIndexed<'a> {
     }
 }
 
-/// The plain text before the first control sequence, and what follows that sequence.
+/// The plain text before the first control sequence, and the text after that sequence.
 fn split_piece(capture: &str) -> (&str, &str)
     ensures within { length result.1.now ≤ length capture.now }
     ensures less { 0 < length capture.now → length result.1.now < length capture.now }
@@ -90,8 +90,8 @@ fn split_piece(capture: &str) -> (&str, &str)
     }
 }
 
-/// The plain text of a capture, in pieces: the longest ones outside its control sequences, each of which goes from ESC
-/// to the next `m`, or to the end.
+/// Iterates over the plain text of a capture, in pieces. A piece is as long as possible, and lies outside the control
+/// sequences. A control sequence goes from ESC to the next `m`, or to the end.
 pub fn basic_formatted_to_plain(capture: &str) -> BasicFormattedToPlain<'_>
     ensures { result ≡ map (λ x. x.1) (plain_pieces 0 capture.now) }
 {
@@ -100,7 +100,7 @@ pub fn basic_formatted_to_plain(capture: &str) -> BasicFormattedToPlain<'_>
     }
 }
 
-/// Like [`basic_formatted_to_plain`], but each piece comes with its place in `capture`, in bytes.
+/// Like [`basic_formatted_to_plain`], but each piece comes with its index in `capture`, in bytes.
 pub fn basic_formatted_to_plain_indexed(capture: &str) -> BasicFormattedToPlainIndexed<'_>
     ensures { result ≡ plain_pieces 0 capture.now }
 {

@@ -10,7 +10,7 @@ use vt100_cells::columns;
 /// An iterator over the rows of a capture.
 #[derive(Drop)]
 pub struct BasicFormattedRows<'a> {
-    /// What is left of the capture, until its last row was handed out.
+    /// The part of the capture that isn't read yet; `None` after the last row.
     capture: Option<&'a str>,
     width: u16,
 }
@@ -46,7 +46,7 @@ impl<'a> Iterator for BasicFormattedRows<'a> {
     }
 }
 
-/// Where the first row ends and the next begins, or `None` where the whole capture is one row.
+/// The indices at which the first row ends and the next begins. `None` if the whole capture is one row.
 fn row_end(capture: &str, width: u16) -> Option<(usize, usize)>
     ensures rows { MatchOption result (capture_rows width capture.now ≡ capture.now ∷ [])
         (λ p. capture_rows width capture.now ≡ take p.0 capture.now ∷ capture_rows width (drop p.1 capture.now)) }
@@ -72,11 +72,11 @@ fn row_end(capture: &str, width: u16) -> Option<(usize, usize)>
     None
 }
 
-/// Cuts a capture into rows: at each newline, which is in no row, and before each character that would pass the width
-/// of `screen_width` columns, but where the row has no column yet. Control sequences, from ESC to the next `m`, take no
-/// columns, and are handed out as they stand. An empty capture is one empty row.
+/// Iterates over the rows of a capture, for a screen of `screen_width` columns. A row ends at a newline, which isn't
+/// part of it. It also ends before a character that would pass the width, unless the row has no column yet. Control
+/// sequences, from ESC to the next `m`, are part of rows, and take no columns. An empty capture is one empty row.
 ///
-/// A character takes its columns by Unicode, at most two, and one where Unicode gives none.
+/// A character takes as many columns as Unicode says, at most two, and one if Unicode says nothing.
 pub fn basic_formatted_rows(capture: &str, screen_width: u16) -> BasicFormattedRows<'_>
     ensures { result ≡ capture_rows screen_width capture.now }
 {

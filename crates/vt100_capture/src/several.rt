@@ -7,7 +7,7 @@ use crate::state::{BasicFormattedCaptureState, RowContents};
 use std::fmt;
 use vt100_rows::Row;
 
-/// Writes rows one after another, as parts of the capture that goes on at `state`. For the grid alone.
+/// Writes rows one after another, as the next part of the capture that has got to `state`. For the grid only.
 #[doc(hidden)]
 pub fn write_rows<W: fmt::Write>(
     rows: &[Row],

@@ -1,4 +1,4 @@
-//! What a capture takes in, and where it goes on.
+//! Which rows a capture has, and the state between its parts.
 ghost use Rattle.std.specs.Prelude.{◌≡◌, OnOk};
 ghost use Rattle.std.specs.Fmt.{WritesInCalls};
 ghost use Rattle.vt100_capture.specs.Capture.{CaptureView, new_capture, captured_row, after_row};
@@ -8,17 +8,18 @@ use std::marker::Model;
 use vt100_forms::attrs::Attrs;
 use vt100_rows::Row;
 
-/// Which rows a capture takes in.
+/// Which rows a capture has.
 #[derive(Debug, Drop)]
 pub enum BasicFormattedCaptureRange<'a> {
-    /// The kept rows and those that are drawn on. The capture goes on from the state, and leaves there where the next
-    /// one goes on: one that rows which left the screen were written with, or a new one.
+    /// All rows: those that have scrolled off and are kept, and those of the screen. The capture continues from this
+    /// state, and updates it. Use the state with which rows that left the screen were written, or a new one.
     Full(&'a mut BasicFormattedCaptureState),
     /// The rows that are shown, as a capture of its own.
     Visible,
 }
 
-/// Where a capture goes on: the attributes that are set, and whether a newline is due before the next row.
+/// The state between the parts of a capture: the attributes that are set, and whether a newline is due before the next
+/// row.
 #[derive(Clone, Debug, Drop)]
 pub struct BasicFormattedCaptureState {
     attrs: Attrs,
@@ -34,7 +35,7 @@ impl Model for BasicFormattedCaptureState {
 }
 
 impl BasicFormattedCaptureState {
-    /// The beginning of a capture: the default attributes, and no row yet.
+    /// The state before a capture: the default attributes, and no row yet.
     pub fn new() -> Self
         ensures { result ≡ new_capture }
     {
@@ -74,16 +75,16 @@ impl<'a> RowContents<'a> {
     ghost use Rattle.std.specs.Fmt.{WritesInCalls};
     ghost use Rattle.vt100_capture.specs.Capture.{captured_row, after_row};
 
-    /// Lends a row.
+    /// Borrows a row.
     pub fn new(row: &'a Row) -> Self
         ensures { result ≡ row.now }
     {
         RowContents { row }
     }
 
-    /// Writes the row's text with its attributes, as a part of the capture that goes on at `state`: before it the
-    /// newline that ends the row before, where that one isn't wrapped, and after it none. The only error is the
-    /// writer's, after which the state is open; there is none where there is nothing to write.
+    /// Writes the row's text with its attributes, as the next part of the capture that has got to `state`. A newline
+    /// comes before it if the row before isn't wrapped, and none after it. The only error is the writer's; what `state`
+    /// is then is unspecified. There is no error if there is nothing to write.
     pub fn write_formatted_basic<W: fmt::Write>(
         &self,
         writer: &mut W,

@@ -1,5 +1,5 @@
--- What the setters of the attributes set, and that a change leads from the old attributes to the new ones. A fact of
--- the modes below a number is computed for each of them.
+-- What the setters of the attributes set, and that a change takes a terminal from the old attributes to the new ones. A
+-- fact of the modes below a number is computed for each of them.
 use Rattle.std.proofs.Common.{◌≡◌, ℕ, zero, suc, ◌^◌, ◌<◌, List, [], ◌∷◌, Bool, true, false, not, ◌&&◌, ◌||◌, refl}
 use Rattle.std.proofs.Common.{arith, ap, sym, ◌∙◌, subst, inl, inr, eqb}
 use Rattle.std.specs.Prelude.{nat_lt, unwrap_or, Some, None}

@@ -15,7 +15,7 @@ change_sgr old new differs plain =
     else Sgr (changed_attrs old new) ∷ []) differs
     ∙ ap (λ b. if b then ClearAttrs ∷ [] else Sgr (changed_attrs old new) ∷ []) plain
 
--- some bytes are handed over in one call
+-- some bytes are written in one call
 pub handed_over : {W : Type 0} (gives : W → List ℕ → W → Type 0) (w : W) (bs : List ℕ) (v : W)
     → (length bs == 0) ≡ false → gives w bs v → HandsOver gives w bs v
 handed_over gives w [] v h g = absurd (false≢true (sym h))

@@ -1,4 +1,4 @@
--- How long the spelling of a form can be.
+-- How many bytes a form can have.
 use Rattle.std.proofs.Common.{◌≡◌, ℕ, ◌+◌, ◌-◌, ◌^◌, ◌<◌, ◌≤◌, List, [], ◌∷◌, ◌++◌, Bool, true, false, ◌&&◌, refl}
 use Rattle.std.proofs.Common.{arith, Option, Some, None, length, length-append}
 use Rattle.std.specs.Prelude.{decimal, ◌==◌, nat_lt}

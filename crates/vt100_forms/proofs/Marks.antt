@@ -19,7 +19,7 @@ use Rattle.vt100_forms.specs.Form.{mode_set, mode_reset, mouse_number, encoding_
 use Rattle.vt100_forms.specs.Form.{sgr_text, further_numbers}
 use Rattle.vt100_forms.specs.Mark.{mark_head, HasPlainText, MarksStandBehindForms, NoMarkInForms}
 
--- where a mark stands in p followed by r, it stands behind p
+-- a mark in p followed by r begins after p
 abbrev IsBehind : List ℕ → Type 0
 IsBehind p = (r xs ys : List ℕ) → p ++ r ≡ xs ++ (mark_head ++ ys) → (zs : List ℕ) × (xs ≡ p ++ zs)
 

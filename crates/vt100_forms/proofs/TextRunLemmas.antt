@@ -1,4 +1,4 @@
--- A run of bytes, with some more.
+-- A run of bytes after more bytes are appended.
 use Rattle.std.proofs.Common.{◌≡◌, ℕ, zero, suc, ◌+◌, ◌<◌, ◌≤◌, List, [], ◌∷◌, ◌++◌, length, take, set, arith}
 use Rattle.std.proofs.Common.{sym, ap, subst}
 use Rattle.std.proofs.Common.{length-append, length-take, length-drop, length-take-le, take-take, take-add, take_at}

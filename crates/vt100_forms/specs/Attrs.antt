@@ -1,4 +1,4 @@
--- What the attributes of a character say, and what each call changes in them.
+-- The attributes of a character, and what each setter changes in them.
 use Rattle.std.specs.Prelude.{◌≡◌, ℕ, ◌^◌, ◌<◌, Bool, true, false, not, ◌&&◌, ◌==◌, List, [], ◌∷◌, bit_and, bit_or}
 use Rattle.vt100_forms.specs.declared.attrs.Color.{Color}
 use Rattle.vt100_forms.specs.declared.attrs.Color.TheVariants.{Default, Idx, Rgb}
@@ -48,7 +48,7 @@ with_bold a = with_mode a (bit_or (bit_and a.mode 252) 1)
 abbrev pub with_dim : Attrs → Attrs
 with_dim a = with_mode a (bit_or (bit_and a.mode 252) 2)
 
--- one bit set, or cleared by the mask of all others
+-- one bit is set, or cleared by the mask of all others
 abbrev pub with_italic : Bool → Attrs → Attrs
 with_italic true a = with_mode a (bit_or a.mode 4)
 with_italic false a = with_mode a (bit_and a.mode 251)
@@ -70,7 +70,7 @@ IsByteColor (Rgb r g b) = (r < 2 ^ 8) × (g < 2 ^ 8) × (b < 2 ^ 8)
 abbrev pub HasByteColors : Attrs → Type 0
 HasByteColors a = IsByteColor a.fgcolor × IsByteColor a.bgcolor
 
--- attributes as a terminal's own calls make them: no bit without a meaning, not both bold and dim, and colours of bytes
+-- attributes that SGR can set: no bit without a meaning, not both bold and dim, and bytes as colour numbers
 pub record IsProper (a : Attrs) : Type 0 where
   pub small : a.mode < 32
   pub one : (is_bold a && is_dim a) ≡ false
@@ -80,7 +80,7 @@ pub record IsProper (a : Attrs) : Type 0 where
 abbrev pub flags_of : Attrs → List Bool
 flags_of a = is_bold a ∷ is_dim a ∷ is_italic a ∷ is_underlined a ∷ is_inverse a ∷ []
 
--- each setter sets what it says, and leaves the other flags
+-- each setter sets the flag that its name says, and leaves the others
 pub record SettersAreRead (a : Attrs) : Type 0 where
   pub bold : flags_of (with_bold a) ≡ true ∷ false ∷ is_italic a ∷ is_underlined a ∷ is_inverse a ∷ []
   pub dim : flags_of (with_dim a) ≡ false ∷ true ∷ is_italic a ∷ is_underlined a ∷ is_inverse a ∷ []

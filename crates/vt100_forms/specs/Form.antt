@@ -1,4 +1,5 @@
--- The forms that a screen's writers send to a terminal, and how each is spelled: one spelling for each form.
+-- The forms that are sent to a terminal, and the bytes of each (`spelling`). A form is one escape sequence, or the text
+-- of one cell.
 use Rattle.std.specs.Prelude.{ℕ, ◌≡◌, ◌+◌, ◌-◌, ◌==◌, ◌&&◌, bit_and, bit_or, unwrap_or, List, [], ◌∷◌, ◌++◌, Bool, true}
 use Rattle.std.specs.Prelude.{false, if◌then◌else◌, nat_lt, decimal, codes, encode_utf8_all, Option, Some, None}
 use Rattle.std.specs.List.{flat_map}
@@ -29,32 +30,43 @@ pub record Change : Type 0 where
 abbrev pub no_change : Change
 no_change = record { fgcolor = None; bgcolor = None; intensity = None; italic = None; underline = None; inverse = None }
 
+-- one escape sequence, or the text of one cell
 pub data Form : Type 0 where
   -- the text of one cell: a character of one or two columns, and those of no width that follow it
   Text : (characters : List ℕ) → Form
   -- the cursor's row and column, counted from 0
   MoveTo : (row col : ℕ) → Form
+  -- CUF
   MoveRight : (count : ℕ) → Form
+  -- ECH
   EraseChar : (count : ℕ) → Form
+  -- EL 0
   ClearRowForward : Form
+  -- CUP to the first column of the first row, and ED 0
   ClearScreen : Form
+  -- SGR 0
   ClearAttrs : Form
   Crlf : Form
   Lf : Form
   Backspace : Form
+  -- DECSC and DECRC
   SaveCursor : Form
   RestoreCursor : Form
+  -- DECTCEM
   HideCursor : (hidden : Bool) → Form
+  -- DECKPAM, or DECKPNM
   Keypad : (application : Bool) → Form
+  -- DECCKM
   CursorKeys : (application : Bool) → Form
+  -- private mode 2004
   Paste : (bracketed : Bool) → Form
-  -- the mode that is wanted, and the one that the terminal has
+  -- the new mode, and the one that the terminal has
   Mouse : (to from : MouseProtocolMode) → Form
   Encoding : (to from : MouseProtocolEncoding) → Form
   Style : (to from : CursorStyle) → Form
   Sgr : (change : Change) → Form
 
--- a form whose text, if it has one, is as P says
+-- the text of a form fulfils P, if it has one
 abbrev pub HasText : (List ℕ → Type 0) → Form → Type 0
 HasText P (Text cs) = P cs
 HasText P _ = Unit {0}
@@ -70,7 +82,7 @@ mode_set n = csi (codes "?" ++ (decimal n ++ codes "h"))
 abbrev pub mode_reset : ℕ → List ℕ
 mode_reset n = csi (codes "?" ++ (decimal n ++ codes "l"))
 
--- nothing for a count of 0, and no number for a count of 1
+-- a control sequence with a count: no bytes for a count of 0, and no number for a count of 1
 abbrev pub counted : ℕ → List ℕ → List ℕ
 counted n final =
     if n == 0 then []
@@ -98,7 +110,8 @@ style_number style.SteadyUnderline = 4
 style_number style.BlinkVerticalBar = 5
 style_number style.SteadyVerticalBar = 6
 
--- from one mode to another, by their numbers, where 0 is the default: the new one is set, or the earlier one reset
+-- a change between private modes, given by their numbers, where 0 is the default: the new one is set, or the earlier
+-- one reset
 abbrev pub mode_change : ℕ → ℕ → List ℕ
 mode_change to from =
     if to == from then []
@@ -142,11 +155,12 @@ sgr_numbers c =
 abbrev pub further_numbers : List ℕ → List ℕ
 further_numbers ns = flat_map (λ n. 59 ∷ decimal n) ns
 
--- one SGR
+-- an SGR with these parameters; no bytes if there are none
 abbrev pub sgr_text : List ℕ → List ℕ
 sgr_text [] = []
 sgr_text (n ∷ ns) = csi (decimal n ++ (further_numbers ns ++ codes "m"))
 
+-- the bytes of a form
 abbrev pub spelling : Form → List ℕ
 spelling (Text cs) = encode_utf8_all cs
 spelling (MoveTo r c) =
@@ -181,11 +195,11 @@ spelling (Sgr c) = sgr_text (sgr_numbers c)
 abbrev pub spell : List Form → List ℕ
 spell fs = flat_map spelling fs
 
--- bold where the bit for bold is set, whatever the bit for dim says
+-- bold if the bit for bold is set, whatever the bit for dim says
 abbrev pub intensity_of : Attrs → Intensity
 intensity_of a = if is_bold a then Bold else if is_dim a then Dim else Normal
 
--- a new value, where it is not the earlier one
+-- the new value, if it isn't the earlier one
 abbrev pub changed_color : Color → Color → Option Color
 changed_color old new = if color_eq new old then None else Some new
 
@@ -208,7 +222,7 @@ changed_attrs old new = record {
   inverse = changed_flag (is_inverse old) (is_inverse new);
 }
 
--- what an SGR form makes of a mode: the two bits of the intensity together, and each other bit
+-- the bits of a mode after an SGR: the two bits of the intensity are set together, each other one by itself
 abbrev pub intensity_set : Option Intensity → ℕ → ℕ
 intensity_set None m = m
 intensity_set (Some Normal) m = bit_and m 252
@@ -228,15 +242,15 @@ with_change c a = record {
   mode = flag_set 16 c.inverse (flag_set 8 c.underline (flag_set 4 c.italic (intensity_set c.intensity a.mode)));
 }
 
--- the form, at most one, that takes a terminal from the old attributes to the new ones. It may have no bytes though
--- they differ, where they differ in bits of no meaning or in dim beside bold alone
+-- The form, at most one, that takes a terminal from the old attributes to the new ones. It has no bytes if they differ
+-- only in bits without a meaning, or in dim beside bold.
 abbrev pub change : Attrs → Attrs → List Form
 change old new =
     if attrs_eq new old then []
     else if attrs_eq new default_attrs then ClearAttrs ∷ []
     else Sgr (changed_attrs old new) ∷ []
 
--- an SGR form of what differs leads from the old attributes to the new ones
+-- an SGR of what differs takes a terminal from the old attributes to the new ones, if both are proper
 abbrev pub EachChangeLeads : Type 0
 EachChangeLeads = (old new : Attrs) → IsProper old → IsProper new → with_change (changed_attrs old new) old ≡ new
 

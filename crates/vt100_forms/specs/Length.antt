@@ -1,4 +1,4 @@
--- How long the spelling of a form can be.
+-- How many bytes a form can have.
 use Rattle.std.specs.Prelude.{ℕ, ◌^◌, ◌<◌, ◌≤◌, length, encode_utf8_all, Option, Some, None}
 use Rattle.vt100_forms.specs.declared.attrs.Color.{Color}
 use Rattle.vt100_forms.specs.declared.attrs.Attrs.{Attrs}
@@ -8,7 +8,7 @@ use Rattle.vt100_forms.specs.Form.{Form, Text, MoveTo, MoveRight, EraseChar, Cle
 use Rattle.vt100_forms.specs.Form.{Crlf, Lf, Backspace, SaveCursor, RestoreCursor, HideCursor, Keypad, CursorKeys}
 use Rattle.vt100_forms.specs.Form.{Paste, Mouse, Encoding, Style, Sgr, spelling, spell, change, moves}
 
--- the numbers are those of a `Pos`
+-- both numbers fit in 16 bits, as those of a `Pos` do
 abbrev pub IsShortPos : Pos → Type 0
 IsShortPos p = (p.row < 2 ^ 16) × (p.col < 2 ^ 16)
 
@@ -16,7 +16,7 @@ abbrev pub IsByteOption : Option Color → Type 0
 IsByteOption None = Unit {0}
 IsByteOption (Some c) = IsByteColor c
 
--- the numbers of a form are of the code's types
+-- each number of a form fits in the type that the code has for it
 abbrev pub HasSmallNumbers : Form → Type 0
 HasSmallNumbers (MoveTo r c) = (r < 2 ^ 16) × (c < 2 ^ 16)
 HasSmallNumbers (MoveRight n) = n < 2 ^ 16

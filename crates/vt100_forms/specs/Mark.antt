@@ -1,4 +1,4 @@
--- The marks of a synchronized update (private mode 2026), and that no list of forms holds one.
+-- The marks of a synchronized update (private mode 2026). No list of forms holds one.
 use Rattle.std.specs.Prelude.{ℕ, ◌≡◌, List, ◌∷◌, ◌++◌, codes, encode_utf8_all}
 use Rattle.std.specs.List.{AllByRecursion}
 use Rattle.vt100_forms.specs.Form.{Form, HasText, spell}
@@ -11,12 +11,12 @@ mark_head = 27 ∷ codes "[?2026"
 abbrev pub HasPlainText : Form → Type 0
 HasPlainText = HasText (λ cs. AllByRecursion (λ b. b ≡ 27 → ⊥) (encode_utf8_all cs))
 
--- wherever a mark stands in forms that r follows, it stands behind the forms
+-- in forms that are followed by r, each mark begins after the forms
 abbrev pub MarksStandBehindForms : Type 0
 MarksStandBehindForms = (fs : List Form) → AllByRecursion HasPlainText fs → (r xs ys : List ℕ)
     → spell fs ++ r ≡ xs ++ (mark_head ++ ys) → (zs : List ℕ) × (xs ≡ spell fs ++ zs)
 
--- no mark stands in the bytes
+-- the bytes hold no mark
 abbrev pub HasNoMark : List Form → Type 0
 HasNoMark fs = (xs ys : List ℕ) → spell fs ≡ xs ++ (mark_head ++ ys) → ⊥
 

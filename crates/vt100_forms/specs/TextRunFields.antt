@@ -1,11 +1,11 @@
--- The fields of a run of bytes, and what a contract sees of them.
+-- The fields of `TextRun`, and what a contract sees of them.
 use Rattle.std.specs.Prelude.{ℕ, ◌≡◌, ◌≤◌, List, length, take, IsUtf8}
 use Rattle.vt100_forms.specs.declared.text_run.TextRun.TheInside.{Inside}
 
 abbrev pub bytes_of : Inside → List ℕ
 bytes_of r = take r.len r.bytes
 
--- the bytes past them are whatever was left there
+-- the bytes past the length are left over from earlier texts
 pub record IsRun (r : Inside) : Type 0 where
   pub fits : r.len ≤ 128
   pub whole : length r.bytes ≡ 128

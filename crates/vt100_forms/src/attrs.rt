@@ -33,14 +33,14 @@ const TEXT_MODE_UNDERLINE: u8 = 0b0000_1000;
 const TEXT_MODE_INVERSE: u8 = 0b0001_0000;
 
 /// The attributes with which a character is drawn. The bits of `mode` are 1 for bold, 2 for dim, 4 for italic, 8 for
-/// underlined and 16 for inverse; where both 1 and 2 are set, the character is bold.
+/// underlined and 16 for inverse. If both 1 and 2 are set, the character is bold.
 #[derive(Clone, Copy, Debug, Eq, PartialEq)]
 pub struct Attrs {
     /// Of the character itself.
     pub fgcolor: Color,
-    /// Of what stands behind it.
+    /// Of the background.
     pub bgcolor: Color,
-    /// The bits above.
+    /// The bits that the type's doc lists.
     pub mode: u8,
 }
 
@@ -86,7 +86,7 @@ impl Attrs {
         self.mode & TEXT_MODE_DIM != 0
     }
 
-    /// Makes it bold, and not dim.
+    /// Sets bold, and resets dim.
     pub fn set_bold(&mut self)
         ensures { self.new ≡ with_bold self.old }
     {
@@ -94,7 +94,7 @@ impl Attrs {
         self.mode |= TEXT_MODE_BOLD;
     }
 
-    /// Makes it dim, and not bold.
+    /// Sets dim, and resets bold.
     pub fn set_dim(&mut self)
         ensures { self.new ≡ with_dim self.old }
     {
@@ -102,21 +102,21 @@ impl Attrs {
         self.mode |= TEXT_MODE_DIM;
     }
 
-    /// Makes it neither bold nor dim.
+    /// Resets bold and dim.
     pub fn set_normal_intensity(&mut self)
         ensures { self.new ≡ with_normal_intensity self.old }
     {
         self.mode &= !TEXT_MODE_INTENSITY;
     }
 
-    /// Whether it is italic.
+    /// Whether the bit for italic is set.
     pub fn italic(&self) -> bool
         ensures { result ≡ is_italic self.now }
     {
         self.mode & TEXT_MODE_ITALIC != 0
     }
 
-    /// Makes it italic, or not.
+    /// Sets italic, or resets it.
     pub fn set_italic(&mut self, italic: bool)
         ensures { self.new ≡ with_italic italic self.old }
     {
@@ -127,14 +127,14 @@ impl Attrs {
         }
     }
 
-    /// Whether it is underlined.
+    /// Whether the bit for underlined is set.
     pub fn underline(&self) -> bool
         ensures { result ≡ is_underlined self.now }
     {
         self.mode & TEXT_MODE_UNDERLINE != 0
     }
 
-    /// Makes it underlined, or not.
+    /// Sets underlined, or resets it.
     pub fn set_underline(&mut self, underline: bool)
         ensures { self.new ≡ with_underline underline self.old }
     {
@@ -152,7 +152,7 @@ impl Attrs {
         self.mode & TEXT_MODE_INVERSE != 0
     }
 
-    /// Makes foreground and background swapped, or not.
+    /// Sets inverse, or resets it.
     pub fn set_inverse(&mut self, inverse: bool)
         ensures { self.new ≡ with_inverse inverse self.old }
     {
@@ -175,9 +175,9 @@ impl Attrs {
         }
     }
 
-    /// Appends the escape sequence that takes a terminal from the attributes `other` to these: nothing where they are
-    /// equal, the one that clears all where these are the default ones, else one that sets what differs. Where `contents` has to
-    /// grow and there is no memory it stays as it was.
+    /// Appends the escape sequence (SGR) that takes a terminal from the attributes `other` to these. It appends nothing
+    /// if they are equal. It clears all attributes if these are the default ones, and else sets what differs. Fails
+    /// only if an allocation fails; `contents` is then unchanged.
     pub fn write_escape_code_diff(
         &self,
         contents: &mut String,
@@ -196,8 +196,8 @@ impl Attrs {
         Ok(())
     }
 
-    /// Puts the bytes that take a terminal from the attributes `other` to these at the end of `run`: 48 at most, for
-    /// which there is room where 58 fit.
+    /// Appends to `run` the bytes that take a terminal from the attributes `other` to these. They are 48 at most, but
+    /// the run must have room for 58.
     #[doc(hidden)]
     #[inline(always)]
     pub fn push_escape_code_diff(&self, run: &mut TextRun, other: &Self)
@@ -217,8 +217,8 @@ impl Attrs {
         }
     }
 
-    /// Hands the bytes that take a terminal from the attributes `other` to these to `writer` in one call, in none where
-    /// there are no bytes. The only error is that call's.
+    /// Writes the escape sequence that takes a terminal from the attributes `other` to these. `writer` gets it in one
+    /// call, or in no call if it is empty. The only error is that call's.
     pub fn write_escape_code_diff_fmt<W: fmt::Write>(
         &self,
         writer: &mut W,

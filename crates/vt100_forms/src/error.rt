@@ -1,14 +1,14 @@
-//! The refusal of what allocates.
+//! The error of calls that allocate.
 ghost use Rattle.std.specs.Prelude.{◌≡◌};
 ghost use Rattle.vt100_forms.specs.declared.error.GridError.TheVariants.{Memory};
 
 use std::alloc::{AllocError, AllocFailed};
 use thiserror::Error;
 
-/// Why a call on a row, a grid or an escape sequence was refused.
+/// Why a call on a row, a grid or an escape sequence failed.
 #[derive(Clone, Copy, Debug, Eq, Error, PartialEq)]
 pub enum GridError {
-    /// There was no memory for what the call would have stored.
+    /// An allocation failed.
     #[error("out of memory")]
     Memory,
 }

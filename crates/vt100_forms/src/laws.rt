@@ -9,17 +9,18 @@ pub fn setters_are_read()
     ensures { EachSetterIsRead }
 {}
 
-/// The setters keep attributes proper: with no bit that has no meaning, not both bold and dim, and with colours of bytes.
+/// The setters keep attributes proper. Proper attributes aren't both bold and dim, use only the five bits that have a
+/// meaning, and have bytes as colour numbers.
 pub fn setters_keep_proper()
     ensures { EachSetterKeepsProper }
 {}
 
-/// A terminal with the old attributes has the new ones after the SGR form of what differs, where both are proper.
+/// An SGR of what differs takes a terminal from the old attributes to the new ones, if both are proper.
 pub fn changes_lead()
     ensures { EachChangeLeads }
 {}
 
-/// How many bytes a form takes at most.
+/// A form has at most as many bytes as the definition `longest` says for its kind.
 pub fn spellings_are_short()
     ensures { EachSpellingIsShort }
 {}
@@ -34,13 +35,13 @@ pub fn changes_are_short()
     ensures { EachChangeIsShort }
 {}
 
-/// No mark of a synchronized update stands in the bytes of forms, where the texts among them hold no ESC.
+/// The bytes of forms hold no mark of a synchronized update (private mode 2026), if the texts among them hold no ESC.
 pub fn no_mark_stands_in_forms()
     ensures { NoMarkInForms }
 {}
 
-/// Where other bytes follow forms whose texts hold no ESC, a mark of a synchronized update in the whole stands behind
-/// the forms.
+/// If other bytes follow forms whose texts hold no ESC, a mark of a synchronized update in the whole begins after the
+/// forms.
 pub fn marks_stand_behind_forms()
     ensures { MarksStandBehindForms }
 {}

@@ -1,10 +1,10 @@
-//! The modes of a terminal that programs choose: which mouse reports they get, in which encoding, and how the cursor
+//! The modes of a terminal that programs choose: which mouse events are reported, in which encoding, and how the cursor
 //! looks.
 
-/// Which events of the mouse a program is told of.
+/// Which mouse events the terminal reports to the program (xterm's mouse tracking).
 #[derive(Clone, Copy, Debug, Default, Eq, PartialEq)]
 pub enum MouseProtocolMode {
-    /// None.
+    /// No events.
     #[default]
     None,
     /// A button going down (xterm's mode 9).

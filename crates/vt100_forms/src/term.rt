@@ -1,4 +1,4 @@
-//! The escape sequences that a writer sends to a terminal (ECMA-48, the VT100's and xterm's control sequences).
+//! The escape sequences that are sent to a terminal (ECMA-48, the VT100's and xterm's control sequences).
 ghost use Rattle.std.specs.Prelude.{◌≡◌, ◌≤◌, ◌<◌, ◌+◌, ◌^◌, length, decimal, List, [], ◌∷◌, ◌++◌};
 ghost use Rattle.std.specs.Prelude.{string_bytes, string_len, string_capacity, is_ok, IsOk, OnOk, OnErr, if◌then◌else◌};
 ghost use Rattle.vt100_forms.specs.Form.{Form, spell, counted};
@@ -21,21 +21,21 @@ pub use modes::{
 pub use moves::{Backspace, Crlf, MoveFromTo, MoveRight, MoveTo, RestoreCursor, SaveCursor};
 use std::fmt;
 
-/// Room on the stack for the bytes of one escape sequence.
+/// A buffer on the stack for the bytes of one escape sequence, 64 at most.
 pub type FormText = ArrayString<64>;
 
-/// What can be written as an escape sequence. An implementation says its bytes in `as_text`, and the other methods hand
-/// them on.
+/// A value that can be written as an escape sequence. An implementation returns its bytes from `as_text`; the other
+/// methods write them.
 pub trait BufWrite {
     // one form, or none
     ghost forms: { Self → List Form };
 
-    /// The bytes, which stand in `room` unless they are fixed.
+    /// Returns the bytes. They are a constant, or are built in `room`, which must be empty.
     fn as_text<'a>(&self, room: &'a mut FormText) -> &'a str
         requires { room.old.bytes ≡ [] }
         ensures { result.now ≡ spell (forms self.now) };
 
-    /// Hands the bytes to `writer` in one call, in none where there are no bytes. The only error is that call's.
+    /// Writes the bytes to `writer` in one call, or in no call if there are none. The only error is that call's.
     fn write_fmt<W: fmt::Write>(&self, writer: &mut W) -> fmt::Result
         ensures written { OnOk result
             (HandsOver W.write_str_gives writer.old (spell (forms self.now)) writer.new) }
@@ -49,7 +49,7 @@ pub trait BufWrite {
         writer.write_str(text)
     }
 
-    /// Appends the bytes to `buf`. Where `buf` has to grow and there is no memory it stays as it was.
+    /// Appends the bytes to `buf`. Fails only if an allocation fails; `buf` is then unchanged.
     fn write_buf(&self, buf: &mut String) -> Result<(), GridError>
         ensures bytes { string_bytes buf.new ≡
             (if is_ok result then string_bytes buf.old ++ spell (forms self.now) else string_bytes buf.old) }
@@ -63,7 +63,7 @@ pub trait BufWrite {
     }
 }
 
-/// How strong a character is drawn.
+/// The weight of a character: normal, bold or dim.
 #[derive(Clone, Copy, Debug, Eq, PartialEq)]
 pub enum Intensity {
     /// Neither bold nor dim (SGR 22).
@@ -74,7 +74,7 @@ pub enum Intensity {
     Dim,
 }
 
-// Puts the decimal digits of a number at the end: 5 at most.
+// Appends the decimal digits of a number, 5 at most.
 fn push_count(run: &mut TextRun, n: u32)
     requires room { length run.old + 5 ≤ 128 }
     requires few { n ≤ 2 ^ 16 }
@@ -119,7 +119,7 @@ fn push_digit(run: &mut TextRun, n: u32)
     run.push_ascii(b'0' + n as u8);
 }
 
-// A count that is left out where it is 1; nothing where it is 0.
+// Appends CSI, the count and the letter. A count of 1 is left out, and for a count of 0 nothing is appended.
 fn push_counted(run: &mut TextRun, count: u16, letter: u8)
     requires room { length run.old + 8 ≤ 128 }
     requires ascii { letter < 128 }
@@ -137,7 +137,7 @@ fn push_counted(run: &mut TextRun, count: u16, letter: u8)
     run.push_ascii(letter);
 }
 
-// The same in `room`.
+// Like `push_counted`, but in `room`.
 fn counted<'a>(room: &'a mut FormText, count: u16, letter: u8) -> &'a str
     requires empty { room.old.bytes ≡ [] }
     requires ascii { letter < 128 }

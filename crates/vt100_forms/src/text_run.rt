@@ -1,4 +1,4 @@
-//! Bytes that are written to a string in one piece.
+//! A small buffer of bytes that are appended to a string in one call.
 ghost use Rattle.std.specs.Prelude.{◌≡◌, ℕ, ◌+◌, ◌<◌, ◌≤◌, ◌↔◌, List, [], ◌∷◌, ◌++◌, length, take, IsTrue, IsUtf8};
 ghost use Rattle.std.specs.Prelude.{◌⊎◌, OnOk, OnErr, string_bytes, string_len, string_capacity, is_ok, if◌then◌else◌};
 
@@ -13,7 +13,7 @@ const RUN_BYTES: usize = 128;
 #[doc(hidden)]
 pub const SHORT_BYTES: usize = 4;
 
-/// UTF-8 bytes on the stack, at most 128 of them, that are to be appended to a string in one call.
+/// A buffer on the stack of at most 128 bytes of UTF-8, which are appended to a string in one call.
 #[derive(Debug, Drop)]
 pub struct TextRun {
     // A byte, and before the others: so LLVM sees that a write of one of these never changes it, and keeps it in a
@@ -36,7 +36,7 @@ impl Model for TextRun {
 }
 
 impl TextRun {
-    /// No bytes yet.
+    /// An empty buffer.
     pub const fn new() -> Self
         ensures { result ≡ [] }
     {
@@ -46,7 +46,7 @@ impl TextRun {
         }
     }
 
-    /// Whether `count` bytes more fit.
+    /// Whether there is room for `count` more bytes.
     #[inline(always)]
     pub fn has_room(&self, count: usize) -> bool
         requires { count ≤ 128 }
@@ -55,7 +55,7 @@ impl TextRun {
         self.len as usize <= RUN_BYTES - count
     }
 
-    /// Puts an ASCII character at the end.
+    /// Appends an ASCII character.
     #[inline(always)]
     pub fn push_ascii(&mut self, c: u8)
         requires room { length self.old < 128 }
@@ -67,7 +67,7 @@ impl TextRun {
         self.len += 1;
     }
 
-    /// Puts a short text at the end: the first `len` of these four bytes.
+    /// Appends a short text: the first `len` of these four bytes.
     // All four are copied, which is one move and no branch.
     #[inline(always)]
     pub fn push_short(&mut self, bytes: &[u8], len: usize)
@@ -90,8 +90,8 @@ impl TextRun {
         unsafe { str::from_utf8_unchecked(&self.bytes[..self.len as usize]) }
     }
 
-    /// Appends the bytes to `contents`, and takes them out of the run. Where `contents` has to grow and there is no
-    /// memory, it stays as it was.
+    /// Moves the bytes to the end of `contents`, and empties the run. Fails only if an allocation fails: `contents` is
+    /// then unchanged, and the run is empty too.
     #[inline]
     pub fn move_to(&mut self, contents: &mut String) -> Result<(), AllocError>
         ensures bytes { string_bytes contents.new ≡
@@ -108,7 +108,8 @@ impl TextRun {
         moved
     }
 
-    /// Moves the bytes to `contents` where `count` bytes more don't fit.
+    /// Moves the bytes to the end of `contents` if there is no room for `count` more. Fails only if an allocation
+    /// fails.
     #[inline]
     pub fn make_room(&mut self, count: usize, contents: &mut String) -> Result<(), AllocError>
         requires { count ≤ 128 }

@@ -41,7 +41,7 @@ opens_in-text past bs m lt text before =
     ∙ (ap (λ v. v || opens_in (past ++ take m bs) (b ∷ [])) before
     ∙ text_opens_none (past ++ take m bs) b (ap ends_in_text (sym (front past bs m lt)) ∙ text)))
 
--- where no front at which the parser asks opens an update, none does
+-- if no prefix at which the parser asks opens an update, none does
 pub none_before : (past bs : List ℕ) (n : ℕ) → n ≤ length bs
     → ((m : ℕ) → m < n → asks_after past bs m ≡ true → opens_in past (take m bs) ≡ false)
     → (m : ℕ) → m < n → opens_in past (take m bs) ≡ false

@@ -29,7 +29,7 @@ module _ {T : Type 0} (ticking : Ticking T) (exact : IsExact ticking) where
       cleared_last ticking exact t (first ++ from) t'
       (subst (λ (ts : List Tick). Ticked ticking t ts t') (sym (append_assoc first from (Clears ∷ []))) y)
 
-  -- a piece is parsed plainly only where no update is open
+  -- a piece is parsed without the hold only if no update is open
   never_plain : (closed : Bool) (t : T) (k : List ℕ) → Plainly ticking closed t → Awaits ticking t true
       → (closed ≡ true → Some k ≡ None) → ⊥
   never_plain true t k plain a c = let no : Some k ≡ None = c refl in cc

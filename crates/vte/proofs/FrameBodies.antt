@@ -1,4 +1,4 @@
--- What may stand between the marks of a frame.
+-- What may be between the marks of a frame.
 use Rattle.std.proofs.Common.{◌≡◌, ◌≢◌, ℕ, ◌<◌, Bool, true, false, ◌||◌, List, [], ◌∷◌, ◌++◌, if◌then◌else◌, map}
 use Rattle.std.proofs.Common.{length, refl, sym, ◌∙◌, ap, inl, inr, arith, length-append}
 use Rattle.std.specs.List.{AllByRecursion, concat, list_any}
@@ -35,7 +35,7 @@ chars_none : (cs : List ℕ) → list_any opens (map char_event cs) ≡ false
 chars_none [] = refl
 chars_none (c ∷ cs) = ap (λ v. v || list_any opens (map char_event cs)) (one_none _ c) ∙ chars_none cs
 
--- ESC doesn't stand in the text
+-- the text has no ESC
 no_esc : (text front after : List ℕ) → AllByRecursion (λ b. b ≢ 0x1B) text → text ≡ front ++ 0x1B ∷ after → ⊥
 no_esc [] front after h e = absurd (omega (arith, ap length e, length-append front (0x1B ∷ after)))
 no_esc (b ∷ text) [] after h e = h.0 (let same : b ≡ 0x1B = cc in same)

@@ -1,4 +1,4 @@
--- Joined frames in any pieces.
+-- Frames one after another, cut into any pieces.
 use Rattle.std.proofs.Common.{◌≡◌, ◌≢◌, ◌⊎◌, ℕ, ◌+◌, ◌-◌, ◌<◌, ◌≤◌, false, List, [], ◌∷◌, ◌++◌, Option, None}
 use Rattle.std.proofs.Common.{Some, length, take, drop, refl, sym, ◌∙◌, ap, subst, inl, inr, arith, append_assoc}
 use Rattle.std.proofs.Common.{append-nil, length-append}
@@ -24,7 +24,7 @@ use Rattle.vte.proofs.FrameMarks.{contrary, end_stands, start_inside, last_is, f
 
 -- ---- one step of the hold
 
--- a piece leads there, whatever calls it makes
+-- a piece takes parsed and held bytes to these, whatever calls it makes
 abbrev pub Taking : List ℕ → Option (List ℕ) → List ℕ → List ℕ → Option (List ℕ) → Type 0
 Taking parsed hold piece parsed' hold' = (calls : List Call) × (ticks : List Tick)
     × Takes parsed hold piece parsed' hold' calls ticks
@@ -40,7 +40,7 @@ plainly : {parsed piece parsed' : List ℕ} {hold' : Option (List ℕ)} {calls :
 plainly (parses _ _ none) = inl (none, refl, refl)
 plainly (begins _ _ n _ _ cs ts at t) = inr (n, at, (cs, ts, t))
 
--- an update is open, and all that was held and came stays below the limit
+-- an update is open, and the held bytes and the piece together stay below the limit
 data Settled (parsed all parsed' : List ℕ) (hold' : Option (List ℕ)) : Type 0 where
   stays : NoneFrom end_mark all 0 → parsed' ≡ parsed → hold' ≡ Some all → Settled parsed all parsed' hold'
   cut : (n : ℕ) → IsCut all n → parsed' ≡ parsed ++ take n all → hold' ≡ Some (drop n all)
@@ -111,7 +111,7 @@ opens_sooner q a b m none o = record {
 front_is : (q a b : List ℕ) (m : ℕ) → q ++ take (length a + m) (a ++ b) ≡ (q ++ a) ++ take m b
 front_is q a b m = ap (λ xs. q ++ xs) (take-append-add a b m) ∙ sym (append_assoc q a (take m b))
 
--- bytes that open nothing may stand in the piece, or be parsed before it
+-- bytes that open nothing may be in the piece, or be parsed before it
 skip : (q a b q' : List ℕ) (h' : Option (List ℕ)) → opens_in q a ≡ false → Plain q (a ++ b) q' h'
     → Plain (q ++ a) b q' h'
 skip q a b q' h' none (inl u) = inl ((opens_in-parts q a b u.0).1, u.1 ∙ sym (append_assoc q a b), u.2)
@@ -158,7 +158,7 @@ some_end front back none =
     let here = at_later end_mark front (end_mark ++ back) 0 in
     contrary _ here (none (length front + 0) (omega arith) (omega (arith, length-append front (end_mark ++ back))))
 
--- a start mark directly behind the last end mark stays held
+-- a start mark right after the last end mark stays held
 settled_cut : (q front back q' : List ℕ) (h' : Option (List ℕ)) → NoneFrom end_mark (start_mark ++ back) 0
     → Settled q (front ++ (end_mark ++ (start_mark ++ back))) q' h'
     → (q' ≡ q ++ (front ++ end_mark)) × (h' ≡ Some (start_mark ++ back))
@@ -177,7 +177,7 @@ settled_cut q front back q' h' none (emptied c e f) =
     let last = last_is front (start_mark ++ back) c.0 c.1 none in
     absurd (start_stands front back (subst (λ (k : ℕ). NoneFrom start_mark text (k + 1)) last c.2))
 
--- where too little follows the last end mark, all is parsed
+-- if too little follows the last end mark, all is parsed
 settled_all : (q front back q' : List ℕ) (h' : Option (List ℕ)) → NoneFrom end_mark back 0 → length back < 8
     → Settled q (front ++ (end_mark ++ back)) q' h'
     → (q' ≡ q ++ (front ++ (end_mark ++ back))) × (h' ≡ None)
@@ -190,7 +190,7 @@ settled_all q front back q' h' none short (emptied c e f) = (e, f)
 
 -- ---- frames
 
--- of two ways to cut a list, the longer front goes on from the shorter
+-- of two ways to cut a list, the longer prefix continues the shorter
 pub cut_later : (a b xs ys : List ℕ) → a ++ b ≡ xs ++ ys → length a ≤ length xs → (c : List ℕ) × (xs ≡ a ++ c)
     × (b ≡ c ++ ys)
 cut_later [] b xs ys e h = (xs, refl, e)
@@ -200,7 +200,7 @@ cut_later (x ∷ a) b (y ∷ xs) ys e h =
     let later = cut_later a b xs ys (cc) (omega arith) in
     (later.0, ap (λ z. z ∷ xs) (sym heads) ∙ ap (λ zs. x ∷ zs) later.1, later.2)
 
--- a frame, of which T holds where it is too long to be held
+-- a frame; T is true if it is too long to be held
 pub record Sized (T : Type 0) (f : List ℕ) : Type 0 where
   pub frame : IsFrame f
   pub large : limit ≤ length f → T
@@ -269,7 +269,7 @@ part_starts T p [] h e long = absurd (omega (arith, ap length e, long))
 part_starts T p (f ∷ fs) h e long = let at = front_starts f p e.0 h.0.frame e.1 long
     in (at.0, at.1, mark_begins f fs h.0.frame)
 
--- fewer are a front of the start mark
+-- fewer bytes of a frame are a prefix of the start mark
 pub front_short : (f p left : List ℕ) → IsFrame f → f ≡ p ++ left → length p < 8 → (r : List ℕ) × (start_mark ≡ p ++ r)
 front_short f p left frame e short =
     let later = cut_later p left start_mark (frame.body ++ end_mark) (sym e ∙ frame.is) (omega (arith, short)) in
@@ -281,7 +281,7 @@ part_opens_none T q p [] h e short = ap (opens_in q) e ∙ opens_in-none q
 part_opens_none T q p (f ∷ fs) h e short = let at = front_short f p e.0 h.0.frame e.1 short
     in begun_front q p at.0 at.1 short
 
--- behind its start mark a frame opens nothing
+-- after its start mark a frame opens nothing
 body_none : (f : List ℕ) (frame : IsFrame f) (q : List ℕ) → opens_in (q ++ start_mark) (frame.body ++ end_mark) ≡ false
 body_none f frame q =
     let body : opens_in (q ++ start_mark) frame.body ≡ false =
@@ -313,15 +313,15 @@ joined_ends T f (g ∷ gs) h =
 
 -- ---- where pieces of frames leave off
 
--- what is parsed and held, behind whole bytes and a part of a frame; T says why more than a part of its start mark may
--- be parsed
+-- what is parsed and held after whole bytes and a part of a frame; T says why more than a part of its start mark may be
+-- parsed
 pub data RestsBy (T : Type 0) (whole part parsed : List ℕ) (hold : Option (List ℕ)) : Type 0 where
   outside : (length part < 8) ⊎ T → parsed ≡ whole ++ part → hold ≡ None → RestsBy T whole part parsed hold
   inside : (held : List ℕ) → part ≡ start_mark ++ held → parsed ≡ whole ++ start_mark → hold ≡ Some held
       → RestsBy T whole part parsed hold
   before : 8 ≤ length part → parsed ≡ whole → hold ≡ Some part → RestsBy T whole part parsed hold
 
--- a piece from inside a frame, behind its start mark, to further inside it opens nothing
+-- a piece from inside a frame, after its start mark, to further inside it opens nothing
 inner : (T : Type 0) (q part piece p : List ℕ) (rest : List (List ℕ)) → Frames T rest → IsPart part rest → IsPart p rest
     → 8 ≤ length part → part ++ piece ≡ p → (limit ≤ length (part ++ piece)) ⊎ T
     → T × (opens_in (q ++ part) piece ≡ false)
@@ -387,7 +387,7 @@ module _ (T : Type 0) (p q' : List ℕ) (h' : Option (List ℕ)) (rest : List (L
       settle_ends q [] (start_mark ++ ends.0) all (concat (f ∷ fs)) ends.1 e
       (subst (λ (xs : List ℕ). Settled xs all q' h') (sym (append-nil q)) st)
 
-  -- with no update open, behind the first of the frames
+  -- no update is open, after the first of the frames
   abbrev Goes : List ℕ → List (List ℕ) → Type 0
   Goes q [] = Unit {0}
   Goes q (f ∷ frames) = Plain (q ++ f) (concat frames ++ p) q' h' → RestsBy T ((q ++ f) ++ concat frames) p q' h'
@@ -447,7 +447,7 @@ module _ (T : Type 0) (p q' : List ℕ) (h' : Option (List ℕ)) (rest : List (L
   plain_next q [] h = tt
   plain_next q (f ∷ frames) h = plain_frames (q ++ f) frames h.1
 
-  -- from inside a start mark, or from behind it where T holds or the hold was full
+  -- from inside a start mark, or from after it if T is true or the hold was full
   plain_on : (q part piece : List ℕ) (frames : List (List ℕ)) → Frames T (frames ++ rest)
       → IsPart part (frames ++ rest) → part ++ piece ≡ concat frames ++ p
       → (length part < 8) ⊎ ((limit ≤ length (part ++ piece)) ⊎ T) → Plain (q ++ part) piece q' h'

@@ -1,4 +1,4 @@
--- Marks as the parser reads them, and where they stand in a text.
+-- Marks as the parser reads them, and their places in a text.
 use Rattle.std.proofs.Common.{◌≡◌, ℕ, zero, suc, ◌+◌, ◌-◌, ◌<◌, ◌≤◌, Bool, true, false, ◌&&◌, ◌||◌, ◌==◌, List, [], ◌∷◌, ◌++◌}
 use Rattle.std.proofs.Common.{length, take, drop, nat_eq, refl, sym, ◌∙◌, ap, inl, inr, arith, length-append, append_assoc}
 use Rattle.std.proofs.Common.{length-drop}
@@ -40,7 +40,7 @@ opens_in-later past a b h = opens_in-append past a b ∙ ap (λ v. v || opens_in
 pub opens_in-sooner : (past a b : List ℕ) → opens_in past a ≡ true → opens_in past (a ++ b) ≡ true
 opens_in-sooner past a b h = opens_in-append past a b ∙ ap (λ v. v || opens_in (past ++ a) b) h
 
--- a front of what opens nothing
+-- a prefix of bytes that open nothing opens nothing
 pub opens_in-front : (past bytes : List ℕ) (n : ℕ) → opens_in past bytes ≡ false → opens_in past (take n bytes) ≡ false
 opens_in-front past bytes n h = (opens_in-parts past (take n bytes) (drop n bytes)
     (ap (opens_in past) (take-append-drop n bytes) ∙ h)).0
@@ -59,7 +59,7 @@ all_cut_off_none [] h = refl
 all_cut_off_none (e ∷ es) h = rw (cut_off_none e (All-head IsCutOff e es h))
     (all_cut_off_none es (All-tail IsCutOff e es h))
 
--- what ESC begins is told as it is alone
+-- the events of what ESC begins don't depend on what came before
 esc_added : (past bytes : List ℕ) → added past (27 ∷ bytes) ≡ added past (27 ∷ []) ++ events 1024 (27 ∷ bytes)
 esc_added past bytes =
     let told = events 1024 (27 ∷ bytes) in
@@ -68,7 +68,7 @@ esc_added past bytes =
     ∙ append_assoc (events 1024 past) (added past (27 ∷ [])) told) in
     sym (added-is 1024 past (27 ∷ bytes) (added past (27 ∷ []) ++ told) whole)
 
--- and opens as it does alone
+-- nor does whether it opens an update
 esc_opens : (past bytes : List ℕ) → opens_in past (27 ∷ bytes) ≡ list_any opens (events 1024 (27 ∷ bytes))
 esc_opens past bytes =
     let more = list_any opens (events 1024 (27 ∷ bytes)) in
@@ -144,7 +144,7 @@ starts_short (y ∷ mark) [] h = refl
 starts_short (y ∷ mark) (x ∷ text) h = ap (λ b. nat_eq y x && b) (starts_short mark text (omega arith))
     ∙ and_right (nat_eq y x) false refl
 
--- too little follows for a mark to stand there
+-- too little follows for a mark to be there
 pub none_short : (mark text : List ℕ) (k : ℕ) → length text < length mark → stands_at mark text k ≡ false
 none_short mark text k h = starts_short mark (drop k text) (omega (arith, length-drop k text, h))
 
@@ -159,7 +159,7 @@ starts_so (y ∷ mark) (x ∷ text) h = elim (cases_Bool (nat_eq y x)) [
   | inr e ↦ absurd (let no : false ≡ true = rw e at h in cc)
 ]
 
--- a mark that stands there cuts the text
+-- a mark at a place cuts the text
 pub at_cuts : (mark text : List ℕ) (k : ℕ) → stands_at mark text k ≡ true
     → text ≡ take k text ++ (mark ++ drop (length mark) (drop k text))
 at_cuts mark text k h = sym (take-append-drop k text) ∙ ap (λ zs. take k text ++ zs) (starts_so mark (drop k text) h)
@@ -183,7 +183,7 @@ contrary b h k = let e : true ≡ false = sym h ∙ k in cc
 pub end_stands : (front back : List ℕ) → stands_at end_mark (front ++ (end_mark ++ back)) (length front) ≡ true
 end_stands front back = ap (λ text. starts_with nat_eq text end_mark) (drop-append_seam front (end_mark ++ back))
 
--- what stands behind the end mark's first byte stands behind its last, for a mark that doesn't begin inside it
+-- a place after the end mark's first byte is after its last, for a mark that doesn't begin inside it
 past_end : (mark front back : List ℕ) (n : ℕ)
     → ((k : ℕ) → 0 < k → k < 8 → stands_at mark (end_mark ++ back) k ≡ false) → length front < n
     → stands_at mark (front ++ (end_mark ++ back)) n ≡ true
@@ -201,7 +201,7 @@ past_end mark front back n none low at =
       )
     ]
 
--- the last end mark, where none stands behind it
+-- the last end mark, if none follows it
 pub last_is : (front back : List ℕ) (e : ℕ) → IsLast end_mark (front ++ (end_mark ++ back)) e
     → NoneFrom end_mark back 0 → e ≡ length front
 last_is front back e last none =
@@ -219,7 +219,7 @@ last_is front back e last none =
       ]
     ]
 
--- the first start mark behind that end mark, where one stands directly behind it
+-- the first start mark after that end mark, if one follows right after it
 pub first_is : (front back : List ℕ) (n : ℕ) → IsFirstFrom start_mark (front
     ++ (end_mark ++ (start_mark ++ back))) (length front + 1) n → n ≡ length (front ++ end_mark)
 first_is front back n first =
@@ -238,7 +238,7 @@ first_is front back n first =
       ]
     ]
 
--- there is none where too little follows the end mark
+-- there is none if too little follows the end mark
 pub no_first : (front back : List ℕ) (n : ℕ) → IsFirstFrom start_mark (front
     ++ (end_mark ++ back)) (length front + 1) n → length back < 8 → ⊥
 no_first front back n first short =

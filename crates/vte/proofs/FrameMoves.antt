@@ -17,7 +17,7 @@ use Rattle.vte.proofs.FrameMarks.{ground_end}
 use Rattle.vte.proofs.FrameLemmas.{cut_later, Frames, frames_back, front_short, RestsBy, outside, inside}
 use Rattle.vte.proofs.FrameLemmas.{before, piece_rests}
 
--- a front of joined frames is whole frames and part of the next
+-- a prefix of frames is whole frames and part of the next
 cut_frames : (frames : List (List ℕ)) (xs beyond : List ℕ) → xs ++ beyond ≡ concat frames
     → (whole : List (List ℕ)) × (rest : List (List ℕ)) × (p : List ℕ) × (frames ≡ whole ++ rest)
     × (xs ≡ concat whole ++ p) × IsPart p rest
@@ -50,7 +50,7 @@ cut_frames (f ∷ fs) xs beyond e =
           )
     ]
 
--- where bytes of frames leave a parsed text and a hold
+-- the parsed and held bytes after bytes of frames
 record Untorn (T : Type 0) (frames : List (List ℕ)) (past bytes parsed : List ℕ) (hold : Option (List ℕ)) : Type 0 where
   front : IsFront frames bytes
   rests : RestsBy T (past ++ concat front.whole) front.part parsed hold
@@ -101,7 +101,7 @@ stopped : {T : Type 0} {frames : List (List ℕ)} {past bytes parsed : List ℕ}
     → Untorn T frames past bytes parsed hold → Untorn T frames past bytes (parsed ++ held_of hold) None
 stopped t r = record { front = r.front; rests = stopped_rests t r.rests }
 
--- the moves stop an update only where T holds
+-- the moves stop an update only if T is true
 abbrev pub StopsBy : Type 0 → List Move → Type 0
 StopsBy T [] = Unit {0}
 StopsBy T (Gives piece ∷ moves) = StopsBy T moves
@@ -162,14 +162,14 @@ any_stops [] = tt
 any_stops (Gives piece ∷ moves) = any_stops moves
 any_stops (Stops ∷ moves) = (tt, any_stops moves)
 
--- with no bytes of a frame left over, none is held
+-- if no part of a frame is left over, no byte is held
 whole_rests : {T : Type 0} {whole part parsed : List ℕ} {hold : Option (List ℕ)} → part ≡ []
     → RestsBy T whole part parsed hold → (parsed ≡ whole) × (hold ≡ None)
 whole_rests {whole = whole} e (outside why at is) = (at ∙ (ap (λ xs. whole ++ xs) e ∙ append-nil whole), is)
 whole_rests e (inside held starts at is) = absurd (omega (arith, ap length starts, ap length e))
 whole_rests e (before long at is) = absurd (omega (arith, ap length e, long))
 
--- less than a frame cannot come where all frames came
+-- no part of a frame is left over if all frames were given
 nothing_left : (T : Type 0) (whole rest : List (List ℕ)) (part : List ℕ) → Frames T rest → IsPart part rest
     → concat (whole ++ rest) ≡ concat whole ++ part → (rest ≡ []) × (part ≡ [])
 nothing_left T whole [] part fs is e = (refl, is)

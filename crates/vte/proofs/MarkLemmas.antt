@@ -6,7 +6,7 @@ use Rattle.std.proofs.lemmas.Bool.{cases_lt, eq-eqb, eqb-true, false_from_ne_tru
 use Rattle.memchr.specs.Find.{Nowhere, Passes, is_byte}
 use Rattle.vte.specs.Marks.{stands_at, NoneFrom, end_mark}
 
--- no mark stands after a place: none stands in what follows it
+-- if no mark begins at a place or later, none is in the text from there on
 pub none_after : (n : ℕ) (text : List ℕ) → NoneFrom end_mark text n → NoneFrom end_mark (drop n text) 0
 none_after n text none k low below =
     let inside : n + k < length text = omega (arith, length-drop n text, below) in
@@ -15,7 +15,7 @@ none_after n text none k low below =
 pub none_in_empty : NoneFrom end_mark [] 0
 none_in_empty k low below = absurd (omega arith)
 
--- A mark that stands whole in the front stands there alone.
+-- A mark that is whole in the prefix is there without the rest too.
 same_in_front : (held piece : List ℕ) (k : ℕ) → k + 8 ≤ length held
     → stands_at end_mark (held ++ piece) k ≡ stands_at end_mark held k
 same_in_front held piece k fits =
@@ -23,8 +23,8 @@ same_in_front held piece k fits =
     let whole : 8 ≤ length (drop k held) = omega (arith, length-drop k held) in
     rw (drop-append-le, take-append-le) refl
 
--- where no end mark stands in the held bytes, one in the held bytes and the piece begins in the last 7 of the held ones
--- or later
+-- if the held bytes have no end mark, one in the held bytes and the piece begins in the last 7 of the held ones or
+-- later
 pub none_from_seen : (held piece : List ℕ) (seen : ℕ) → seen ≤ length held - 7 → NoneFrom end_mark held 0
     → NoneFrom end_mark (held ++ piece) seen → NoneFrom end_mark (held ++ piece) 0
 none_from_seen held piece seen close old new k low below =
@@ -34,7 +34,7 @@ none_from_seen held piece seen close old new k low below =
       | inr later ↦ new k later below
     ]
 
--- where the first byte of a mark doesn't stand, the mark doesn't
+-- where the first byte of a mark isn't, the mark isn't
 not_first : (mark text : List ℕ) (k : ℕ) → 0 < length mark → k < length text
     → ¬ Passes (is_byte (slice_index mark 0)) text k → stands_at mark text k ≡ false
 not_first [] text k some below other = absurd (omega arith)
@@ -54,7 +54,7 @@ none_in_part mark text from n i j some fits inside nowhere k low high =
     ∙ (get_or-drop from text (k - from) 0 ∙ ap (slice_index text) place) in
     not_first mark text k some (omega arith) (λ is. nowhere (k - from) (omega arith) (omega arith) (rw reads is))
 
--- what is read of a part of the text stands in the text
+-- a byte of a part of the text is a byte of the text
 pub part_in : (text : List ℕ) (from n at : ℕ) → at < length (take n (drop from text)) → (at < n) × (from + at < length text)
 part_in text from n at h =
     let size = length-take n (drop from text) in

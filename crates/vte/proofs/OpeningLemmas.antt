@@ -1,4 +1,4 @@
--- Which events are called as the opening of an update.
+-- Which events have a call that says that an update was opened.
 use Rattle.std.proofs.Common.{◌≡◌, ℕ, ◌+◌, ◌%◌, ◌==◌, ◌↔◌, Bool, true, false, ◌&&◌, List, [], ◌∷◌, ◌++◌, Option}
 use Rattle.std.proofs.Common.{None, Some, IfSome, nat_eq, nat_lt, bytes_eq, if◌then◌else◌, map, unwrap_or, length, drop}
 use Rattle.std.proofs.Common.{find, codes, suc, refl, ap, sym, ◌∙◌, subst, inl, inr}
@@ -51,12 +51,12 @@ quiet_flat_map : {X : Type 0} (f : X → List Call) (xs : List X) → ((x : X) �
 quiet_flat_map f [] h = refl
 quiet_flat_map f (x ∷ xs) h = quiet-append (f x) (flat_map f xs) (h x) (quiet_flat_map f xs h)
 
--- P of each row's key and what stands beside it
+-- P is true of each row's key and value
 abbrev Rows : {K X : Type 0} → (K → X → Type 0) → List (K × X) → Type 0
 Rows P [] = Unit {0}
 Rows P (row ∷ rows) = P row.0 row.1 × Rows P rows
 
--- it is so of the row that a key finds
+-- P is true of the row that a key finds
 found : {X : Type 0} (P : ℕ → X → Type 0) (key : ℕ) (rows : List (ℕ × X)) → Rows P rows
     → IfSome (lookup key rows) (P key)
 found P key [] h = tt

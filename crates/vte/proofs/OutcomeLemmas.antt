@@ -13,7 +13,7 @@ use Rattle.vte.specs.Hold.{Takes, parses, begins, settles, overflows}
 use Rattle.vte.specs.Laws.{SameOutcome, TakesOneWay}
 use Rattle.vte.proofs.FrameMarks.{contrary, opens_in-front}
 
--- a start mark stands inside the text
+-- a start mark is inside the text
 inside : (text : List ℕ) (k : ℕ) → stands_at start_mark text k ≡ true → k < length text
 inside text k at = elim (cases_lt k (length text)) [
   | inl within ↦ within
@@ -131,7 +131,7 @@ parses-only (begins parsed piece n q k d t at y) e closed =
 parses-only (settles parsed held piece q k d t fits y) e closed = absurd (cc)
 parses-only (overflows parsed held piece q k d t full y) e closed = absurd (cc)
 
--- what the rest of a piece leads to, behind so many bytes
+-- the outcome of the rest of a piece, after so many bytes
 begins-only : {parsed : List ℕ} {hold : Option (List ℕ)} {piece q : List ℕ} {k : Option (List ℕ)} {d : List Call}
     {t : List Tick}
     → Takes parsed hold piece q k d t → hold ≡ None → (n : ℕ) → OpensAt parsed piece n → (p : List ℕ)

@@ -1,4 +1,4 @@
--- Printed text, handed to a handler, with the last character stored once, after it.
+-- Printed text, passed to a handler, with the last character stored once, after it.
 use Rattle.std.proofs.Common.{◌≡◌, ◌∙◌, sym, ap, refl, ℕ, List, [], ◌∷◌, ◌++◌, Option, Some}
 use Rattle.std.proofs.Common.{map, subst, take, length, append-nil}
 use Rattle.std.specs.Char.{IsScalar}
@@ -20,14 +20,14 @@ Steps step ticking p e q = Performed step ticking e p.handler.now p.state.now p.
     q.state.now q.terminated
     × (q.handler.ghost_name ≡ p.handler.ghost_name) × (q.state.ghost_name ≡ p.state.ghost_name)
 
--- a performer whose handler was told characters, of which this is the last
+-- a performer whose handler received characters, of which this is the last
 abbrev pub printed : {H T : Type 0} → Performer H T → H → Option ℕ → Performer H T
 printed p h last = record p {
   handler = record p.handler { now = h };
   state = record p.state { now = record p.state.now { preceding_char = last } };
 }
 
--- a handler that was told characters, with the last of them: as events
+-- a handler that received characters, with the last of them: as events
 pub printed-all : {H T : Type 0} (step : H → Call → H → Type 0) (ticking : Ticking T)
     (p : Performer H T) (cs : List ℕ) (h : H) (last : Option ℕ) → Calls step p.handler.now (map input cs) h
     → last ≡ last_after_all p.state.now.preceding_char (map Print cs)

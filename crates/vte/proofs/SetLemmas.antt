@@ -17,7 +17,7 @@ pub any_openers : (es : List Event) → list_any opens_group (openers_of_all es)
 any_openers [] = refl
 any_openers (e ∷ es) = list_any-append opens_group (openers e) (openers_of_all es) ∙ ap (λ v. opens e || v) (any_openers es)
 
--- where no group opens an update, nothing is set
+-- if no group opens an update, nothing is set
 pub sets_none : (gs : List (List ℕ)) → list_any opens_group gs ≡ false → sets_of gs ≡ []
 sets_none [] h = refl
 sets_none (g ∷ gs) h = let both = or_parts (opens_group g) (list_any opens_group gs) h in rw both.0 (sets_none gs both.1)
@@ -42,7 +42,7 @@ pub renewed : (text : List ℕ) (from : ℕ) (ticks more : List Tick) → Renews
 renewed text from ticks more (again k low at) = refl
 renewed text from ticks more (quiet _) = refl
 
--- where a group opens an update, something is set
+-- if a group opens an update, something is set
 pub sets_some : (gs : List (List ℕ)) → list_any opens_group gs ≡ true → 0 < length (sets_of gs)
 sets_some [] h = absurd (let no : false ≡ true = h in cc)
 sets_some (g ∷ gs) h = elim (cases_Bool (opens_group g)) [

@@ -1,4 +1,4 @@
--- What control sequences ask for.
+-- The calls of control sequences.
 use Rattle.std.specs.Prelude.{ℕ, pos, ◌-◌, ◌%◌, Bool, true, false, ◌&&◌, List, [], ◌∷◌, Option, Some, None, nat_eq}
 use Rattle.std.specs.Prelude.{if◌then◌else◌, map, replicate, unwrap_or}
 use Rattle.vte_types.specs.Call as call
@@ -21,7 +21,7 @@ use Rattle.vte_types.specs.declared.scp.ScpUpdateMode.TheVariants as update
 use Rattle.vte.specs.Escape.{calls_at}
 use Rattle.vte.specs.Sgr.{first, attributes, nothing}
 
--- the first number of the next group, or a default where it is absent or 0
+-- the first number of the next group; the default if there is none, or it is 0
 abbrev pub number_or : ℕ → List (List ℕ) → ℕ
 number_or d [] = d
 number_or d (g ∷ gs) = if nat_eq (first g) 0 then d else first g
@@ -34,7 +34,7 @@ rest (g ∷ gs) = gs
 abbrev pub nonzero : ℕ → Option ℕ
 nonzero n = if nat_eq n 0 then None else Some n
 
--- c, with any intermediates: the first of them
+-- DA (c), which may have any intermediates: the first of them
 abbrev pub first_mark : List ℕ → Option ℕ
 first_mark [] = None
 first_mark (x ∷ ms) = Some x
@@ -42,7 +42,7 @@ first_mark (x ∷ ms) = Some x
 abbrev pub identify_calls : List (List ℕ) → List ℕ → List Call
 identify_calls gs ms = if nat_eq (number_or 0 gs) 0 then call.identify_terminal (first_mark ms) ∷ [] else []
 
--- finals that take a count: @ P X A B e C a D E F L M S T I Z
+-- final bytes that take a count: @ P X A B e C a D E F L M S T I Z
 abbrev pub counted_rows : List (ℕ × (ℕ → Call))
 counted_rows =
     (64, call.insert_blank) ∷ (80, call.delete_chars) ∷ (88, call.erase_chars)
@@ -51,31 +51,31 @@ counted_rows =
     ∷ (69, call.move_down_and_cr) ∷ (70, call.move_up_and_cr) ∷ (76, call.insert_blank_lines) ∷ (77, call.delete_lines)
     ∷ (83, call.scroll_up) ∷ (84, call.scroll_down) ∷ (73, call.move_forward_tabs) ∷ (90, call.move_backward_tabs) ∷ []
 
--- J
+-- ED (J)
 abbrev pub clear_screen_rows : List (ℕ × List Call)
 clear_screen_rows = (0, call.clear_screen screen.Below ∷ []) ∷ (1, call.clear_screen screen.Above ∷ [])
     ∷ (2, call.clear_screen screen.All ∷ []) ∷ (3, call.clear_screen screen.Saved ∷ []) ∷ []
 
--- K
+-- EL (K)
 abbrev pub clear_line_rows : List (ℕ × List Call)
 clear_line_rows = (0, call.clear_line line.Right ∷ []) ∷ (1, call.clear_line line.Left ∷ [])
     ∷ (2, call.clear_line line.All ∷ []) ∷ []
 
--- g
+-- TBC (g)
 abbrev pub clear_tabs_rows : List (ℕ × List Call)
 clear_tabs_rows = (0, call.clear_tabs tabs.Current ∷ []) ∷ (3, call.clear_tabs tabs.All ∷ []) ∷ []
 
--- t
+-- window operations (t, xterm's)
 abbrev pub window_rows : List (ℕ × List Call)
 window_rows = (14, call.text_area_size_pixels ∷ []) ∷ (18, call.text_area_size_chars ∷ []) ∷ (22, call.push_title ∷ [])
     ∷ (23, call.pop_title ∷ []) ∷ []
 
--- b, with the last printed character
+-- REP (b), with the last printed character
 abbrev pub repeat_calls : Option ℕ → ℕ → List Call
 repeat_calls None n = []
 repeat_calls (Some x) n = replicate n (call.input x)
 
--- finals that read their groups in ways of their own: J K g h l m n t b
+-- final bytes that read their groups in ways of their own: J K g h l m n t b
 abbrev pub uncounted_rows : List (ℕ × (Option ℕ → List (List ℕ) → List Call))
 uncounted_rows =
     (74, λ last gs. calls_at (number_or 0 gs) clear_screen_rows)
@@ -88,7 +88,7 @@ uncounted_rows =
     ∷ (116, λ last gs. calls_at (number_or 1 gs) window_rows)
     ∷ (98, λ last gs. repeat_calls last (number_or 1 gs)) ∷ []
 
--- finals that place the cursor, the region or the saved cursor: G and backquote, d, H and f, r, s, u
+-- final bytes that set the cursor's place, the scroll region or the saved cursor: G and backquote, d, H and f, r, s, u
 abbrev pub placing_rows : List (ℕ × (List (List ℕ) → Call))
 placing_rows =
     (71, λ gs. call.goto_col (number_or 1 gs - 1)) ∷ (96, λ gs. call.goto_col (number_or 1 gs - 1))
@@ -114,14 +114,14 @@ counted_calls (Some counted) last gs f = counted (number_or 1 gs) ∷ []
 abbrev pub plain_calls : Option ℕ → List (List ℕ) → ℕ → List Call
 plain_calls last gs f = counted_calls (lookup f counted_rows) last gs f
 
--- the low 8 bits, without those that no keyboard mode has
+-- the keyboard modes of a number's low 8 bits; bits without a mode are dropped
 abbrev pub keyboard_modes : ℕ → KeyboardModes
 keyboard_modes n = record { 0 = n % 32 }
 
 abbrev pub behaviour_of : ℕ → KeyboardModesApplyBehavior
 behaviour_of n = unwrap_or (lookup n ((2, apply.Union) ∷ (3, apply.Difference) ∷ [])) apply.Replace
 
--- a group of 4 alone stands first
+-- the first group is the number 4 only
 abbrev pub asks_four : List (List ℕ) → Bool
 asks_four [] = false
 asks_four ([] ∷ gs) = false
@@ -195,7 +195,7 @@ dollar_rows = (112, λ gs. call.report_mode (mode_of (number_or 0 gs)) ∷ []) �
 abbrev pub question_dollar_rows : List (ℕ × (List (List ℕ) → List Call))
 question_dollar_rows = (112, λ gs. call.report_private_mode (private_mode_of (number_or 0 gs)) ∷ []) ∷ []
 
--- the calls of the final's row, none where it has no row
+-- the calls of a final byte's row; none if it has no row
 abbrev pub calls_by : ℕ → List (ℕ × (List (List ℕ) → List Call)) → List (List ℕ) → List Call
 calls_by f rows gs = unwrap_or (lookup f rows) (λ gs. []) gs
 
@@ -211,7 +211,7 @@ marked_calls last gs (x ∷ []) f = calls_by f (unwrap_or (lookup x marked_rows)
 marked_calls last gs (x ∷ y ∷ []) f = if nat_eq x 63 && nat_eq y 36 then calls_by f question_dollar_rows gs else []
 marked_calls last gs (x ∷ y ∷ z ∷ ms) f = []
 
--- the calls of groups, intermediates and a final, with the last printed character
+-- the calls of a control sequence: last printed character, groups, intermediates, final byte
 abbrev pub csi_calls : Option ℕ → List (List ℕ) → List ℕ → ℕ → List Call
 csi_calls last gs ms f = if nat_eq f 99 then identify_calls gs ms else marked_calls last gs ms f
 
@@ -219,7 +219,7 @@ csi_calls last gs ms f = if nat_eq f 99 then identify_calls gs ms else marked_ca
 abbrev pub opens_group : List ℕ → Bool
 opens_group g = nat_eq (first g) 2026
 
--- the groups of ?h, of which those that begin with 2026 open an update
+-- the groups of DECSET (?h); those that begin with 2026 open an update
 abbrev pub opening_groups : List (List ℕ) → List ℕ → ℕ → List (List ℕ)
 opening_groups gs [] f = []
 opening_groups gs (x ∷ []) f = if nat_eq x 63 && nat_eq f 104 then gs else []

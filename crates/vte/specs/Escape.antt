@@ -1,4 +1,4 @@
--- What controls and escape sequences ask for.
+-- The calls of control characters and escape sequences.
 use Rattle.std.specs.Prelude.{ℕ, List, [], ◌∷◌, Option, Some, None, nat_eq, if◌then◌else◌, unwrap_or}
 use Rattle.vte_types.specs.Call as call
 use Rattle.vte_types.specs.Call.{Call}
@@ -7,7 +7,7 @@ use Rattle.vte_types.specs.declared.charset.CharsetIndex.{CharsetIndex}
 use Rattle.vte_types.specs.declared.charset.CharsetIndex.TheVariants as i
 use Rattle.vte_types.specs.declared.charset.StandardCharset.TheVariants as c
 
--- the calls beside a key, none where it has no row
+-- the calls of a key's row; none if it has no row
 abbrev pub calls_at : ℕ → List (ℕ × List Call) → List Call
 calls_at key rows = unwrap_or (lookup key rows) []
 

@@ -1,4 +1,4 @@
--- Frames: updates that a start mark begins and an end mark ends, joined and given in pieces.
+-- Frames: updates from a start mark to an end mark, given one after another, in pieces.
 use Rattle.std.specs.Prelude.{◌≡◌, ◌≢◌, ℕ, ◌<◌, ◌≤◌, false, List, [], ◌∷◌, ◌++◌, Option, None, Some, map, take, length}
 use Rattle.std.specs.List.{All, concat, list_any}
 use Rattle.vte_core.specs.Shapes.{events}
@@ -13,21 +13,21 @@ use Rattle.vte.specs.Stretch.{calls_from, opens_in, OpensAt}
 use Rattle.vte.specs.Hold.{limit, closing, held_of, Takes}
 use Rattle.vte.specs.Moves.{Move, Gives, Stops, given}
 
--- the marks around a body: an end mark stands at the end only, and no event of the body opens an update
+-- a body between the marks: no end mark ends before the frame does, and no event of the body opens an update
 pub record IsFrame (frame : List ℕ) : Type 0 where
   pub body : List ℕ
   pub is : frame ≡ start_mark ++ (body ++ end_mark)
   pub ends_once : (before after : List ℕ) → body ++ end_mark ≡ before ++ (end_mark ++ after) → after ≡ []
   pub opens_nothing : list_any opens (events 1024 body) ≡ false
 
--- from a parsed text and a hold the moves lead to others, whatever calls and settings of the timeout they make
+-- the moves take parsed bytes and held bytes to others, whatever calls they make, and however they set the timeout
 pub data Drives : List Move → List ℕ → Option (List ℕ) → List ℕ → Option (List ℕ) → Type 0 where
   ends : (parsed : List ℕ) (hold : Option (List ℕ)) → Drives [] parsed hold parsed hold
   gives : (piece : List ℕ) (moves : List Move) (parsed : List ℕ) (hold : Option (List ℕ)) (mid : List ℕ)
       (mid_hold : Option (List ℕ)) (calls : List Call) (ticks : List Tick) (parsed' : List ℕ) (hold' : Option (List ℕ))
       → Takes parsed hold piece mid mid_hold calls ticks
       → Drives moves mid mid_hold parsed' hold' → Drives (Gives piece ∷ moves) parsed hold parsed' hold'
-  -- what was held is parsed, and no update is open
+  -- all held bytes are parsed, and no update is open
   stops : (moves : List Move) (parsed : List ℕ) (hold : Option (List ℕ)) (parsed' : List ℕ) (hold' : Option (List ℕ))
       → Drives moves (parsed ++ held_of hold) None parsed' hold' → Drives (Stops ∷ moves) parsed hold parsed' hold'
 
@@ -37,18 +37,18 @@ MovesFollow = (moves more : List Move) (parsed : List ℕ) (hold : Option (List 
     → Drives moves parsed hold mid mid_hold → Drives more mid mid_hold parsed' hold'
     → Drives (moves ++ more) parsed hold parsed' hold'
 
--- whole frames are parsed, in whatever pieces they come and wherever the update is stopped by hand
+-- whole frames are parsed, however they are cut into pieces, and wherever an update is stopped by hand
 abbrev pub WholeFramesAreParsed : Type 0
 WholeFramesAreParsed = (frames : List (List ℕ)) (moves : List Move) (past parsed : List ℕ) (hold : Option (List ℕ))
     → All IsFrame frames → given moves ≡ concat frames → Drives moves past None parsed hold
     → (parsed ≡ past ++ concat frames) × (hold ≡ None)
 
--- the bytes are less than the next frame
+-- the bytes are a prefix of the next frame, and not all of it
 abbrev pub IsPart : List ℕ → List (List ℕ) → Type 0
 IsPart part [] = part ≡ []
 IsPart part (frame ∷ frames) = (left : List ℕ) × (frame ≡ part ++ left) × (left ≢ [])
 
--- the bytes are the first of the frames, and less than the next one
+-- the bytes are some of the first frames, and a prefix of the next one, which isn't all of it
 pub record IsFront (frames : List (List ℕ)) (bytes : List ℕ) : Type 0 where
   pub whole : List (List ℕ)
   pub rest : List (List ℕ)
@@ -57,42 +57,43 @@ pub record IsFront (frames : List (List ℕ)) (bytes : List ℕ) : Type 0 where
   pub bytes_are : bytes ≡ concat whole ++ part
   pub is_part : IsPart part rest
 
--- whole bytes, and part of a frame, were given: what is parsed and held
+-- what is parsed and held after whole frames and part of one
 pub data Rests (whole part parsed : List ℕ) (hold : Option (List ℕ)) : Type 0 where
-  -- less than the start mark came, and no update is open
+  -- less than the start mark was given, and no update is open
   closed : length part < 8 → parsed ≡ whole ++ part → hold ≡ None → Rests whole part parsed hold
-  -- the start mark was parsed, and the rest is held
+  -- the start mark is parsed, and the rest is held
   opened : (held : List ℕ) → part ≡ start_mark ++ held → parsed ≡ whole ++ start_mark → hold ≡ Some held
       → Rests whole part parsed hold
   -- the start mark is held, and the rest with it
   kept : 8 ≤ length part → parsed ≡ whole → hold ≡ Some part → Rests whole part parsed hold
 
--- of the frames those that were given whole are parsed, and of the next one at most its start mark
+-- exactly the frames that were given whole are parsed, and of the next one at most its start mark
 pub record IsUntorn (frames : List (List ℕ)) (past bytes parsed : List ℕ) (hold : Option (List ℕ)) : Type 0 where
   pub front : IsFront frames bytes
   pub rests : Rests (past ++ concat front.whole) front.part parsed hold
 
--- frames below the hold's limit are never torn, in whatever pieces the beginning of them comes
+-- frames below the hold's limit are never torn, however a prefix of them is cut into pieces
 abbrev pub FramesAreNeverTorn : Type 0
 FramesAreNeverTorn = (frames pieces : List (List ℕ)) (beyond past parsed : List ℕ) (hold : Option (List ℕ))
     → All IsFrame frames → All (λ frame. length frame < limit) frames → concat pieces ++ beyond ≡ concat frames
     → Drives (map Gives pieces) past None parsed hold → IsUntorn frames past (concat pieces) parsed hold
 
--- so what is parsed beyond whole frames is a beginning of the start mark
+-- what is parsed beyond whole frames is a prefix of the start mark
 abbrev pub OnlyAMarkIsBegun : Type 0
 OnlyAMarkIsBegun = (whole part parsed : List ℕ) (hold : Option (List ℕ)) (rest : List (List ℕ))
     → All IsFrame rest → IsPart part rest
     → Rests whole part parsed hold → (count : ℕ) × (count ≤ 8) × (parsed ≡ whole ++ take count start_mark)
 
--- whatever came before, a start mark opens an update at its last byte and at none before
+-- a start mark opens an update at its last byte and not before, whatever came before it
 abbrev pub StartMarksOpen : Type 0
 StartMarksOpen = (past : List ℕ) → OpensAt past start_mark 8
 
--- and nothing is unfinished after it, or after an end mark
+-- no sequence is unfinished after a start mark, or after an end mark
 abbrev pub MarksEndAtGround : Type 0
 MarksEndAtGround = (past : List ℕ) → AtGround 1024 (past ++ start_mark) × AtGround 1024 (past ++ end_mark)
 
--- where nothing is unfinished, a begun start mark makes no call, and the whole one says that an update was opened
+-- If no sequence is unfinished before it, a start mark makes no call before its last byte, and then the call that says
+-- that an update was opened.
 abbrev pub StartMarksCall : Type 0
 StartMarksCall = (past : List ℕ) → AtGround 1024 past
     → ((count : ℕ) → count < 8 → calls_from past (take count start_mark) ≡ [])
@@ -102,17 +103,17 @@ abbrev pub EndMarksCall : Type 0
 EndMarksCall = (past : List ℕ)
     → (opens_in past end_mark ≡ false) × (AtGround 1024 past → calls_from past end_mark ≡ closing)
 
--- nothing is unfinished after whole frames
+-- no sequence is unfinished after whole frames
 abbrev pub FramesEndAtGround : Type 0
 FramesEndAtGround = (frames : List (List ℕ)) (past : List ℕ)
     → All IsFrame frames → AtGround 1024 past → AtGround 1024 (past ++ concat frames)
 
--- what is put together from parts that end at ground and open nothing does so too
+-- parts that leave no sequence unfinished, and open no update, do neither when they are joined
 abbrev pub PartsOpenNothing : Type 0
 PartsOpenNothing = (parts : List (List ℕ))
     → All (AtGround 1024) parts → All (λ part. list_any opens (events 1024 part) ≡ false) parts
     → AtGround 1024 (concat parts) × (list_any opens (events 1024 (concat parts)) ≡ false)
 
--- text without ESC, between the marks
+-- text without ESC between the marks is a frame
 abbrev pub TextsMakeFrames : Type 0
 TextsMakeFrames = (text : List ℕ) → IsText text → IsFrame (start_mark ++ (text ++ end_mark))

@@ -24,7 +24,7 @@ abbrev pub SameOutcome : List ℕ → Option (List ℕ) → List Call → List T
 SameOutcome parsed hold calls ticks parsed' hold' calls' ticks' =
     (parsed ≡ parsed') × (hold ≡ hold') × (calls ≡ calls') × (ticks ≡ ticks')
 
--- a piece has one outcome
+-- the outcome of a piece is determined by what was parsed and held before it
 abbrev pub TakesOneWay : Type 0
 TakesOneWay = (parsed : List ℕ) (hold : Option (List ℕ)) (piece p q : List ℕ) (h k : Option (List ℕ)) (c d : List Call)
     (s t : List Tick)
@@ -43,7 +43,7 @@ ConservesUnderAny {T} ticking = (t : T) (parsed held piece : List ℕ) (t' : T) 
     → Advances ticking false t parsed held piece t' parsed' held' calls
     → parsed ++ (held ++ piece) ≡ parsed' ++ held'
 
--- the calls of bytes that follow one another, what they print last, and how they open updates and set the timeout
+-- the calls of two pieces, one after the other
 abbrev pub JoinsCalls : Type 0
 JoinsCalls = (past a b : List ℕ) → calls_from past (a ++ b) ≡ calls_from past a ++ calls_from (past ++ a) b
 
@@ -56,7 +56,7 @@ JoinsOpenings = (past a b : List ℕ) → opens_in past (a ++ b) ≡ (opens_in p
 abbrev pub JoinsTicks : Type 0
 JoinsTicks = (past a b : List ℕ) → ticks_from past (a ++ b) ≡ ticks_from past a ++ ticks_from (past ++ a) b
 
--- the calls of a piece are those of the bytes that it leads to parse, and a closing for each clearing of the timeout
+-- the calls of a piece are those of the bytes that are parsed with it, with a closing for each clearing of the timeout
 abbrev pub CallsAreOfParsed : Type 0
 CallsAreOfParsed = (parsed : List ℕ) (hold : Option (List ℕ)) (piece parsed' : List ℕ) (hold' : Option (List ℕ))
     (calls : List Call) (ticks : List Tick)
@@ -69,41 +69,41 @@ CallsAreOfParsedUnderAny {T} ticking =
     → Advances ticking false t parsed held piece t' parsed' held' calls
     → (ticks : List Tick) × Ticked ticking t ticks t' × Parses parsed parsed' (clearings ticks) calls
 
--- calls that differ in closings alone are the same without them
+-- calls that differ only in closings are the same without them
 abbrev pub FiltersClosings : Type 0
 FiltersClosings = (cs : List Call) (n : ℕ) (calls : List Call) → WithClosings cs n calls
     → without_closings calls ≡ without_closings cs
 
--- a handler on which a closing does nothing goes where it would go without the closings
+-- a handler that ignores closings ends in the state that it has without them
 abbrev pub IgnoresClosings : {H : Type 0} → (H → Call → H → Type 0) → Type 0
 IgnoresClosings {H} step = ((s t : H) → step s (unset_private_mode (Named SyncUpdate)) t → t ≡ s)
     → (cs : List Call) (n : ℕ) (calls : List Call) (s t : H) → WithClosings cs n calls → Calls step s calls t
     → Calls step s cs t
 
--- from a new processor on, under any timeout: all bytes given are the parsed ones followed by the held ones, and all
--- calls are the table's calls of the events of the parsed bytes, with a closing for each clearing of the timeout
+-- For a new processor, under any timeout: all bytes given are the parsed ones followed by the held ones. All calls are
+-- those of the table for the events of the parsed bytes, with a closing for each clearing of the timeout.
 abbrev pub MakesTableCalls : {T : Type 0} → Ticking T → Type 0
 MakesTableCalls {T} ticking = (moves : List Move) (t t' : T) (parsed held : List ℕ) (calls : List Call)
     → Runs ticking moves t [] [] t' parsed held calls → (given moves ≡ parsed ++ held)
     × (ticks : List Tick) × Ticked ticking t ticks t'
     × WithClosings (calls_of_all None (events 1024 parsed)) (clearings ticks) calls
 
--- an open update isn't torn: while there is room and no end mark has come whole, nothing is parsed and no call is made
+-- while an update is open, the bytes fit and no end mark has come whole, nothing is parsed and no call is made
 abbrev pub NeverTears : Type 0
 NeverTears = (parsed held piece parsed' : List ℕ) (hold' : Option (List ℕ)) (calls : List Call) (ticks : List Tick)
     → Takes parsed (Some held) piece parsed' hold' calls ticks → length (held ++ piece) < limit
     → NoneFrom end_mark (held ++ piece) 0
     → (parsed' ≡ parsed) × (hold' ≡ Some (held ++ piece)) × (calls ≡ [])
 
--- the calls of an event hold `set_private_mode(SyncUpdate)` exactly where it opens an update
+-- an event's calls contain `set_private_mode(SyncUpdate)` exactly when it opens an update
 abbrev pub OpensAsCalled : Type 0
 OpensAsCalled = (last : Option ℕ) (e : Event) → list_any is_opening (calls_of last e) ≡ opens e
 
--- and so do the calls of several events
+-- the same of the calls of several events
 abbrev pub OpensAsAllCalled : Type 0
 OpensAsAllCalled = (last : Option ℕ) (es : List Event) → list_any is_opening (calls_of_all last es) ≡ list_any opens es
 
--- CSI ? .. h, of which nothing was left out, with a group that begins with 2026
+-- CSI ? .. h of which nothing was left out, with a group that begins with 2026
 pub record IsStart (e : Event) : Type 0 where
   pub before : List (List ℕ)
   pub more : List ℕ
@@ -113,7 +113,7 @@ pub record IsStart (e : Event) : Type 0 where
 abbrev pub OpensByStarts : Type 0
 OpensByStarts = (e : Event) → (opens e ≡ true) ↔ IsStart e
 
--- the parser asks after each byte that adds an event which opens an update
+-- the parser asks whether it is to stop after each byte that completes an event which opens an update
 abbrev pub AsksWhereOpened : Type 0
 AsksWhereOpened = (past bytes : List ℕ) (b : ℕ) (rest : List ℕ)
     → opens_in (past ++ bytes) (b ∷ []) ≡ true → asks_after past (bytes ++ b ∷ rest) (length bytes + 1) ≡ true

@@ -17,7 +17,7 @@ given [] = []
 given (Gives piece ∷ moves) = piece ++ given moves
 given (Stops ∷ moves) = given moves
 
--- under any timeout the moves lead from a timeout, parsed bytes and held bytes to others, with these calls
+-- the moves take a timeout, parsed bytes and held bytes to others, and make these calls, under any timeout
 pub data Runs {T : Type 0} (ticking : Ticking T)
     : List Move → T → List ℕ → List ℕ → T → List ℕ → List ℕ → List Call → Type 0 where
   ends : (t : T) (parsed held : List ℕ) → Runs ticking [] t parsed held t parsed held []
@@ -27,7 +27,7 @@ pub data Runs {T : Type 0} (ticking : Ticking T)
       → Advances ticking false t parsed held piece mid mid_parsed mid_held calls
       → Runs ticking moves mid mid_parsed mid_held t' parsed' held' more
       → Runs ticking (Gives piece ∷ moves) t parsed held t' parsed' held' (calls ++ more)
-  -- what was held is parsed, and the update is closed
+  -- all held bytes are parsed, and the update is closed
   stops : (moves : List Move) (t : T) (parsed held : List ℕ) (mid : T) (t' : T) (parsed' held' : List ℕ)
       (more : List Call)
       → Ticked ticking t (ticks_from parsed held ++ Clears ∷ []) mid

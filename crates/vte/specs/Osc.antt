@@ -1,4 +1,4 @@
--- What operating system commands ask for.
+-- The calls of operating system commands.
 use Rattle.std.specs.Prelude.{ℕ, ◌+◌, ◌*◌, ◌-◌, ◌/◌, ◌^◌, ◌%◌, ◌≤◌, Bool, ◌&&◌, List, [], ◌∷◌, ◌++◌, Option, Some, None}
 use Rattle.std.specs.Prelude.{nat_eq, nat_lt, ◌==◌, if◌then◌else◌, length, take, drop, map, unwrap_or, bytes_eq, codes}
 use Rattle.std.specs.Prelude.{find, filter}
@@ -15,16 +15,16 @@ use Rattle.vte_types.specs.CursorIcon.{name_of, all_icons}
 use Rattle.vte_types.specs.declared.cursor.CursorShape.TheVariants as shape
 use Rattle.vte.specs.Escape.{calls_at}
 
--- what stands beside a name in a table, in its first row with that name
+-- the value of a name in a table, in the first row with that name
 abbrev pub named : {X : Type 0} → List ℕ → List (List ℕ × X) → Option X
 named name [] = None
 named name (row ∷ rows) = if bytes_eq name row.0 then Some row.1 else named name rows
 
--- what ended the command, to be sent back: BEL, or ESC and a backslash
+-- the bytes that ended the command, which the answer ends with: BEL, or ESC and a backslash
 abbrev pub end_text : Bool → List ℕ
 end_text bell = if bell then 7 ∷ [] else 27 ∷ 92 ∷ []
 
--- as many pieces and bytes as a parser keeps
+-- no more pieces and bytes than a parser keeps
 pub record AreKept (ps : List (List ℕ)) : Type 0 where
   pub pieces : length ps ≤ 16
   pub bytes : length (concat ps) ≤ 1024
@@ -37,7 +37,7 @@ abbrev pub title_calls : List (List ℕ) → List Call
 title_calls [] = []
 title_calls (p ∷ ps) = call.set_title (Some (title_of (p ∷ ps))) ∷ []
 
--- the number that decimal digits write after a number, where it is at most 255
+-- the number that decimal digits write after a first number, if it is at most 255
 abbrev pub decimal_from : ℕ → List ℕ → ℕ
 decimal_from n ds = fold (λ m d. m * 10 + (d - 48)) n ds
 
@@ -48,14 +48,14 @@ byte_from n ds = if all_ascii_digits ds && nat_lt (decimal_from n ds) 256 then S
 abbrev pub byte_number : List ℕ → Option ℕ
 byte_number ds = if length ds == 0 then None else byte_from 0 ds
 
--- a colour of three parts, where each is there
+-- a colour of three parts, if each is there
 abbrev pub color_of_parts : Option ℕ → Option ℕ → Option ℕ → Option Rgb
 color_of_parts None g b = None
 color_of_parts (Some r) None b = None
 color_of_parts (Some r) (Some g) None = None
 color_of_parts (Some r) (Some g) (Some b) = Some (record { r = r; g = g; b = b })
 
--- the first two of hexadecimal digits, or 16 times the one
+-- the value of the first two hexadecimal digits; of one digit, 16 times its value
 abbrev pub first_two : List ℕ → ℕ
 first_two ds = if length ds == 1 then 16 * hex_value ds else hex_value (take 2 ds)
 
@@ -73,14 +73,14 @@ color_of_thirds n ds = color_of_parts (leading (take n ds)) (leading (take n (dr
 abbrev pub hash_color : List ℕ → Option Rgb
 hash_color ds = option_and_then (λ n. color_of_thirds n ds) (lookup (length ds) third_rows)
 
--- 1 to 4 digits, scaled so that the greatest number of so many digits is 255, rounded down
+-- 1 to 4 digits, scaled so that the greatest number of as many digits is 255, rounded down
 abbrev pub scaled : List ℕ → Option ℕ
 scaled ds =
     if nat_lt 0 (length ds) && (nat_lt (length ds) 5 && are_hex ds)
     then Some (255 * hex_value ds / (16 ^ length ds - 1))
     else None
 
--- `rgb:` and three such parts
+-- `rgb:` and three parts of 1 to 4 digits
 abbrev pub three_parts : List (List ℕ) → Option Rgb
 three_parts [] = None
 three_parts (r ∷ []) = None
@@ -93,7 +93,7 @@ color_of_text p =
     if starts_with nat_eq p (codes "#") then hash_color (drop 1 p) else
     (if starts_with nat_eq p (codes "rgb:") then three_parts (slice_split (λ c. c == 47) (drop 4 p)) else None)
 
--- a colour to set under an index, or `?` to ask for it
+-- the call that sets the colour of an index, or asks for it at `?`
 abbrev pub set_or_ask : Option Rgb → List ℕ → ℕ → List ℕ → List ℕ → List Call
 set_or_ask (Some c) prefix i end p = call.set_color i c ∷ []
 set_or_ask None prefix i end p = if bytes_eq p (codes "?") then call.dynamic_color_sequence prefix i end ∷ [] else []
@@ -114,15 +114,15 @@ pairs_calls (i ∷ p ∷ ps) end = pair_calls (byte_number i) p end ++ pairs_cal
 abbrev pub palette_calls : List (List ℕ) → List ℕ → List Call
 palette_calls ps end = if length ps % 2 == 0 then pairs_calls ps end else []
 
--- a piece that is UTF-8
+-- the piece, if it is UTF-8
 abbrev pub utf8_or_none : List ℕ → Option (List ℕ)
 utf8_or_none p = if is_utf8 p then Some p else None
 
--- 8: a hyperlink, whose uri is the pieces after the first joined by `;`, each empty where it isn't UTF-8
+-- 8: a hyperlink. Its uri is the pieces after the first, joined by `;`; one that isn't UTF-8 counts as empty.
 abbrev pub text_or_empty : List ℕ → List ℕ
 text_or_empty p = unwrap_or (utf8_or_none p) []
 
--- its id: what follows the first `id=` at a part's beginning, of parts cut at `:`
+-- its id: what follows the first `id=` at the start of a part, where parts end at `:`
 abbrev pub link_id : List ℕ → Option (List ℕ)
 link_id p = option_and_then (λ part. utf8_or_none (drop 3 part))
     (find (λ part. starts_with nat_eq part (codes "id=")) (slice_split (λ c. c == 58) p))
@@ -144,7 +144,7 @@ dynamic_calls n [] end = []
 dynamic_calls n (p ∷ ps) end = if nat_lt 12 n then []
     else color_calls (two_digits n) (246 + n) end p ++ dynamic_calls (n + 1) ps end
 
--- 22: a pointer by name
+-- 22: the mouse pointer's shape, by its name
 abbrev pub icon_calls : List (List ℕ) → List Call
 icon_calls [] = []
 icon_calls (p ∷ []) = map call.set_mouse_cursor_icon
@@ -164,7 +164,7 @@ abbrev pub cursor_calls : List (List ℕ) → List Call
 cursor_calls [] = []
 cursor_calls (p ∷ ps) = if starts_with nat_eq p (codes "CursorShape=") then shape_calls (drop 12 p) else []
 
--- 52: the clipboard that the first byte names, `c` where there is none
+-- 52: the clipboard that the first byte names; `c` if there is none
 abbrev pub clipboard_of : List ℕ → ℕ
 clipboard_of [] = 99
 clipboard_of (b ∷ bs) = b
@@ -175,7 +175,7 @@ clipboard_calls (s ∷ []) end = []
 clipboard_calls (s ∷ d ∷ ps) end = if bytes_eq d (codes "?") then call.clipboard_load (clipboard_of s) end ∷ []
     else call.clipboard_store (clipboard_of s) d ∷ []
 
--- 104: colours of the palette, all where none is named
+-- 104: colours of the palette are reset, all if none is named
 abbrev pub index_resets : List ℕ → List Call
 index_resets p = map call.reset_color (option_to_list (byte_number p))
 
@@ -187,7 +187,7 @@ reset_calls [] = all_resets
 reset_calls ([] ∷ ps) = all_resets
 reset_calls ((b ∷ bs) ∷ ps) = flat_map index_resets ((b ∷ bs) ∷ ps)
 
--- the numbers that a command begins with: what the pieces after it and its end ask for
+-- the calls for the number that a command begins with, given the pieces after it and the bytes that end it
 abbrev pub osc_rows : List (List ℕ × (List (List ℕ) → List ℕ → List Call))
 osc_rows =
     (codes "0", λ ps end. title_calls ps) ∷ (codes "2", λ ps end. title_calls ps)

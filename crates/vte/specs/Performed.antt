@@ -1,4 +1,4 @@
--- What events do to a handler, a timeout, and what is kept beside them.
+-- What events do to a handler, and to the timeout and the last character that are kept beside it.
 use Rattle.std.specs.Prelude.{ℕ, Bool, List, [], ◌∷◌, ◌++◌, ◌≡◌, Option, ◌||◌}
 use Rattle.std.specs.List.{list_any}
 use Rattle.vte_core.specs.Event.{Event}
@@ -8,7 +8,7 @@ use Rattle.vte.specs.Table.{calls_of, last_after, openers, opens}
 use Rattle.vte.specs.Timeout.{Ticking, Ticked, sets_of}
 use Rattle.vte.specs.declared.performer.ProcessorState.{ProcessorState}
 
--- one event: of an operating system command that no parser gives, the calls are left open
+-- One event. The calls are left open for an operating system command that no parser gives.
 pub record Performed {H T : Type 0} (step : H → Call → H → Type 0) (ticking : Ticking T) (e : Event)
     (h : H) (s : ProcessorState T) (terminated : Bool) (h' : H) (s' : ProcessorState T) (terminated' : Bool)
     : Type 0 where
@@ -30,7 +30,7 @@ abbrev pub openers_of_all : List Event → List (List ℕ)
 openers_of_all [] = []
 openers_of_all (e ∷ es) = openers e ++ openers_of_all es
 
--- events, in order
+-- several events, in order
 pub record PerformedAll {H T : Type 0} (step : H → Call → H → Type 0) (ticking : Ticking T) (es : List Event)
     (h : H) (s : ProcessorState T) (terminated : Bool) (h' : H) (s' : ProcessorState T) (terminated' : Bool)
     : Type 0 where

@@ -1,4 +1,4 @@
--- What the groups of an SGR sequence ask for.
+-- The attributes that the groups of an SGR sequence set.
 use Rattle.std.specs.Prelude.{ℕ, List, [], ◌∷◌, ◌++◌, Option, Some, None, nat_eq, nat_lt, if◌then◌else◌, length, drop}
 use Rattle.std.specs.Prelude.{unwrap_or}
 use Rattle.std.specs.Option.{option_map, option_to_list}
@@ -51,7 +51,7 @@ colored Underline x = a.UnderlineColor (Some x)
 abbrev pub target_of : ℕ → Option Target
 target_of n = lookup n ((38, Foreground) ∷ (48, Background) ∷ (58, Underline) ∷ [])
 
--- the colour of red, green and blue, where each is below 256
+-- the colour of red, green and blue, if each is below 256
 abbrev pub rgb_color : ℕ → ℕ → ℕ → Option Color
 rgb_color r g b = if nat_lt r 256 then (if nat_lt g 256
     then (if nat_lt b 256 then Some (Spec (record { r = r; g = g; b = b })) else None) else None) else None
@@ -73,7 +73,7 @@ index_of (i ∷ ns) = indexed_color i
 abbrev pub color_of : ℕ → List ℕ → Option Color
 color_of m ns = if nat_eq m 2 then rgb_of ns else (if nat_eq m 5 then index_of ns else None)
 
--- the colour in a group, after 38: of more than four numbers the second is skipped
+-- the colour in a group, after 38; if more than four numbers follow, the second is skipped
 abbrev pub group_color : List ℕ → Option Color
 group_color [] = None
 group_color (m ∷ ns) = color_of m (if nat_lt 4 (length (m ∷ ns)) then drop 1 ns else ns)
@@ -91,14 +91,14 @@ abbrev pub color_group : Option Target → List ℕ → Option Attr
 color_group None ns = None
 color_group (Some t) ns = option_map (colored t) (group_color ns)
 
--- what one group asks for by itself
+-- the attribute that one group sets by itself
 abbrev pub group_attr : List ℕ → Option Attr
 group_attr [] = None
 group_attr (n ∷ []) = lookup n singles
 group_attr (n ∷ m ∷ ns) = if nat_eq n 4 then Some (underline_of m ns) else color_group (target_of n) (m ∷ ns)
 
--- What the next groups still tell of a colour that began as a group of its own:
--- nothing, which kind it is, an index, red, green after red, blue after both.
+-- What the next groups still hold of a colour that began as a group of its own: nothing, its kind, an index, red, green
+-- after red, or blue after both.
 pub data Awaits : Type 0 where
   nothing : Awaits
   selector : Target → Awaits
@@ -111,7 +111,7 @@ abbrev pub awaits_kind : Option Target → Awaits
 awaits_kind None = nothing
 awaits_kind (Some t) = selector t
 
--- a colour begins at a group of 38, 48 or 58 alone
+-- a colour begins at a group of the one number 38, 48 or 58
 abbrev pub awaited : List ℕ → Awaits
 awaited [] = nothing
 awaited (n ∷ []) = awaits_kind (target_of n)
@@ -120,7 +120,7 @@ awaited (n ∷ m ∷ ns) = nothing
 abbrev pub chosen : Target → ℕ → Awaits
 chosen t n = if nat_eq n 2 then red t else (if nat_eq n 5 then index t else nothing)
 
--- the attributes that groups ask for, in order
+-- the attributes that groups set, in order
 abbrev pub attributes : Awaits → List (List ℕ) → List Attr
 attributes a [] = []
 attributes nothing (g ∷ gs) = option_to_list (group_attr g) ++ attributes (awaited g) gs

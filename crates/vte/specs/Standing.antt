@@ -1,4 +1,4 @@
--- Where a processor stands.
+-- The state of a processor: what it has parsed and holds.
 use Rattle.std.specs.Prelude.{ℕ, Bool, false, List, [], ◌∷◌, ◌++◌, ◌≡◌, Option, is_some, take}
 use Rattle.vte_core.specs.Standing.{Stands}
 use Rattle.vte_types.specs.Call.{Call, Calls}
@@ -20,13 +20,13 @@ pub record StandsAt {T A : Type 0} (p : Processor T A) (parsed held : List ℕ) 
   pub holds : p.held.items ≡ held
   pub no_end : NoneFrom end_mark held 0
 
--- the same, where the timeout says whether an update is open
+-- the same, and the timeout says whether an update is open
 pub record HoldsAt {T A : Type 0} (ticking : Ticking T) (p : Processor T A) (parsed : List ℕ) (hold : Option (List ℕ))
     : Type 0 where
   pub stands : StandsAt p parsed (held_of hold)
   pub awaits : Awaits ticking (timeout_of p) (is_some hold)
 
--- what a piece led to
+-- what a piece has done
 pub record Advanced {T A H : Type 0} (ticking : Ticking T) (step : H → Call → H → Type 0) (closed : Bool)
     (old : Processor T A) (parsed held piece : List ℕ) (h : H) (new : Processor T A) (h' : H) : Type 0 where
   pub parsed' : List ℕ
@@ -36,7 +36,7 @@ pub record Advanced {T A H : Type 0} (ticking : Ticking T) (step : H → Call �
   pub stands : StandsAt new parsed' held'
   pub goes : Calls step h calls h'
 
--- where a piece leads: what is parsed and held then, the calls, and what the timeout is told, which takes it from t to t'
+-- what a piece does: what is parsed and held then, the calls, and how the timeout is set and cleared, from t to t'
 pub record TakesPiece {T : Type 0} (ticking : Ticking T) (t : T) (parsed : List ℕ) (hold : Option (List ℕ))
     (piece : List ℕ) (t' : T) : Type 0 where
   pub parsed' : List ℕ
@@ -46,7 +46,7 @@ pub record TakesPiece {T : Type 0} (ticking : Ticking T) (t : T) (parsed : List 
   pub takes : Takes parsed hold piece parsed' hold' calls ticks
   pub ticked : Ticked ticking t ticks t'
 
--- what a piece led to, under a timeout that is pending exactly from setting to clearing
+-- what a piece has done, under a timeout that is pending exactly from setting to clearing
 pub record Taken {T A H : Type 0} (ticking : Ticking T) (step : H → Call → H → Type 0)
     (old : Processor T A) (parsed : List ℕ) (hold : Option (List ℕ)) (piece : List ℕ) (h : H) (new : Processor T A)
     (h' : H) : Type 0 where
@@ -54,7 +54,7 @@ pub record Taken {T A H : Type 0} (ticking : Ticking T) (step : H → Call → H
   pub stands : HoldsAt ticking new leads.parsed' leads.hold'
   pub goes : Calls step h leads.calls h'
 
--- bytes were parsed, and then those held are these
+-- these bytes were parsed, and then those are held
 pub record Parsed {T A H : Type 0} (ticking : Ticking T) (step : H → Call → H → Type 0)
     (old : Processor T A) (parsed bytes held : List ℕ) (h : H) (new : Processor T A) (h' : H) : Type 0 where
   pub stands : StandsAt new (parsed ++ bytes) held
@@ -68,7 +68,7 @@ pub record Emptied {T A H : Type 0} (ticking : Ticking T) (step : H → Call →
   pub ticked : Ticked ticking (timeout_of old) (ticks_from parsed held ++ Clears ∷ []) (timeout_of new)
   pub goes : Calls step h (calls_from parsed held ++ closing) h'
 
--- a piece for which there is room was taken while an update was open
+-- a piece that fits was read, while an update was open
 pub record Held {T A H : Type 0} (ticking : Ticking T) (step : H → Call → H → Type 0)
     (old : Processor T A) (parsed held piece : List ℕ) (h : H) (new : Processor T A) (h' : H) : Type 0 where
   pub parsed' : List ℕ
@@ -86,7 +86,7 @@ pub record Begun {T A H : Type 0} (ticking : Ticking T) (step : H → Call → H
   pub opens : OpensAt parsed piece n
   pub parsed_so : Parsed ticking step old parsed (take n piece) held h new h'
 
--- nothing in the piece opened one
+-- nothing in the piece opened an update
 pub record Unopened {T A H : Type 0} (ticking : Ticking T) (step : H → Call → H → Type 0)
     (old : Processor T A) (parsed held piece : List ℕ) (h : H) (new : Processor T A) (h' : H) : Type 0 where
   pub none : opens_in parsed piece ≡ false
@@ -94,7 +94,7 @@ pub record Unopened {T A H : Type 0} (ticking : Ticking T) (step : H → Call �
   pub stands : StandsAt new (parsed ++ piece) held
   pub goes : Calls step h (calls_from parsed piece) h'
 
--- what the beginning of a piece led to, where it goes on with the rest
+-- what a prefix of a piece has done, after which the rest is read
 pub record GoesOn {T A H : Type 0} (ticking : Ticking T) (step : H → Call → H → Type 0)
     (old : Processor T A) (parsed held piece rest : List ℕ) (h : H) (new : Processor T A) (h' : H) : Type 0 where
   pub parsed' : List ℕ

@@ -1,4 +1,4 @@
--- The table: what a handler is called for each event.
+-- The table: the calls of a handler for each event.
 use Rattle.std.specs.Prelude.{ℕ, Bool, true, false, List, [], ◌∷◌, Option, Some, if◌then◌else◌}
 use Rattle.std.specs.List.{list_any}
 use Rattle.vte_core.specs.Event.{Event, Print, Execute, Hook, Put, Unhook, Osc, Csi, Esc}
@@ -26,7 +26,7 @@ abbrev pub last_after : Option ℕ → Event → Option ℕ
 last_after last (Print x) = Some x
 last_after last _ = last
 
--- the groups of an event of which those that begin with 2026 open an update
+-- those groups of an event that may open an update; they do if they begin with 2026
 abbrev pub openers : Event → List (List ℕ)
 openers (Csi gs ms ignore f) = if ignore then [] else opening_groups gs ms f
 openers _ = []

@@ -2,7 +2,7 @@
 use Rattle.std.specs.Prelude.{ℕ, Bool, true, false, List, [], ◌∷◌, ◌≡◌, if◌then◌else◌}
 use Rattle.vte.specs.Csi.{opens_group}
 
--- what is asked of a timeout: to be set for an update, or to be cleared
+-- what is done to a timeout: it is set for an update, or cleared
 pub data Tick : Type 0 where
   Sets : Tick
   Clears : Tick
@@ -11,7 +11,7 @@ pub data Tick : Type 0 where
 abbrev pub update_nanos : ℕ
 update_nanos = 150_000_000
 
--- What the operations of a timeout may do: setting it for so many nanoseconds, clearing it, and asking whether it is
+-- What a timeout may do when it is set for so many nanoseconds, when it is cleared, and when it is asked whether it is
 -- pending.
 pub record Ticking (T : Type 0) : Type 1 where
   pub sets : T → ℕ → T → Type 0
@@ -24,7 +24,7 @@ Ticked ticking old [] new = new ≡ old
 Ticked {T} ticking old (Sets ∷ ticks) new = (mid : T) × ticking.sets old update_nanos mid × Ticked ticking mid ticks new
 Ticked {T} ticking old (Clears ∷ ticks) new = (mid : T) × ticking.clears old mid × Ticked ticking mid ticks new
 
--- it is set once for each group that opens an update
+-- the timeout is set once for each group that opens an update
 abbrev pub sets_of : List (List ℕ) → List Tick
 sets_of [] = []
 sets_of (g ∷ gs) = if opens_group g then Sets ∷ sets_of gs else sets_of gs

@@ -5,10 +5,10 @@ use std::time::Duration;
 
 /// A clock that counts from its own start.
 pub trait Clock {
-    /// What the clock may answer.
+    /// What `now` may return.
     ghost may_be: { Self → Duration → Type 0 };
 
-    /// How long ago it started.
+    /// The time since the clock's start.
     fn now(&self) -> Duration
         ensures { may_be self.now result };
 }

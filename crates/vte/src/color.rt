@@ -1,4 +1,4 @@
-//! Colours and numbers in texts.
+//! Colours and numbers that are written as text.
 ghost use Rattle.std.specs.Prelude.{◌≡◌, ◌==◌, ◌<◌, ◌≤◌, ◌+◌, ◌-◌, ◌*◌, ◌&&◌, length, nat_lt, Some, None};
 ghost use Rattle.std.specs.Prelude.{if◌then◌else◌};
 ghost use Rattle.std.specs.Char.{is_ascii_digit};
@@ -10,8 +10,8 @@ use crate::split::split_first;
 use vte_types::hex;
 use vte_types::rgb::Rgb;
 
-/// The colour that a text names, by X11: `#` and 3, 6, 9 or 12 hexadecimal digits, or `rgb:` and three parts of 1 to 4
-/// of them, with `/` between.
+/// The colour that a text names, as in X11; `None` for other texts. It is `#` and 3, 6, 9 or 12 hexadecimal digits, or
+/// `rgb:` and three parts of 1 to 4 digits, with `/` between them.
 pub fn parse_color(text: &[u8]) -> Option<Rgb>
     ensures { result ≡ color_of_text text.now }
 {
@@ -22,7 +22,7 @@ pub fn parse_color(text: &[u8]) -> Option<Rgb>
     }
 }
 
-/// The colour of digits after `#`.
+/// The colour of the digits after `#`.
 fn hash_color(digits: &[u8]) -> Option<Rgb>
     ensures { result ≡ hash_color digits.now }
 {
@@ -35,7 +35,7 @@ fn hash_color(digits: &[u8]) -> Option<Rgb>
     }
 }
 
-/// The colour of three parts of so many digits: the first two digits of each.
+/// The colour of three parts of `third` digits each: the first two digits of each count.
 fn thirds(third: usize, digits: &[u8]) -> Option<Rgb>
     requires few { (0 < third) × (third ≤ 4) }
     requires whole { length digits.now ≡ 3 * third }
@@ -47,7 +47,7 @@ fn thirds(third: usize, digits: &[u8]) -> Option<Rgb>
     Some(Rgb { r, g, b })
 }
 
-/// The first two of 1 to 4 digits, or 16 times the one.
+/// The value of the first two of 1 to 4 digits; of one digit, 16 times its value.
 fn leading_byte(digits: &[u8]) -> Option<u8>
     requires some { 0 < length digits.now }
     requires few { length digits.now ≤ 4 }
@@ -76,7 +76,7 @@ fn three_scaled(text: &[u8]) -> Option<Rgb>
     Some(Rgb { r, g, b })
 }
 
-/// 1 to 4 digits, scaled to 255, rounded down.
+/// The value of 1 to 4 digits, scaled so that the greatest is 255, and rounded down.
 fn scale(digits: &[u8]) -> Option<u8>
     ensures { result ≡ scaled digits.now }
 {
@@ -91,7 +91,7 @@ fn scale(digits: &[u8]) -> Option<u8>
     Some((255 * u32::from(number) / greatest) as u8)
 }
 
-/// The number from 0 to 255 that decimal digits write.
+/// The number from 0 to 255 that decimal digits write; `None` for other texts.
 pub fn parse_number(digits: &[u8]) -> Option<u8>
     ensures { result ≡ byte_number digits.now }
 {

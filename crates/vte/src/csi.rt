@@ -1,4 +1,4 @@
-//! Control sequences.
+//! Control sequences (CSI: ECMA-48, the DEC terminals and xterm).
 ghost use Rattle.std.specs.Prelude.{◌≡◌, ◌≢◌, ◌≤◌, ◌<◌, ℕ, Option, length, map};
 ghost use Rattle.std.specs.List.{list_any};
 ghost use Rattle.vte_types.specs.Call.{Calls, set_mode as set_mode_call, unset_mode as unset_mode_call};
@@ -27,13 +27,13 @@ use vte_types::keyboard::{KeyboardModes, KeyboardModesApplyBehavior, ModifyOther
 use vte_types::mode::{Mode, PrivateMode};
 use vte_types::scp::{ScpCharPath, ScpUpdateMode};
 
-/// How long an update may last, in milliseconds.
+/// How long a synchronized update may last, in milliseconds.
 pub const SYNC_UPDATE_TIMEOUT_MILLIS: u64 = 150;
 
 /// The private mode of synchronized updates.
 const SYNC_UPDATE: u16 = 2026;
 
-/// The first number of the next group, or the default where it is absent or 0.
+/// The first number of the next group, or the default if there is none or it is 0.
 fn next_or(groups: &mut ParamsIter<'_>, default: u16) -> u16
     ensures number { result ≡ number_or default groups.old }
     ensures rest { groups.new ≡ rest groups.old }
@@ -45,7 +45,7 @@ fn next_or(groups: &mut ParamsIter<'_>, default: u16) -> u16
     }
 }
 
-/// The calls of a control sequence, and whether it opened an update.
+/// Makes the calls of a control sequence, and returns whether it opened a synchronized update.
 pub fn csi<H: Handler, T: Timeout>(
     handler: &mut H,
     timeout: &mut T,
@@ -70,8 +70,8 @@ pub fn csi<H: Handler, T: Timeout>(
     marked(handler, timeout, params, intermediates, action)
 }
 
-/// The calls of a control sequence with intermediates, and whether it opened an update. It isn't inlined, so that
-/// sequences without intermediates need no room for what it lends.
+/// Makes the calls of a control sequence with intermediates, and returns whether it opened an update. It isn't inlined,
+/// so that sequences without intermediates need no stack for its borrows.
 #[inline(never)]
 fn marked<H: Handler, T: Timeout>(
     handler: &mut H,
@@ -101,7 +101,7 @@ fn marked<H: Handler, T: Timeout>(
     false
 }
 
-/// `c`.
+/// DA (`c`).
 fn identify_terminal<H: Handler>(handler: &mut H, mut groups: ParamsIter<'_>, intermediates: &[u8])
     ensures { Calls H.step handler.old (identify_calls groups.entry intermediates.now) handler.new }
 {
@@ -110,7 +110,7 @@ fn identify_terminal<H: Handler>(handler: &mut H, mut groups: ParamsIter<'_>, in
     }
 }
 
-/// Without intermediates: the finals that take a count, and all others.
+/// Sequences without intermediates: the final bytes that take a count, and all others.
 fn plain<H: Handler>(handler: &mut H, last: Option<char>, params: &Params, action: char)
     ensures { Calls H.step handler.old (plain_calls last params.now action) handler.new }
 {
@@ -136,7 +136,7 @@ fn plain<H: Handler>(handler: &mut H, last: Option<char>, params: &Params, actio
     }
 }
 
-/// The finals that read their groups in ways of their own.
+/// The final bytes that read their parameters in ways of their own.
 fn uncounted_final<H: Handler>(
     handler: &mut H,
     last: Option<char>,
@@ -160,7 +160,7 @@ fn uncounted_final<H: Handler>(
     }
 }
 
-/// The finals that place the cursor, the region or the saved cursor.
+/// The final bytes that set the cursor's place, the scroll region or the saved cursor.
 fn placing_final<H: Handler>(handler: &mut H, mut groups: ParamsIter<'_>, action: char)
     ensures { Calls H.step handler.old (placing_calls (lookup action placing_rows) groups.entry) handler.new }
 {
@@ -188,7 +188,7 @@ fn placing_final<H: Handler>(handler: &mut H, mut groups: ParamsIter<'_>, action
     }
 }
 
-/// `J`.
+/// ED (`J`).
 fn clear_screen<H: Handler>(handler: &mut H, number: u16)
     ensures { Calls H.step handler.old (calls_at number clear_screen_rows) handler.new }
 {
@@ -201,7 +201,7 @@ fn clear_screen<H: Handler>(handler: &mut H, number: u16)
     }
 }
 
-/// `K`.
+/// EL (`K`).
 fn clear_line<H: Handler>(handler: &mut H, number: u16)
     ensures { Calls H.step handler.old (calls_at number clear_line_rows) handler.new }
 {
@@ -213,7 +213,7 @@ fn clear_line<H: Handler>(handler: &mut H, number: u16)
     }
 }
 
-/// `g`.
+/// TBC (`g`).
 fn clear_tabs<H: Handler>(handler: &mut H, number: u16)
     ensures { Calls H.step handler.old (calls_at number clear_tabs_rows) handler.new }
 {
@@ -224,7 +224,7 @@ fn clear_tabs<H: Handler>(handler: &mut H, number: u16)
     }
 }
 
-/// `t`.
+/// Window operations (`t`, xterm's).
 fn window<H: Handler>(handler: &mut H, number: u16)
     ensures { Calls H.step handler.old (calls_at number window_rows) handler.new }
 {
@@ -237,7 +237,7 @@ fn window<H: Handler>(handler: &mut H, number: u16)
     }
 }
 
-/// `b`: the last printed character, so many times.
+/// REP (`b`): prints the last printed character `count` times.
 fn repeat<H: Handler>(handler: &mut H, last: Option<char>, count: u16)
     ensures { Calls H.step handler.old (repeat_calls last count) handler.new }
 {
@@ -248,7 +248,7 @@ fn repeat<H: Handler>(handler: &mut H, last: Option<char>, count: u16)
     }
 }
 
-/// `h`.
+/// SM (`h`).
 fn set_modes<H: Handler>(handler: &mut H, mut groups: ParamsIter<'_>)
     ensures { Calls H.step handler.old (map (λ g. set_mode_call (mode_of (first g))) groups.entry) handler.new }
 {
@@ -257,7 +257,7 @@ fn set_modes<H: Handler>(handler: &mut H, mut groups: ParamsIter<'_>)
     }
 }
 
-/// `l`.
+/// RM (`l`).
 fn unset_modes<H: Handler>(handler: &mut H, mut groups: ParamsIter<'_>)
     ensures { Calls H.step handler.old (map (λ g. unset_mode_call (mode_of (first g))) groups.entry) handler.new }
 {
@@ -266,7 +266,7 @@ fn unset_modes<H: Handler>(handler: &mut H, mut groups: ParamsIter<'_>)
     }
 }
 
-/// `?h`: sets private modes. Answers whether one of them opened an update, for which the timeout was set.
+/// DECSET (`? h`): sets private modes. Returns whether one of them opened an update, for which the timeout was set.
 fn set_private_modes<H: Handler, T: Timeout>(
     handler: &mut H,
     timeout: &mut T,
@@ -288,7 +288,7 @@ fn set_private_modes<H: Handler, T: Timeout>(
     opened
 }
 
-/// `?l`.
+/// DECRST (`? l`).
 fn unset_private_modes<H: Handler>(handler: &mut H, mut groups: ParamsIter<'_>)
     ensures { Calls H.step handler.old (map (λ g. unset_private_call (private_mode_of (first g))) groups.entry)
         handler.new }
@@ -298,7 +298,7 @@ fn unset_private_modes<H: Handler>(handler: &mut H, mut groups: ParamsIter<'_>)
     }
 }
 
-/// After `?`, but `h`.
+/// Sequences with `?`, other than DECSET.
 fn question<H: Handler>(handler: &mut H, mut groups: ParamsIter<'_>, action: char)
     requires { action ≢ 104 }
     ensures { Calls H.step handler.old (calls_by action question_rows groups.entry) handler.new }
@@ -320,7 +320,7 @@ fn question<H: Handler>(handler: &mut H, mut groups: ParamsIter<'_>, action: cha
     }
 }
 
-/// After `>`.
+/// Sequences with `>`: keyboard modes, and xterm's `modifyOtherKeys`.
 fn greater<H: Handler>(handler: &mut H, mut groups: ParamsIter<'_>, action: char)
     ensures { Calls H.step handler.old (calls_by action greater_rows groups.entry) handler.new }
 {
@@ -340,7 +340,7 @@ fn greater<H: Handler>(handler: &mut H, mut groups: ParamsIter<'_>, action: char
     }
 }
 
-/// After `=`.
+/// Sequences with `=`: keyboard modes.
 fn equals<H: Handler>(handler: &mut H, mut groups: ParamsIter<'_>, action: char)
     ensures { Calls H.step handler.old (calls_by action equals_rows groups.entry) handler.new }
 {
@@ -355,7 +355,7 @@ fn equals<H: Handler>(handler: &mut H, mut groups: ParamsIter<'_>, action: char)
     }
 }
 
-/// After `<`.
+/// Sequences with `<`: keyboard modes.
 fn less<H: Handler>(handler: &mut H, mut groups: ParamsIter<'_>, action: char)
     ensures { Calls H.step handler.old (calls_by action less_rows groups.entry) handler.new }
 {
@@ -364,7 +364,7 @@ fn less<H: Handler>(handler: &mut H, mut groups: ParamsIter<'_>, action: char)
     }
 }
 
-/// After a space.
+/// Sequences with a space: SCP and DECSCUSR.
 fn space<H: Handler>(handler: &mut H, mut groups: ParamsIter<'_>, action: char)
     ensures { Calls H.step handler.old (calls_by action space_rows groups.entry) handler.new }
 {
@@ -383,7 +383,7 @@ fn space<H: Handler>(handler: &mut H, mut groups: ParamsIter<'_>, action: char)
     }
 }
 
-/// ` q`.
+/// DECSCUSR (` q`).
 fn set_cursor_style<H: Handler>(handler: &mut H, number: u16)
     ensures { Calls H.step handler.old (calls_at number style_rows) handler.new }
 {
@@ -398,7 +398,7 @@ fn set_cursor_style<H: Handler>(handler: &mut H, number: u16)
     handler.set_cursor_style(Some(CursorStyle { shape, blinking }));
 }
 
-/// After `$`.
+/// Sequences with `$`: DECRQM of a mode.
 fn dollar<H: Handler>(handler: &mut H, mut groups: ParamsIter<'_>, action: char)
     ensures { Calls H.step handler.old (calls_by action dollar_rows groups.entry) handler.new }
 {
@@ -407,7 +407,7 @@ fn dollar<H: Handler>(handler: &mut H, mut groups: ParamsIter<'_>, action: char)
     }
 }
 
-/// After `?` and `$`.
+/// Sequences with `?` and `$`: DECRQM of a private mode.
 fn question_dollar<H: Handler>(handler: &mut H, mut groups: ParamsIter<'_>, action: char)
     ensures { Calls H.step handler.old (calls_by action question_dollar_rows groups.entry) handler.new }
 {
@@ -416,7 +416,7 @@ fn question_dollar<H: Handler>(handler: &mut H, mut groups: ParamsIter<'_>, acti
     }
 }
 
-/// The keyboard modes of a number's low 8 bits. Bits that no mode has are dropped.
+/// The keyboard modes of a number's low 8 bits. Bits without a mode are dropped.
 fn keyboard_modes_of(number: u16) -> KeyboardModes
     ensures { result ≡ keyboard_modes number }
 {

@@ -1,9 +1,9 @@
-//! The refusal of what allocates.
+//! The error of calls that allocate.
 
 use std::alloc::AllocError;
 use thiserror::Error;
 
-/// Why a processor wasn't made: there was no memory for the bytes that it may have to hold.
+/// An allocation failed: there is no memory for the bytes that a processor may have to hold.
 #[derive(Clone, Copy, Debug, Eq, Error, PartialEq)]
 #[error("out of memory")]
 pub struct OutOfMemory;

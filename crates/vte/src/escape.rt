@@ -1,4 +1,4 @@
-//! Controls and escape sequences.
+//! Control characters and escape sequences (ECMA-48, the DEC terminals).
 ghost use Rattle.std.specs.Prelude.{◌≡◌};
 ghost use Rattle.vte_types.specs.Call.{Calls};
 ghost use Rattle.vte.specs.Escape.{calls_at, execute_calls, escape_calls, plain_escape_rows, charset_calls};
@@ -8,7 +8,7 @@ use vte_types::C0;
 use vte_types::charset::{CharsetIndex, StandardCharset};
 use vte_types::handler::Handler;
 
-/// The call of a control.
+/// Makes the call of a control character, if it has one.
 pub fn execute<H: Handler>(handler: &mut H, byte: u8)
     ensures { Calls H.step handler.old (execute_calls byte) handler.new }
 {
@@ -25,7 +25,7 @@ pub fn execute<H: Handler>(handler: &mut H, byte: u8)
     }
 }
 
-/// The calls of an escape sequence.
+/// Makes the calls of an escape sequence.
 pub fn escape<H: Handler>(handler: &mut H, intermediates: &[u8], byte: u8)
     ensures { Calls H.step handler.old (escape_calls intermediates.now byte) handler.new }
 {
@@ -41,7 +41,7 @@ pub fn escape<H: Handler>(handler: &mut H, intermediates: &[u8], byte: u8)
     }
 }
 
-/// The calls of an escape sequence without intermediates.
+/// Makes the calls of an escape sequence without intermediates.
 fn plain_escape<H: Handler>(handler: &mut H, byte: u8)
     ensures { Calls H.step handler.old (calls_at byte plain_escape_rows) handler.new }
 {
@@ -63,7 +63,7 @@ fn plain_escape<H: Handler>(handler: &mut H, byte: u8)
     }
 }
 
-/// The place that an intermediate names.
+/// The character set (G0 to G3) that an intermediate byte designates.
 fn charset_for(mark: u8) -> Option<CharsetIndex>
     ensures { result ≡ charset_index mark }
 {
@@ -76,7 +76,7 @@ fn charset_for(mark: u8) -> Option<CharsetIndex>
     }
 }
 
-/// Gives a place the character set that the final byte names.
+/// Designates the character set that the final byte names.
 fn configure_charset<H: Handler>(handler: &mut H, index: Option<CharsetIndex>, byte: u8)
     ensures { Calls H.step handler.old (charset_calls index byte) handler.new }
 {

@@ -1,5 +1,5 @@
-//! A terminal's input as calls of a handler: the events of `vte_core`, turned into calls by the tables of ECMA-48, the
-//! DEC terminals and xterm, and the hold of synchronized updates.
+//! A terminal's input as calls of a handler. The events of `vte_core` are turned into calls by the tables of ECMA-48,
+//! the DEC terminals and xterm. The bytes of a synchronized update (private mode 2026) are held back until it ends.
 #![tactic(auto)]
 
 mod clock;

@@ -4,13 +4,13 @@ ghost use Rattle.vte.specs.Marks.{NoneFrom, IsLast, IsFirstFrom};
 
 use memchr::{memchr, memrchr};
 
-/// The start of an update.
+/// The start of an update: `CSI ? 2026 h`.
 pub const START: [u8; 8] = [0x1b, b'[', b'?', b'2', b'0', b'2', b'6', b'h'];
 
-/// The end of an update.
+/// The end of an update: `CSI ? 2026 l`.
 pub const END: [u8; 8] = [0x1b, b'[', b'?', b'2', b'0', b'2', b'6', b'l'];
 
-/// Where the last mark stands, of those from a place on. It is looked for only where its first byte stands.
+/// The index of the last mark in `text` that begins at `from` or later. Only places with its first byte are compared.
 pub fn last_mark(text: &[u8], mark: &[u8; 8], from: usize) -> Option<usize>
     requires { from ≤ length text.now }
     ensures { MatchOption result (NoneFrom mark.now text.now from)
@@ -26,7 +26,7 @@ pub fn last_mark(text: &[u8], mark: &[u8; 8], from: usize) -> Option<usize>
     None
 }
 
-/// Where the first mark from a place on stands. It is looked for only where its first byte stands.
+/// The index of the first mark in `text` that begins at `from` or later. Only places with its first byte are compared.
 pub fn first_mark(text: &[u8], mark: &[u8; 8], from: usize) -> Option<usize>
     requires { from ≤ length text.now }
     ensures { MatchOption result (NoneFrom mark.now text.now from) (IsFirstFrom mark.now text.now from) }

@@ -22,10 +22,10 @@ use vte_types::cursor_icon::CursorIcon;
 use vte_types::handler::Handler;
 use vte_types::hyperlink::Hyperlink;
 
-/// Room for a joined text: the 1,024 bytes of data that the parser keeps, and a `;` for each of its 16 pieces.
+/// The most bytes of a joined text: the 1,024 bytes of data that the parser keeps, and a `;` for each of its 16 pieces.
 const TEXT: usize = 1040;
 
-/// The calls of a command.
+/// Makes the calls of a command.
 pub fn osc<H: Handler>(handler: &mut H, params: &[&[u8]], bell_terminated: bool)
     ensures { Fits 1024 (e.Osc (map (λ p. p.now) params.now) bell_terminated)
         → Calls H.step handler.old (osc_calls (map (λ p. p.now) params.now) bell_terminated) handler.new }
@@ -65,7 +65,7 @@ fn set_title<H: Handler>(handler: &mut H, pieces: Pieces<'_>)
     handler.set_title(Some(title.as_str().trim()));
 }
 
-/// Joins the pieces that are UTF-8 by `;`.
+/// Joins the pieces that are UTF-8, with `;` between them.
 fn join_texts(text: &mut ArrayString<TEXT>, mut pieces: Pieces<'_>)
     ensures { text.old.bytes ≡ [] → length (join_with_byte 59 (filter is_utf8 pieces.entry)) ≤ 1040
         → text.new.bytes ≡ join_with_byte 59 (filter is_utf8 pieces.entry) }
@@ -90,7 +90,7 @@ fn append_texts(text: &mut ArrayString<TEXT>, mut pieces: Pieces<'_>)
     }
 }
 
-/// Appends `;` and the piece, or `;` alone where it isn't UTF-8.
+/// Appends `;` and the piece, or only `;` if it isn't UTF-8.
 fn append_pieces(text: &mut ArrayString<TEXT>, mut pieces: Pieces<'_>)
     ensures { length (text.old.bytes ++ flat_map (λ p. 59 ∷ text_or_empty p) pieces.entry) ≤ 1040
         → text.new.bytes ≡ text.old.bytes ++ flat_map (λ p. 59 ∷ text_or_empty p) pieces.entry }
@@ -100,7 +100,7 @@ fn append_pieces(text: &mut ArrayString<TEXT>, mut pieces: Pieces<'_>)
     }
 }
 
-/// Makes an empty text begin with another.
+/// Puts a first text into an empty one.
 fn begin(text: &mut ArrayString<TEXT>, first: &str)
     ensures { text.old.bytes ≡ [] → length first.now ≤ 1040 → text.new.bytes ≡ first.now }
 {
@@ -115,7 +115,7 @@ fn append(text: &mut ArrayString<TEXT>, more: &str)
     let _ = text.try_push_str(more);
 }
 
-/// A piece that is UTF-8, as a text.
+/// The piece as a text, if it is UTF-8.
 fn text_of(piece: &[u8]) -> Option<&str>
     ensures { option_map (λ t. t.now) result ≡ utf8_or_none piece.now }
 {
@@ -125,7 +125,7 @@ fn text_of(piece: &[u8]) -> Option<&str>
     }
 }
 
-/// The text of a piece, an empty one where it isn't UTF-8.
+/// The piece as a text, which is empty if it isn't UTF-8.
 fn text_or_nothing(piece: &[u8]) -> &str
     ensures { result.now ≡ text_or_empty piece.now }
 {
@@ -149,7 +149,7 @@ fn set_palette<H: Handler>(handler: &mut H, mut pieces: Pieces<'_>, terminator: 
     }
 }
 
-/// Sets or asks for a colour of the palette.
+/// Sets a colour of the palette, or asks for it at `?`.
 fn set_indexed<H: Handler>(handler: &mut H, index: u8, color: &[u8], terminator: &str)
     ensures { Calls H.step handler.old (color_calls (codes "4;" ++ decimal index) index terminator.now color.now)
         handler.new }
@@ -183,7 +183,7 @@ fn set_color<H: Handler>(
     }
 }
 
-/// 10, 11, 12: the text's, the background's and the cursor's colour, in turn from this number on.
+/// 10, 11, 12: the colours of the text, the background and the cursor. Each further piece is for the next number.
 fn set_dynamic_colors<H: Handler>(
     handler: &mut H,
     first: u16,
@@ -245,7 +245,7 @@ fn set_hyperlink<H: Handler>(handler: &mut H, mut pieces: Pieces<'_>)
     }));
 }
 
-/// Joins a piece and those after it by `;`, each empty where it isn't UTF-8.
+/// Joins a piece and those after it, with `;` between them. A piece that isn't UTF-8 counts as empty.
 fn join_pieces(text: &mut ArrayString<TEXT>, first: &[u8], pieces: Pieces<'_>)
     ensures { text.old.bytes ≡ [] → length (join_with_byte 59 (map text_or_empty (first.now ∷ pieces.entry))) ≤ 1040
         → text.new.bytes ≡ join_with_byte 59 (map text_or_empty (first.now ∷ pieces.entry)) }
@@ -254,7 +254,8 @@ fn join_pieces(text: &mut ArrayString<TEXT>, first: &[u8], pieces: Pieces<'_>)
     append_pieces(text, pieces);
 }
 
-/// What follows the first `id=` at a part's beginning, of parts cut at `:`, where it is UTF-8.
+/// The id of a hyperlink: what follows the first `id=` at the start of a part, where parts end at `:`. `None` if it
+/// isn't UTF-8.
 fn find_id(params: &[u8]) -> Option<&str>
     ensures { option_map (λ t. t.now) result ≡ link_id params.now }
 {
@@ -322,7 +323,7 @@ fn clipboard<H: Handler>(handler: &mut H, mut pieces: Pieces<'_>, terminator: &s
     }
 }
 
-/// 104: colours of the palette go back, all where none is named.
+/// 104: resets the named colours of the palette, or all if none is named.
 fn reset_colors<H: Handler>(handler: &mut H, pieces: Pieces<'_>)
     ensures { Calls H.step handler.old (reset_calls pieces.entry) handler.new }
 {
@@ -332,7 +333,7 @@ fn reset_colors<H: Handler>(handler: &mut H, pieces: Pieces<'_>)
     }
 }
 
-/// All colours of the palette go back.
+/// Resets all colours of the palette.
 fn reset_palette<H: Handler>(handler: &mut H)
     ensures { Calls H.step handler.old all_resets handler.new }
 {
@@ -341,7 +342,7 @@ fn reset_palette<H: Handler>(handler: &mut H)
     }
 }
 
-/// The colours of the palette with these indices go back.
+/// Resets the colours of the palette with these indices.
 fn reset_indexed<H: Handler>(handler: &mut H, mut pieces: Pieces<'_>)
     ensures { Calls H.step handler.old (flat_map index_resets pieces.entry) handler.new }
 {

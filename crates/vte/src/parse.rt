@@ -1,4 +1,4 @@
-//! Bytes to a handler, by the parser.
+//! Parsing bytes for a handler.
 ghost use Rattle.std.specs.Prelude.{◌≡◌, ◌≤◌, ◌<◌, ◌++◌, ℕ, List, take, length, false, true};
 ghost use Rattle.std.specs.List.{list_any};
 ghost use Rattle.vte_core.specs.Standing.{Stands};
@@ -29,7 +29,7 @@ fn advance<T: Timeout, H: Handler>(
     parser.advance(performer, bytes);
 }
 
-/// Parses all bytes.
+/// Parses all bytes, and makes their calls on `handler`.
 pub fn parse<T: Timeout, H: Handler>(
     parser: &mut Parser<1024>,
     state: &mut ProcessorState<T>,
@@ -49,7 +49,7 @@ pub fn parse<T: Timeout, H: Handler>(
     advance(parser, &mut performer, bytes);
 }
 
-/// Parses up to the first point at which the performer is terminated.
+/// Parses until the performer is terminated, or to the end. Returns how many bytes that was.
 fn advance_until_terminated<T: Timeout, H: Handler>(
     parser: &mut Parser<1024>,
     performer: &mut Performer<'_, H, T>,
@@ -72,7 +72,8 @@ fn advance_until_terminated<T: Timeout, H: Handler>(
     parser.advance_until_terminated(performer, bytes)
 }
 
-/// Parses up to the byte that opens an update, or all. Answers how many bytes that was, and whether one was opened.
+/// Parses up to the byte that opens an update, or to the end. Returns how many bytes that was, and whether an update
+/// was opened.
 pub fn parse_until_opened<T: Timeout, H: Handler>(
     parser: &mut Parser<1024>,
     state: &mut ProcessorState<T>,

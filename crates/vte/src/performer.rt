@@ -1,4 +1,4 @@
-//! The performer between a parser and a handler.
+//! The performer, which passes the parser's events on to a handler as calls.
 
 use crate::csi::csi;
 use crate::escape::{escape, execute};
@@ -7,20 +7,23 @@ use crate::timeout::Timeout;
 use vte_core::{Event, Params, Perform};
 use vte_types::handler::Handler;
 
-/// What is kept from event to event.
+/// The state that is kept between events.
 #[derive(Drop)]
 pub struct ProcessorState<T> {
     /// The last printed character.
     pub preceding_char: Option<char>,
+    /// The timeout of the open update.
     pub timeout: T,
 }
 
 /// Turns events into calls of a handler.
 #[derive(Drop)]
 pub struct Performer<'a, H, T> {
+    /// The state that is kept between events.
     pub state: &'a mut ProcessorState<T>,
+    /// The handler that is called.
     pub handler: &'a mut H,
-    /// Whether an update was opened.
+    /// Whether an event has opened an update.
     pub terminated: bool,
 }
 

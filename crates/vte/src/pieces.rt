@@ -4,7 +4,7 @@ ghost use Rattle.std.specs.Iterator.{YieldsFirstBy, item_count};
 
 use std::marker::Model;
 
-/// The pieces that are left.
+/// The pieces that are not read yet.
 #[derive(Drop)]
 pub struct Pieces<'a> {
     rest: &'a [&'a [u8]],
@@ -17,19 +17,21 @@ impl<'a> Model for Pieces<'a> {
 }
 
 impl<'a> Pieces<'a> {
+    /// Iterates over these pieces.
     pub fn new(rest: &'a [&'a [u8]]) -> Self
         ensures { result ≡ map (λ t. t.now) rest.now }
     {
         Pieces { rest }
     }
 
+    /// How many pieces are left.
     pub fn len(&self) -> usize
         ensures { result ≡ length self.now }
     {
         self.rest.len()
     }
 
-    /// The next piece, which stays.
+    /// The next piece, without reading it.
     pub fn peek(&self) -> Option<&'a [u8]>
         ensures { MatchOption result (self.now ≡ []) (λ p. (ps : List (List ℕ)) × (self.now ≡ p.now ∷ ps)) }
     {

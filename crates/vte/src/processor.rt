@@ -1,4 +1,4 @@
-//! The processor.
+//! The processor: parses a terminal's input, and holds back synchronized updates.
 ghost use Rattle.std.specs.Prelude.{◌≡◌, ◌≤◌, ◌<◌, ◌+◌, ◌-◌, ◌++◌, ℕ, List, [], Option, drop, length, vec_len};
 ghost use Rattle.std.specs.Prelude.{vec_capacity, MatchOption, IfOk, IfSome};
 ghost use Rattle.vte.specs.Hold.{Renewed};
@@ -15,11 +15,11 @@ use vte_core::Parser;
 use vte_types::handler::Handler;
 use vte_types::mode::{NamedPrivateMode, PrivateMode};
 
-/// At most so many bytes are held.
+/// The most bytes that are held.
 const SYNC_BUFFER_SIZE: usize = 2_097_150;
 
-/// Parses a terminal's input and makes its calls, and holds the bytes of a synchronized update until the update is
-/// closed or stopped.
+/// Parses a terminal's input, and makes its calls on a handler. The bytes of a synchronized update (private mode 2026)
+/// are held until it is closed, stopped or over its time.
 #[derive(Drop)]
 pub struct Processor<T, A: Allocator> {
     parser: Parser<1024>,
@@ -39,7 +39,8 @@ impl<T: Timeout + Drop, A: Allocator> Processor<T, A> {
     ghost use Rattle.vte.specs.Standing.{Unopened, GoesOn};
     ghost use Rattle.std.specs.Prelude.{None, Some, true, false, take};
 
-    /// A processor that has read nothing. The hold is reserved whole, so no later call is refused for memory.
+    /// A processor that has read nothing. It reserves 2,097,150 bytes for held bytes, so that no later call needs
+    /// memory. Fails only if that allocation fails.
     pub fn new(alloc: A, timeout: T) -> Result<Self, OutOfMemory>
         ensures stands { IfOk result (λ p. StandsAt p [] []) }
         ensures exact { IfOk result (λ p. Awaits T.ticking timeout false → HoldsAt T.ticking p [] None) }
@@ -56,14 +57,14 @@ impl<T: Timeout + Drop, A: Allocator> Processor<T, A> {
         })
     }
 
-    /// The timeout.
+    /// The timeout that was given to `new`, as it is now.
     pub fn sync_timeout(&self) -> &T
         ensures { result.now ≡ timeout_of self.now }
     {
         &self.state.timeout
     }
 
-    /// How many bytes are held.
+    /// How many bytes are held, at most 2,097,150.
     pub fn sync_bytes_count(&self) -> usize
         ensures count { (parsed held : List ℕ) → StandsAt self.now parsed held → result ≡ length held }
         ensures most { result ≤ 2_097_150 }
@@ -71,8 +72,8 @@ impl<T: Timeout + Drop, A: Allocator> Processor<T, A> {
         self.held.len()
     }
 
-    /// Takes the next piece of the stream. Held bytes are parsed before later ones: where the timeout isn't pending any
-    /// more while bytes are held, the hold is emptied first, as by `stop_sync`.
+    /// Reads the next piece of the stream. Held bytes are parsed before later ones. The hold is emptied first, as by
+    /// `stop_sync`, if the piece doesn't fit, or if bytes are held and the timeout is no longer pending.
     pub fn advance<H: Handler>(&mut self, handler: &mut H, bytes: &[u8])
         ensures advanced { (parsed held : List ℕ) → StandsAt self.old parsed held
             → Advanced T.ticking H.step false self.old parsed held bytes.now handler.old self.new handler.new }
@@ -86,7 +87,7 @@ impl<T: Timeout + Drop, A: Allocator> Processor<T, A> {
         }
     }
 
-    /// Parses what is held, and closes the update.
+    /// Parses all held bytes, closes the update (`unset_private_mode` of `SyncUpdate`), and clears the timeout.
     pub fn stop_sync<H: Handler>(&mut self, handler: &mut H)
         ensures emptied { (parsed held : List ℕ) → StandsAt self.old parsed held
             → Emptied T.ticking H.step self.old parsed held handler.old self.new handler.new }
@@ -97,7 +98,8 @@ impl<T: Timeout + Drop, A: Allocator> Processor<T, A> {
         self.empty(handler);
     }
 
-    /// Takes the beginning of a piece, or all of it. Answers where it goes on.
+    /// Reads a piece up to the byte that opens an update, and returns how many bytes that was. Or reads all of it, and
+    /// returns `None`.
     fn turn<H: Handler>(&mut self, handler: &mut H, piece: &[u8]) -> Option<usize>
         ensures led { (parsed held : List ℕ) → StandsAt self.old parsed held → MatchOption result
             (Advanced T.ticking H.step false self.old parsed held piece.now handler.old self.new
@@ -114,12 +116,13 @@ impl<T: Timeout + Drop, A: Allocator> Processor<T, A> {
         } else if self.held.is_empty() {
             return self.begin(handler, piece);
         }
-        // There is no room, or the update's time is over.
+        // The piece doesn't fit, or the update's time is over.
         self.empty(handler);
         self.begin(handler, piece)
     }
 
-    /// Parses a piece while no update is open, up to where one is opened.
+    /// Parses a piece while no update is open, up to the byte that opens one. Returns how many bytes that was, if one
+    /// is opened.
     fn begin<H: Handler>(&mut self, handler: &mut H, piece: &[u8]) -> Option<usize>
         ensures led { (parsed held : List ℕ) → StandsAt self.old parsed held → MatchOption result
             (Unopened T.ticking H.step self.old parsed held piece.now handler.old self.new handler.new)
@@ -130,13 +133,13 @@ impl<T: Timeout + Drop, A: Allocator> Processor<T, A> {
         if opened { Some(read) } else { None }
     }
 
-    /// Takes a piece for which there is room while an update is open.
+    /// Reads a piece that fits into the hold, while an update is open.
     fn hold<H: Handler>(&mut self, handler: &mut H, piece: &[u8])
         requires { vec_len self.old.held + length piece.now < limit }
         ensures { (parsed held : List ℕ) → StandsAt self.old parsed held
             → Held T.ticking H.step self.old parsed held piece.now handler.old self.new handler.new }
     {
-        // A mark may begin in the last 7 held bytes; one that began sooner would be whole there.
+        // A mark may begin in the last 7 held bytes. One that began sooner would be whole in them.
         let seen = self.held.len().saturating_sub(START.len() - 1);
         take_in(&mut self.held, piece);
         renew(&mut self.state.timeout, self.held.as_slice(), seen);
@@ -149,7 +152,7 @@ impl<T: Timeout + Drop, A: Allocator> Processor<T, A> {
         }
     }
 
-    /// Parses so many held bytes, and keeps the rest.
+    /// Parses the first `n` held bytes, and keeps the rest.
     fn release<H: Handler>(&mut self, handler: &mut H, n: usize)
         requires { n ≤ vec_len self.old.held }
         ensures { (parsed held : List ℕ) → Stands 1024 self.old.parser parsed
@@ -184,7 +187,7 @@ impl<T: Timeout + Drop, A: Allocator> Processor<T, A> {
     }
 }
 
-/// Sets the timeout again where a start mark stands at this place or after it.
+/// Sets the timeout again if a start mark begins at `seen` or later.
 fn renew<T: Timeout>(timeout: &mut T, text: &[u8], seen: usize)
     requires { seen ≤ length text.now }
     ensures { Renewed T.ticking timeout.old text.now seen timeout.new }
@@ -194,7 +197,7 @@ fn renew<T: Timeout>(timeout: &mut T, text: &[u8], seen: usize)
     }
 }
 
-/// Adds bytes for which there is room.
+/// Appends bytes that fit into the capacity.
 fn take_in<A: Allocator>(held: &mut Vec<u8, A>, piece: &[u8])
     requires { vec_len held.old + length piece.now ≤ vec_capacity held.old }
     ensures items { held.new.items ≡ held.old.items ++ piece.now }
@@ -203,7 +206,7 @@ fn take_in<A: Allocator>(held: &mut Vec<u8, A>, piece: &[u8])
     let _ = held.extend_from_slice(piece);
 }
 
-/// Takes the front away.
+/// Removes the first `n` bytes.
 fn drop_front<A: Allocator>(held: &mut Vec<u8, A>, n: usize)
     requires { n ≤ vec_len held.old }
     ensures items { held.new.items ≡ drop n held.old.items }
@@ -214,7 +217,7 @@ fn drop_front<A: Allocator>(held: &mut Vec<u8, A>, n: usize)
     held.truncate(left);
 }
 
-/// What follows so many bytes.
+/// The bytes after the first `n`.
 fn past(text: &[u8], n: usize) -> &[u8]
     requires { n ≤ length text.now }
     ensures { result.now ≡ drop n text.now }

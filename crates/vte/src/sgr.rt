@@ -14,7 +14,7 @@ use vte_types::color::{Color, NamedColor};
 use vte_types::handler::Handler;
 use vte_types::rgb::Rgb;
 
-/// The color that 30 and 40 more than a number name.
+/// The colour of SGR 30 + n and 40 + n.
 fn plain(number: u16) -> NamedColor
     requires { number < 8 }
     ensures text { lookup (30 + number) singles ≡ Some (said.Foreground (Named result)) }
@@ -32,7 +32,7 @@ fn plain(number: u16) -> NamedColor
     }
 }
 
-/// The color that 90 and 100 more than a number name.
+/// The colour of SGR 90 + n and 100 + n.
 fn bright(number: u16) -> NamedColor
     requires { number < 8 }
     ensures text { lookup (90 + number) singles ≡ Some (said.Foreground (Named result)) }
@@ -50,7 +50,7 @@ fn bright(number: u16) -> NamedColor
     }
 }
 
-/// What a number that is a group of its own asks for.
+/// The attribute that a group of one number sets.
 #[inline(always)]
 fn single(code: u16) -> Option<Attr>
     ensures { result ≡ lookup code singles }
@@ -86,7 +86,7 @@ fn single(code: u16) -> Option<Attr>
     Some(attr)
 }
 
-/// A color by its red, green and blue parts, each at most 255.
+/// A colour by red, green and blue, each at most 255; else `None`.
 fn rgb(r: u16, g: u16, b: u16) -> Option<Color>
     ensures { result ≡ rgb_color r g b }
 {
@@ -101,7 +101,7 @@ fn rgb(r: u16, g: u16, b: u16) -> Option<Color>
     }
 }
 
-/// The color of the palette with this index, at most 255.
+/// The colour of the palette with this index, at most 255; else `None`.
 fn indexed(i: u16) -> Option<Color>
     ensures { result ≡ indexed_color i }
 {
@@ -112,7 +112,7 @@ fn indexed(i: u16) -> Option<Color>
     }
 }
 
-/// A color whose numbers stand in the group.
+/// The colour whose numbers are in one group, after its 38, 48 or 58.
 fn color_in_group(numbers: &[u16]) -> Option<Color>
     ensures { result ≡ group_color numbers.now }
 {
@@ -124,15 +124,18 @@ fn color_in_group(numbers: &[u16]) -> Option<Color>
     }
 }
 
-/// What a color is for.
+/// What a colour is set for.
 #[derive(Clone, Copy)]
 pub enum Target {
+    /// SGR 38: the text.
     Foreground,
+    /// SGR 48: the background.
     Background,
+    /// SGR 58: the underline.
     Underline,
 }
 
-/// The attribute of a color.
+/// The attribute that sets a colour.
 fn in_color(target: Target, color: Color) -> Attr
     ensures { result ≡ colored target color }
 {
@@ -143,7 +146,7 @@ fn in_color(target: Target, color: Color) -> Attr
     }
 }
 
-/// What the color is for that a number begins.
+/// Which attribute SGR 38, 48 or 58 sets.
 fn target_for(code: u16) -> Option<Target>
     ensures { result ≡ target_of code }
 {
@@ -155,7 +158,7 @@ fn target_for(code: u16) -> Option<Target>
     }
 }
 
-/// The underline with a style's number.
+/// The underline of SGR 4 with a style's number.
 fn underline(style: u16) -> Attr
     ensures { result ≡ underline_of style [] }
 {
@@ -180,7 +183,7 @@ pub fn next_number(groups: &mut ParamsIter<'_>) -> Option<u16>
     }
 }
 
-/// A color whose numbers stand in groups of their own.
+/// The colour whose numbers are groups of their own, after 38, 48 or 58.
 fn color_in_groups(target: Target, groups: &mut ParamsIter<'_>) -> Option<Attr>
     ensures gives { attributes (selector target) groups.old ≡ option_to_list result ++ attributes nothing groups.new }
     ensures shorter { length groups.new ≤ length groups.old }
@@ -206,7 +209,7 @@ fn color_in_groups(target: Target, groups: &mut ParamsIter<'_>) -> Option<Attr>
     }
 }
 
-/// What a group asks for, with the groups after it that it takes.
+/// The attribute that a group sets. A colour also takes the groups after it that hold its numbers.
 #[inline(always)]
 fn attribute(group: &[u16], groups: &mut ParamsIter<'_>) -> Option<Attr>
     ensures gives { attributes nothing (group.now ∷ groups.old) ≡ option_to_list result
@@ -225,7 +228,7 @@ fn attribute(group: &[u16], groups: &mut ParamsIter<'_>) -> Option<Attr>
     }
 }
 
-/// The calls of an SGR sequence.
+/// Makes the calls of an SGR sequence.
 pub fn sgr<H: Handler>(handler: &mut H, mut groups: ParamsIter<'_>)
     ensures { Calls H.step handler.old (map terminal_attribute (attributes nothing groups.entry)) handler.new }
 {

@@ -5,7 +5,7 @@ ghost use Rattle.vte.specs.Split.{parts_after};
 
 use memchr::memchr;
 
-/// What stands before the first such byte, and what follows it: nothing where there is no such byte.
+/// The text before the first such byte, and the text after it. Without such a byte: the whole text, and `None`.
 pub fn split_first(text: &[u8], byte: u8) -> (&[u8], Option<&[u8]>)
     ensures parts { slice_split (λ c. c == byte) text.now ≡ result.0.now
         ∷ parts_after byte (option_map (λ t. t.now) result.1) }

@@ -1,4 +1,4 @@
-//! A timeout by a clock.
+//! A timeout that reads a clock.
 ghost use Rattle.std.specs.Prelude.{◌≡◌, None};
 ghost use Rattle.vte.specs.Expiry.{by_clock, clock_of, expiry_of};
 ghost use Rattle.vte.specs.Timeout.{IsExact};
@@ -7,7 +7,7 @@ use crate::clock::Clock;
 use crate::timeout::Timeout;
 use std::time::Duration;
 
-/// Keeps the moment at which an update's time is over. It is pending while it keeps one.
+/// A timeout that keeps the time at which the open update is due to end. It is pending while it keeps one.
 #[derive(Drop)]
 pub struct StdSyncHandler<C> {
     clock: C,
@@ -15,7 +15,7 @@ pub struct StdSyncHandler<C> {
 }
 
 impl<C: Clock> StdSyncHandler<C> {
-    /// A timeout that isn't pending, by this clock.
+    /// A timeout that isn't pending, and reads this clock.
     pub fn new(clock: C) -> Self
         ensures clock { clock_of result ≡ clock }
         ensures timeout { expiry_of result ≡ None }
@@ -26,7 +26,7 @@ impl<C: Clock> StdSyncHandler<C> {
         }
     }
 
-    /// The moment at which the update's time is over, since the clock's start; None while none is pending.
+    /// The time at which the open update is due to end, from the clock's start. `None` if none is open.
     pub fn sync_timeout(&self) -> Option<Duration>
         ensures { result ≡ expiry_of self.now }
     {
@@ -50,7 +50,7 @@ impl<C: Clock> Timeout for StdSyncHandler<C> {
     }
 }
 
-/// It is pending exactly from setting to clearing.
+/// `StdSyncHandler` is pending exactly from setting to clearing.
 pub fn std_sync_handler_is_exact<C: Clock>()
     ensures { IsExact ⟦<StdSyncHandler<C> as Timeout>⟧.ticking }
 {}

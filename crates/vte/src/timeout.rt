@@ -4,16 +4,16 @@ ghost use Rattle.vte.specs.Timeout.{Ticking};
 
 use std::time::Duration;
 
-/// Says whether a synchronized update is still awaited.
+/// The timeout of a synchronized update: whether its end is still awaited.
 pub trait Timeout {
-    /// What setting and clearing it may lead to, and what it may answer when it is asked whether it is pending.
+    /// What setting and clearing may change, and what `pending_timeout` may return.
     ghost ticking: { Ticking Self };
 
-    /// Sets it anew: an update was opened, and may last so long.
+    /// Sets the timeout, or sets it again: an update was opened, and may last for `duration`.
     fn set_timeout(&mut self, duration: Duration)
         ensures { ticking.sets self.old (as_nanos duration) self.new };
 
-    /// Clears it: the update was closed.
+    /// Clears the timeout: the update was closed.
     fn clear_timeout(&mut self)
         ensures { ticking.clears self.old self.new };
 

@@ -8,7 +8,7 @@ pub Calls-append : {S : Type 0} (step : S → Call → S → Type 0) (s m t : S)
 Calls-append {S} step s m t [] b h k = subst (λ (x : S). Calls step x b t) h k
 Calls-append {S} step s m t (c ∷ a) b h k = (h.0, h.1, Calls-append step h.0 m t a b h.2 k)
 
--- one more character, told
+-- one more character is passed to the handler
 pub input-more : {H : Type 0} (step : H → Call → H → Type 0) (s m t : H) (cs : List ℕ) (c : ℕ) (ds : List ℕ)
     → ds ≡ cs ++ c ∷ [] → Calls step s (map input cs) m → step m (input c) t → Calls step s (map input ds) t
 input-more step s m t cs c ds is before told =

@@ -102,7 +102,7 @@ pub data Call : Type 0 where
   report_modify_other_keys : Call
   set_scp : ScpCharPath → ScpUpdateMode → Call
 
--- a handler whose steps are these has gone through the calls, in order, each once
+-- a handler with this `step` has received the calls, in order, each once
 abbrev pub Calls : {S : Type 0} → (S → Call → S → Type 0) → S → List Call → S → Type 0
 Calls step old [] new = new ≡ old
 Calls {S} step old (c ∷ cs) new = (mid : S) × step old c mid × Calls step mid cs new

@@ -1,4 +1,4 @@
--- What a call says.
+-- The definition's call for each value of the code's `Call`.
 use Rattle.std.specs.Option.{option_map}
 use Rattle.vte_types.specs.Call as said
 use Rattle.vte_types.specs.Call.{link_of}

@@ -11,6 +11,6 @@ are_hex ds = list_all (λ d. is_digit d 16) ds
 abbrev pub hex_value : List ℕ → ℕ
 hex_value ds = fold (λ n d. n * 16 + digit_value d) 0 ds
 
--- the same, where all are such digits
+-- their value, if all bytes are such digits
 abbrev pub hex_number : List ℕ → Option ℕ
 hex_number ds = if are_hex ds then Some (hex_value ds) else None

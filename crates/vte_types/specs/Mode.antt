@@ -1,4 +1,4 @@
--- Modes and the parameters that name them.
+-- Modes, and the parameters that name them.
 use Rattle.std.specs.Prelude.{◌≡◌, ℕ, List, [], ◌∷◌, unwrap_or}
 use Rattle.vte_types.specs.Lookup.{lookup}
 use Rattle.vte_types.specs.declared.mode.Mode.{Mode}

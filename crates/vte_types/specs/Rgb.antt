@@ -6,7 +6,7 @@ use Rattle.std.specs.Char.{digit_char}
 use Rattle.vte_types.specs.Hex.{are_hex, hex_value}
 use Rattle.vte_types.specs.declared.rgb.Rgb.{Rgb}
 
--- sums and differences, each part kept from 0 to 255
+-- sums and differences, each part limited to 0 to 255
 abbrev pub rgb_sum : Rgb → Rgb → Rgb
 rgb_sum x y = record { r = min (x.r + y.r) 255; g = min (x.g + y.g) 255; b = min (x.b + y.b) 255 }
 
@@ -40,6 +40,6 @@ rgb_read text = or_refused (
     if starts_with nat_eq text (codes "#") then six_digits (drop 1 text) else
     (if starts_with nat_eq text (codes "0x") then six_digits (drop 2 text) else None))
 
--- a displayed colour is read back
+-- reading a displayed colour gives the same colour
 abbrev pub DisplayIsRead : Type 0
 DisplayIsRead = (x : Rgb) → x.r < 256 → x.g < 256 → x.b < 256 → rgb_read (rgb_text x) ≡ Ok x

@@ -4,7 +4,7 @@ use crate::color::Color;
 /// A change of the drawing attributes: one of SGR's numbers.
 #[derive(Clone, Copy, PartialEq, Eq, Debug)]
 pub enum Attr {
-    /// SGR 0: all attributes go.
+    /// SGR 0: all attributes are reset.
     Reset,
     /// SGR 1: bold.
     Bold,
@@ -26,7 +26,7 @@ pub enum Attr {
     BlinkSlow,
     /// SGR 6: blinks fast.
     BlinkFast,
-    /// SGR 7: foreground and background change places.
+    /// SGR 7: foreground and background are swapped.
     Reverse,
     /// SGR 8: hidden.
     Hidden,
@@ -42,7 +42,7 @@ pub enum Attr {
     CancelUnderline,
     /// SGR 25: doesn't blink.
     CancelBlink,
-    /// SGR 27: foreground and background stand in their own places.
+    /// SGR 27: foreground and background aren't swapped.
     CancelReverse,
     /// SGR 28: not hidden.
     CancelHidden,
@@ -52,6 +52,6 @@ pub enum Attr {
     Foreground(Color),
     /// SGR 40 to 49 and 100 to 107: the background's colour.
     Background(Color),
-    /// SGR 58: the underline's colour. SGR 59: that of the text, for `None`.
+    /// SGR 58: the underline's colour. SGR 59: the text's colour again, as `None`.
     UnderlineColor(Option<Color>),
 }

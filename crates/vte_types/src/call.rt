@@ -27,25 +27,25 @@ pub enum Call<'a> {
     GotoLine(i32),
     /// Moves the cursor to a column, from 0 (CHA, HPA).
     GotoCol(usize),
-    /// Inserts so many blanks at the cursor (ICH).
+    /// Inserts a number of blanks at the cursor (ICH).
     InsertBlank(usize),
-    /// Moves the cursor up so many rows (CUU).
+    /// Moves the cursor up by a number of rows (CUU).
     MoveUp(usize),
-    /// Moves the cursor down so many rows (CUD, VPR).
+    /// Moves the cursor down by a number of rows (CUD, VPR).
     MoveDown(usize),
-    /// Asks what terminal this is (DA); the first intermediate tells which report is wanted.
+    /// Asks what terminal this is (DA). The first intermediate says which report is wanted.
     IdentifyTerminal(Option<char>),
     /// Asks for the report with this number (DSR).
     DeviceStatus(usize),
-    /// Moves the cursor right so many columns (CUF, HPR).
+    /// Moves the cursor right by a number of columns (CUF, HPR).
     MoveForward(usize),
-    /// Moves the cursor left so many columns (CUB).
+    /// Moves the cursor left by a number of columns (CUB).
     MoveBackward(usize),
-    /// Moves the cursor down so many rows, to column 0 (CNL).
+    /// Moves the cursor down by a number of rows, to column 0 (CNL).
     MoveDownAndCr(usize),
-    /// Moves the cursor up so many rows, to column 0 (CPL).
+    /// Moves the cursor up by a number of rows, to column 0 (CPL).
     MoveUpAndCr(usize),
-    /// Moves the cursor over so many tab stops (HT).
+    /// Moves the cursor over a number of tab stops (HT).
     PutTab(u16),
     /// Moves the cursor left one column (BS).
     Backspace,
@@ -55,27 +55,27 @@ pub enum Call<'a> {
     Linefeed,
     /// Rings the bell (BEL).
     Bell,
-    /// Stands for a character in error (SUB).
+    /// Shows that a character was in error (SUB).
     Substitute,
     /// Moves the cursor to the next line, and to column 0 in new line mode. No sequence calls it.
     Newline,
     /// Sets a tab stop at the cursor's column (HTS).
     SetHorizontalTabstop,
-    /// Scrolls the region up so many rows (SU).
+    /// Scrolls the region up by a number of rows (SU).
     ScrollUp(usize),
-    /// Scrolls the region down so many rows (SD).
+    /// Scrolls the region down by a number of rows (SD).
     ScrollDown(usize),
-    /// Inserts so many blank lines at the cursor (IL).
+    /// Inserts a number of blank lines at the cursor (IL).
     InsertBlankLines(usize),
-    /// Deletes so many lines from the cursor on (DL).
+    /// Deletes a number of lines from the cursor on (DL).
     DeleteLines(usize),
-    /// Erases so many cells from the cursor on (ECH).
+    /// Erases a number of cells from the cursor on (ECH).
     EraseChars(usize),
-    /// Deletes so many cells from the cursor on (DCH).
+    /// Deletes a number of cells from the cursor on (DCH).
     DeleteChars(usize),
-    /// Moves the cursor back so many tab stops (CBT).
+    /// Moves the cursor back by a number of tab stops (CBT).
     MoveBackwardTabs(u16),
-    /// Moves the cursor forward so many tab stops (CHT).
+    /// Moves the cursor forward by a number of tab stops (CHT).
     MoveForwardTabs(u16),
     /// Saves the cursor (DECSC, SCOSC).
     SaveCursorPosition,
@@ -87,9 +87,9 @@ pub enum Call<'a> {
     ClearScreen(ClearMode),
     /// Clears tab stops (TBC).
     ClearTabs(TabulationClearMode),
-    /// Sets a tab stop every so many columns (DECST8C).
+    /// Sets a tab stop every n columns (DECST8C).
     SetTabs(u16),
-    /// Puts the terminal back to its first state (RIS).
+    /// Resets the terminal to its initial state (RIS).
     ResetState,
     /// Moves the cursor up one line, and scrolls at the region's top (RI).
     ReverseIndex,
@@ -107,11 +107,11 @@ pub enum Call<'a> {
     UnsetPrivateMode(PrivateMode),
     /// Asks whether a private mode is set (DECRQM).
     ReportPrivateMode(PrivateMode),
-    /// Sets the scrolling region (DECSTBM): both lines from 1, to the last line for `None`.
+    /// Sets the scrolling region (DECSTBM). Both lines count from 1, and `None` is the last line.
     SetScrollingRegion(usize, Option<usize>),
-    /// Has the keypad send application sequences (DECKPAM).
+    /// Makes the keypad send application sequences (DECKPAM).
     SetKeypadApplicationMode,
-    /// Has the keypad send numbers (DECKPNM).
+    /// Makes the keypad send numbers (DECKPNM).
     UnsetKeypadApplicationMode,
     /// Draws with the character set of this index (SI, SO).
     SetActiveCharset(CharsetIndex),
@@ -122,7 +122,7 @@ pub enum Call<'a> {
     /// Asks for the colour of an index (OSC 4, 10, 11 and 12 with `?`). The answer begins with the prefix and ends with
     /// the terminator.
     DynamicColorSequence(&'a str, usize, &'a str),
-    /// Gives an index its first colour again (OSC 104, 110, 111 and 112).
+    /// Resets the colour of an index to its initial one (OSC 104, 110, 111 and 112).
     ResetColor(usize),
     /// Stores data, in base64, in a clipboard (OSC 52).
     ClipboardStore(u8, &'a [u8]),
@@ -146,14 +146,14 @@ pub enum Call<'a> {
     ReportKeyboardMode,
     /// Pushes keyboard modes on a stack (`CSI > u`).
     PushKeyboardMode(KeyboardModes),
-    /// Pops so many keyboard modes from the stack (`CSI < u`).
+    /// Pops a number of keyboard modes from the stack (`CSI < u`).
     PopKeyboardModes(u16),
     /// Changes the keyboard modes (`CSI = u`).
     SetKeyboardMode(KeyboardModes, KeyboardModesApplyBehavior),
-    /// Sets how xterm's `modifyOtherKeys` works (`CSI > 4 m`).
+    /// Sets xterm's `modifyOtherKeys` (`CSI > 4 m`).
     SetModifyOtherKeys(ModifyOtherKeys),
-    /// Asks how `modifyOtherKeys` works (`CSI ? 4 m`).
+    /// Asks for xterm's `modifyOtherKeys` (`CSI ? 4 m`).
     ReportModifyOtherKeys,
-    /// Selects the character path (SCP).
+    /// Selects the character path (SCP): the direction in which characters are laid out.
     SetScp(ScpCharPath, ScpUpdateMode),
 }

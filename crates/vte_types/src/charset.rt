@@ -2,16 +2,16 @@
 ghost use Rattle.std.specs.Prelude.{◌≡◌};
 ghost use Rattle.vte_types.specs.Charset.{drawn, mapped};
 
-/// A place for a character set.
+/// One of the four character sets that a terminal has at hand (ECMA-35).
 #[derive(Clone, Copy, PartialEq, Eq, Debug)]
 pub enum CharsetIndex {
-    /// The set that is used first: `ESC (` names it, SI draws with it.
+    /// The initial set. `ESC (` designates it, SI selects it.
     G0,
-    /// `ESC )` names its set, SO draws with it.
+    /// `ESC )` designates it, SO selects it.
     G1,
-    /// `ESC *` names its set.
+    /// `ESC *` designates it.
     G2,
-    /// `ESC +` names its set.
+    /// `ESC +` designates it.
     G3,
 }
 
@@ -25,7 +25,7 @@ pub enum StandardCharset {
 }
 
 impl StandardCharset {
-    /// What is drawn for a character in this set.
+    /// The character that is drawn for `c` in this set.
     pub fn map(self, c: char) -> char
         ensures { result ≡ mapped self c }
     {
@@ -36,7 +36,7 @@ impl StandardCharset {
     }
 }
 
-/// The line or symbol that DEC's special graphics have for a character.
+/// The line or symbol of DEC's special graphics for a character; others stay.
 fn line_drawing(c: char) -> char
     ensures { result ≡ drawn c }
 {

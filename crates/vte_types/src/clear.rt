@@ -1,4 +1,4 @@
-//! What is cleared.
+//! Which parts of a line, of the screen and of the tab stops are cleared.
 
 /// The part of a line that is cleared (EL).
 #[derive(Clone, Copy, PartialEq, Eq, Debug)]
@@ -20,7 +20,7 @@ pub enum ClearMode {
     Above,
     /// ED 2: the whole screen.
     All,
-    /// ED 3, xterm's: the lines that were scrolled off.
+    /// ED 3, xterm's: the lines that have scrolled off the top.
     Saved,
 }
 

@@ -4,8 +4,8 @@ ghost use Rattle.vte_types.specs.Color.{bright_of, dim_of, DimUndoesBright, Brig
 
 use crate::rgb::Rgb;
 
-/// A colour with a name. Its number (`as u16`) is its place in a palette: 0 to 15 are the colours that SGR 30 to 37
-/// and 90 to 97 name, and from 256 on are those that OSC 10 to 12 set and the dim ones.
+/// A colour with a name. Its number (`as u16`) is its index in a palette. 0 to 15 are the colours of SGR 30 to 37 and
+/// 90 to 97. From 256 on are those that OSC 10 to 12 set, and the dim ones.
 #[derive(Clone, Copy, PartialEq, Eq, Debug)]
 pub enum NamedColor {
     /// 0: SGR 30 and 40.
@@ -46,25 +46,25 @@ pub enum NamedColor {
     Background,
     /// 258: the cursor's own colour, OSC 12.
     Cursor,
-    /// 259: black where the text is dim.
+    /// 259: black for dim text.
     DimBlack,
-    /// 260: red where the text is dim.
+    /// 260: red for dim text.
     DimRed,
-    /// 261: green where the text is dim.
+    /// 261: green for dim text.
     DimGreen,
-    /// 262: yellow where the text is dim.
+    /// 262: yellow for dim text.
     DimYellow,
-    /// 263: blue where the text is dim.
+    /// 263: blue for dim text.
     DimBlue,
-    /// 264: magenta where the text is dim.
+    /// 264: magenta for dim text.
     DimMagenta,
-    /// 265: cyan where the text is dim.
+    /// 265: cyan for dim text.
     DimCyan,
-    /// 266: white where the text is dim.
+    /// 266: white for dim text.
     DimWhite,
-    /// 267: the text's own colour where it is bold.
+    /// 267: the text's own colour for bold text.
     BrightForeground,
-    /// 268: the text's own colour where it is dim.
+    /// 268: the text's own colour for dim text.
     DimForeground,
 }
 
@@ -88,7 +88,7 @@ const _: () = prove!(
         && NamedColor::BrightWhite as u16 == 15
 );
 
-/// The numbers of the colours of their own, and of the dim ones.
+/// The numbers of the colours that OSC 10 to 12 set, and of the dim ones.
 const _: () = prove!(
     NamedColor::Foreground as u16 == 256
         && NamedColor::Background as u16 == 257
@@ -106,7 +106,7 @@ const _: () = prove!(
 );
 
 impl NamedColor {
-    /// The next brighter form: bright for plain, plain for dim. A colour without one stays.
+    /// The next brighter colour: bright for plain, plain for dim. A colour without one stays.
     pub fn to_bright(self) -> Self
         ensures { result ≡ bright_of self }
     {
@@ -133,7 +133,7 @@ impl NamedColor {
         }
     }
 
-    /// The next dimmer form: dim for plain, plain for bright. A colour without one stays.
+    /// The next dimmer colour: dim for plain, plain for bright. A colour without one stays.
     pub fn to_dim(self) -> Self
         ensures { result ≡ dim_of self }
     {
@@ -175,6 +175,6 @@ pub enum Color {
     Named(NamedColor),
     /// Red, green and blue: SGR 38, 48 and 58 with 2.
     Spec(Rgb),
-    /// A place in the palette of 256 colours: SGR 38, 48 and 58 with 5.
+    /// An index in the palette of 256 colours: SGR 38, 48 and 58 with 5.
     Indexed(u8),
 }

@@ -18,6 +18,8 @@ pub enum CursorShape {
 /// The cursor's shape, and whether it blinks (DECSCUSR).
 #[derive(Clone, Copy, PartialEq, Eq, Debug)]
 pub struct CursorStyle {
+    /// The shape.
     pub shape: CursorShape,
+    /// Whether the cursor blinks.
     pub blinking: bool,
 }

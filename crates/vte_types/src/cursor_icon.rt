@@ -1,8 +1,8 @@
-//! The pointer's shapes.
+//! The shapes of the mouse pointer.
 ghost use Rattle.std.specs.Prelude.{◌≡◌, bytes_eq, find};
 ghost use Rattle.vte_types.specs.CursorIcon.{name_of, all_icons};
 
-/// A shape of the pointer, by the keywords of CSS's property `cursor`.
+/// A shape of the mouse pointer, named as in CSS's property `cursor`.
 #[derive(Clone, Copy, PartialEq, Eq, Debug)]
 pub enum CursorIcon {
     /// The keyword `default`.
@@ -114,7 +114,7 @@ const ALL: [CursorIcon; 34] = [
 ];
 
 impl CursorIcon {
-    /// The keyword of CSS.
+    /// The shape's keyword in CSS.
     pub fn name(self) -> &'static str
         ensures { result.now ≡ name_of self }
     {
@@ -156,7 +156,7 @@ impl CursorIcon {
         }
     }
 
-    /// The shape with this keyword, by case.
+    /// The shape with this keyword, which is compared by case; `None` for other names.
     pub fn from_name(name: &[u8]) -> Option<Self>
         ensures { result ≡ find (λ icon. bytes_eq (name_of icon) name.now) all_icons }
     {

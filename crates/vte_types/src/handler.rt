@@ -18,16 +18,16 @@ use crate::mode::{Mode, PrivateMode};
 use crate::rgb::Rgb;
 use crate::scp::{ScpCharPath, ScpUpdateMode};
 
-/// From how many bytes on it's worth while to ask whether a text is ASCII alone, which needs no decoding.
+/// From this many bytes on, a text is first tested for being ASCII, since ASCII needs no decoding.
 const LONG_TEXT: usize = 16;
 
 /// Receives the calls that a terminal's input asks for.
 ///
-/// `call` is the one required method: it receives every call as a value. Each named method hands its call to it, so a
-/// handler writes one `match` with an arm for each call that it knows and a last one that does nothing. It may also
-/// write a named method of its own, which then has to do what `call` does with that call.
+/// `call` is the one required method, and receives every call as a value. Each named method passes its call on to it.
+/// So a handler writes one `match`, with an arm for each call that it knows and a last one that does nothing. A named
+/// method may be overridden; it must then do what `call` does with that call.
 ///
-/// A text is lent: a handler copies what it keeps.
+/// Texts are borrowed: a handler copies what it keeps.
 pub trait Handler {
     /// What a call may do: the handler before it, the call, and the handler after it.
     ghost step: { Self → said.Call → Self → Type 0 };
@@ -64,8 +64,8 @@ pub trait Handler {
         self.call(Call::Input(c))
     }
 
-    /// Writes the characters of a text at the cursor, one after another, as [`input`](Self::input) writes each of them.
-    /// A handler that takes many at once sooner than one by one may write this method of its own.
+    /// Writes the characters of a text at the cursor, one after another, as [`input`](Self::input) does. A handler that
+    /// is faster with many characters at once may override this method.
     fn input_str(&mut self, text: &str)
         ensures { Calls step self.old (map said.input (chars text.now)) self.new }
     {
@@ -101,28 +101,28 @@ pub trait Handler {
         self.call(Call::GotoCol(col))
     }
 
-    /// Inserts so many blanks at the cursor (ICH).
+    /// Inserts `count` blanks at the cursor (ICH).
     fn insert_blank(&mut self, count: usize)
         ensures { step self.old (said.insert_blank count) self.new }
     {
         self.call(Call::InsertBlank(count))
     }
 
-    /// Moves the cursor up so many rows (CUU).
+    /// Moves the cursor up by `rows` rows (CUU).
     fn move_up(&mut self, rows: usize)
         ensures { step self.old (said.move_up rows) self.new }
     {
         self.call(Call::MoveUp(rows))
     }
 
-    /// Moves the cursor down so many rows (CUD, VPR).
+    /// Moves the cursor down by `rows` rows (CUD, VPR).
     fn move_down(&mut self, rows: usize)
         ensures { step self.old (said.move_down rows) self.new }
     {
         self.call(Call::MoveDown(rows))
     }
 
-    /// Asks what terminal this is (DA); the first intermediate tells which report is wanted.
+    /// Asks what terminal this is (DA). The first intermediate says which report is wanted.
     fn identify_terminal(&mut self, intermediate: Option<char>)
         ensures { step self.old (said.identify_terminal intermediate) self.new }
     {
@@ -136,35 +136,35 @@ pub trait Handler {
         self.call(Call::DeviceStatus(code))
     }
 
-    /// Moves the cursor right so many columns (CUF, HPR).
+    /// Moves the cursor right by `cols` columns (CUF, HPR).
     fn move_forward(&mut self, cols: usize)
         ensures { step self.old (said.move_forward cols) self.new }
     {
         self.call(Call::MoveForward(cols))
     }
 
-    /// Moves the cursor left so many columns (CUB).
+    /// Moves the cursor left by `cols` columns (CUB).
     fn move_backward(&mut self, cols: usize)
         ensures { step self.old (said.move_backward cols) self.new }
     {
         self.call(Call::MoveBackward(cols))
     }
 
-    /// Moves the cursor down so many rows, to column 0 (CNL).
+    /// Moves the cursor down by `rows` rows, to column 0 (CNL).
     fn move_down_and_cr(&mut self, rows: usize)
         ensures { step self.old (said.move_down_and_cr rows) self.new }
     {
         self.call(Call::MoveDownAndCr(rows))
     }
 
-    /// Moves the cursor up so many rows, to column 0 (CPL).
+    /// Moves the cursor up by `rows` rows, to column 0 (CPL).
     fn move_up_and_cr(&mut self, rows: usize)
         ensures { step self.old (said.move_up_and_cr rows) self.new }
     {
         self.call(Call::MoveUpAndCr(rows))
     }
 
-    /// Moves the cursor over so many tab stops (HT).
+    /// Moves the cursor over `count` tab stops (HT).
     fn put_tab(&mut self, count: u16)
         ensures { step self.old (said.put_tab count) self.new }
     {
@@ -199,7 +199,7 @@ pub trait Handler {
         self.call(Call::Bell)
     }
 
-    /// Stands for a character in error (SUB).
+    /// Shows that a character was in error (SUB).
     fn substitute(&mut self)
         ensures { step self.old said.substitute self.new }
     {
@@ -220,56 +220,56 @@ pub trait Handler {
         self.call(Call::SetHorizontalTabstop)
     }
 
-    /// Scrolls the region up so many rows (SU).
+    /// Scrolls the region up by `rows` rows (SU).
     fn scroll_up(&mut self, rows: usize)
         ensures { step self.old (said.scroll_up rows) self.new }
     {
         self.call(Call::ScrollUp(rows))
     }
 
-    /// Scrolls the region down so many rows (SD).
+    /// Scrolls the region down by `rows` rows (SD).
     fn scroll_down(&mut self, rows: usize)
         ensures { step self.old (said.scroll_down rows) self.new }
     {
         self.call(Call::ScrollDown(rows))
     }
 
-    /// Inserts so many blank lines at the cursor (IL).
+    /// Inserts `count` blank lines at the cursor (IL).
     fn insert_blank_lines(&mut self, count: usize)
         ensures { step self.old (said.insert_blank_lines count) self.new }
     {
         self.call(Call::InsertBlankLines(count))
     }
 
-    /// Deletes so many lines from the cursor on (DL).
+    /// Deletes `count` lines from the cursor on (DL).
     fn delete_lines(&mut self, count: usize)
         ensures { step self.old (said.delete_lines count) self.new }
     {
         self.call(Call::DeleteLines(count))
     }
 
-    /// Erases so many cells from the cursor on (ECH).
+    /// Erases `count` cells from the cursor on (ECH).
     fn erase_chars(&mut self, count: usize)
         ensures { step self.old (said.erase_chars count) self.new }
     {
         self.call(Call::EraseChars(count))
     }
 
-    /// Deletes so many cells from the cursor on (DCH).
+    /// Deletes `count` cells from the cursor on (DCH).
     fn delete_chars(&mut self, count: usize)
         ensures { step self.old (said.delete_chars count) self.new }
     {
         self.call(Call::DeleteChars(count))
     }
 
-    /// Moves the cursor back so many tab stops (CBT).
+    /// Moves the cursor back by `count` tab stops (CBT).
     fn move_backward_tabs(&mut self, count: u16)
         ensures { step self.old (said.move_backward_tabs count) self.new }
     {
         self.call(Call::MoveBackwardTabs(count))
     }
 
-    /// Moves the cursor forward so many tab stops (CHT).
+    /// Moves the cursor forward by `count` tab stops (CHT).
     fn move_forward_tabs(&mut self, count: u16)
         ensures { step self.old (said.move_forward_tabs count) self.new }
     {
@@ -311,14 +311,14 @@ pub trait Handler {
         self.call(Call::ClearTabs(mode))
     }
 
-    /// Sets a tab stop every so many columns (DECST8C).
+    /// Sets a tab stop every `interval` columns (DECST8C).
     fn set_tabs(&mut self, interval: u16)
         ensures { step self.old (said.set_tabs interval) self.new }
     {
         self.call(Call::SetTabs(interval))
     }
 
-    /// Puts the terminal back to its first state (RIS).
+    /// Resets the terminal to its initial state (RIS).
     fn reset_state(&mut self)
         ensures { step self.old said.reset_state self.new }
     {
@@ -381,21 +381,21 @@ pub trait Handler {
         self.call(Call::ReportPrivateMode(mode))
     }
 
-    /// Sets the scrolling region (DECSTBM): both lines from 1, to the last line for `None`.
+    /// Sets the scrolling region (DECSTBM). Both lines count from 1, and `None` is the last line.
     fn set_scrolling_region(&mut self, top: usize, bottom: Option<usize>)
         ensures { step self.old (said.set_scrolling_region top bottom) self.new }
     {
         self.call(Call::SetScrollingRegion(top, bottom))
     }
 
-    /// Has the keypad send application sequences (DECKPAM).
+    /// Makes the keypad send application sequences (DECKPAM).
     fn set_keypad_application_mode(&mut self)
         ensures { step self.old said.set_keypad_application_mode self.new }
     {
         self.call(Call::SetKeypadApplicationMode)
     }
 
-    /// Has the keypad send numbers (DECKPNM).
+    /// Makes the keypad send numbers (DECKPNM).
     fn unset_keypad_application_mode(&mut self)
         ensures { step self.old said.unset_keypad_application_mode self.new }
     {
@@ -431,7 +431,7 @@ pub trait Handler {
         self.call(Call::DynamicColorSequence(prefix, index, terminator))
     }
 
-    /// Gives an index its first colour again (OSC 104, 110, 111 and 112).
+    /// Resets the colour of an index to its initial one (OSC 104, 110, 111 and 112).
     fn reset_color(&mut self, index: usize)
         ensures { step self.old (said.reset_color index) self.new }
     {
@@ -515,7 +515,7 @@ pub trait Handler {
         self.call(Call::PushKeyboardMode(mode))
     }
 
-    /// Pops so many keyboard modes from the stack (`CSI < u`).
+    /// Pops `count` keyboard modes from the stack (`CSI < u`).
     fn pop_keyboard_modes(&mut self, count: u16)
         ensures { step self.old (said.pop_keyboard_modes count) self.new }
     {
@@ -529,21 +529,21 @@ pub trait Handler {
         self.call(Call::SetKeyboardMode(mode, behavior))
     }
 
-    /// Sets how xterm's `modifyOtherKeys` works (`CSI > 4 m`).
+    /// Sets xterm's `modifyOtherKeys` (`CSI > 4 m`).
     fn set_modify_other_keys(&mut self, mode: ModifyOtherKeys)
         ensures { step self.old (said.set_modify_other_keys mode) self.new }
     {
         self.call(Call::SetModifyOtherKeys(mode))
     }
 
-    /// Asks how `modifyOtherKeys` works (`CSI ? 4 m`).
+    /// Asks for xterm's `modifyOtherKeys` (`CSI ? 4 m`).
     fn report_modify_other_keys(&mut self)
         ensures { step self.old said.report_modify_other_keys self.new }
     {
         self.call(Call::ReportModifyOtherKeys)
     }
 
-    /// Selects the character path (SCP).
+    /// Selects the character path (SCP): the direction in which characters are laid out.
     fn set_scp(&mut self, char_path: ScpCharPath, update_mode: ScpUpdateMode)
         ensures { step self.old (said.set_scp char_path update_mode) self.new }
     {

@@ -2,8 +2,8 @@
 ghost use Rattle.std.specs.Prelude.{◌≡◌, ◌≤◌, ◌<◌, ◌^◌, IfSome, None, length};
 ghost use Rattle.vte_types.specs.Hex.{hex_number};
 
-/// The number that up to 4 hexadecimal digits, in either case, write. None for another byte, and for more digits; 0 for
-/// no digits.
+/// The number that at most 4 hexadecimal digits write, in either case; 0 for no digits. `None` for more digits, or for
+/// another byte.
 pub fn number(digits: &[u8]) -> Option<u16>
     ensures value { length digits.now ≤ 4 → result ≡ hex_number digits.now }
     ensures long { 4 < length digits.now → result ≡ None }

@@ -1,10 +1,10 @@
-//! Keyboard modes.
+//! Keyboard modes (the kitty keyboard protocol, and xterm's `modifyOtherKeys`).
 ghost use Rattle.std.specs.Prelude.{⊤, ◌≡◌, ◌%◌, [], ◌∷◌, codes};
 
 use bitflags::{Flag, Flags, bitflag_items};
 
-/// The flags of the keyboard protocol that a program may ask for: 1 tells keys from escape sequences, 2 tells presses,
-/// repeats and releases apart, 4 adds the keys of other layouts, 8 sends all keys as sequences, 16 adds their text.
+/// The flags of the kitty keyboard protocol. 1 tells keys from escape sequences. 2 tells presses, repeats and releases
+/// apart. 4 adds the keys of other layouts. 8 sends all keys as sequences. 16 adds their text.
 #[derive(Clone, Copy, PartialEq, Eq, Debug)]
 pub struct KeyboardModes(u8);
 
@@ -43,21 +43,21 @@ impl Flags for KeyboardModes {
     }
 }
 
-/// How keyboard modes are put on those that are set.
+/// How new keyboard modes change those that are set.
 #[derive(Clone, Copy, PartialEq, Eq, Debug)]
 pub enum KeyboardModesApplyBehavior {
-    /// 1: they stand in the place of those that are set.
+    /// 1: they replace those that are set.
     Replace,
-    /// 2: they are added.
+    /// 2: they are added to those that are set.
     Union,
-    /// 3: they are taken away.
+    /// 3: they are removed from those that are set.
     Difference,
 }
 
-/// How xterm's `modifyOtherKeys` works.
+/// For which keys xterm's `modifyOtherKeys` sends its own sequences.
 #[derive(Clone, Copy, PartialEq, Eq, Debug)]
 pub enum ModifyOtherKeys {
-    /// 0: not at all.
+    /// 0: for none.
     Reset,
     /// 1: for the keys that have no sequence of their own.
     EnableExceptWellDefined,

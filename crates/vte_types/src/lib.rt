@@ -1,5 +1,5 @@
-//! The values of a terminal's calls, and the trait that receives them: colours, attributes, modes, character sets,
-//! cursors, keyboard modes and hyperlinks.
+//! The calls of a terminal's input: their values (colours, attributes, modes, character sets, cursors, keyboard modes
+//! and hyperlinks), and the trait `Handler` that receives them.
 #![tactic(auto)]
 
 pub mod C0;

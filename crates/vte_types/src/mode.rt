@@ -1,4 +1,4 @@
-//! Modes.
+//! Modes, and the parameters that name them.
 ghost use Rattle.std.specs.Prelude.{◌≡◌};
 ghost use Rattle.vte_types.specs.Mode.{mode_of, private_mode_of, raw_of, private_raw_of, mode_number};
 ghost use Rattle.vte_types.specs.Mode.{private_mode_number, RawIsTheNumber};
@@ -17,7 +17,7 @@ pub enum NamedMode {
 pub enum Mode {
     /// A mode with a name.
     Named(NamedMode),
-    /// A mode without a name here, by its parameter.
+    /// A mode that has no name here, by its parameter.
     Unknown(u16),
 }
 
@@ -75,11 +75,11 @@ pub enum NamedPrivateMode {
     ReportCellMouseMotion = 1002,
     /// 1003: all motion is reported.
     ReportAllMouseMotion = 1003,
-    /// 1004: the focus's coming and going is reported.
+    /// 1004: gaining and losing the focus is reported.
     ReportFocusInOut = 1004,
     /// 1005: the mouse's coordinates are sent in UTF-8.
     Utf8Mouse = 1005,
-    /// 1006: the mouse's coordinates are sent as numbers.
+    /// 1006: the mouse's coordinates are sent as decimal numbers.
     SgrMouse = 1006,
     /// 1007: the wheel sends cursor keys on the alternate screen.
     AlternateScroll = 1007,
@@ -87,9 +87,9 @@ pub enum NamedPrivateMode {
     UrgencyHints = 1042,
     /// 1049: the alternate screen, with the cursor saved.
     SwapScreenAndSetRestoreCursor = 1049,
-    /// 2004: what is pasted stands between `ESC [200~` and `ESC [201~`.
+    /// 2004: pasted text is sent between `ESC [200~` and `ESC [201~`.
     BracketedPaste = 2004,
-    /// 2026: a synchronized update, what comes in it is shown at its end.
+    /// 2026: a synchronized update; its changes are shown together at its end.
     SyncUpdate = 2026,
 }
 
@@ -98,7 +98,7 @@ pub enum NamedPrivateMode {
 pub enum PrivateMode {
     /// A private mode with a name.
     Named(NamedPrivateMode),
-    /// A private mode without a name here, by its parameter.
+    /// A private mode that has no name here, by its parameter.
     Unknown(u16),
 }
 

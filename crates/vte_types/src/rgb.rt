@@ -7,15 +7,18 @@ use std::fmt;
 use std::ops::{Add, Sub};
 use std::str::FromStr;
 
-/// A colour: how much red, green and blue, each from 0 to 255.
+/// A colour by red, green and blue, each from 0 to 255.
 #[derive(Clone, Copy, PartialEq, Eq, Debug)]
 pub struct Rgb {
+    /// Red.
     pub r: u8,
+    /// Green.
     pub g: u8,
+    /// Blue.
     pub b: u8,
 }
 
-/// Each part is at most 255.
+/// Adds each part; a sum over 255 is 255.
 impl Add for Rgb {
     ghost use Rattle.vte_types.specs.Rgb.{rgb_sum};
 
@@ -32,7 +35,7 @@ impl Add for Rgb {
     }
 }
 
-/// Each part is at least 0.
+/// Subtracts each part; a difference below 0 is 0.
 impl Sub for Rgb {
     ghost use Rattle.vte_types.specs.Rgb.{rgb_difference};
 
@@ -49,7 +52,7 @@ impl Sub for Rgb {
     }
 }
 
-/// `#` and two digits in lower case a part, as `#0a0b0c`.
+/// Writes `#` and two hexadecimal digits a part, in lower case, as `#0a0b0c`.
 impl fmt::Display for Rgb {
     ghost use Rattle.vte_types.specs.Rgb.{rgb_text};
 
@@ -61,7 +64,7 @@ impl fmt::Display for Rgb {
     }
 }
 
-/// `#` or `0x`, and six hexadecimal digits.
+/// Reads `#` or `0x`, and six hexadecimal digits.
 impl FromStr for Rgb {
     ghost use Rattle.vte_types.specs.Rgb.{rgb_read};
 
@@ -91,7 +94,7 @@ fn of_digits(digits: &[u8]) -> Option<Rgb>
     })
 }
 
-/// A displayed colour is read back.
+/// Reading a displayed colour gives the same colour.
 pub fn display_is_read()
     ensures { DisplayIsRead }
 {}

@@ -11,13 +11,13 @@ pub enum ScpCharPath {
     RTL,
 }
 
-/// What is made anew with the other direction.
+/// What is updated when the direction changes.
 #[derive(Clone, Copy, PartialEq, Eq, Debug)]
 pub enum ScpUpdateMode {
     /// 0: the terminal's choice.
     ImplementationDependant,
-    /// 1: the presentation, from the data.
+    /// 1: the presentation is updated from the data.
     DataToPresentation,
-    /// 2: the data, from the presentation.
+    /// 2: the data is updated from the presentation.
     PresentationToData,
 }

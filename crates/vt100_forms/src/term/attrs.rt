@@ -25,7 +25,7 @@ impl BufWrite for ClearAttrs {
     }
 }
 
-/// Sets some of the attributes (SGR), or none where none is named.
+/// Sets the attributes that its methods name (SGR). It has no bytes if none is named.
 #[derive(Debug, Default, Drop)]
 pub struct Attrs {
     fgcolor: Option<Color>,
@@ -78,7 +78,7 @@ impl Attrs {
         self
     }
 
-    /// Says whether italic is set or reset (SGR 3 and 23).
+    /// Sets italic, or resets it (SGR 3 and 23).
     pub fn italic(mut self, italic: bool) -> Self
         ensures { result ≡ record self { italic = Some italic } }
     {
@@ -86,7 +86,7 @@ impl Attrs {
         self
     }
 
-    /// Says whether underlining is set or reset (SGR 4 and 24).
+    /// Sets underlining, or resets it (SGR 4 and 24).
     pub fn underline(mut self, underline: bool) -> Self
         ensures { result ≡ record self { underline = Some underline } }
     {
@@ -94,7 +94,7 @@ impl Attrs {
         self
     }
 
-    /// Says whether inverse is set or reset (SGR 7 and 27).
+    /// Sets inverse, or resets it (SGR 7 and 27).
     pub fn inverse(mut self, inverse: bool) -> Self
         ensures { result ≡ record self { inverse = Some inverse } }
     {
@@ -102,7 +102,7 @@ impl Attrs {
         self
     }
 
-    // What of `new` differs from `old`.
+    // The attributes of `new` that differ from those of `old`.
     #[inline(always)]
     pub(crate) fn of_change(old: &attrs::Attrs, new: &attrs::Attrs) -> Self
         ensures { result ≡ changed_attrs old.now new.now }
@@ -203,7 +203,7 @@ fn push_flag(numbers: &mut Numbers, on: u8, off: u8, flag: Option<bool>)
 }
 
 impl Attrs {
-    /// Puts the escape sequence's bytes at the end of `run`.
+    /// Appends the escape sequence's bytes to `run`.
     // Inlined, like `of_change`: so what differs needn't be kept before it is written.
     #[inline(always)]
     pub(crate) fn push_to(&self, run: &mut TextRun)

@@ -29,7 +29,7 @@ impl BufWrite for ClearRowForward {
     }
 }
 
-/// Erases the characters from the cursor on (ECH) by a number of columns; nothing where it is 0.
+/// Erases a number of columns from the cursor on (ECH). A count of 0 has no bytes.
 #[derive(Debug, Drop)]
 pub struct EraseChar {
     count: u16,

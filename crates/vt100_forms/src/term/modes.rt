@@ -22,7 +22,7 @@ impl Model for HideCursor {
 }
 
 impl HideCursor {
-    /// Hides the cursor where `state` is true, and else shows it.
+    /// Hides the cursor if `state` is true, else shows it.
     pub fn new(state: bool) -> Self
         ensures { result ≡ Form.HideCursor state }
     {
@@ -38,7 +38,7 @@ impl BufWrite for HideCursor {
     }
 }
 
-/// Sets the keypad's application mode, or its numeric mode (DECKPAM, DECKPNM).
+/// Sets the keypad's application mode (DECKPAM), or its numeric mode (DECKPNM).
 #[derive(Debug, Default, Drop)]
 pub struct ApplicationKeypad {
     state: bool,
@@ -53,7 +53,7 @@ impl Model for ApplicationKeypad {
 }
 
 impl ApplicationKeypad {
-    /// Sets the application mode where `state` is true, and else the numeric one.
+    /// Sets the application mode if `state` is true, else the numeric one.
     pub fn new(state: bool) -> Self
         ensures { result ≡ Form.Keypad state }
     {
@@ -84,7 +84,7 @@ impl Model for ApplicationCursor {
 }
 
 impl ApplicationCursor {
-    /// Sets the application mode where `state` is true, and else resets it.
+    /// Sets the application mode if `state` is true, else resets it.
     pub fn new(state: bool) -> Self
         ensures { result ≡ Form.CursorKeys state }
     {
@@ -115,7 +115,7 @@ impl Model for BracketedPaste {
 }
 
 impl BracketedPaste {
-    /// Sets bracketed paste where `state` is true, and else resets it.
+    /// Sets bracketed paste if `state` is true, else resets it.
     pub fn new(state: bool) -> Self
         ensures { result ≡ Form.Paste state }
     {
@@ -135,7 +135,8 @@ impl BufWrite for BracketedPaste {
     }
 }
 
-/// Sets the mouse mode, or resets the earlier one where none is wanted.
+/// Changes which mouse events are reported (xterm's modes 9, 1000, 1002 and 1003). For no events it resets the earlier
+/// mode. It has no bytes if nothing changes.
 #[derive(Debug, Default, Drop)]
 pub struct MouseProtocolMode {
     mode: crate::MouseProtocolMode,
@@ -151,7 +152,7 @@ impl Model for MouseProtocolMode {
 }
 
 impl MouseProtocolMode {
-    /// A change to the mode that is wanted, from the one that the terminal has.
+    /// A change to `mode` from `prev`, which the terminal has.
     pub fn new(mode: crate::MouseProtocolMode, prev: crate::MouseProtocolMode) -> Self
         ensures { result ≡ Form.Mouse mode prev }
     {
@@ -179,7 +180,8 @@ fn mouse_number(mode: crate::MouseProtocolMode) -> u16
     }
 }
 
-/// Sets the encoding of mouse reports, or resets the earlier one where the default is wanted.
+/// Changes the encoding of mouse reports (xterm's modes 1005 and 1006). For the default it resets the earlier one. It
+/// has no bytes if nothing changes.
 #[derive(Debug, Default, Drop)]
 pub struct MouseProtocolEncoding {
     encoding: crate::MouseProtocolEncoding,
@@ -195,7 +197,7 @@ impl Model for MouseProtocolEncoding {
 }
 
 impl MouseProtocolEncoding {
-    /// A change to the encoding that is wanted, from the one that the terminal has.
+    /// A change to `encoding` from `prev`, which the terminal has.
     pub fn new(encoding: crate::MouseProtocolEncoding, prev: crate::MouseProtocolEncoding) -> Self
         ensures { result ≡ Form.Encoding encoding prev }
     {
@@ -225,7 +227,7 @@ fn encoding_number(encoding: crate::MouseProtocolEncoding) -> u16
     }
 }
 
-// From one private mode to another, where 0 is the default.
+// Changes one private mode to another, where 0 stands for the default.
 fn mode_change(room: &mut FormText, to: u16, from: u16) -> &str
     requires { room.old.bytes ≡ [] }
     ensures { result.now ≡ mode_change to from }
@@ -244,7 +246,7 @@ fn mode_change(room: &mut FormText, to: u16, from: u16) -> &str
     room.as_str()
 }
 
-/// Sets the cursor's style (DECSCUSR).
+/// Sets the cursor's style (DECSCUSR). It has no bytes if nothing changes.
 #[derive(Debug, Default, Drop)]
 pub struct CursorStyle {
     style: crate::CursorStyle,
@@ -260,7 +262,7 @@ impl Model for CursorStyle {
 }
 
 impl CursorStyle {
-    /// A change to the style that is wanted, from the one that the terminal has.
+    /// A change to `style` from `prev`, which the terminal has.
     pub fn new(style: crate::CursorStyle, prev: crate::CursorStyle) -> Self
         ensures { result ≡ Form.Style style prev }
     {

@@ -1,4 +1,4 @@
-//! Escape sequences that move the cursor, and save it (ECMA-48, the VT100's).
+//! Escape sequences that move, save and restore the cursor (ECMA-48, the VT100's).
 ghost use Rattle.std.specs.Prelude.{◌≡◌, ◌≤◌, ◌+◌, length, List, [], ◌∷◌, ◌++◌};
 ghost use Rattle.vt100_forms.specs.Form.{Form, spell};
 
@@ -44,7 +44,7 @@ impl BufWrite for SaveCursor {
     }
 }
 
-/// Brings the saved cursor and attributes back (DECRC).
+/// Restores the saved cursor and attributes (DECRC).
 #[derive(Debug, Default, Drop)]
 pub struct RestoreCursor;
 
@@ -56,7 +56,7 @@ impl BufWrite for RestoreCursor {
     }
 }
 
-/// Moves the cursor to a place (CUP), whose numbers are written counted from 1.
+/// Moves the cursor to a position (CUP). The bytes count rows and columns from 1.
 #[derive(Debug, Default, Drop)]
 pub struct MoveTo {
     row: u16,
@@ -82,7 +82,7 @@ impl MoveTo {
         }
     }
 
-    /// Puts the escape sequence's bytes at the end of `run`.
+    /// Appends the escape sequence's bytes to `run`.
     fn push_to(&self, run: &mut TextRun)
         requires { length run.old + 14 ≤ 128 }
         ensures bytes { run.new ≡ run.old ++ spell (self.now ∷ []) }
@@ -110,7 +110,7 @@ impl BufWrite for MoveTo {
     }
 }
 
-/// Moves the cursor to the right (CUF) by a number of columns; nothing where it is 0.
+/// Moves the cursor to the right by a number of columns (CUF). A count of 0 has no bytes.
 #[derive(Debug, Drop)]
 pub struct MoveRight {
     count: u16,
@@ -149,8 +149,8 @@ impl BufWrite for MoveRight {
     }
 }
 
-/// Moves the cursor from one place to another: by a new line to the first column of the next row, by a move to the
-/// right within a row, by nothing to the same place, else by a move to the place.
+/// Moves the cursor from one position to another: CR LF to the first column of the next row, CUF to the right within a
+/// row, CUP to all other positions. To the same position it has no bytes.
 #[derive(Debug, Drop)]
 pub struct MoveFromTo {
     from: Pos,
@@ -169,14 +169,14 @@ impl Model for MoveFromTo {
 impl MoveFromTo {
     ghost use Rattle.vt100_forms.specs.Form.{moves};
 
-    /// A move from where the cursor stands to where it is wanted.
+    /// A move from `from`, where the cursor is, to `to`.
     pub fn new(from: Pos, to: Pos) -> Self
         ensures { result ≡ moves from to }
     {
         MoveFromTo { from, to }
     }
 
-    /// Puts the escape sequence's bytes at the end of `run`: 14 at most.
+    /// Appends the escape sequence's bytes to `run`, 14 at most.
     #[doc(hidden)]
     pub fn push_to(&self, run: &mut TextRun)
         requires { length run.old + 14 ≤ 128 }

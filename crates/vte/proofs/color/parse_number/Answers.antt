@@ -11,7 +11,7 @@ grows : (n : ℕ) (ds : List ℕ) → n ≤ decimal_from n ds
 grows n [] = omega arith
 grows n (d ∷ ds) = omega (arith, grows (n * 10 + (d - 48)) ds)
 
--- where one more digit is refused, all are
+-- if one more digit is refused, so are all after it
 refused : (n d : ℕ) (ds : List ℕ) → (is_ascii_digit d && nat_lt (n * 10 + (d - 48)) 256) ≡ false
     → byte_from n (d ∷ ds) ≡ None
 refused n d ds h = elim (cases_Bool (is_ascii_digit d)) [

@@ -2,7 +2,7 @@ use Rattle.std.proofs.Common.{◌≡◌, ◌<◌, length}
 use Rattle.vte.specs.Osc.{byte_from}
 use Rattle.vte.proofs.color.parse_number.Given as goal
 
--- the digits that are left, after the number so far, write what all write
+-- the remaining digits, after the number so far, write the same number as all digits
 abbrev pub invariant-loop-digit : goal.invariant-loop-digit
 invariant-loop-digit l = record {
   same : byte_from l.number l.rest ≡ byte_from 0 l.initial.rest;

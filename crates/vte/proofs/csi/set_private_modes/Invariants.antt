@@ -7,7 +7,7 @@ use Rattle.vte.specs.Csi.{opens_group}
 use Rattle.vte.specs.Timeout.{Ticked, sets_of}
 use Rattle.vte.proofs.csi.set_private_modes.Given as goal
 
--- where what is left leads, all leads from the start
+-- the calls and settings so far, and the remaining ones, are all of them
 abbrev pub invariant-loop-number : goal.invariant-loop-number
 invariant-loop-number g l = record {
   calls : (end : _) → Calls g.H.Handler.step l.handler

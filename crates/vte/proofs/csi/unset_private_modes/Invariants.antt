@@ -4,7 +4,7 @@ use Rattle.vte_types.specs.Mode.{private_mode_of}
 use Rattle.vte.specs.Sgr.{first}
 use Rattle.vte.proofs.csi.unset_private_modes.Given as goal
 
--- where the calls that are left lead, all lead from the start
+-- the calls so far, and the remaining ones, are all calls
 abbrev pub invariant-loop-number : goal.invariant-loop-number
 invariant-loop-number g l =
     (end : _) → Calls g.H.Handler.step l.handler (map (λ x. unset_private_mode (private_mode_of (first x))) l.groups)

@@ -6,7 +6,7 @@ use Rattle.vte.specs.Marks.{stands_at}
 use Rattle.vte.proofs.MarkLemmas.{none_in_part, part_in, rest_is}
 use Rattle.vte.proofs.marks.first_mark.Goals as goal
 
--- none stands before a place, and its first byte nowhere in so many bytes from there on
+-- no mark begins before a place, and its first byte is nowhere in so many bytes from there on
 none_before : (mark text : List ℕ) (from next at : ℕ) → 0 < length mark → next + at ≤ length text
     → ((k : ℕ) → from ≤ k → k < next → stands_at mark text k ≡ false)
     → Nowhere (Passes (is_byte (slice_index mark 0)) (take (length text - next) (drop next text))) 0 at

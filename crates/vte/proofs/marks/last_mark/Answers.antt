@@ -6,7 +6,7 @@ use Rattle.vte.specs.Marks.{stands_at}
 use Rattle.vte.proofs.MarkLemmas.{none_in_part, part_in, rest_is}
 use Rattle.vte.proofs.marks.last_mark.Goals as goal
 
--- none stands at a place or behind it, and its first byte nowhere behind the i-th byte of the part before that place
+-- no mark begins at a place or later, and its first byte is nowhere after the i-th byte of the part before that place
 none_behind : (mark text : List ℕ) (from end i : ℕ) → 0 < length mark → from ≤ end → end ≤ length text
     → ((k : ℕ) → end ≤ k → k < length text → stands_at mark text k ≡ false)
     → (let part = take (end - from) (drop from text) in Nowhere (Passes (is_byte (slice_index mark 0)) part) i (length part))

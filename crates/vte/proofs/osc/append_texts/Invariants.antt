@@ -3,7 +3,7 @@ use Rattle.std.specs.List.{flat_map}
 use Rattle.std.specs.Str.{is_utf8}
 use Rattle.vte.proofs.osc.append_texts.Given as goal
 
--- what is there, with the pieces that are left, is what there will be
+-- the text so far, with the remaining pieces, is the final text
 abbrev pub invariant-loop-piece : goal.invariant-loop-piece
 invariant-loop-piece l =
     length (l.initial.text.bytes ++ flat_map (λ p. 59 ∷ p) (filter is_utf8 l.initial.pieces)) ≤ 1040

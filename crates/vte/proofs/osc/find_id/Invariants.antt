@@ -8,7 +8,7 @@ abbrev left : Option (Bor (List ℕ)) → ℕ
 left None = 0
 left (Some t) = length t.now + 1
 
--- the first id is among the parts that are left
+-- the first id is among the remaining parts
 abbrev pub invariant-loop-rest : goal.invariant-loop-rest
 invariant-loop-rest l =
     find (λ part. starts_with nat_eq part (codes "id=")) (parts_after 58 (option_map (λ t. t.now) l.rest))

@@ -3,7 +3,7 @@ use Rattle.vte_types.specs.Call.{Calls}
 use Rattle.vte.specs.Osc.{index_resets}
 use Rattle.vte.proofs.osc.reset_indexed.Given as goal
 
--- where the calls that are left lead, all lead from the start
+-- the calls so far, and the remaining ones, are all calls
 abbrev pub invariant-loop-piece : goal.invariant-loop-piece
 invariant-loop-piece g l =
     (end : _) → Calls g.H.Handler.step l.handler (flat_map index_resets l.pieces) end

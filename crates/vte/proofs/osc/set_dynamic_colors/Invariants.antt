@@ -3,7 +3,7 @@ use Rattle.vte_types.specs.Call.{Calls}
 use Rattle.vte.specs.Osc.{dynamic_calls}
 use Rattle.vte.proofs.osc.set_dynamic_colors.Given as goal
 
--- where the calls that are left lead, all lead from the start
+-- the calls so far, and the remaining ones, are all calls
 abbrev pub invariant-loop-color : goal.invariant-loop-color
 invariant-loop-color g l = record {
   from : 10 ≤ l.number;

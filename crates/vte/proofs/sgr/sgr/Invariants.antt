@@ -3,7 +3,7 @@ use Rattle.vte_types.specs.Call.{Calls, terminal_attribute}
 use Rattle.vte.specs.Sgr.{attributes, nothing}
 use Rattle.vte.proofs.sgr.sgr.Given as goal
 
--- where the calls that are left lead, all lead from the start
+-- the calls so far, and the remaining ones, are all calls
 abbrev pub invariant-loop-group : goal.invariant-loop-group
 invariant-loop-group g l =
     (end : _) → Calls g.H.Handler.step l.handler (map terminal_attribute (attributes nothing l.groups)) end

@@ -17,7 +17,7 @@ halves : (n : ℕ) (ds : List ℕ) → are_hex ds ≡ (are_hex (take n ds) && ar
 halves n ds = ap are_hex (sym (take-append-drop n ds))
     ∙ list_all-append (λ d. is_digit d 16) (take n ds) (drop n ds)
 
--- six bytes are hexadecimal digits where each two are
+-- six bytes are hexadecimal digits if each two are
 by_twos : (ds : List ℕ) → length ds ≡ 6
     → are_hex ds ≡ (are_hex (take 2 ds) && (are_hex (take 2 (drop 2 ds)) && are_hex (take 2 (drop 4 ds))))
 by_twos ds six =

@@ -2,7 +2,7 @@ use Rattle.std.proofs.Common.{ℕ, List, length}
 use Rattle.vte.specs.Standing.{StandsAt, GoesOn}
 use Rattle.vte.proofs.processor.Processor.advance.Given as goal
 
--- the piece so far led to where it goes on with the rest
+-- the part of the piece that was read, after which the rest is read
 abbrev pub invariant-loop-read : goal.invariant-loop-read
 invariant-loop-read g l =
     (parsed held : List ℕ) → StandsAt l.initial.self parsed held
