@@ -1,9 +1,10 @@
 -- The text between two places of a screen, written row by row.
-use Rattle.std.proofs.Common.{◌≡◌, ℕ, suc, ◌+◌, ◌-◌, ◌<◌, ◌≤◌, ◌==◌, Bool, true, false, cond, nat_lt, min, List, []}
+use Rattle.std.proofs.Common.{◌≡◌, ℕ, zero, suc, ◌+◌, ◌-◌, ◌<◌, ◌≤◌, ◌==◌, Bool, true, false, cond, nat_lt, min, List, []}
 use Rattle.std.proofs.Common.{◌∷◌, ◌++◌, length, refl, sym, ap, ◌∙◌, arith, append_assoc, append-nil}
+use Rattle.std.proofs.Common.{subst, ⊎_elim}
 use Rattle.std.specs.Prelude.{encode_utf8_all, encode_utf8, Some}
-use Rattle.std.proofs.lemmas.Str.{encodes-append}
-use Rattle.std.proofs.lemmas.Bool.{le-ltb, lt-ltb}
+use Rattle.std.proofs.lemmas.Str.{encodes-append, length-encode, len_utf8_bounds}
+use Rattle.std.proofs.lemmas.Bool.{cases_lt, le-ltb, lt-ltb}
 use Rattle.std.proofs.lemmas.Bool.Decides.{nat_tests}
 use Rattle.vt100_cells.specs.Cells.{cell_at}
 use Rattle.vt100_rows.specs.Row.{RowView}
@@ -99,3 +100,62 @@ between-past g r s q e n k start now h later past en b =
 pub some-row : (g : GridView) (n : ℕ) (v : RowView) → visible_row_at g n ≡ Some v
     → (n < length g.rows) × (v ≡ visible_at g n)
 some-row g n v e = (shown-some g n v e, grind (arith, nat_tests))
+
+-- ---- empty texts
+
+both-empty : (xs ys : List ℕ) → xs ++ ys ≡ [] → (xs ≡ []) × (ys ≡ [])
+both-empty [] ys h = (refl, h)
+both-empty (x ∷ xs) ys h = let some = ap length h in absurd (omega (arith, some))
+
+pub encodes-empty : (cs : List ℕ) → encode_utf8_all cs ≡ [] → cs ≡ []
+encodes-empty [] h = refl
+encodes-empty (c ∷ cs) h =
+    let none = ap length (both-empty (encode_utf8 c) (encode_utf8_all cs) h).0 in
+    absurd (omega (arith, none, length-encode c, (len_utf8_bounds c).0))
+
+-- the rest of a row shows nothing: then its text is empty, and it goes on in the next
+pub rest-empty : (v : RowView) (s w : ℕ) → rest_of_row v s w ≡ [] → (row_text v s w ≡ []) × (v.wrapped ≡ true)
+rest-empty v s w h =
+    let parts = both-empty (row_text v s w) (cond v.wrapped [] (10 ∷ [])) h in
+    (parts.0, by v.wrapped parts.1)
+  where
+    by : (b : Bool) → cond {A = List ℕ} b [] (10 ∷ []) ≡ [] → b ≡ true
+    by true h = refl
+    by false h = let some = ap length h in absurd (omega (arith, some))
+
+pub written-empty : (v : RowView) (s n w : ℕ) → n ≡ w - s → row_text v s w ≡ []
+    → encode_utf8_all (written_text v s n false) ≡ []
+written-empty v s n w e h = ap encode_utf8_all (row_text-to v s n w e ∙ h)
+
+rows-empty : (g : GridView) (r s n k : ℕ) → k < n → rows_from g r s n ≡ []
+    → rest_of_row (visible_at g (r + k)) (cond (k == 0) s 0) g.width ≡ []
+rows-empty g r s zero k l h = absurd (omega (arith, l))
+rows-empty g r s (suc n) k l h =
+    let parts = both-empty (rows_from g r s n) (rest_of_row (visible_at g (r + n)) (cond (n == 0) s 0) g.width) h in
+    ⊎_elim (λ (b : k < n). rows-empty g r s n k b parts.0)
+    (λ (b : n ≤ k). let same : n ≡ k = omega (arith, l, b)
+    in subst (λ j. rest_of_row (visible_at g (r + j)) (cond (j == 0) s 0) g.width ≡ []) same parts.1) (cases_lt k n)
+
+-- of an empty text between two places each row that it takes shows nothing
+pub between-row : (g : GridView) (r s q e k w : ℕ) (v : RowView) (start : ℕ) → r ≤ k → k < q → k < length g.rows
+    → v ≡ visible_at g k → w ≡ g.width → start ≡ cond (k - r == 0) s 0 → text_between g r s q e ≡ []
+    → rest_of_row v start w ≡ []
+between-row g r s q e k w v start from before on ev ew es h =
+    let m = min q (length g.rows) - r in
+    let last = cond (nat_lt q (length g.rows)) (row_text (visible_at g q) (cond (r == q) s 0) e) [] in
+    let whole = between-whole g r s q e (nat_lt q (length g.rows)) last (le-ltb q r (omega (arith, from, before))) refl refl in
+    let rows = both-empty (rows_from g r s m) last (sym whole ∙ h) in
+    let at : r + (k - r) ≡ k = omega (arith, from) in
+    let here = rows-empty g r s m (k - r) (omega (arith, from, before, on)) rows.0 in
+    (λ i. rest_of_row (ev i) (es i) (ew i))
+    ∙ ap (λ j. rest_of_row (visible_at g j) (cond (k - r == 0) s 0) g.width) (sym at) ∙ here
+
+pub between-last : (g : GridView) (r s q e n : ℕ) (v : RowView) (start : ℕ) → r ≤ q → q < length g.rows
+    → v ≡ visible_at g q → start ≡ cond (q - r == 0) s 0 → n ≡ e - start → text_between g r s q e ≡ []
+    → encode_utf8_all (written_text v start n false) ≡ []
+between-last g r s q e n v start ordered on ev es en h =
+    let last = row_text (visible_at g q) (cond (r == q) s 0) e in
+    let rows = rows_from g r s (min q (length g.rows) - r) in
+    let whole = between-whole g r s q e true last (le-ltb q r ordered) (lt-ltb q (length g.rows) on) refl in
+    let parts = both-empty rows last (sym whole ∙ h) in
+    written-empty v start n e en ((λ i. row_text (ev i) ((es ∙ same-start r q s ordered) i) e) ∙ parts.1)

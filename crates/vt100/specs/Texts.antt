@@ -1,6 +1,6 @@
 -- The texts that a screen shows: of each row, and between two places.
-use Rattle.std.specs.Prelude.{ℕ, zero, suc, ◌+◌, ◌-◌, ◌≡◌, ◌==◌, nat_lt, min, List, [], ◌∷◌, ◌++◌, length, map}
-use Rattle.std.specs.Prelude.{encode_utf8_all, Option, Result, IfOk, OnErr, Err, MatchOption, MatchResult}
+use Rattle.std.specs.Prelude.{ℕ, zero, suc, ◌+◌, ◌-◌, ◌≡◌, ◌≢◌, ◌==◌, nat_lt, min, List, [], ◌∷◌, ◌++◌, length, map}
+use Rattle.std.specs.Prelude.{encode_utf8_all, Option, Result, IfOk, OnErr, IsOk, Err, MatchOption, MatchResult}
 use Rattle.std.specs.Prelude.{String, string_bytes, if◌then◌else◌}
 use Rattle.vt100_rows.specs.Row.{RowView}
 use Rattle.vt100_rows.specs.Text.{row_text}
@@ -12,17 +12,19 @@ use Rattle.vt100.specs.declared.error.ScreenError.TheVariants.{Memory}
 abbrev pub row_texts : ℕ → ℕ → List RowView → List (List ℕ)
 row_texts s n rows = map (λ v. encode_utf8_all (row_text v s (s + n))) rows
 
--- a text, unless there is no memory for it
+-- a text, unless there is no memory for it; an empty one takes none
 pub record Gives {Z : Type 0} (bytes : List ℕ) (result : Result (String Z) ScreenError) : Type 0 where
   pub text : IfOk result (λ string. string_bytes string ≡ bytes)
   pub memory : OnErr result (result ≡ Err Memory)
+  pub empty : bytes ≡ [] → IsOk result
 
--- an iterator over texts: the first of those that are left comes, or there was no memory for it; the others are left
+-- an iterator over texts: the first of those that are left comes, or there was no memory for it, and it isn't empty; the
+-- others are left
 abbrev pub YieldsText : {S : Type 0} → (S → List ℕ) → List (List ℕ) → Option (Result S ScreenError) → List (List ℕ)
     → Type 0
 YieldsText bytes left item others =
     MatchOption item ((left ≡ []) × (others ≡ [])) (λ result. (text : List ℕ) × (left ≡ text ∷ others)
-    × MatchResult result (λ string. bytes string ≡ text) (λ error. error ≡ Memory))
+    × MatchResult result (λ string. bytes string ≡ text) (λ error. (error ≡ Memory) × (text ≢ [])))
 
 -- the text of a row from column s on, in a screen of w columns, and a newline unless it goes on in the next
 abbrev pub rest_of_row : RowView → ℕ → ℕ → List ℕ

@@ -1,5 +1,6 @@
 -- What calls answer that write what a screen shows as forms.
-use Rattle.std.specs.Prelude.{◌≡◌, ◌≤◌, ◌++◌, ℕ, List, length, Result, IfOk, OnOk, OnErr, Err, String, string_bytes}
+use Rattle.std.specs.Prelude.{◌≡◌, ◌≤◌, ◌++◌, ℕ, List, [], length, Result, IfOk, OnOk, OnErr, IsOk, Err}
+use Rattle.std.specs.Prelude.{String, string_bytes}
 use Rattle.vt100_forms.specs.Form.{Form, spell}
 use Rattle.terminal_model.specs.Term.{Size, Shown}
 use Rattle.vt100_core.specs.Picture.{grid_size}
@@ -15,11 +16,12 @@ module _ {Z : Type 0} where
   abbrev pub Writes : {A E : Type 0} → List Form → String Z → Result A E → String Z → Type 0
   Writes forms old result new = OnOk result (string_bytes new ≡ string_bytes old ++ spell forms)
 
-  -- the text of forms, of at most so many bytes
+  -- the text of forms, of at most so many bytes; an empty one takes no memory
   pub record GivesModes (forms : List Form) (most : ℕ) (result : Result (String Z) ScreenError) : Type 0 where
     pub text : IfOk result (λ string. string_bytes string ≡ spell forms)
     pub short : IfOk result (λ string. length (string_bytes string) ≤ most)
     pub memory : OnErr result (result ≡ Err Memory)
+    pub empty : spell forms ≡ [] → IsOk result
 
   -- the text of a screen's forms, with at most so many bytes more than 1,024 a cell: where no kept row is shown, the
   -- forms of its picture
@@ -32,7 +34,7 @@ module _ {Z : Type 0} where
     pub memory : OnErr result (result ≡ Err Memory)
 
   -- the same for what differs from an earlier screen: where both have one size and show no kept row, the forms are those
-  -- of their pictures, and where no cell shows U+FE0F, they touch local cells
+  -- of their pictures, and where no cell shows U+FE0F, they touch local cells; an empty text takes no memory
   pub record GivesDifference (forms : State → State → List Form) (pictured : Size → Shown → Shown → List Form)
       (more : ℕ) (old new : State) (result : Result (String Z) ScreenError) : Type 0 where
     pub text : IfOk result (λ string. string_bytes string ≡ spell (forms old new))
@@ -45,3 +47,4 @@ module _ {Z : Type 0} where
         → IfOk result (λ string. IsLocalText (forms old new) (grid_size new.shown) (shown_state old) (shown_state new)
         (string_bytes string))
     pub memory : OnErr result (result ≡ Err Memory)
+    pub empty : spell (forms old new) ≡ [] → IsOk result

@@ -120,8 +120,9 @@ impl Screen {
 /// Appends the text of a row from column `start` on, on a screen of `cols` columns, and a newline unless it goes on in
 /// the next.
 fn write_rest(row: &Row, contents: &mut String, start: u16, cols: u16) -> Result<(), GridError>
-    ensures { OnOk result (string_bytes contents.new ≡ string_bytes contents.old
+    ensures text { OnOk result (string_bytes contents.new ≡ string_bytes contents.old
         ++ encode_utf8_all (rest_of_row row.now start cols)) }
+    ensures empty { rest_of_row row.now start cols ≡ [] → IsOk result }
 {
     row.write_contents(contents, start, cols.saturating_sub(start), false)?;
     if !row.wrapped() {

@@ -1,5 +1,5 @@
 //! What a screen shows, as forms for a terminal.
-ghost use Rattle.std.specs.Prelude.{◌≡◌, [], OnErr, IfOk, Err, string_bytes, if◌then◌else◌};
+ghost use Rattle.std.specs.Prelude.{◌≡◌, [], OnErr, IfOk, IsOk, Err, string_bytes, if◌then◌else◌};
 ghost use Rattle.vt100_forms.specs.Form.{spell};
 ghost use Rattle.vt100_cells.specs.Cell.{bool_eq};
 ghost use Rattle.screen_drawing.specs.Modes.{input_mode_formatted, input_mode_diff, attributes_formatted};
@@ -106,7 +106,8 @@ impl Screen {
     }
 
     fn write_contents_diff(&self, contents: &mut String, prev: &Self) -> Result<(), GridError>
-        ensures { Writes (contents_diff prev.now.state self.now.state) contents.old result contents.new }
+        ensures text { Writes (contents_diff prev.now.state self.now.state) contents.old result contents.new }
+        ensures empty { spell (contents_diff prev.now.state self.now.state) ≡ [] → IsOk result }
     {
         let hiding = HideCursor::new(self.hide_cursor);
         write_change(contents, prev.hide_cursor, self.hide_cursor, &hiding)?;
@@ -168,8 +169,10 @@ impl Screen {
     }
 
     fn write_input_mode_diff(&self, contents: &mut String, prev: &Self) -> Result<(), GridError>
-        ensures { Writes (input_mode_diff (shown_state prev.now.state) (shown_state self.now.state)) contents.old result
-            contents.new }
+        ensures text { Writes (input_mode_diff (shown_state prev.now.state) (shown_state self.now.state)) contents.old
+            result contents.new }
+        ensures empty { spell (input_mode_diff (shown_state prev.now.state) (shown_state self.now.state)) ≡ []
+            → IsOk result }
     {
         let keypad = ApplicationKeypad::new(self.application_keypad);
         write_change(
@@ -244,7 +247,8 @@ fn write_change<F: BufWrite>(
     now: bool,
     form: &F,
 ) -> Result<(), GridError>
-    ensures { Writes (if bool_eq now prev then [] else F.forms form.now) contents.old result contents.new }
+    ensures text { Writes (if bool_eq now prev then [] else F.forms form.now) contents.old result contents.new }
+    ensures empty { spell (if bool_eq now prev then [] else F.forms form.now) ≡ [] → IsOk result }
 {
     if now == prev {
         return Ok(());

@@ -1,4 +1,4 @@
-use Rattle.std.proofs.Common.{◌∙◌, rules, ap, subst, sym}
+use Rattle.std.proofs.Common.{◌∙◌, rules, ap, refl, subst, sym}
 use Rattle.vt100_forms.specs.Attrs.{HasByteColors}
 use Rattle.vt100_forms.specs.Form.{spell}
 use Rattle.vt100.specs.FormLists.{IsShortText}
@@ -11,7 +11,7 @@ pub returns : goal.returns
 returns c =
     let old = c.args.prev.now.state in
     let new = c.args.self.now.state in
-    let is = rw c.new-contents.ensures.bytes at c.in_ok-write_contents_diff.ensures in
+    let is = rw c.new-contents.ensures.bytes at c.in_ok-write_contents_diff.ensures.text in
     let colors : HasByteColors old.attrs = rw (← c.prev.view_is) c.prev.invariant.attrs.colors in
     record {
       text = is;
@@ -19,4 +19,5 @@ returns c =
       short = λ h. subst (IsShortText _ 512) (sym is) (screen-short old new colors h).contents_diff;
       local = λ o h e plain. record { spelled = is; touches = (differences-local _ _ o h e plain).0 };
       memory = search rules;
+      empty = λ none. refl;
     }

@@ -1,4 +1,4 @@
-use Rattle.std.proofs.Common.{◌≡◌, List, ℕ, ◌++◌, ap, ◌∙◌}
+use Rattle.std.proofs.Common.{◌≡◌, List, ℕ, ◌++◌, ap, ◌∙◌, refl}
 use Rattle.std.specs.Prelude.{string_bytes}
 use Rattle.std.proofs.lemmas.Fmt.{contents_after_writes}
 use Rattle.vt100_core.specs.Grid.{visible}
@@ -13,4 +13,5 @@ returns-in-Ok c =
           c.new-contents.result shown c.write_contents_formatted_basic-written.new.writer c.in-Ok.ensures.text
           ∙ ap (λ (xs : List ℕ). xs ++ shown) c.new-contents.ensures.bytes;
       memory = tt;
+      empty = λ none. refl;
     }

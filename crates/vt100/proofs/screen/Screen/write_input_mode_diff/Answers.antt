@@ -1,12 +1,15 @@
-use Rattle.std.proofs.Common.{[], ◌∷◌}
+use Rattle.std.proofs.Common.{◌≡◌, [], ◌∷◌, subst, sym}
+use Rattle.std.proofs.lemmas.Bool.{false≢true}
+use Rattle.vt100_forms.specs.Form.{spell}
 use Rattle.screen_drawing.specs.Modes.{input_mode_diff}
+use Rattle.screen_model.specs.Shown.{shown_state}
 use Rattle.vt100.specs.ScreenFields.{screen_inside}
-use Rattle.vt100.proofs.WriteLemmas.{six_written, where_changed}
+use Rattle.vt100.proofs.WriteLemmas.{fits-ok, no-changes, six_written, some-full, where_changed}
 use Rattle.vt100.proofs.screen.Screen.write_input_mode_diff.Goals as goal
 
-pub returns : goal.returns
+pub returns-clause-text : goal.returns-clause-text
 unfolding input_mode_diff
-returns c =
+returns-clause-text c =
     let x = (screen_inside c.prev.inside).state.modes in
     let y = (screen_inside c.self.inside).state.modes in
     rw (← c.self.view_is, ← c.prev.view_is) (rw (
@@ -20,5 +23,53 @@ returns c =
     (where_changed x.keypad y.keypad c.new-keypad.result)
     (where_changed x.cursor_keys y.cursor_keys c.new-cursor_keys.result)
     (where_changed x.paste y.paste c.new-paste.result) (c.new.result ∷ []) (c.new-2.result ∷ []) (c.new-3.result ∷ [])
-    _ _ _ _ _ _ _ c.in_ok-write_change.ensures c.in_ok-write_change-2.ensures c.in_ok-write_change-3.ensures
+    _ _ _ _ _ _ _ c.in_ok-write_change.ensures.text c.in_ok-write_change-2.ensures.text c.in_ok-write_change-3.ensures.text
     c.in_ok-write_buf.ensures.bytes c.in_ok-write_buf-2.ensures.bytes c.write_buf-3.ensures.bytes))
+
+pub returns-in_err-write_change-clause-empty : goal.returns-in_err-write_change-clause-empty
+returns-in_err-write_change-clause-empty c =
+    let x = (screen_inside c.prev.inside).state in
+    let y = (screen_inside c.self.inside).state in
+    rw (← c.self.view_is, ← c.prev.view_is) (λ none. absurd (false≢true (c.in_err-write_change.ensures.empty
+    (subst (λ f. spell (where_changed x.modes.keypad y.modes.keypad f) ≡ []) (sym c.new-keypad.ensures)
+    (no-changes (shown_state x) (shown_state y) none).keypad))))
+
+pub returns-in_err-write_change-2-clause-empty : goal.returns-in_err-write_change-2-clause-empty
+returns-in_err-write_change-2-clause-empty c =
+    let x = (screen_inside c.prev.inside).state in
+    let y = (screen_inside c.self.inside).state in
+    rw (← c.self.view_is, ← c.prev.view_is) (λ none. absurd (false≢true (c.in_err-write_change-2.ensures.empty
+    (subst (λ f. spell (where_changed x.modes.cursor_keys y.modes.cursor_keys f) ≡ []) (sym c.new-cursor_keys.ensures)
+    (no-changes (shown_state x) (shown_state y) none).cursor_keys))))
+
+pub returns-in_err-write_change-3-clause-empty : goal.returns-in_err-write_change-3-clause-empty
+returns-in_err-write_change-3-clause-empty c =
+    let x = (screen_inside c.prev.inside).state in
+    let y = (screen_inside c.self.inside).state in
+    rw (← c.self.view_is, ← c.prev.view_is) (λ none. absurd (false≢true (c.in_err-write_change-3.ensures.empty
+    (subst (λ f. spell (where_changed x.modes.paste y.modes.paste f) ≡ []) (sym c.new-paste.ensures)
+    (no-changes (shown_state x) (shown_state y) none).paste))))
+
+pub returns-in_err-write_buf-clause-empty : goal.returns-in_err-write_buf-clause-empty
+returns-in_err-write_buf-clause-empty c =
+    let x = (screen_inside c.prev.inside).state in
+    let y = (screen_inside c.self.inside).state in
+    rw (← c.self.view_is, ← c.prev.view_is) (λ none. absurd (some-full c.write_change-3.new.contents (spell (c.new.result ∷ []))
+    c.in_err-write_buf.ensures.full (subst (λ f. spell (f ∷ []) ≡ []) (sym c.new.ensures)
+    (no-changes (shown_state x) (shown_state y) none).mouse)))
+
+pub returns-in_err-write_buf-2-clause-empty : goal.returns-in_err-write_buf-2-clause-empty
+returns-in_err-write_buf-2-clause-empty c =
+    let x = (screen_inside c.prev.inside).state in
+    let y = (screen_inside c.self.inside).state in
+    rw (← c.self.view_is, ← c.prev.view_is) (λ none. absurd (some-full c.write_buf.new.buf (spell (c.new-2.result ∷ []))
+    c.in_err-write_buf-2.ensures.full (subst (λ f. spell (f ∷ []) ≡ []) (sym c.new-2.ensures)
+    (no-changes (shown_state x) (shown_state y) none).encoding)))
+
+pub returns-clause-empty : goal.returns-clause-empty
+returns-clause-empty c =
+    let x = (screen_inside c.prev.inside).state in
+    let y = (screen_inside c.self.inside).state in
+    rw (← c.self.view_is, ← c.prev.view_is) (λ none. fits-ok c.write_buf-3.result c.write_buf-2.new.buf (spell (c.new-3.result ∷ []))
+    c.write_buf-3.ensures.full (subst (λ f. spell (f ∷ []) ≡ []) (sym c.new-3.ensures)
+    (no-changes (shown_state x) (shown_state y) none).style))
