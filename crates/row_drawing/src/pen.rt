@@ -14,7 +14,8 @@ use vt100_forms::position::Pos;
 use vt100_forms::term::{Backspace, BufWrite, ClearRowForward, EraseChar, MoveFromTo};
 use vt100_forms::{GridError, TextRun};
 
-/// Columns of a row, from one on, that are pending: they are erased when a later column, or the row's end, is reached.
+/// Columns of a row, from one on, that are pending: they are erased together at the next column that isn't to be erased
+/// with them, or at the row's end.
 #[derive(Clone, Copy, Debug, Eq, PartialEq)]
 pub struct Erase {
     /// The first column.

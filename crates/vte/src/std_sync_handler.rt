@@ -26,7 +26,7 @@ impl<C: Clock> StdSyncHandler<C> {
         }
     }
 
-    /// The time at which the open update is due to end, from the clock's start. `None` if none is open.
+    /// The time at which the open update is due to end, from the clock's start. `None` while the timeout isn't pending.
     pub fn sync_timeout(&self) -> Option<Duration>
         ensures { result ≡ expiry_of self.now }
     {
