@@ -161,11 +161,12 @@ fn readers(rt: HostRuntime) {
             b"",
             b"screentext: read\n",
         ),
+        // Want of memory in the reader is a read's fault, too.
         (
             &[Step::Give(b"h"), Step::Fail(ErrorKind::OutOfMemory)],
             1,
             b"",
-            b"screentext: memory\n",
+            b"screentext: read\n",
         ),
         (
             &[
