@@ -1,4 +1,4 @@
--- A short history, and what the judge says of it.
+-- A short history, and which frame a far terminal should show.
 use Rattle.std.specs.Prelude.{◌≡◌, ℕ, List, [], ◌∷◌, codes, length, map, Option, Some, None}
 use Rattle.std.specs.declared.io.Error.{Error}
 use Rattle.screen_model.specs.Made.{Fed, Resized}
@@ -37,7 +37,7 @@ abbrev pub answer_in : Option Entry → List Answer
 answer_in None = []
 answer_in (Some e) = e.answer ∷ []
 
--- where the writer fails so
+-- the history, if the writer fails with this error
 pub record ExampleIsTold (e : Error) : Type 0 where
   pub hub : HubState as_told
   pub stories : List Story
