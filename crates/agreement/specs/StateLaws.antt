@@ -1,4 +1,4 @@
--- What forms make of a terminal's state.
+-- The effect of forms on a terminal's state.
 use Rattle.std.specs.Prelude.{ℕ, ◌≡◌, ◌<◌, ◌^◌, true, List, [], ◌∷◌, ◌++◌}
 use Rattle.std.specs.List.{AllByRecursion}
 use Rattle.vte_core.specs.Ground.{AtGround}
@@ -34,7 +34,7 @@ abbrev pub EachListIsPlayed : Type 0
 EachListIsPlayed = (s : State) (fs : List Form) → IsPlainState s → AllByRecursion IsForm fs
     → Shows s (run (size_shown s) fs (terminal_of s)) (played (events_of_all fs) s)
 
--- after any past that ends at ground
+-- the bytes of forms have the forms' effect on a plain state, after any past that leaves the parser at ground
 abbrev pub EachSpellingIsMade : Type 0
 EachSpellingIsMade = (past : List ℕ) (s : State) (fs : List Form) → AtGround 1024 past → IsPlainState s
     → AllByRecursion IsForm fs
