@@ -24,6 +24,7 @@ pub record AgreesInModes (z : Size) (s : State) (parsed : List ℕ) : Type 0 whe
   pub modes : s.modes ≡ (seen z parsed).modes
   pub style : s.style ≡ (seen z parsed).style
 
+-- a new state and a new view of the same size show the same
 abbrev pub NewOnesAgree : Type 0
 NewOnesAgree = (rows cols capacity : ℕ) → 0 < rows → rows < 2 ^ 16 → 0 < cols → cols < 2 ^ 16
     → ShowsAlike (record { rows = rows; cols = cols }) (fresh_state rows cols capacity) []

@@ -11,6 +11,7 @@ use Rattle.screen_model.specs.Shown.{extras_of}
 abbrev pub terminal_of : State → Term
 terminal_of s = term_of_grid s.shown (extras_of s)
 
+-- the screen's size
 abbrev pub size_shown : State → Size
 size_shown s = grid_size s.shown
 

@@ -14,6 +14,7 @@ use Rattle.forms_read.specs.Calls.{form_calls, form_calls_all}
 abbrev pub EachFormCalls : Type 0
 EachFormCalls = (last : Option ℕ) (f : Form) → HasSmallNumbers f → calls_of_all last (events_of f) ≡ form_calls f
 
+-- the events of a list of forms cause the calls of each form in turn
 abbrev pub EachListCalls : Type 0
 EachListCalls = (last : Option ℕ) (fs : List Form) → AllByRecursion HasSmallNumbers fs
     → calls_of_all last (events_of_all fs) ≡ form_calls_all fs

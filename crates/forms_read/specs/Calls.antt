@@ -100,6 +100,7 @@ style_told style.SteadyVerticalBar = Some (record { shape = shape.Beam; blinking
 abbrev pub place_told : ℕ → ℕ
 place_told r = kept_number (r + 1) - 1
 
+-- the calls that a processor makes for each form
 abbrev pub form_calls : Form → List Call
 form_calls (Text cs) = map call.input cs
 form_calls (MoveTo r c) = call.goto (pos (place_told r)) (place_told c) ∷ []

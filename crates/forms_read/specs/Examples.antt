@@ -17,6 +17,7 @@ told fs = events 1024 (spell fs)
 abbrev pub colors : Form
 colors = Sgr (record no_change { fgcolor = Some (Rgb 1 20 255); bgcolor = Some (Idx 1) })
 
+-- the events of the bytes of some forms
 pub record EachExampleHolds : Type 0 where
   pub moved : told (MoveTo 1 9 ∷ MoveTo 0 0 ∷ []) ≡ Csi ((2 ∷ []) ∷ (10 ∷ []) ∷ []) [] false 72
       ∷ Csi ((0 ∷ []) ∷ []) [] false 72 ∷ []

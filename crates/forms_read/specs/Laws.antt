@@ -17,6 +17,7 @@ use Rattle.forms_read.specs.Events.{events_of, events_of_all}
 abbrev pub IsPrinted : ℕ → Type 0
 IsPrinted c = IsScalar c × ((nat_lt c 0x20 || is_in_range 0x80 0x9F c) ≡ false)
 
+-- a parser prints each character of the form's text, if it is a text
 abbrev pub HasPrintedText : Form → Type 0
 HasPrintedText = HasText (AllByRecursion IsPrinted)
 
@@ -31,6 +32,7 @@ IsReadable f = HasPrintedText f × HasSmallNumbers f
 abbrev pub IsReadAs : ℕ → List ℕ → List Event → Type 0
 IsReadAs n bytes es = (events n bytes ≡ es) × AtGround n bytes
 
+-- the bytes of a form are read as the form's events
 abbrev pub EachFormIsRead : Type 0
 EachFormIsRead = (n : ℕ) (f : Form) → IsReadable f → IsReadAs n (spelling f) (events_of f)
 

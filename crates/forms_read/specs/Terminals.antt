@@ -113,6 +113,7 @@ EachFormIsStepped = (step : Size → Call → Term → Term) (attribute : Attr �
     → ReadsCalls step attribute z → ReadsAttributes attribute → IsSmall z → (f : Form) (t : Term) → IsTerm z t
     → IsSentForm f → stepped step z (form_calls f) t ≡ apply z f t
 
+-- such a terminal gives lists of forms their effect
 abbrev pub EachListIsStepped : Type 0
 EachListIsStepped = (step : Size → Call → Term → Term) (attribute : Attr → Attrs → Attrs) (z : Size)
     → ReadsCalls step attribute z → ReadsAttributes attribute → IsSmall z → (fs : List Form) (t : Term) → IsTerm z t

@@ -20,6 +20,7 @@ calls =
     Attach ∷ Feed (codes "a") ∷ Frame 0 ∷ Pump 0 (Bytes 10 ∷ Fault ∷ []) ∷ Frame 0 ∷ Pump 0 [] ∷ Frame 0 ∷ Resize 1 2
     ∷ Frame 0 ∷ []
 
+-- the replies to these calls, if the writer fails with this error
 abbrev pub replies : Error → List Reply
 replies e =
     Attached 0 ∷ Done ∷ Answered Full ∷ Refused (Write e) ∷ Answered Behind ∷ Done ∷ Answered Unchanged ∷ Done
@@ -49,5 +50,6 @@ pub record ExampleIsTold (e : Error) : Type 0 where
   pub torn : answer_in (last_whole None (entries_of_all stories) 46) ≡ []
   pub whole : answer_in (last_whole None (entries_of_all stories) 47) ≡ Full ∷ []
 
+-- the history is so for any error of the writer
 abbrev pub EachExampleIsTold : Type 0
 EachExampleIsTold = (e : Error) → ExampleIsTold e

@@ -52,6 +52,7 @@ ends (Acts (Resized rows cols)) = true
 ends Leaves = true
 ends own = false
 
+-- an own call, if there is one, and the later ones unless it ends the session
 abbrev pub own_then : Option Own → List Own → List Own
 own_then None later = later
 own_then (Some own) later = if ends own then own ∷ [] else own ∷ later

@@ -16,10 +16,12 @@ use Rattle.relay_theorem.specs.Judge.{state_at, size_at, shown_at, texts}
 abbrev pub base_then : ℕ → ℕ → Option Shown → Entry → Option Shown
 base_then rows cols base e = if is_frame e.answer then Some (shown_at rows cols e) else base
 
+-- what was shown at the last frame after these answers; `base` if none brings a frame
 abbrev pub base_after : ℕ → ℕ → Option Shown → List Entry → Option Shown
 base_after rows cols base [] = base
 base_after rows cols base (e ∷ es) = base_after rows cols (base_then rows cols base e) es
 
+-- the text of the last frame; `text` if there is none
 abbrev pub last_text : List ℕ → List Entry → List ℕ
 last_text text [] = text
 last_text text (e ∷ es) = last_text (if is_frame e.answer then e.text else text) es
@@ -69,6 +71,7 @@ pub record IsSession (rows cols : ℕ) (calls : List Call) (replies : List Reply
   pub ran : RunsTold (fresh rows cols) [] calls replies hub stories
   pub is : slice_get stories n ≡ Some t
 
+-- these facts hold for each session, after any calls with any replies
 abbrev pub EachSessionIsTold : Type 0
 EachSessionIsTold = (rows cols : ℕ) (calls : List Call) (replies : List Reply) (n : ℕ) (t : Story)
     → (s : IsSession rows cols calls replies n t) → IsTold rows cols (clients_in s.hub) t

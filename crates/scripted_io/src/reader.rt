@@ -21,6 +21,7 @@ pub struct Script {
 }
 
 impl Script {
+    /// A reader that follows these steps.
     pub fn new(steps: &'static [Step]) -> Self {
         Script { steps, reads: 0 }
     }
@@ -52,6 +53,7 @@ pub struct Few<'a> {
 }
 
 impl<'a> Few<'a> {
+    /// A reader of the bytes `left`, which gives at most `most` of them a read.
     pub fn new(left: &'a [u8], most: usize) -> Self {
         Few { left, most }
     }

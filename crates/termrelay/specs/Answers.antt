@@ -25,6 +25,7 @@ modes_eq m n =
     bool_eq m.keypad n.keypad && (bool_eq m.cursor_keys n.cursor_keys && (bool_eq m.paste n.paste
     && ((mouse_number m.mouse == mouse_number n.mouse) && (encoding_number m.encoding == encoding_number n.encoding))))
 
+-- whether two screens of this size show the same: cells, wrapped rows, cursor, attributes, modes and cursor style
 unfoldable pub same_shown : Size → Shown → Shown → Bool
 same_shown z s t =
     all_below z.rows (λ r. all_below z.cols (λ k. cell_eq (s.cell r k) (t.cell r k)))
@@ -93,6 +94,7 @@ is_too_long z now base = nat_lt longest_frame (length (frame_text z base now))
 abbrev pub unless_too_long : Size → Shown → Option Shown → Answer → Answer
 unless_too_long z now base answer = if is_frame answer && is_too_long z now base then TooLong else answer
 
+-- the answer to a client that is owed these bytes
 abbrev pub answer_to : State → Option Shown → List ℕ → Answer
 answer_to now base [] =
     unless_updating now (unless_too_long (grid_size now.shown) (shown_state now) base
@@ -122,12 +124,14 @@ one_cell = record { rows = 1; cols = 1 }
 abbrev pub emoji : Shown
 emoji = record blank_shown { cell = λ r k. record default_cell { text = 0x2764 ∷ 0xFE0F ∷ [] } }
 
+-- a blank screen with its cursor moved by a column
 abbrev pub moved : Shown
 moved = record blank_shown { col = 1 }
 
 abbrev pub answer_after : Option Shown → Shown → Answer
 answer_after base now = due one_cell now base
 
+-- the answers on screens of one cell, and the order of the tests on any screen
 pub record EachExampleIsAnswered : Type 0 where
   pub first : answer_after None blank_shown ≡ Full
   pub same : answer_after (Some blank_shown) blank_shown ≡ Unchanged

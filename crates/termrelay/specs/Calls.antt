@@ -13,7 +13,7 @@ use Rattle.termrelay.specs.declared.call.Reply.TheVariants.{Done, Attached, Answ
 use Rattle.termrelay.specs.declared.call.Call.{Call as Given}
 use Rattle.termrelay.specs.declared.call.Call.TheVariants as given
 
--- ---- writers that are told of
+-- ---- scripted writers
 
 -- One write of these bytes to a scripted writer: its script, the result of the write, and the rest of the script. After
 -- the end of the script a write takes all bytes.
@@ -44,6 +44,7 @@ pub data Call : Type 0 where
   -- to a scripted writer: the results of its first writes are given, and each later write takes all bytes
   Pump : ℕ → List Take → Call
 
+-- the value of a `Call` of the code
 abbrev pub call_of : Given → Call
 call_of (given.Feed bytes) = Feed bytes.now
 call_of (given.Resize rows cols) = Resize rows.value cols.value

@@ -48,6 +48,7 @@ body_forms z (Some base) now =
     then contents_formatted z now ++ input_mode_diff base now
     else state_diff z base now
 
+-- a frame's bytes: the start mark, the bytes of the body, the end mark
 abbrev pub frame_text : Size → Option Shown → Shown → List ℕ
 frame_text z base now = start_mark ++ (spell (body_forms z base now) ++ end_mark)
 
@@ -65,6 +66,7 @@ pub record IsMarked (text : List ℕ) : Type 0 where
   pub starts : (xs ys : List ℕ) → text ≡ xs ++ (start_mark ++ ys) → xs ≡ []
   pub ends : (xs ys : List ℕ) → text ≡ xs ++ (end_mark ++ ys) → ys ≡ []
 
+-- each frame has the marks only at its start and its end, if no cell shows U+FFFD
 abbrev pub EachFrameIsMarked : Type 0
 EachFrameIsMarked = (z : Size) (base : Option Shown) (now : Shown) → IsKnown now → IsMarked (frame_text z base now)
 
@@ -72,6 +74,7 @@ EachFrameIsMarked = (z : Size) (base : Option Shown) (now : Shown) → IsKnown n
 abbrev pub HasModesOf : Shown → Shown → Type 0
 HasModesOf s t = (t.modes ≡ s.modes) × (t.style ≡ s.style)
 
+-- t shows the same as s; if s is unsure, t has only its modes and style
 abbrev pub ShowsUnless : Bool → Shown → Shown → Type 0
 ShowsUnless true s t = HasModesOf s t
 ShowsUnless false s t = t ≡ s
@@ -82,6 +85,7 @@ abbrev pub Agrees : Size → Option Shown → Shown → Type 0
 Agrees z None t = t ≡ blank_shown
 Agrees z (Some base) t = ShowsUnless (is_unsure z base) base t
 
+-- the last frame's screen, if there was a frame, is a well-formed screen of this size
 abbrev pub IsBase : Size → Option Shown → Type 0
 IsBase z None = Unit {0}
 IsBase z (Some base) = IsShown z base × IsProper base.attrs
@@ -119,6 +123,7 @@ EachBodyIsOfForms = (z : Size) (base : Option Shown) (now : Shown) → HasByteBa
 abbrev pub IsShortFrame : Size → List ℕ → Type 0
 IsShortFrame z text = length text ≤ 1024 * (z.rows * z.cols) + 1024
 
+-- each frame keeps the bound
 abbrev pub EachFrameIsShort : Type 0
 EachFrameIsShort = (z : Size) (base : Option Shown) (now : Shown) → HasByteBase base → IsSmallScreen z now
     → IsShortFrame z (frame_text z base now)

@@ -1,6 +1,7 @@
--- A hub: one program's screen, and clients that are sent frames of it. What each call does, and how it is refused.
+-- A hub: one program's screen, and clients that are sent frames of it. The effect of each call, and its errors.
 --
--- Of several refusals an unknown client comes first, then a failed hub, then want of memory.
+-- If a call can be refused for several reasons, an unknown client comes first, then a failed hub, then a failed
+-- allocation.
 use Rattle.std.specs.Prelude.{◌≡◌, ℕ, ◌==◌, Bool, true, false, List, [], ◌∷◌, ◌++◌, drop, Option, Some, None, Result}
 use Rattle.std.specs.Prelude.{Ok}
 use Rattle.std.specs.Prelude.{Err, slice_index_or, if◌then◌else◌, IfSome}
@@ -23,7 +24,7 @@ use Rattle.termrelay.specs.declared.answer.Answer.{Answer}
 use Rattle.termrelay.specs.declared.error.HubError.{HubError}
 use Rattle.termrelay.specs.declared.error.HubError.TheVariants.{Memory, Failed, UnknownClient, Write}
 
--- ---- what is told of a hub
+-- ---- ways to describe a hub
 
 -- A way to describe hubs: a type for the parser, its screen, what an act does to it, and how it fails at bytes; and a
 -- type for the clients, and the client at each key.
@@ -177,8 +178,8 @@ module _ {way : Telling} where
   abbrev pub OwesOneFrame : HubState way → ℕ → Type 0
   OwesOneFrame h key = IfSome (clients_in h key) (λ c. IsShortFrame (size_in h) c.owed)
 
-  -- the client at a key was owed nothing, and is now owed a frame whose forms touch local cells of its base's picture and
-  -- the screen's
+  -- The client at a key was owed nothing, and is now owed a frame. The frame's forms touch only local cells of its
+  -- base's picture and the screen's.
   pub record OwesLocalFrame (h : HubState way) (key : ℕ) (g : HubState way) : Type 0 where
     pub base : Shown
     pub text : List ℕ

@@ -51,12 +51,15 @@ pub record IsLast {A : Type 0} (test : A → Bool) (xs : List A) (at : ℕ) : Ty
   pub is : test last ≡ true
   pub none : list_any test back ≡ false
 
+-- a session at its attach to a hub h
 abbrev pub begun : {way : Telling} → HubState way → ℕ → SessionView
 begun h key = record { client = key; rows = (size_in h).rows; cols = (size_in h).cols; pumped = []; ended = false }
 
+-- the session after its end
 abbrev pub ended : SessionView → SessionView
 ended s = record s { ended = true }
 
+-- the session after these bytes were pumped
 abbrev pub grown : List ℕ → SessionView → SessionView
 grown bytes s = record s { pumped = s.pumped ++ bytes }
 

@@ -10,6 +10,7 @@ use Rattle.vt100_rows.specs.Sheet.{IsSheet}
 use Rattle.vt100_rows.specs.Picture.{lines_of, wraps_of}
 use Rattle.termview.specs.Step.{view_step}
 
+-- a picture: its size, rows, cursor, attributes, modes and cursor style, and the saved cursor and attributes
 pub record PictureView : Type 0 where
   pub size : Size
   -- the rows from the top

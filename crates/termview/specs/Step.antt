@@ -116,6 +116,7 @@ with_attr _ x = x
 
 -- ---- the cursor's style
 
+-- the cursor's style with this shape, blinking or steady, if a screen has it
 abbrev pub style_by : CursorShape → Bool → Option CursorStyle
 style_by shape.Block true = Some style.BlinkBlock
 style_by shape.Block false = Some style.SteadyBlock
@@ -181,17 +182,21 @@ abbrev pub by_row : Option (Term → Term) → Term → Term
 by_row None t = t
 by_row (Some f) t = f t
 
+-- the private mode with this number is set; an unknown one changes nothing
 abbrev pub mode_set : ℕ → Term → Term
 mode_set number t = by_row (lookup number set_rows) t
 
+-- the private mode with this number is reset; an unknown one changes nothing
 abbrev pub mode_reset : ℕ → Term → Term
 mode_reset number t = by_row (lookup number reset_rows) t
 
 -- ---- what is saved
 
+-- the cursor and the attributes are saved
 abbrev pub cursor_saved : Term → Term
 cursor_saved t = record t { saved_row = t.row; saved_col = t.col; saved_attrs = t.attrs }
 
+-- the saved cursor and attributes are restored
 abbrev pub cursor_restored : Term → Term
 cursor_restored t = record t { row = t.saved_row; col = t.saved_col; attrs = t.saved_attrs }
 
@@ -202,6 +207,7 @@ abbrev pub line_of : ℤ → ℕ
 line_of (pos r) = r
 line_of (negsuc r) = 0
 
+-- the effect of one call on a terminal of this size
 unfoldable pub view_step : Size → Call → Term → Term
 view_step z (call.input x) t = printed z x t
 view_step z call.backspace t = record t { col = t.col - 1 }
