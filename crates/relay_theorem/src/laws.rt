@@ -118,8 +118,8 @@ pub fn logged_frames_are_shown()
     ensures { LoggedFramesAreShown }
 {}
 
-/// A session depends only on its own calls. These are all feeds and resizes, also those before its attach, then its
-/// attach, and the calls on its key until it ends. The scripts of its pumps count as parts of the calls.
+/// A session depends only on its own calls. These are its attach, the feeds and resizes until it ends, also those
+/// before its attach, and the calls on its key until it ends. The scripts of its pumps are parts of these calls.
 ///
 /// If two sessions have the same own calls, the same bytes are pumped to them, and they get the same answers at the
 /// same moments. They have the same size, and have both ended or both not. While they haven't ended, their clients are

@@ -28,7 +28,7 @@ pub record IsRecordOf (now : ScreenView) (s : RecordView) : Type 0 where
 
 -- ---- screens that are sure
 
--- whether the screen has U+FE0F in a cell, of whose width terminals disagree
+-- whether the screen has U+FE0F in a cell, about whose width terminals disagree
 abbrev pub is_unsure_screen : ScreenView → Bool
 is_unsure_screen v = is_unsure (grid_size v.state.shown) (shown_state v.state)
 

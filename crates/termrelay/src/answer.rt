@@ -5,8 +5,7 @@ ghost use Rattle.termrelay.specs.Answers.{is_frame};
 /// The answer to a client that asks for a frame.
 #[derive(Clone, Copy, Debug, Eq, PartialEq)]
 pub enum Answer {
-    /// A frame that draws the whole screen, whatever the terminal showed before. It is the client's first one, or the
-    /// first after `Unsure`.
+    /// A frame that draws the whole screen. It is the client's first one, or the first after `Unsure`.
     Full,
     /// A frame of what changed since the last one.
     Difference,

@@ -97,8 +97,8 @@ impl Hub {
         Ok(())
     }
 
-    /// Gives the screen another size. Every client ends, also if the size stays the same. Fails if an allocation fails
-    /// or the hub has failed; then nothing has changed.
+    /// Gives the screen another size. Every client ends, also if the size stays the same. Fails only if an allocation
+    /// fails or the hub has failed; then nothing has changed.
     pub fn resize(&mut self, rows: NonZeroU16, cols: NonZeroU16) -> Result<(), HubError>
         ensures { Resizes self.old rows.value cols.value result self.new }
     {
@@ -113,7 +113,7 @@ impl Hub {
         Ok(())
     }
 
-    /// Adds a client, which has had no frame. Fails if an allocation fails or the hub has failed; then nothing has
+    /// Adds a client, which has had no frame. Fails only if an allocation fails or the hub has failed; then nothing has
     /// changed.
     pub fn attach(&mut self) -> Result<Client, HubError>
         ensures { Attaches self.old result self.new }

@@ -57,7 +57,7 @@ pub(crate) struct Record {
     taken: usize,
     /// The screen at the last frame.
     base: Option<Rc<Screen>>,
-    /// Whether that screen shows U+FE0F, of which terminals disagree. It was found when the frame was made.
+    /// Whether that screen shows U+FE0F, about whose width terminals disagree. It was found when the frame was made.
     unsure: bool,
 }
 

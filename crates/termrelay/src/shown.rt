@@ -60,7 +60,7 @@ fn is_row_unsure(screen: &Screen, row: u16) -> bool
     one_asks_for_emoji(cells_of(screen, row))
 }
 
-/// Whether the screen is unsure: a cell has U+FE0F, of whose width terminals disagree.
+/// Whether the screen is unsure: a cell has U+FE0F, about whose width terminals disagree.
 pub(crate) fn is_unsure(screen: &Screen) -> bool
     requires { IsState screen.now.state }
     ensures { result ≡ is_unsure (grid_size screen.now.state.shown) (shown_state screen.now.state) }
