@@ -1,4 +1,4 @@
--- A state and a view agree on forms.
+-- A state and a view show the same after forms.
 use Rattle.std.proofs.Common.{◌≡◌, ℕ, ◌<◌, List, [], ◌∷◌, ◌++◌, sym, refl, ap, subst, ◌∙◌, append_assoc}
 use Rattle.std.proofs.Common.{arith}
 use Rattle.std.specs.List.{AllByRecursion}
@@ -31,12 +31,12 @@ some-cols z s e p = subst (λ (x : Size). 0 < x.cols) e p.1.some_cols
 small : (z : Size) (s : State) → size_shown s ≡ z → IsPlainState s → IsSmall z
 small z s e p = subst IsSmall e (p.1.few_rows, p.1.few_cols)
 
--- what the forms make of both
+-- the effect of the forms on both
 same-run : (z : Size) (s : State) (parsed : List ℕ) (fs : List Form) → ShowsAlike z s parsed
     → run (size_shown s) fs (terminal_of s) ≡ run z fs (seen z parsed)
 same-run z s parsed fs a = (λ i. run (a.size i) fs (a.shows i))
 
--- what the view makes of their bytes
+-- the effect of the forms' bytes on the view
 view-shows : (z : Size) (s : State) (parsed : List ℕ) (fs : List Form) → AtGround 1024 parsed → size_shown s ≡ z
     → IsPlainState s → AllByRecursion IsSentForm fs
     → (seen z (parsed ++ spell fs) ≡ run z fs (seen z parsed)) × AtGround 1024 (parsed ++ spell fs)

@@ -1,4 +1,4 @@
--- Forms that move the cursor, save it, and bring it back.
+-- Forms that move, save and restore the cursor.
 use Rattle.std.proofs.Common.{◌≡◌, ℕ, ◌+◌, ◌-◌, ◌^◌, ◌<◌, ◌≤◌, ◌==◌, true, false, cond, ◌&&◌, List, [], ◌∷◌, min}
 use Rattle.std.proofs.Common.{nat_eq, refl, sym, ap, subst, ◌∙◌, arith}
 use Rattle.std.proofs.lemmas.Bool.{cond_both, ne_eqb, eqb-true, and_parts}
@@ -16,7 +16,7 @@ use Rattle.agreement.specs.Plain.{terminal_of, size_shown, IsPlainGrid, IsPlainS
 use Rattle.agreement.specs.StateLaws.{Shows}
 use Rattle.agreement.proofs.PlainStates.{plain-as, shows-same}
 
--- the cursor stands elsewhere
+-- the cursor is at another place
 abbrev pub moved : State → ℕ → ℕ → State
 moved s r c = with_shown s (record (s.shown) { row = r; col = c })
 
@@ -32,7 +32,7 @@ shows-moved s r c p h k = record { shows = refl; size = refl; plain = (p.0, plai
 
 -- ---- to a place
 
--- a place that is spelled, counted from 1, and read
+-- a place that is sent, counted from 1, and read back
 read-place : (r n : ℕ) (gs : List (List ℕ)) → n < 2 ^ 16
     → min (number_or 1 ((kept_number (r + 1) ∷ []) ∷ gs) - 1) (n - 1) ≡ min r (n - 1)
 read-place r n gs h =

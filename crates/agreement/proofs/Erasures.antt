@@ -142,7 +142,7 @@ empty-wiped width v a k r =
 first-only : (r : ℕ) → nat_lt 0 r ≡ false → (r == 0) ≡ false → ⊥
 first-only r e q = absurd (grind (arith, nat_tests))
 
--- such a row is cleared, or wiped from its first column on
+-- such a row is cleared, or erased from its first column on
 emptied-by : (P : RowView → Type 0) (rows : List RowView) (width : ℕ) (a : Attrs) (r : ℕ)
     → P (cleared_row (row_at rows r) a) → P (wiped_row (row_at rows r) 0 width a) → P (emptied rows width a r)
 emptied-by P rows width a r cleared wiped =

@@ -28,7 +28,7 @@ use Rattle.agreement.proofs.Erasures.{plain-rows}
 
 -- ---- what scrolling leaves aside
 
--- h is as large as g, has its saved cursor and modes, and shows no kept row where g shows none
+-- h has the size, the saved cursor and the modes of g, and shows no scrollback row if g shows none
 pub record IsAsideTo (g : GridView) (row col : ℕ) (counted saved : Bool) (shown : ℕ) (z : Size) : Type 0 where
   pub saved_row : row ≡ g.saved_row
   pub saved_col : col ≡ g.saved_col

@@ -53,7 +53,7 @@ is_plain-of s h =
 pub plain-read : EachPlainStateIsRead
 plain-read s = (plain-of s, is_plain-of s)
 
--- a grid of the same size and region, with rows, cursors, modes and kept rows of its own
+-- a grid of the same size and scroll region, with its own rows, cursors, modes and scrollback rows
 pub plain-as : (g h : GridView) → IsPlainGrid g → IsSheet g.height g.width h.rows → IsAllocated h → h.row < g.height
     → h.col ≤ g.width → h.saved_row < g.height → h.saved_col ≤ g.width → h.origin ≡ false → h.saved_origin ≡ false
     → h.kept.offset ≡ 0

@@ -1,4 +1,4 @@
--- Forms, lists of forms, and their bytes, played.
+-- The effect of forms, of lists of forms, and of their bytes on a plain state.
 use Rattle.std.proofs.Common.{◌≡◌, true, List, [], ◌∷◌, ◌++◌, refl, sym, ap}
 use Rattle.vte_core.specs.Event.{Event}
 use Rattle.vte_core.specs.Added.{added}

@@ -1,4 +1,4 @@
--- Lists of forms whose texts may hold U+FE0F, and their bytes, played: what comes of the modes.
+-- The modes after lists of forms whose texts may have U+FE0F, and after their bytes.
 use Rattle.std.proofs.Common.{◌≡◌, ℕ, ◌+◌, ◌-◌, ◌==◌, cond, nat_le, nat_lt, List, [], ◌∷◌, refl}
 use Rattle.std.proofs.Common.{sym, ap, ◌∙◌, suc, subst, arith, min}
 use Rattle.std.specs.Prelude.{All}

@@ -10,19 +10,21 @@ use Rattle.screen_model.specs.Made.{Act, Fed, bytes_fed, made_on, made}
 use Rattle.agreement.specs.Plain.{terminal_of, size_shown, IsPlainState}
 use Rattle.termview.specs.Seen.{seen}
 
--- the state is plain, and it shows and has saved what a view of this size shows and has saved after these bytes
+-- the state is plain, and shows the same as a view of this size after the bytes `parsed`, the saved cursor and
+-- attributes included
 pub record ShowsAlike (z : Size) (s : State) (parsed : List ℕ) : Type 0 where
   pub size : size_shown s ≡ z
   pub plain : IsPlainState s
   pub shows : terminal_of s ≡ seen z parsed
 
--- the state is plain, and it has the size, the modes and the style of the view
+-- the state is plain, and has the same size, modes and cursor style as the view
 pub record AgreesInModes (z : Size) (s : State) (parsed : List ℕ) : Type 0 where
   pub size : size_shown s ≡ z
   pub plain : IsPlainState s
   pub modes : s.modes ≡ (seen z parsed).modes
   pub style : s.style ≡ (seen z parsed).style
 
+-- a new state and a new view of the same size show the same
 abbrev pub NewOnesAgree : Type 0
 NewOnesAgree = (rows cols capacity : ℕ) → 0 < rows → rows < 2 ^ 16 → 0 < cols → cols < 2 ^ 16
     → ShowsAlike (record { rows = rows; cols = cols }) (fresh_state rows cols capacity) []
@@ -34,7 +36,7 @@ EachSpellingIsAgreedOn = (z : Size) (past : List ℕ) (s : State) (parsed : List
     → ShowsAlike z (made_on past s (Fed (spell fs) ∷ [])) (parsed ++ spell fs)
     × AtGround 1024 (past ++ spell fs) × AtGround 1024 (parsed ++ spell fs)
 
--- the same of a parser's acts: its screen shows what they make, and its bytes are those that were fed
+-- The same holds for the state after a parser's feeds and resizes, whose past is all the bytes that were fed.
 abbrev pub EachFeedIsAgreedOn : Type 0
 EachFeedIsAgreedOn = (z : Size) (rows cols capacity : ℕ) (acts : List Act) (parsed : List ℕ) (fs : List Form)
     → AtGround 1024 (bytes_fed acts) → AtGround 1024 parsed → ShowsAlike z (made rows cols capacity acts) parsed
@@ -42,11 +44,11 @@ EachFeedIsAgreedOn = (z : Size) (rows cols capacity : ℕ) (acts : List Act) (pa
     → ShowsAlike z (made rows cols capacity (acts ++ Fed (spell fs) ∷ [])) (parsed ++ spell fs)
     × AtGround 1024 (bytes_fed (acts ++ Fed (spell fs) ∷ [])) × AtGround 1024 (parsed ++ spell fs)
 
--- those that agree do so in modes
+-- a state and a view that show the same have the same modes and style
 abbrev pub AgreeingModes : Type 0
 AgreeingModes = (z : Size) (s : State) (parsed : List ℕ) → ShowsAlike z s parsed → AgreesInModes z s parsed
 
--- and those that agree in modes still do where texts hold U+FE0F
+-- a state and a view with the same modes and style keep the same ones after forms whose texts may have U+FE0F
 abbrev pub EachSentSpellingIsAgreedOn : Type 0
 EachSentSpellingIsAgreedOn = (z : Size) (past : List ℕ) (s : State) (parsed : List ℕ) (fs : List Form)
     → AtGround 1024 past → AtGround 1024 parsed → AgreesInModes z s parsed → AllByRecursion IsSentForm fs

@@ -1,4 +1,4 @@
--- The terminal that a state shows, and the states that read forms as they are meant.
+-- The terminal that a state shows, and the plain states, on which forms have their effect.
 use Rattle.std.specs.Prelude.{◌+◌, ◌^◌, ◌<◌, ◌≤◌, ◌≡◌, false}
 use Rattle.terminal_model.specs.Term.{Size, Term}
 use Rattle.vt100_rows.specs.Sheet.{IsSheet}
@@ -7,14 +7,15 @@ use Rattle.vt100_core.specs.Picture.{grid_size, term_of_grid}
 use Rattle.screen_model.specs.State.{State}
 use Rattle.screen_model.specs.Shown.{extras_of}
 
--- what the state shows, with the cursor and the attributes that it has saved
+-- the terminal that the state shows, with the saved cursor and attributes
 abbrev pub terminal_of : State → Term
 terminal_of s = term_of_grid s.shown (extras_of s)
 
+-- the screen's size
 abbrev pub size_shown : State → Size
 size_shown s = grid_size s.shown
 
--- a grid with its rows, none of them a kept one, that scrolls as a whole and counts its places from the top
+-- a grid that is allocated, shows no scrollback row, has no scroll region but the whole screen, and no origin mode
 pub record IsPlainGrid (g : GridView) : Type 0 where
   pub sheet : IsSheet g.height g.width g.rows
   pub some : IsAllocated g
@@ -31,6 +32,6 @@ pub record IsPlainGrid (g : GridView) : Type 0 where
   pub saved_origin : g.saved_origin ≡ false
   pub offset : g.kept.offset ≡ 0
 
--- the main sheet is shown, and it is such a grid
+-- the main screen is shown, not the alternate one, and its grid is plain
 abbrev pub IsPlainState : State → Type 0
 IsPlainState s = (s.alternate ≡ false) × IsPlainGrid s.shown

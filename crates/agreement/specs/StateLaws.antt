@@ -1,4 +1,4 @@
--- What forms make of a terminal's state.
+-- The effect of forms on a terminal's state.
 use Rattle.std.specs.Prelude.{ℕ, ◌≡◌, ◌<◌, ◌^◌, true, List, [], ◌∷◌, ◌++◌}
 use Rattle.std.specs.List.{AllByRecursion}
 use Rattle.vte_core.specs.Ground.{AtGround}
@@ -17,6 +17,7 @@ pub record Shows (s : State) (t : Term) (u : State) : Type 0 where
   pub size : size_shown u ≡ size_shown s
   pub plain : IsPlainState u
 
+-- the test `is_plain` passes exactly for plain states
 abbrev pub EachPlainStateIsRead : Type 0
 EachPlainStateIsRead = (s : State) → (IsState s → is_plain s ≡ true → IsPlainState s)
     × (IsPlainState s → is_plain s ≡ true)
@@ -26,15 +27,17 @@ abbrev pub EachFreshStateIsBlank : Type 0
 EachFreshStateIsBlank = (rows cols capacity : ℕ) → 0 < rows → rows < 2 ^ 16 → 0 < cols → cols < 2 ^ 16
     → IsPlainState (fresh_state rows cols capacity) × (terminal_of (fresh_state rows cols capacity) ≡ blank_term)
 
+-- the events of a form have the form's effect on a plain state
 abbrev pub EachFormIsPlayed : Type 0
 EachFormIsPlayed = (s : State) (f : Form) → IsPlainState s → IsForm f
     → Shows s (apply (size_shown s) f (terminal_of s)) (played (events_of f) s)
 
+-- the events of a list of forms have the list's effect on a plain state
 abbrev pub EachListIsPlayed : Type 0
 EachListIsPlayed = (s : State) (fs : List Form) → IsPlainState s → AllByRecursion IsForm fs
     → Shows s (run (size_shown s) fs (terminal_of s)) (played (events_of_all fs) s)
 
--- after any past that ends at ground
+-- the bytes of forms have the forms' effect on a plain state, after any past that leaves the parser at ground
 abbrev pub EachSpellingIsMade : Type 0
 EachSpellingIsMade = (past : List ℕ) (s : State) (fs : List Form) → AtGround 1024 past → IsPlainState s
     → AllByRecursion IsForm fs
@@ -50,10 +53,12 @@ pub record HasModes (s : State) (t : Term) (u : State) : Type 0 where
   pub size : size_shown u ≡ size_shown s
   pub plain : IsPlainState u
 
+-- after the events of forms a plain state is still plain, and has the modes and style that the forms give
 abbrev pub EachSentListIsPlayed : Type 0
 EachSentListIsPlayed = (s : State) (fs : List Form) → IsPlainState s → AllByRecursion IsSentForm fs
     → HasModes s (run (size_shown s) fs (terminal_of s)) (played (events_of_all fs) s)
 
+-- the same holds after the bytes of forms, after any past that leaves the parser at ground
 abbrev pub EachSentSpellingIsMade : Type 0
 EachSentSpellingIsMade = (past : List ℕ) (s : State) (fs : List Form) → AtGround 1024 past → IsPlainState s
     → AllByRecursion IsSentForm fs

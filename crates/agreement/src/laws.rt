@@ -1,10 +1,10 @@
-//! Facts about forms and states, and what both show. Each function does nothing: its contract is the fact.
+//! Facts about forms, and about states and views that read them. Each function does nothing: its contract is the fact.
 ghost use Rattle.agreement.specs.StateLaws.{EachFormIsPlayed, EachListIsPlayed, EachSpellingIsMade, EachPlainStateIsRead};
 ghost use Rattle.agreement.specs.StateLaws.{EachSentListIsPlayed, EachSentSpellingIsMade, EachFreshStateIsBlank};
 ghost use Rattle.agreement.specs.Laws.{NewOnesAgree, EachSpellingIsAgreedOn, EachFeedIsAgreedOn, AgreeingModes};
 ghost use Rattle.agreement.specs.Laws.{EachSentSpellingIsAgreedOn};
 
-/// A state of a terminal that is plain can be read as forms mean it, and one that can is plain.
+/// The test `is_plain` passes exactly for plain states: the states on which forms have their effect.
 pub fn plain_states_are_read()
     ensures { EachPlainStateIsRead }
 {}
@@ -14,34 +14,33 @@ pub fn fresh_states_are_blank()
     ensures { EachFreshStateIsBlank }
 {}
 
-/// A plain state that goes through the events of a form shows what the form makes of the terminal that it showed, is
-/// as large as before, and is plain again.
+/// The events of a form have the form's effect on what a plain state shows. The state keeps its size, and stays plain.
 pub fn forms_are_played()
     ensures { EachFormIsPlayed }
 {}
 
-/// A plain state that goes through the events of a list of forms shows what the list makes of the terminal that it
-/// showed, is as large as before, and is plain again.
+/// The events of a list of forms have the list's effect on what a plain state shows. The state keeps its size, and
+/// stays plain.
 pub fn lists_are_played()
     ensures { EachListIsPlayed }
 {}
 
-/// A plain state that is fed the bytes of a list of forms, after any bytes that leave the parser at ground, shows what
-/// the list makes of the terminal that it showed, is as large as before, and is plain again; and the parser is at
-/// ground again then.
+/// The bytes of a list of forms have the list's effect on what a plain state shows. They may follow any bytes that
+/// leave the parser at ground (outside of a character or an escape sequence). The state keeps its size and stays plain,
+/// and the parser is at ground again.
 pub fn spellings_are_made()
     ensures { EachSpellingIsMade }
 {}
 
-/// Where texts of the forms hold U+FE0F, by which a state may make a cell wide, the state is still plain and as large
-/// as before, and has the modes and the cursor's style that the forms say.
+/// Texts of forms may have U+FE0F, which may make a cell of a state wide. After the events of such forms the state is
+/// still plain and has its size. It has the modes and the cursor's style that the forms give.
 pub fn sent_lists_are_played()
     ensures { EachSentListIsPlayed }
 {}
 
-/// Where the bytes are fed of a list of forms whose texts may hold U+FE0F, after any bytes that leave the parser at
-/// ground, the state is still plain and as large as before, and has the modes and the cursor's style that the forms
-/// say; and the parser is at ground again then.
+/// The same holds after the bytes of forms whose texts may have U+FE0F, following any bytes that leave the parser at
+/// ground. The state is still plain, has its size, and has the modes and the cursor's style that the forms give. The
+/// parser is at ground again.
 pub fn sent_spellings_are_made()
     ensures { EachSentSpellingIsMade }
 {}
@@ -51,15 +50,16 @@ pub fn new_ones_agree()
     ensures { NewOnesAgree }
 {}
 
-/// A plain state and a view that show the same, neither of them within a sequence, show the same after the bytes of any
-/// forms too: cells, rows that go on, both cursors, attributes, modes and style. Both are again outside of a sequence.
+/// A plain state and a view that show the same also show the same after the bytes of any forms. This includes cells,
+/// wrapped rows, the cursor and the saved cursor, attributes, modes and the cursor's style. Before the forms neither
+/// may be inside a character or a sequence, and after them neither is.
 pub fn spellings_are_agreed_on()
     ensures states { EachSpellingIsAgreedOn }
     ensures parsers { EachFeedIsAgreedOn }
 {}
 
-/// A plain state and a view of one size, with the same modes and style, still have these after forms whose texts may
-/// hold U+FE0F, by which a state may make a cell wide; and those that show the same begin so.
+/// A state and a view that show the same have the same modes and cursor style (`begin`). A plain state and a view of
+/// one size with the same modes and style still have the same ones after forms whose texts may have U+FE0F (`keep`).
 pub fn sent_spellings_are_agreed_on()
     ensures begin { AgreeingModes }
     ensures keep { EachSentSpellingIsAgreedOn }

@@ -1,4 +1,4 @@
--- The events of some spellings, computed.
+-- The events of the bytes of some forms, computed.
 use Rattle.std.proofs.Common.{refl}
 use Rattle.std.specs.Fmt.{digits}
 use lib.Utf8.{encode}

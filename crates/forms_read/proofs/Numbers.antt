@@ -1,4 +1,4 @@
--- Numbers in a header, spelled and read back.
+-- The numbers of a control sequence, written in digits and read back.
 use Rattle.std.proofs.Common.{◌≡◌, ℕ, zero, suc, ◌+◌, ◌-◌, ◌*◌, ◌^◌, ◌<◌, ◌≤◌, ◌==◌, true, false, ◌||◌, min}
 use Rattle.std.proofs.Common.{List, [], ◌∷◌, ◌++◌, map, take, length, nat_lt, refl, sym, ap, ◌∙◌, arith, append-nil}
 use Rattle.std.specs.Prelude.{decimal}
@@ -58,11 +58,11 @@ digits-without b (d ∷ ds) m h =
 
 -- ---- a header of numbers
 
--- the numbers below 2 ^ 64, each
+-- each number is below 2 ^ 64
 abbrev pub AreSmall : List ℕ → Type 0
 AreSmall ns = AllByRecursion (λ n. n < 2 ^ 64) ns
 
--- n ∷ ns, with `;` between them
+-- the numbers n ∷ ns in digits, with `;` between them
 abbrev pub spelled : ℕ → List ℕ → List ℕ
 spelled n ns = decimal n ++ further_numbers ns
 
@@ -183,7 +183,7 @@ spelled-event n ns final h k l =
     let fits = spelled-overflow n ns h k l in
     rw formed (λ i. Csi (kept i) (none i) (fits i) final ∷ [])
 
--- one number behind a `?`
+-- one number after a `?`
 pub marked-event : (n final : ℕ) → n < 2 ^ 64
     → header_event (63 ∷ decimal n) final ≡ sequence (63 ∷ []) (n ∷ []) final ∷ []
 marked-event n final h =

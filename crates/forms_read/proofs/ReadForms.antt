@@ -1,4 +1,4 @@
--- Each form's spelling, read.
+-- The events of each form's bytes.
 use Rattle.std.proofs.Common.{◌≡◌, ℕ, ◌+◌, ◌^◌, ◌<◌, ◌≤◌, ◌==◌, Bool, true, false, cond, ◌&&◌, ◌||◌, List, []}
 use Rattle.std.proofs.Common.{◌∷◌, ◌++◌, map, length, Option, None, Some, refl, ap, ◌∙◌, subst, arith}
 use Rattle.std.proofs.Common.{append-nil, append_assoc, length-append, nat_lt}
@@ -119,7 +119,7 @@ read-style k s = read-header k (decimal (style_number s) ++ codes " ") 113 _ ((r
 
 -- ---- attributes
 
--- few numbers, and small ones
+-- the numbers are few enough and small enough for the parser to keep them
 abbrev AreFew : ℕ → List ℕ → Type 0
 AreFew k ns = AreSmall ns × (length ns ≤ k)
 

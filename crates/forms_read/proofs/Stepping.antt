@@ -1,4 +1,4 @@
--- A terminal that steps through the calls of forms.
+-- The effect of forms on a terminal that carries out their calls.
 use Rattle.std.proofs.Common.{◌≡◌, ℕ, suc, pos, ◌+◌, ◌-◌, ◌^◌, ◌<◌, ◌==◌, Bool, true, false, cond, not, ◌&&◌, min}
 use Rattle.std.proofs.Common.{List, [], ◌∷◌, ◌++◌, map, Option, None, Some, refl, sym, ap, ◌∙◌, arith}
 use Rattle.std.specs.Prelude.{Contains}
@@ -46,7 +46,7 @@ stepped-joined step z (x ∷ xs) ys t = stepped-joined step z xs ys (step z x t)
 
 -- ---- attributes
 
--- one after the other
+-- the effect of calls, one list after another
 abbrev all_read : (Attr → Attrs → Attrs) → List Attr → Attrs → Attrs
 all_read attribute [] x = x
 all_read attribute (y ∷ ys) x = all_read attribute ys (attribute y x)
@@ -56,7 +56,7 @@ read-joined : (f : Attr → Attrs → Attrs) (xs ys : List Attr) (x : Attrs)
 read-joined f [] ys x = refl
 read-joined f (y ∷ xs) ys x = read-joined f xs ys (f y x)
 
--- these attributes make of others what g does
+-- these changes of attributes have the effect of g
 abbrev IsReadAs : (Attr → Attrs → Attrs) → List Attr → (Attrs → Attrs) → Type 0
 IsReadAs f xs g = (x : Attrs) → all_read f xs x ≡ g x
 

@@ -27,7 +27,7 @@ use Rattle.forms_read.proofs.ReadForms.{cond-two}
 
 -- ---- numbers that are read one after the other
 
--- each number in a group of its own
+-- each number is a parameter without subparameters
 abbrev pub groups_told : List ℕ → List (List ℕ)
 groups_told ns = map (λ k. kept_number k ∷ []) ns
 
@@ -36,7 +36,7 @@ groups-join : (ms ns : List ℕ) (gs : List (List ℕ))
 groups-join [] ns gs = refl
 groups-join (m ∷ ms) ns gs = ap (λ rest. (kept_number m ∷ []) ∷ rest) (groups-join ms ns gs)
 
--- the numbers ask for these attributes, whatever follows them
+-- the numbers set these attributes, whatever follows them
 abbrev pub IsToldBy : List ℕ → List Attr → Type 0
 IsToldBy ns xs = (gs : List (List ℕ)) → attributes nothing (groups_told ns ++ gs) ≡ xs ++ attributes nothing gs
 
@@ -45,7 +45,7 @@ told-both ms ns xs ys h k gs =
     ap (attributes nothing) (groups-join ms ns gs) ∙ h (groups_told ns ++ gs) ∙ ap (λ zs. xs ++ zs) (k gs)
     ∙ sym (append_assoc xs ys (attributes nothing gs))
 
--- a number that asks for one attribute by itself
+-- a number that sets one attribute by itself
 record IsSingle (k : ℕ) (x : Attr) : Type 0 where
   asks : group_attr (kept_number k ∷ []) ≡ Some x
   ends : target_of (kept_number k) ≡ None

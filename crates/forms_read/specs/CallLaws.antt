@@ -1,4 +1,4 @@
--- What is true of the calls of forms.
+-- Laws of the calls that forms cause.
 use Rattle.std.specs.Prelude.{ℕ, ◌≡◌, List, Option}
 use Rattle.std.specs.List.{AllByRecursion}
 use Rattle.vte_core.specs.Added.{added}
@@ -10,15 +10,17 @@ use Rattle.forms_read.specs.Events.{events_of, events_of_all}
 use Rattle.forms_read.specs.Laws.{IsReadable}
 use Rattle.forms_read.specs.Calls.{form_calls, form_calls_all}
 
--- whatever was printed last
+-- the events of a form cause the form's calls, whatever character was printed last
 abbrev pub EachFormCalls : Type 0
 EachFormCalls = (last : Option ℕ) (f : Form) → HasSmallNumbers f → calls_of_all last (events_of f) ≡ form_calls f
 
+-- the events of a list of forms cause the calls of each form in turn
 abbrev pub EachListCalls : Type 0
 EachListCalls = (last : Option ℕ) (fs : List Form) → AllByRecursion HasSmallNumbers fs
     → calls_of_all last (events_of_all fs) ≡ form_calls_all fs
 
--- after any past that ends at ground, for a parser that keeps n bytes of an operating system command
+-- The bytes of forms cause the forms' calls, after any past that leaves the parser at ground. The parser keeps n bytes
+-- of an operating system command (OSC).
 abbrev pub EachSpellingCalls : Type 0
 EachSpellingCalls = (n : ℕ) (past : List ℕ) (last : Option ℕ) (fs : List Form) → AtGround n past
     → AllByRecursion IsReadable fs → calls_of_all last (added n past (spell fs)) ≡ form_calls_all fs

@@ -1,4 +1,4 @@
--- What a handler is called for each form.
+-- The calls of a handler that each form causes.
 use Rattle.std.specs.Prelude.{ℕ, pos, ◌+◌, ◌-◌, ◌==◌, Bool, true, false, List, [], ◌∷◌, ◌++◌, map, nat_lt, unwrap_or}
 use Rattle.std.specs.Prelude.{Option, Some, None, if◌then◌else◌}
 use Rattle.std.specs.List.{flat_map}
@@ -30,7 +30,7 @@ use Rattle.forms_read.specs.Events.{kept_number, mode_steps}
 
 -- ---- attributes
 
--- the 16 colours that have names
+-- the 16 named colours, by their numbers
 abbrev pub named_rows : List (ℕ × NamedColor)
 named_rows =
     (0, n.Black) ∷ (1, n.Red) ∷ (2, n.Green) ∷ (3, n.Yellow) ∷ (4, n.Blue) ∷ (5, n.Magenta) ∷ (6, n.Cyan)
@@ -41,7 +41,7 @@ named_rows =
 abbrev pub name_of : ℕ → NamedColor
 name_of i = unwrap_or (lookup i named_rows) n.Foreground
 
--- a colour, where `own` is the terminal's own one
+-- a colour as a handler's calls have it; `own` is the terminal's default colour
 abbrev pub color_told : NamedColor → Color → Told
 color_told own Default = Named own
 color_told own (Idx i) = if nat_lt i 16 then Named (name_of i) else Indexed i
@@ -66,7 +66,7 @@ flag_told on off None = []
 flag_told on off (Some true) = on ∷ []
 flag_told on off (Some false) = off ∷ []
 
--- what a change of attributes asks for, in order
+-- the attributes that a change of the drawing attributes sets, in order
 abbrev pub change_told : Change → List Attr
 change_told c =
     foreground_told c.fgcolor ++ background_told c.bgcolor ++ intensity_told c.intensity
@@ -95,10 +95,12 @@ style_told style.SteadyVerticalBar = Some (record { shape = shape.Beam; blinking
 
 -- ---- forms
 
--- a row or a column counted from 1 is spelled, read, and counted from 0 again: 65,535 comes back as 65,534
+-- The number that a handler gets for a row or a column, counted from 0. It is sent counted from 1, and the parser keeps
+-- at most 65,535: so 65,535 comes back as 65,534.
 abbrev pub place_told : ℕ → ℕ
 place_told r = kept_number (r + 1) - 1
 
+-- the calls that a processor makes for each form
 abbrev pub form_calls : Form → List Call
 form_calls (Text cs) = map call.input cs
 form_calls (MoveTo r c) = call.goto (pos (place_told r)) (place_told c) ∷ []

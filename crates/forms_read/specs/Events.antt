@@ -1,4 +1,4 @@
--- The events that each form makes in a parser that reads its spelling.
+-- The events that a parser makes of each form's bytes.
 use Rattle.std.specs.Prelude.{ℕ, ◌+◌, ◌==◌, ◌&&◌, true, false, min, List, [], ◌∷◌, map, if◌then◌else◌}
 use Rattle.std.specs.List.{flat_map}
 use Rattle.vt100_forms.specs.Form.{Form, Text, MoveTo, MoveRight, EraseChar, ClearRowForward, ClearScreen, ClearAttrs}
@@ -7,19 +7,20 @@ use Rattle.vt100_forms.specs.Form.{Paste, Mouse, Encoding, Style, Sgr, mouse_num
 use Rattle.vt100_forms.specs.Form.{sgr_numbers}
 use Rattle.vte_core.specs.Event.{Event, Print, Execute, Csi, Esc}
 
--- a parser keeps a number up to 65,535
+-- a parser keeps a number up to 65,535, and 65,535 for a greater one
 abbrev pub kept_number : ℕ → ℕ
 kept_number n = min 65535 n
 
--- a control sequence with these intermediates and final byte, each of the numbers in a group of its own
+-- a control sequence (CSI) with these numbers, intermediate bytes and final byte; each number is a parameter without
+-- subparameters
 abbrev pub sequence : List ℕ → List ℕ → ℕ → Event
 sequence between numbers final = Csi (map (λ n. kept_number n ∷ []) numbers) between false final
 
--- one without numbers is read as if it had a 0
+-- a control sequence without numbers is read as if it had a 0
 abbrev pub bare : ℕ → Event
 bare final = sequence [] (0 ∷ []) final
 
--- a count of 1 has no number, and one of 0 no bytes
+-- a control sequence with a count: a count of 1 is sent without a number, and a count of 0 isn't sent
 abbrev pub counted_events : ℕ → ℕ → List Event
 counted_events n final =
     if n == 0 then []
@@ -33,7 +34,8 @@ set_event n = sequence (0x3F ∷ []) (n ∷ []) 0x68
 abbrev pub reset_event : ℕ → Event
 reset_event n = sequence (0x3F ∷ []) (n ∷ []) 0x6C
 
--- what leads from one mode to another, by their numbers, where 0 is the default: one is set, or the earlier one reset
+-- The change from one mode to another, by their numbers. The new mode is set; if it is 0, the default, the earlier mode
+-- is reset instead.
 abbrev pub mode_steps : {S : Type 0} → (ℕ → S) → (ℕ → S) → ℕ → ℕ → List S
 mode_steps set reset to from =
     if to == from then []

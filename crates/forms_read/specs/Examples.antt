@@ -1,4 +1,4 @@
--- The events of some spellings, computed.
+-- Examples: the events of the bytes of some forms.
 use Rattle.std.specs.Prelude.{◌≡◌, true, false, List, [], ◌∷◌, Some}
 use Rattle.vte_core.specs.Event.{Event, Print, Execute, Csi, Esc}
 use Rattle.vte_core.specs.Shapes.{events}
@@ -9,7 +9,7 @@ use Rattle.vt100_forms.specs.Form.{Form, Text, MoveTo, MoveRight, EraseChar, Cle
 use Rattle.vt100_forms.specs.Form.{Crlf, SaveCursor, RestoreCursor, HideCursor, Keypad, Mouse, Style, Sgr, no_change}
 use Rattle.vt100_forms.specs.Form.{spell}
 
--- what a parser tells of the bytes of these forms
+-- the events that a parser makes of the bytes of these forms
 abbrev pub told : List Form → List Event
 told fs = events 1024 (spell fs)
 
@@ -17,6 +17,7 @@ told fs = events 1024 (spell fs)
 abbrev pub colors : Form
 colors = Sgr (record no_change { fgcolor = Some (Rgb 1 20 255); bgcolor = Some (Idx 1) })
 
+-- the events of the bytes of some forms
 pub record EachExampleHolds : Type 0 where
   pub moved : told (MoveTo 1 9 ∷ MoveTo 0 0 ∷ []) ≡ Csi ((2 ∷ []) ∷ (10 ∷ []) ∷ []) [] false 72
       ∷ Csi ((0 ∷ []) ∷ []) [] false 72 ∷ []

@@ -1,4 +1,4 @@
--- Terminals that step through the calls of a handler.
+-- Terminals that carry out the calls of a handler.
 use Rattle.std.specs.Prelude.{ℕ, pos, ◌+◌, ◌-◌, ◌^◌, ◌<◌, ◌≡◌, true, false, min, List, [], ◌∷◌, Option}
 use Rattle.std.specs.List.{AllByRecursion}
 use Rattle.vte_core.specs.Added.{added}
@@ -26,12 +26,12 @@ use Rattle.terminal_model.specs.Apply.{erase, input, down, switched, apply, run}
 use Rattle.terminal_model.specs.FormText.{IsSentForm}
 use Rattle.forms_read.specs.Calls.{color_told, style_told, set_call, reset_call, form_calls, form_calls_all}
 
--- one call after the other
+-- the terminal after some calls, one after another
 abbrev pub stepped : (Size → Call → Term → Term) → Size → List Call → Term → Term
 stepped step z [] t = t
 stepped step z (c ∷ cs) t = stepped step z cs (step z c t)
 
--- what an attribute does to the drawing attributes
+-- the effect that each attribute must have on the drawing attributes
 pub record ReadsAttributes (attribute : Attr → Attrs → Attrs) : Type 0 where
   pub reset : (x : Attrs) → attribute a.Reset x ≡ default_attrs
   pub bold : (x : Attrs) → attribute a.Bold x ≡ with_bold x
@@ -48,7 +48,7 @@ pub record ReadsAttributes (attribute : Attr → Attrs → Attrs) : Type 0 where
   pub background : (c : Color) (x : Attrs) → IsByteColor c
       → attribute (a.Background (color_told n.Background c)) x ≡ record x { bgcolor = c }
 
--- what each call that forms make does to a terminal of this size
+-- the effect that each call of a form must have on a terminal of this size
 pub record ReadsCalls (step : Size → Call → Term → Term) (attribute : Attr → Attrs → Attrs) (z : Size) : Type 0 where
   pub prints : (c : ℕ) (t : Term) → (c ≡ 0xFFFD → ⊥) → step z (call.input c) t ≡ input z c t
   pub goto : (r k : ℕ) (t : Term) → step z (call.goto (pos r) k) t ≡ record t {
@@ -61,7 +61,7 @@ pub record ReadsCalls (step : Size → Call → Term → Term) (attribute : Attr
   pub linefeed : (t : Term) → step z call.linefeed t ≡ down z t
   pub erase_chars : (k : ℕ) (t : Term) → step z (call.erase_chars k) t ≡ erase z (min (t.col + k) z.cols) t
   pub clear_line : (t : Term) → step z (call.clear_line line.Right) t ≡ erase z z.cols t
-  -- from the first cell on that is the screen
+  -- with the cursor in the first cell, all below it is the whole screen
   pub clear_screen : (t : Term) → IsTerm z t → t.row ≡ 0 → t.col ≡ 0
       → step z (call.clear_screen screen.Below) t ≡ apply z ClearScreen t
   pub saves : (t : Term) → step z call.save_cursor_position t ≡ record t {
@@ -103,22 +103,23 @@ pub record ReadsCalls (step : Size → Call → Term → Term) (attribute : Attr
         modes = record (t.modes) { encoding = switched encoding_number encoding.Default m t.modes.encoding };
       }
 
--- rows and columns that can be spelled
+-- the size has fewer than 65,536 rows and columns, so that each can be sent
 abbrev pub IsSmall : Size → Type 0
 IsSmall z = (z.rows < 2 ^ 16) × (z.cols < 2 ^ 16)
 
--- such a terminal reads each form as it is meant, U+FE0F in its text included
+-- such a terminal gives each form its effect, also if its text has U+FE0F
 abbrev pub EachFormIsStepped : Type 0
 EachFormIsStepped = (step : Size → Call → Term → Term) (attribute : Attr → Attrs → Attrs) (z : Size)
     → ReadsCalls step attribute z → ReadsAttributes attribute → IsSmall z → (f : Form) (t : Term) → IsTerm z t
     → IsSentForm f → stepped step z (form_calls f) t ≡ apply z f t
 
+-- such a terminal gives lists of forms their effect
 abbrev pub EachListIsStepped : Type 0
 EachListIsStepped = (step : Size → Call → Term → Term) (attribute : Attr → Attrs → Attrs) (z : Size)
     → ReadsCalls step attribute z → ReadsAttributes attribute → IsSmall z → (fs : List Form) (t : Term) → IsTerm z t
     → AllByRecursion IsSentForm fs → stepped step z (form_calls_all fs) t ≡ run z fs t
 
--- and their bytes, after any past that ends at ground
+-- such a terminal gives the bytes of forms their effect, after any past that leaves the parser at ground
 abbrev pub EachSpellingIsStepped : Type 0
 EachSpellingIsStepped = (step : Size → Call → Term → Term) (attribute : Attr → Attrs → Attrs) (z : Size)
     → ReadsCalls step attribute z → ReadsAttributes attribute → IsSmall z → (k : ℕ) (past : List ℕ) (last : Option ℕ)

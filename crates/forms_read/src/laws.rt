@@ -4,46 +4,48 @@ ghost use Rattle.forms_read.specs.Laws.{EachFormIsRead, EachListIsRead, EachSent
 ghost use Rattle.forms_read.specs.CallLaws.{EachFormCalls, EachListCalls, EachSpellingCalls};
 ghost use Rattle.forms_read.specs.Terminals.{EachFormIsStepped, EachListIsStepped, EachSpellingIsStepped};
 
-/// The spelling of a form has the form's events, and leaves a parser at ground.
+/// A parser makes the form's events of the bytes of a form. After them it is at ground: outside of any character or
+/// escape sequence.
 pub fn forms_are_read()
     ensures { EachFormIsRead }
 {}
 
-/// The spelling of a list of forms adds the forms' events, one form after the other, to those of any bytes that leave a
-/// parser at ground; and it leaves the parser at ground.
+/// After any bytes that leave a parser at ground, the bytes of a list of forms add the events of each form in turn.
+/// After them the parser is at ground again.
 pub fn lists_are_read()
     ensures { EachListIsRead }
 {}
 
-/// The text of a cell is printed, character by character; so each form that writers send is read.
+/// A parser prints each character of a cell's text (`texts`). So it reads each form that the writers send (`forms`).
 pub fn sent_texts_are_printed()
     ensures texts { EachSentTextIsPrinted }
     ensures forms { EachSentFormIsReadable }
 {}
 
-/// The events of some spellings.
+/// Examples: the events of the bytes of some forms.
 pub fn examples_hold()
     ensures { EachExampleHolds }
 {}
 
-/// A handler is called for the events of a form as the table of forms says, whatever character was printed last.
+/// For the events of a form, a processor makes the calls that `form_calls` lists. This holds whatever character was
+/// printed last.
 pub fn forms_call()
     ensures { EachFormCalls }
 {}
 
-/// A handler is called for the events of a list of forms as the table of forms says, one form after the other.
+/// For the events of a list of forms, a processor makes the calls that `form_calls` lists, one form after another.
 pub fn lists_call()
     ensures { EachListCalls }
 {}
 
-/// A handler is called for the bytes of a list of forms, after any bytes that leave the parser at ground, as the table
-/// of forms says, one form after the other.
+/// For the bytes of a list of forms, a processor makes the calls that `form_calls` lists, one form after another. They
+/// may follow any bytes that leave the parser at ground.
 pub fn spellings_call()
     ensures { EachSpellingCalls }
 {}
 
-/// A terminal that does at each call what the call says reads forms as they are meant, one by one, in lists, and from
-/// their bytes.
+/// A terminal that carries out each call as `ReadsCalls` says gives forms their effect: single forms, lists of forms,
+/// and the bytes of lists.
 pub fn terminals_read_forms()
     ensures forms { EachFormIsStepped }
     ensures lists { EachListIsStepped }

@@ -1,7 +1,8 @@
-//! The forms of a screen's writers, as a parser reads them and as a processor calls its handler for them.
+//! The forms that a screen's writers send (texts and escape sequences): how a parser reads them, and which calls of a
+//! handler they cause.
 //!
-//! This crate has no code. Its definitions say which events each form makes in a parser that reads its spelling, and
-//! which calls a processor makes for each form; its laws are the contracts of functions that do nothing.
+//! This crate has no code. Its definitions say which events a parser makes of each form's bytes, and which calls a
+//! processor makes for each form. Its laws are the contracts of functions that do nothing.
 #![tactic(auto)]
 
 pub mod laws;

@@ -1,4 +1,4 @@
--- How long frames are, and what is owed.
+-- The length of frames, and of the bytes owed.
 use Rattle.std.specs.Prelude.{◌≡◌, ℕ, ◌*◌, ◌<◌, ◌≤◌, false, List, length, IfSome}
 use Rattle.std.specs.List.{AllByRecursion}
 use Rattle.vte.specs.Hold.{limit}
@@ -10,8 +10,8 @@ use Rattle.termrelay.specs.declared.call.Reply.{Reply}
 use Rattle.relay_theorem.specs.History.{Story, size_of_story}
 use Rattle.relay_theorem.specs.Laws.{IsSession}
 
--- Each text of a session's frames has at most 1,024 bytes a cell, and 1,024 more; and so has what its client is owed
--- while it hasn't ended.
+-- Each frame of a session has at most 1,024 bytes for each cell, and 1,024 more. The same bound holds for the bytes
+-- owed to its client while it hasn't ended.
 abbrev pub EachSessionIsBounded : Type 0
 EachSessionIsBounded = (rows cols : ℕ) (calls : List Call) (replies : List Reply) (n : ℕ) (t : Story)
     → (s : IsSession rows cols calls replies n t)
@@ -19,12 +19,13 @@ EachSessionIsBounded = (rows cols : ℕ) (calls : List Call) (replies : List Rep
     × (t.session.ended ≡ false
     → IfSome (clients_in s.hub t.session.client) (λ c. IsShortFrame (size_of_story t) c.owed))
 
--- Whatever its size, each of them is below the hold's limit: a frame that would be longer isn't made.
+-- Whatever the session's size, each frame is below the buffer's limit, so that a view can buffer it whole. A longer
+-- frame isn't made.
 abbrev pub EachFrameFitsTheHold : Type 0
 EachFrameFitsTheHold = (rows cols : ℕ) (calls : List Call) (replies : List Reply) (n : ℕ) (t : Story)
     → IsSession rows cols calls replies n t → AllByRecursion (λ e. length e.text < limit) t.entries
 
--- With at most 2,000 cells no frame would be.
+-- On a screen of at most 2,000 cells, no answer is `TooLong`.
 abbrev pub NoSmallFrameIsTooLong : Type 0
 NoSmallFrameIsTooLong = (rows cols : ℕ) (calls : List Call) (replies : List Reply) (n : ℕ) (t : Story)
     → IsSession rows cols calls replies n t → t.session.rows * t.session.cols ≤ 2000

@@ -1,4 +1,4 @@
--- A short history, and what the judge says of it.
+-- A short history, and which frame a far terminal should show.
 use Rattle.std.specs.Prelude.{◌≡◌, ℕ, List, [], ◌∷◌, codes, length, map, Option, Some, None}
 use Rattle.std.specs.declared.io.Error.{Error}
 use Rattle.screen_model.specs.Made.{Fed, Resized}
@@ -20,6 +20,7 @@ calls =
     Attach ∷ Feed (codes "a") ∷ Frame 0 ∷ Pump 0 (Bytes 10 ∷ Fault ∷ []) ∷ Frame 0 ∷ Pump 0 [] ∷ Frame 0 ∷ Resize 1 2
     ∷ Frame 0 ∷ []
 
+-- the replies to these calls, if the writer fails with this error
 abbrev pub replies : Error → List Reply
 replies e =
     Attached 0 ∷ Done ∷ Answered Full ∷ Refused (Write e) ∷ Answered Behind ∷ Done ∷ Answered Unchanged ∷ Done
@@ -37,7 +38,7 @@ abbrev pub answer_in : Option Entry → List Answer
 answer_in None = []
 answer_in (Some e) = e.answer ∷ []
 
--- where the writer fails so
+-- the history, if the writer fails with this error
 pub record ExampleIsTold (e : Error) : Type 0 where
   pub hub : HubState as_told
   pub stories : List Story
@@ -49,5 +50,6 @@ pub record ExampleIsTold (e : Error) : Type 0 where
   pub torn : answer_in (last_whole None (entries_of_all stories) 46) ≡ []
   pub whole : answer_in (last_whole None (entries_of_all stories) 47) ≡ Full ∷ []
 
+-- the history is so for any error of the writer
 abbrev pub EachExampleIsTold : Type 0
 EachExampleIsTold = (e : Error) → ExampleIsTold e

@@ -1,4 +1,4 @@
--- What a far terminal shows: what the judge says.
+-- A far terminal shows what it should, judged by the history.
 use Rattle.std.specs.Prelude.{◌≡◌, ℕ, suc, true, List, [], ◌∷◌, ◌++◌, Option, Some, None, map, length}
 use Rattle.std.specs.List.{AllByRecursion, concat}
 use Rattle.vte.specs.Moves.{Move, Gives, given}
@@ -14,14 +14,14 @@ use Rattle.relay_theorem.specs.History.{Entry, Story, size_of_story}
 use Rattle.relay_theorem.specs.Judge.{texts, last_frame, whole_in, last_whole, IsShownRight}
 use Rattle.relay_theorem.specs.Laws.{IsSession}
 
--- each text of a session's frames is a frame to whoever reads it
+-- the text of each frame of a session is read as one frame
 abbrev pub EachTextIsAFrame : Type 0
 EachTextIsAFrame = (rows cols : ℕ) (calls : List Call) (replies : List Reply) (n : ℕ) (t : Story)
     → IsSession rows cols calls replies n t
     → AllByRecursion (λ e. is_frame e.answer ≡ true → IsFrame e.text) t.entries
 
--- A new view has parsed so much of frames that come whole, in whatever pieces and wherever an update is stopped by
--- hand: the texts of a story's first entries. It holds this.
+-- A new view has read the texts of a story's first entries `front`, in any pieces and wherever `stop_sync` was called.
+-- It has parsed `parsed` and buffered `hold`.
 pub record ReadsFrames (t : Story) (front : List Entry) (parsed : List ℕ) (hold : Option (List ℕ)) : Type 0 where
   pub back : List Entry
   pub parts : t.entries ≡ front ++ back
@@ -29,15 +29,15 @@ pub record ReadsFrames (t : Story) (front : List Entry) (parsed : List ℕ) (hol
   pub given : given moves ≡ texts front
   pub leads : Drives moves [] None parsed hold
 
--- A view of the session's size shows what the judge says of the last one, unless that one wasn't sure; and nothing is
--- held.
+-- A view of the session's size shows the screen at the last frame's moment, unless that screen had U+FE0F. It has
+-- buffered nothing.
 abbrev pub WholeSessionsAreShown : Type 0
 WholeSessionsAreShown = (rows cols : ℕ) (calls : List Call) (replies : List Reply) (n : ℕ) (t : Story)
     (front : List Entry) (parsed : List ℕ) (hold : Option (List ℕ)) → IsSession rows cols calls replies n t
     → ReadsFrames t front parsed hold
     → (hold ≡ None) × IsShownRight rows cols (shown_of (seen (size_of_story t) parsed)) (last_frame None front)
 
--- A new view has parsed so much of these pieces, which are a beginning of these bytes.
+-- A new view has read these pieces, which are a prefix of `bytes`, and has parsed `parsed`.
 pub record ReadsFront (bytes : List ℕ) (pieces : List (List ℕ)) (parsed : List ℕ) : Type 0 where
   pub beyond : List ℕ
   pub joined : concat pieces ++ beyond ≡ bytes
@@ -48,8 +48,8 @@ pub record ReadsFront (bytes : List ℕ) (pieces : List (List ℕ)) (parsed : Li
 abbrev pub last_read : Story → List (List ℕ) → Option Entry
 last_read t pieces = last_whole None t.entries (length (concat pieces))
 
--- in whatever pieces what was pumped to a session comes, a view of its size shows what the judge says of that frame,
--- unless it wasn't sure
+-- In any pieces of the bytes pumped to a session, a view of its size shows the screen at the moment of the last whole
+-- frame, unless that screen had U+FE0F.
 abbrev pub LastWholeFrameIsShown : Type 0
 LastWholeFrameIsShown = (rows cols : ℕ) (calls : List Call) (replies : List Reply) (n : ℕ) (t : Story)
     (pieces : List (List ℕ)) (parsed : List ℕ) → IsSession rows cols calls replies n t
@@ -60,7 +60,8 @@ LastWholeFrameIsShown = (rows cols : ℕ) (calls : List Call) (replies : List Re
 abbrev pub whole_read : Story → List (List ℕ) → List Entry
 whole_read t pieces = whole_in t.entries (length (concat pieces))
 
--- A view that reads more, but no whole frame more, shows the same; also where the last one wasn't sure.
+-- A view that reads more bytes, but no further whole frame, still shows the same, also if the last whole frame had
+-- U+FE0F.
 abbrev pub NoSessionIsTorn : Type 0
 NoSessionIsTorn = (rows cols : ℕ) (calls : List Call) (replies : List Reply) (n : ℕ) (t : Story)
     (pieces more : List (List ℕ)) (parsed parsed' : List ℕ) → IsSession rows cols calls replies n t
@@ -74,13 +75,13 @@ resizes_made [] = 0
 resizes_made (Fed bytes ∷ acts) = resizes_made acts
 resizes_made (Resized rows cols ∷ acts) = suc (resizes_made acts)
 
--- Two answers of one run were given at one moment: before both as many bytes were fed and as many resizes made. So a feed
--- of no bytes makes no other moment.
+-- Two answers of one run were given at one moment: before both, equally many bytes were fed and equally many resizes
+-- made. A feed of no bytes doesn't make another moment.
 pub record AreAtOneMoment (e f : Entry) : Type 0 where
   pub fed : length (bytes_fed e.moment) ≡ length (bytes_fed f.moment)
   pub resized : resizes_made e.moment ≡ resizes_made f.moment
 
--- Views of two sessions whose last whole frames were taken at one moment show the same.
+-- Views of two sessions show the same if their last whole frames were requested at one moment.
 abbrev pub OneMomentShowsTheSame : Type 0
 OneMomentShowsTheSame = (rows cols : ℕ) (calls : List Call) (replies : List Reply) (n m : ℕ) (t u : Story)
     (pieces others : List (List ℕ)) (parsed parsed' : List ℕ) (e f : Entry)
@@ -91,7 +92,7 @@ OneMomentShowsTheSame = (rows cols : ℕ) (calls : List Call) (replies : List Re
     → (size_of_story t ≡ size_of_story u)
     × (shown_of (seen (size_of_story t) parsed) ≡ shown_of (seen (size_of_story u) parsed'))
 
--- So do views that have read whole frames alone, wherever updates were stopped by hand.
+-- The same holds for views that have read only whole frames, wherever `stop_sync` was called.
 abbrev pub OneMomentShowsTheSameWhole : Type 0
 OneMomentShowsTheSameWhole = (rows cols : ℕ) (calls : List Call) (replies : List Reply) (n m : ℕ) (t u : Story)
     (front others : List Entry) (parsed parsed' : List ℕ) (hold hold' : Option (List ℕ)) (e f : Entry)

@@ -1,4 +1,4 @@
--- What happens to a hub and its clients, as the calls and their replies tell it.
+-- The history of a hub and its clients, by the calls and their replies.
 use Rattle.std.specs.Prelude.{◌≡◌, ℕ, Bool, true, false, List, [], ◌∷◌, ◌++◌, map, Option, Some, None, if◌then◌else◌}
 use Rattle.terminal_model.specs.Term.{Size}
 use Rattle.screen_model.specs.Made.{Act, bytes_fed, events_added, made}
@@ -21,7 +21,7 @@ pub record Past : Type 0 where
   pub acts : List Act
   pub failed : Bool
 
--- a hub is told of by its past, and its clients by what is at each key
+-- a hub described by its history: its past, and the client at each key
 abbrev pub as_told : Telling
 as_told = record {
   Parser = Past;
@@ -34,7 +34,7 @@ as_told = record {
   client = λ clients. clients;
 }
 
--- a new one
+-- a new hub of this size
 abbrev pub fresh : ℕ → ℕ → HubState as_told
 fresh rows cols = record {
   parser = record { rows = rows; cols = cols; acts = []; failed = false };
@@ -43,13 +43,14 @@ fresh rows cols = record {
 
 -- ---- sessions
 
--- an answer to a client's request for a frame: all that was fed and resized before it, and the frame's text
+-- an answer to a client's request for a frame: all feeds and resizes before it, and the frame's text (empty without a
+-- frame)
 pub record Entry : Type 0 where
   pub moment : List Act
   pub answer : Answer
   pub text : List ℕ
 
--- a session of a log, with what it was answered
+-- a session, with the answers to its requests for frames
 pub record Story : Type 0 where
   pub session : SessionView
   pub entries : List Entry
@@ -60,18 +61,18 @@ size_of_session s = record { rows = s.rows; cols = s.cols }
 abbrev pub size_of_story : Story → Size
 size_of_story t = size_of_session t.session
 
--- it is of this key, and hasn't ended
+-- whether the session is of this key, and hasn't ended
 abbrev pub is_on : ℕ → Story → Bool
 is_on key t = is_of key t.session
 
--- its session is changed so
+-- the story with its session changed by f
 abbrev pub with_session : (SessionView → SessionView) → Story → Story
 with_session f t = record t { session = f t.session }
 
 abbrev pub with_entries : List Entry → Story → Story
 with_entries es t = record t { entries = t.entries ++ es }
 
--- an answer to the client that may be at a key
+-- the entry for an answer to the client at a key, if there is one
 abbrev pub entries_of : HubState as_told → Option ClientState → Answer → List Entry
 entries_of h None answer = []
 entries_of h (Some c) answer = record {
@@ -80,8 +81,8 @@ entries_of h (Some c) answer = record {
   text = if is_frame answer then frame_text (size_in h) c.base (shown_in h) else [];
 } ∷ []
 
--- The stories after a call on a hub h that gets this reply: their sessions change as those of a log, and an answer goes
--- to the last one of its key that hasn't ended.
+-- The stories after a call on a hub h that gets this reply. Their sessions change as those of a log. An answer is added
+-- to the last story of its key whose session hasn't ended.
 abbrev pub stories_after : HubState as_told → Call → Reply → List Story → List Story
 stories_after h (Resize rows cols) Done ts = map (with_session ended) ts
 stories_after h Attach (Attached key) ts = ts ++ record { session = begun h key; entries = [] } ∷ []
@@ -94,6 +95,7 @@ stories_after h call reply ts = ts
 
 -- ---- runs
 
--- one call after another, with numbers of the code's types: from a hub h and stories ts to k and us
+-- Calls, one after another, take a hub h and its stories to another hub and its stories. All their numbers fit the
+-- code's types.
 abbrev pub RunsTold : HubState as_told → List Story → List Call → List Reply → HubState as_told → List Story → Type 0
 RunsTold = RunsBeside stories_after

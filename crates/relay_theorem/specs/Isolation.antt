@@ -1,4 +1,4 @@
--- What a session has depends on its own calls alone.
+-- A session depends only on its own calls.
 use Rattle.std.specs.Prelude.{◌≡◌, ℕ, ◌-◌, ◌==◌, Bool, true, false, List, [], ◌∷◌, ◌++◌, map, Option, Some, None}
 use Rattle.std.specs.Prelude.{if◌then◌else◌}
 use Rattle.std.specs.List.{list_any}
@@ -15,15 +15,15 @@ use Rattle.relay_theorem.specs.History.{Story}
 use Rattle.relay_theorem.specs.Laws.{IsSession}
 use Rattle.relay_theorem.specs.Logged.{IsLogged}
 
--- there was no memory for the call
+-- whether the call failed for want of memory
 abbrev pub is_starved : Reply → Bool
 is_starved (Refused Memory) = true
 is_starved reply = false
 
 -- ---- a session's own calls
 
--- What a session gets of a run: an act on the program's screen; it comes; it asks for a frame; it is pumped to a writer
--- whose first writes are these; it leaves.
+-- One of a session's own calls: a feed or a resize of the program's screen, its attach, its request for a frame, a pump
+-- of it to a scripted writer, and its detach.
 pub data Own : Type 0 where
   Acts : Act → Own
   Comes : Own
@@ -31,13 +31,13 @@ pub data Own : Type 0 where
   Pumped : List Take → Own
   Leaves : Own
 
--- what a call with this reply has done to the program's screen
+-- the feed or resize of the program's screen by a call with this reply, if it is one
 abbrev pub acts_of : Call → Reply → List Act
 acts_of (Feed bytes) Done = Fed bytes ∷ []
 acts_of (Resize rows cols) Done = Resized rows cols ∷ []
 acts_of call reply = []
 
--- what it is to the session that lives at a key, where it isn't another's
+-- the own call, of the session that lives at a key, that this call is, if it is one
 abbrev pub own_at : ℕ → Call → Reply → Option Own
 own_at key (Feed bytes) Done = Some (Acts (Fed bytes))
 own_at key (Resize rows cols) Done = Some (Acts (Resized rows cols))
@@ -46,29 +46,31 @@ own_at key (Frame other) reply = if other == key then Some Asks else None
 own_at key (Pump other takes) reply = if other == key then Some (Pumped takes) else None
 own_at key call reply = None
 
--- a session ends when it leaves, and at a resize
+-- a session ends at its detach, and at a resize
 abbrev pub ends : Own → Bool
 ends (Acts (Resized rows cols)) = true
 ends Leaves = true
 ends own = false
 
+-- an own call, if there is one, and the later ones unless it ends the session
 abbrev pub own_then : Option Own → List Own → List Own
 own_then None later = later
 own_then (Some own) later = if ends own then own ∷ [] else own ∷ later
 
--- of the session that lives at a key, from here to its end
+-- the own calls of the session that lives at a key, from here to its end
 abbrev pub own_of : ℕ → List Call → List Reply → List Own
 own_of key (call ∷ calls) (reply ∷ replies) = own_then (own_at key call reply) (own_of key calls replies)
 own_of key calls replies = []
 
--- Of the n-th session of a new hub: what is done to the screen before it comes, then that it comes, and then its own.
+-- The own calls of the n-th session of a new hub: the feeds and resizes before its attach, then its attach, and then
+-- its own calls to its end.
 abbrev pub own_calls : ℕ → List Call → List Reply → List Own
 own_calls n (Attach ∷ calls) (Attached key ∷ replies) =
     if n == 0 then Comes ∷ own_of key calls replies else own_calls (n - 1) calls replies
 own_calls n (call ∷ calls) (reply ∷ replies) = map Acts (acts_of call reply) ++ own_calls n calls replies
 own_calls n calls replies = []
 
--- the call of such a session at a key
+-- the call on a hub that an own call is, for a session at this key
 abbrev pub alone : ℕ → Own → Call
 alone key (Acts (Fed bytes)) = Feed bytes
 alone key (Acts (Resized rows cols)) = Resize rows cols
@@ -79,8 +81,8 @@ alone key Leaves = Detach key
 
 -- ---- laws
 
--- Two sessions are alike, where the clients at each key are these and those: so much is pumped to them, of this size,
--- and while they haven't ended their clients are owed the same bytes after the same last frame.
+-- Two sessions are alike: they have the same size, the same bytes were pumped to them, and both have ended or both not.
+-- While they haven't ended, their clients are owed the same bytes after the same last frame.
 pub record AreAlike (s z : SessionView) (these those : ℕ → Option ClientState) : Type 0 where
   pub rows : s.rows ≡ z.rows
   pub cols : s.cols ≡ z.cols
@@ -96,7 +98,7 @@ SessionsAreIsolated = (rows cols : ℕ) (calls others : List Call) (replies answ
     → own_calls n calls replies ≡ own_calls m others answers
     → AreAlike t.session u.session (clients_in s.hub) (clients_in z.hub) × (t.entries ≡ u.entries)
 
--- A session of a new hub, whose calls are these alone.
+-- A session of a new hub that gets only these own calls.
 pub record StandsAlone (rows cols key : ℕ) (own : List Own) : Type 0 where
   pub replies : List Reply
   pub story : Story
@@ -110,8 +112,8 @@ EachSessionStandsAlone = (rows cols : ℕ) (calls : List Call) (replies : List R
     → IsSession rows cols calls replies n t → list_any is_starved replies ≡ false
     → StandsAlone rows cols key (own_calls n calls replies)
 
--- However those calls are answered when they are made alone: where the attach gets the key, and no call is refused for
--- want of memory, the one session is alike, it is answered the same, and these are its own calls.
+-- The own calls are made alone, and get any replies. If the attach gets the key and no call fails for want of memory,
+-- the one session is like the first, gets the same answers, and has these own calls.
 abbrev pub EachLoneSessionIsAlike : Type 0
 EachLoneSessionIsAlike = (rows cols : ℕ) (calls : List Call) (replies answers : List Reply) (n : ℕ) (t u : Story)
     (key : ℕ) → (s : IsSession rows cols calls replies n t)
@@ -120,7 +122,7 @@ EachLoneSessionIsAlike = (rows cols : ℕ) (calls : List Call) (replies answers 
     → AreAlike t.session u.session (clients_in s.hub) (clients_in z.hub) × (t.entries ≡ u.entries)
     × (own_calls 0 (map (alone key) (own_calls n calls replies)) answers ≡ own_calls n calls replies)
 
--- so are sessions of two logs
+-- sessions of two logs with the same own calls are alike
 abbrev pub LoggedSessionsAreIsolated : Type 0
 LoggedSessionsAreIsolated = (rows cols : ℕ) (calls others : List Call) (l k : LogView) (n m : ℕ) (s z : SessionView)
     → (a : IsLogged rows cols calls l n s) → (b : IsLogged rows cols others k m z)
@@ -128,7 +130,7 @@ LoggedSessionsAreIsolated = (rows cols : ℕ) (calls others : List Call) (l k : 
     → own_calls n calls l.replies ≡ own_calls m others k.replies
     → AreAlike s z (clients_in a.after) (clients_in b.after)
 
--- and so is the one of a log of those calls alone
+-- a session of a log is like the one in a log of only its own calls
 abbrev pub EachLoggedLoneSessionIsAlike : Type 0
 EachLoggedLoneSessionIsAlike = (rows cols : ℕ) (calls : List Call) (l k : LogView) (n : ℕ) (s z : SessionView) (key : ℕ)
     → (a : IsLogged rows cols calls l n s)

@@ -1,4 +1,4 @@
--- What a far terminal should show, judged by the history of its session alone.
+-- What a far terminal should show, judged only by the history of its session.
 use Rattle.std.specs.Prelude.{◌≡◌, ℕ, ◌-◌, nat_le, List, [], ◌∷◌, ◌++◌, length, Option, Some, None, if◌then◌else◌}
 use Rattle.terminal_model.specs.Term.{Size, Shown, blank_shown}
 use Rattle.vt100_core.specs.Picture.{grid_size}
@@ -9,7 +9,7 @@ use Rattle.termrelay.specs.Answers.{is_frame}
 use Rattle.termrelay.specs.declared.answer.Answer.TheVariants.{Unsure}
 use Rattle.relay_theorem.specs.History.{Entry}
 
--- on a hub that was first of this size, what was shown at an entry's moment
+-- the screen's state at an entry's moment, on a hub whose first size was rows and cols
 abbrev pub state_at : ℕ → ℕ → Entry → State
 state_at rows cols e = made rows cols 0 e.moment
 
@@ -24,7 +24,7 @@ abbrev pub texts : List Entry → List ℕ
 texts [] = []
 texts (e ∷ es) = e.text ++ texts es
 
--- the last frame, where there is one
+-- the last frame, if there is one: `last` if the entry brings none
 abbrev pub frame_or : Option Entry → Entry → Option Entry
 frame_or last e = if is_frame e.answer then Some e else last
 
@@ -37,20 +37,20 @@ abbrev pub whole_in : List Entry → ℕ → List Entry
 whole_in [] k = []
 whole_in (e ∷ es) k = if nat_le (length e.text) k then e ∷ whole_in es (k - length e.text) else []
 
--- the last frame of these
+-- the last frame whose text lies wholly in the first k bytes
 abbrev pub last_whole : Option Entry → List Entry → ℕ → Option Entry
 last_whole last es k = last_frame last (whole_in es k)
 
--- what was shown at its moment, or a blank screen
+-- what was shown at the frame's moment, or a blank screen without a frame
 abbrev pub judged : ℕ → ℕ → Option Entry → Shown
 judged rows cols None = blank_shown
 judged rows cols (Some e) = shown_at rows cols e
 
--- no cell had U+FE0F then
+-- the frame's screen had no cell with U+FE0F
 abbrev pub IsSure : Option Entry → Type 0
 IsSure None = Unit {0}
 IsSure (Some e) = e.answer ≡ Unsure → ⊥
 
--- this is shown: what the judge says of that frame, unless it wasn't sure
+-- what is shown is the screen at that frame's moment, unless that screen had U+FE0F
 abbrev pub IsShownRight : ℕ → ℕ → Shown → Option Entry → Type 0
 IsShownRight rows cols shown last = IsSure last → shown ≡ judged rows cols last

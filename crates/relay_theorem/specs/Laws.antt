@@ -1,4 +1,4 @@
--- Laws of histories: what is true of every session, whatever calls came and whatever they were answered.
+-- Laws of histories: facts about every session, after any calls with any replies.
 use Rattle.std.specs.Prelude.{◌≡◌, ℕ, Bool, true, false, List, [], ◌∷◌, ◌++◌, Option, Some, None, slice_get, is_some}
 use Rattle.std.specs.Prelude.{if◌then◌else◌}
 use Rattle.std.specs.List.{list_any}
@@ -12,21 +12,23 @@ use Rattle.termrelay.specs.declared.call.Reply.{Reply}
 use Rattle.relay_theorem.specs.History.{Entry, Story, as_told, fresh, size_of_story, is_on, RunsTold}
 use Rattle.relay_theorem.specs.Judge.{state_at, size_at, shown_at, texts}
 
--- what was shown at the last frame, where there was one, and the frame's text
+-- what was shown at the last frame, if there was one, and the text of that frame
 abbrev pub base_then : ℕ → ℕ → Option Shown → Entry → Option Shown
 base_then rows cols base e = if is_frame e.answer then Some (shown_at rows cols e) else base
 
+-- what was shown at the last frame after these answers; `base` if none brings a frame
 abbrev pub base_after : ℕ → ℕ → Option Shown → List Entry → Option Shown
 base_after rows cols base [] = base
 base_after rows cols base (e ∷ es) = base_after rows cols (base_then rows cols base e) es
 
+-- the text of the last frame; `text` if there is none
 abbrev pub last_text : List ℕ → List Entry → List ℕ
 last_text text [] = text
 last_text text (e ∷ es) = last_text (if is_frame e.answer then e.text else text) es
 
--- An answer to a session of this size, whose last frame was of this base, on a hub that was first of rows and cols: the
--- screen had the session's size; what was shown, the base and the bytes then owed decide the answer; and a frame is
--- made of the base and of what was shown.
+-- An answer to a session of size z, whose last frame showed `base`, on a hub whose first size was rows and cols. The
+-- screen had the session's size. The answer depends only on the screen's state, the base and the bytes then owed. A
+-- frame is made from the base and what was shown.
 pub record IsAnswered (rows cols : ℕ) (z : Size) (base : Option Shown) (e : Entry) : Type 0 where
   pub acts : AreActs rows cols 0 e.moment
   pub size : size_at rows cols e ≡ z
@@ -34,33 +36,33 @@ pub record IsAnswered (rows cols : ℕ) (z : Size) (base : Option Shown) (e : En
   pub answer : e.answer ≡ answer_for (state_at rows cols e) (record { owed = owed; base = base })
   pub text : e.text ≡ (if is_frame e.answer then frame_text z base (shown_at rows cols e) else [])
 
--- one after another: each frame leads on from the one before it
+-- answers, one after another: each frame starts from what was shown at the one before it
 abbrev pub AreAnswered : ℕ → ℕ → Size → Option Shown → List Entry → Type 0
 AreAnswered rows cols z base [] = Unit {0}
 AreAnswered rows cols z base (e ∷ es) =
     IsAnswered rows cols z base e × AreAnswered rows cols z (base_then rows cols base e) es
 
--- the bytes taken and those owed to the client are the frames' texts; what is owed is an end of the last frame, so at
--- most one is; and the hub keeps what was shown at that one
+-- The bytes pumped and the bytes owed to the client are the frames' texts. The bytes owed are a suffix of the last
+-- frame, so at most one frame is owed. The hub keeps what was shown at that frame.
 pub record IsServed (rows cols : ℕ) (t : Story) (c : ClientState) : Type 0 where
   pub bytes : t.session.pumped ++ c.owed ≡ texts t.entries
   pub read : List ℕ
   pub owed : read ++ c.owed ≡ last_text [] t.entries
   pub base : c.base ≡ base_after rows cols None t.entries
 
--- a session, where the clients at each key are these
+-- facts about a session, for these clients at each key
 pub record IsTold (rows cols : ℕ) (clients : ℕ → Option ClientState) (t : Story) : Type 0 where
   pub height : IsSide t.session.rows
   pub width : IsSide t.session.cols
   pub entries : AreAnswered rows cols (size_of_story t) None t.entries
-  -- while it hasn't ended
+  -- while the session hasn't ended
   pub served : t.session.ended ≡ false
       → (c : ClientState) × (clients t.session.client ≡ Some c) × IsServed rows cols t c
-  -- and ever after the bytes taken are a front of the frames' texts
+  -- always, the bytes pumped are a prefix of the frames' texts
   pub left : List ℕ
   pub front : t.session.pumped ++ left ≡ texts t.entries
 
--- the n-th session of a hub that was first of rows and cols, after calls that got these replies
+-- the n-th session of a hub whose first size was rows and cols, after these calls with these replies
 pub record IsSession (rows cols : ℕ) (calls : List Call) (replies : List Reply) (n : ℕ) (t : Story) : Type 0 where
   pub height : IsSide rows
   pub width : IsSide cols
@@ -69,17 +71,18 @@ pub record IsSession (rows cols : ℕ) (calls : List Call) (replies : List Reply
   pub ran : RunsTold (fresh rows cols) [] calls replies hub stories
   pub is : slice_get stories n ≡ Some t
 
+-- these facts hold for each session, after any calls with any replies
 abbrev pub EachSessionIsTold : Type 0
 EachSessionIsTold = (rows cols : ℕ) (calls : List Call) (replies : List Reply) (n : ℕ) (t : Story)
     → (s : IsSession rows cols calls replies n t) → IsTold rows cols (clients_in s.hub) t
 
--- at most one passes the test
+-- at most one item of the list passes the test
 abbrev pub AtMostOne : {A : Type 0} → (A → Bool) → List A → Type 0
 AtMostOne test [] = Unit {0}
 AtMostOne test (x ∷ xs) = (test x ≡ true → list_any test xs ≡ false) × AtMostOne test xs
 
--- whatever came before, there is a client at a key where a session of the key hasn't ended, and only there; and no two
--- such sessions have one key
+-- After any calls, there is a client at a key exactly when a session of that key hasn't ended. No two such sessions
+-- have the same key.
 abbrev pub EachClientHasASession : Type 0
 EachClientHasASession = (rows cols : ℕ) (calls : List Call) (replies : List Reply)
     (hub : HubState as_told) (stories : List Story) (key : ℕ) → IsSide rows → IsSide cols

@@ -1,4 +1,4 @@
--- What a far terminal shows of a log's session: what the judge says.
+-- What a far terminal shows of a log's session.
 use Rattle.std.specs.Prelude.{◌≡◌, ℕ, List, Option, Some, None, slice_get}
 use Rattle.terminal_model.specs.Term.{shown_of}
 use Rattle.screen_model.specs.Holds.{IsSide}
@@ -11,7 +11,7 @@ use Rattle.relay_theorem.specs.Judge.{last_frame, IsShownRight}
 use Rattle.relay_theorem.specs.Laws.{IsSession}
 use Rattle.relay_theorem.specs.Headline.{ReadsFrames, ReadsFront, last_read}
 
--- a run on a new hub with an empty log has made these calls and left this log, of which this is the n-th session
+-- a run of these calls on a new hub with an empty log has left the log l, whose n-th session is s
 pub record IsLogged (rows cols : ℕ) (calls : List Call) (l : LogView) (n : ℕ) (s : SessionView) : Type 0 where
   pub height : IsSide rows
   pub width : IsSide cols
@@ -21,28 +21,28 @@ pub record IsLogged (rows cols : ℕ) (calls : List Call) (l : LogView) (n : ℕ
   pub ran : MadeAll hub empty_log calls after l
   pub is : slice_get l.sessions n ≡ Some s
 
--- the story of a log's session, by the history that the calls and the log's replies tell
+-- the story of a log's session, in the history of the calls and the log's replies
 pub record HasStory (rows cols : ℕ) (calls : List Call) (l : LogView) (n : ℕ) (s : SessionView) (t : Story)
     : Type 0 where
   pub session : IsSession rows cols calls l.replies n t
   pub logged : t.session ≡ s
 
--- So a view that reads what was pumped to it reads a session of that history, and the laws on such views are laws on
--- it.
+-- A view that reads a prefix of the session's bytes reads the same prefix of the bytes of its story.
 abbrev pub EachLoggedReadIsARead : Type 0
 EachLoggedReadIsARead = (rows cols : ℕ) (calls : List Call) (l : LogView) (n : ℕ) (s : SessionView)
     (pieces : List (List ℕ)) (parsed : List ℕ) → IsLogged rows cols calls l n s → ReadsFront s.pumped pieces parsed
     → (t : Story) × HasStory rows cols calls l n s t × ReadsFront t.session.pumped pieces parsed
 
--- A view of its size shows what the judge says of the last frame that lies wholly in the pieces, unless that one wasn't
--- sure.
+-- A view of the session's size shows the screen at the moment of the last frame that lies wholly in the pieces, unless
+-- that screen had U+FE0F.
 abbrev pub LoggedFramesAreShown : Type 0
 LoggedFramesAreShown = (rows cols : ℕ) (calls : List Call) (l : LogView) (n : ℕ) (s : SessionView)
     (pieces : List (List ℕ)) (parsed : List ℕ) → IsLogged rows cols calls l n s → ReadsFront s.pumped pieces parsed
     → (t : Story) × HasStory rows cols calls l n s t
     × IsShownRight rows cols (shown_of (seen (size_of_session s) parsed)) (last_read t pieces)
 
--- So does one that has read frames that come whole of the last of them, and holds nothing.
+-- A view that has read whole frames shows the screen at the last one's moment, unless that screen had U+FE0F, and has
+-- buffered nothing.
 abbrev pub WholeLoggedFramesAreShown : Type 0
 WholeLoggedFramesAreShown = (rows cols : ℕ) (calls : List Call) (l : LogView) (n : ℕ) (s : SessionView)
     → IsLogged rows cols calls l n s → (t : Story) × HasStory rows cols calls l n s t

@@ -1,4 +1,4 @@
--- What a command answers, reads, writes and says.
+-- What a command reads and writes, its exit status and its error messages.
 use Rattle.std.specs.Prelude.{◌≡◌, ℕ, List, [], ◌∷◌, ◌++◌, Ok, Err, Result, codes}
 use Rattle.std.specs.declared.io.Error.{Error}
 use Rattle.takers.specs.Pump.{Tells}
@@ -16,7 +16,7 @@ abbrev pub WantsBy : Job → ℕ → ℕ → List ℕ → List ℕ → Type 0
 WantsBy Relay rows cols bytes text = IsRelayText rows cols bytes text
 WantsBy Show rows cols bytes text = IsTextShown (sized rows cols) (pieces_of bytes) text
 
--- an order writes this text where the input is these bytes
+-- an order writes this text if the input is these bytes
 abbrev pub Wants : Order → List ℕ → List ℕ → Type 0
 Wants order bytes text = WantsBy order.job order.rows order.cols bytes text
 
@@ -33,7 +33,7 @@ line cs = cs ++ (0x0A ∷ [])
 abbrev pub usage_line : List ℕ
 usage_line = line (codes "usage: screenrelay relay|show ROWS COLS")
 
--- the line that names a fault
+-- the error message
 abbrev pub fault_line : RelayError → List ℕ
 fault_line Read = line (codes "screenrelay: read")
 fault_line Write = line (codes "screenrelay: write")
@@ -41,14 +41,14 @@ fault_line Memory = line (codes "screenrelay: memory")
 fault_line TooManyReads = line (codes "screenrelay: too many reads")
 fault_line FrameTooLong = line (codes "screenrelay: frame too long")
 
--- the exit status that goes with an answer, and what is told of it on the error output
+-- the exit status for a result, and the line written for it on the error output
 abbrev pub Reports : {V : Type 0} → (V → List ℕ → Result ℕ Error → V → Type 0) → Result (Unit {0}) RelayError → V → ℕ → V
     → Type 0
 Reports told (Ok u) e status f = (status ≡ 0) × (f ≡ e)
 Reports told (Err fault) e status f = (status ≡ 1) × Tells told e (fault_line fault) f
 
--- An order was carried out, from a source, a writer and an error output: what was answered, and so what was read,
--- written and told.
+-- An order was carried out, with a source, a writer and an error output: its result, and with that what was read and
+-- written, and the line on the error output.
 pub record CarriesOut {S W V : Type 0} (gives : S → ℕ → Result (List ℕ) Error → S → Type 0)
     (takes : W → List ℕ → Result ℕ Error → W → Type 0) (flushes : W → Result (Unit {0}) Error → W → Type 0)
     (told : V → List ℕ → Result ℕ Error → V → Type 0) (order : Order) (s : S) (w : W) (e : V) (status : ℕ) (t : S)

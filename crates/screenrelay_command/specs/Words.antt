@@ -5,7 +5,7 @@ use Rattle.command_line.specs.Numbers.{size_in}
 use Rattle.screenrelay_command.specs.declared.words.Job.{Job}
 use Rattle.screenrelay_command.specs.declared.words.Job.TheVariants.{Relay, Show}
 
--- what is asked for, on a screen of this size
+-- the job that is asked for, and the size of its screen
 pub record Order : Type 0 where
   pub job : Job
   pub rows : ℕ

@@ -12,11 +12,13 @@ use relay_streams::{RelayError, Source, relay, show};
 use std::alloc::Global;
 use takers::{Sink, Taker};
 
-/// Runs the program on the words after its name, and answers its exit status.
+/// Runs the program on the command line's words after its name. Returns the exit status: 0 for success, 1 for an error,
+/// 2 for a wrong command line.
 ///
-/// A fault is told in a line on `errors`: `screenrelay: read`, `write`, `memory`, `too many reads` or `frame too long`. Any
-/// other command line than `relay ROWS COLS` and `show ROWS COLS` gets the usage line there, and then nothing is read
-/// or written. Such a line is written whole, unless a write of it fails or takes nothing; that changes nothing else.
+/// An error is reported in a line on `errors`: `screenrelay: read`, `write`, `memory`, `too many reads` or `frame too
+/// long`. If the command line is neither `relay ROWS COLS` nor `show ROWS COLS`, the usage line is written there, and
+/// nothing is read or written otherwise. Such a line is written whole, unless a write of it fails or takes no byte;
+/// that changes nothing else.
 pub fn command<S: Source, W: Sink, V: Taker>(
     alloc: Global,
     words: &[&str],
@@ -42,7 +44,7 @@ pub fn command<S: Source, W: Sink, V: Taker>(
     }
 }
 
-// CarriesOut what is asked for.
+// Carries out the job that is asked for.
 fn carry_out<S: Source, W: Sink>(
     alloc: Global,
     order: Order,
@@ -58,7 +60,7 @@ fn carry_out<S: Source, W: Sink>(
     }
 }
 
-/// Tells a fault in a line on `errors`, and answers the exit status that goes with it.
+/// Reports an error in a line on `errors`. Returns its exit status, 1.
 pub fn report_fault<V: Taker>(errors: &mut V, error: RelayError) -> u8
     ensures status { result ≡ 1 }
     ensures reports { Tells V.takes errors.old (fault_line error) errors.new }

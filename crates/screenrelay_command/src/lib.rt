@@ -1,4 +1,4 @@
-//! The command line of `screenrelay`: its words, the jobs that they ask for, and the lines that tell a fault.
+//! The command line of `screenrelay`: its words, the jobs that they ask for, and the error messages.
 #![tactic(auto)]
 
 mod commands;

@@ -7,7 +7,7 @@ ghost use Rattle.screenrelay_command.specs.Words.{asked_for, order_of};
 use command_line::parse_size;
 use std::num::NonZeroU16;
 
-/// What the program is asked to do.
+/// The job that the program is asked to do.
 #[derive(Clone, Copy, Debug, PartialEq, Eq)]
 pub enum Job {
     /// Turn a program's output into frames of its screen.
@@ -24,7 +24,7 @@ pub(crate) struct Order {
     pub(crate) cols: NonZeroU16,
 }
 
-/// Reads `relay ROWS COLS` or `show ROWS COLS`.
+/// Parses `relay ROWS COLS` or `show ROWS COLS`. Gives `None` for any other command line.
 pub(crate) fn parse(words: &[&str]) -> Option<Order>
     ensures { option_map (λ o. record { job = o.job; rows = o.rows.value; cols = o.cols.value }) result
         ≡ order_of (map (λ w. w.now) words.now) }

@@ -1,4 +1,5 @@
-//! Readers and writers for tests: they do what they were told beforehand, and count what they were asked.
+//! Readers and writers for tests. They follow a script that is given beforehand, and count the reads and flushes that
+//! they get.
 #![tactic(auto)]
 
 mod reader;

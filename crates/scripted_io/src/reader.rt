@@ -1,26 +1,27 @@
-//! Readers.
+//! Readers with a script.
 
 use std::io;
 use std::io::{ErrorKind, Read};
 
-/// What one read does.
+/// The result of one read.
 #[derive(Clone, Copy)]
 pub enum Step {
-    /// Gives the first of these bytes, as many as there is room for. The others are lost.
+    /// The read gives the first of these bytes, as many as its buffer has room for. The others are dropped.
     Give(&'static [u8]),
-    /// Fails.
+    /// The read fails with an error of this kind.
     Fail(ErrorKind),
 }
 
-/// A reader that goes through steps, one for each read, and then is at its end.
+/// A reader that follows a list of steps, one for each read. After the last step it is at its end.
 #[derive(Drop)]
 pub struct Script {
     steps: &'static [Step],
-    /// How many reads were asked of it.
+    /// How many reads were made, also after the last step.
     pub reads: u64,
 }
 
 impl Script {
+    /// A reader that follows these steps.
     pub fn new(steps: &'static [Step]) -> Self {
         Script { steps, reads: 0 }
     }
@@ -44,7 +45,7 @@ impl Read for Script {
     }
 }
 
-/// A reader that gives at most so many bytes a read.
+/// A reader that gives a fixed number of bytes a read at most.
 #[derive(Drop)]
 pub struct Few<'a> {
     left: &'a [u8],
@@ -52,6 +53,7 @@ pub struct Few<'a> {
 }
 
 impl<'a> Few<'a> {
+    /// A reader of the bytes `left`, which gives at most `most` of them a read.
     pub fn new(left: &'a [u8], most: usize) -> Self {
         Few { left, most }
     }

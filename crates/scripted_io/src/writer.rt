@@ -1,26 +1,27 @@
-//! A writer.
+//! A writer with a limit.
 
 use std::alloc::Global;
 use std::io;
 use std::io::{ErrorKind, Write};
 
-/// A writer that keeps what it takes, a few bytes a write, and fails once its room is used up.
+/// A writer that keeps the bytes it takes, a few bytes a write. Once it has taken `room` bytes, each write of more
+/// fails with `BrokenPipe`.
 #[derive(Drop)]
 pub struct Narrow {
-    /// What it took.
+    /// The bytes that it took.
     pub kept: Vec<u8>,
-    /// How many bytes it takes in all.
+    /// How many bytes it takes altogether.
     pub room: usize,
-    /// How many bytes it takes a write.
+    /// How many bytes it takes at most in one write.
     pub step: usize,
-    /// Whether a flush goes well.
+    /// Whether a flush succeeds. If not, it fails with `BrokenPipe`.
     pub flushes: bool,
-    /// How many flushes were asked of it.
+    /// How many flushes were made, also those that failed.
     pub flushed: u64,
 }
 
 impl Narrow {
-    /// A writer that takes so many bytes, one a write, and whose flushes go well.
+    /// A writer that takes `room` bytes altogether, one a write, and whose flushes succeed.
     pub fn new(alloc: Global, room: usize) -> Self {
         Narrow {
             kept: Vec::new(alloc),

@@ -24,13 +24,13 @@ TakesFront-longer a b xs ys (n, front) =
     let same : take n xs ≡ take (min n (length xs)) (xs ++ ys) = grind (arith, take-append-le, take_all) in
     (min n (length xs), rw same at front)
 
--- a part of a text is one of a longer text
+-- a prefix of a text is a prefix of a longer text too
 pub TakesPart-longer : (a b : Option (List ℕ)) (xs ys : List ℕ) → TakesPart a b xs → TakesPart a b (xs ++ ys)
 TakesPart-longer a b xs ys (n, less, part) =
     let same : take n xs ≡ take n (xs ++ ys) = sym (take-append-le n xs ys (omega arith)) in
     (n, omega (arith, length-append xs ys), rw same at part)
 
--- a text was taken whole, and a part of the one after it
+-- a text was taken whole, and then a prefix of the next one
 pub TakesPart-then : (a b c : Option (List ℕ)) (xs ys : List ℕ) → Appends a b xs → TakesPart b c ys
     → TakesPart a c (xs ++ ys)
 TakesPart-then a b c xs ys whole (n, less, part) = (

@@ -8,7 +8,7 @@ use Rattle.takers.specs.Pump.{Pumps, all, nothing, fault, some}
 pub some-left : (owed : List ℕ) (taken : ℕ) → taken < length owed → drop taken owed ≢ []
 some-left owed taken lt = λ none. absurd (omega (arith, ap length none, length-drop taken owed))
 
--- a write that answers n has taken m bytes, and what is left is pumped after it
+-- a write that returns n has taken m bytes, and the rest is pumped after it
 pub pumps-more : (S : Type 0) (step : S → List ℕ → Result ℕ Error → S → Type 0) (s u t : S) (owed : List ℕ)
     (taken n m k : ℕ) (answer : Result (Unit {0}) Error) → taken < length owed → 0 < n
     → m ≡ min n (length (drop taken owed)) → step s (drop taken owed) (Ok n) u

@@ -24,7 +24,7 @@ abbrev pub well : Result (Unit {0}) Error
 well = Ok tt
 
 module _ (W : Type 0) (takes : W → List ℕ → Result ℕ Error → W → Type 0) where
-  -- more texts after those that were pumped whole
+  -- more texts are pumped after those that were pumped whole
   pub sends-more : (w m v : W) (texts more : List (List ℕ)) (first answer : Result (Unit {0}) Error)
       → Sends takes w texts first m → first ≡ well → Sends takes m more answer v
       → Sends takes w (texts ++ more) answer v
@@ -33,7 +33,7 @@ module _ (W : Type 0) (takes : W → List ℕ → Result ℕ Error → W → Typ
       sent.next k pumps (sends-more k m v others more first answer rest is after)
   sends-more w m v texts more first answer (sent.fault pumps) is after = absurd (cc)
 
-  -- texts are sent as their whole is
+  -- sending texts one after another is sending them joined
   sends-text : (w v : W) (texts : List (List ℕ)) (answer : Result (Unit {0}) Error) → Sends takes w texts answer v
       → SendsText takes w (concat texts) answer v
   sends-text w v texts answer sent.none = done
@@ -41,7 +41,7 @@ module _ (W : Type 0) (takes : W → List ℕ → Result ℕ Error → W → Typ
       part m pumps (sends-text m v others answer rest)
   sends-text w v texts answer (sent.fault pumps) = broken [] pumps
 
-  -- a text after one that was sent whole
+  -- a text is sent after one that was sent whole
   pub text-more : (w m v : W) (text more : List ℕ) (first answer : Result (Unit {0}) Error)
       → SendsText takes w text first m → first ≡ well → SendsText takes m more answer v
       → SendsText takes w (text ++ more) answer v
@@ -51,7 +51,7 @@ module _ (W : Type 0) (takes : W → List ℕ → Result ℕ Error → W → Typ
       (part k pumps (text-more k m v others more first answer rest is after))
   text-more w m v text more first answer (broken others pumps) is after = absurd (cc)
 
-  -- where a pump failed there may be more of the text
+  -- after a failed pump there may be more of the text
   pub text-broken : (w v : W) (text more : List ℕ) (answer : Result (Unit {0}) Error) (e : Error)
       → SendsText takes w text answer v → answer ≡ bad e → SendsText takes w (text ++ more) answer v
   text-broken w v text more answer e done is = absurd (cc)
@@ -61,7 +61,7 @@ module _ (W : Type 0) (takes : W → List ℕ → Result ℕ Error → W → Typ
   text-broken w v text more answer e (broken {text = one} {e = f} others pumps) is =
       subst (λ (xs : List ℕ). SendsText takes w xs (Err f) v) (sym (append_assoc one others more)) (broken (others ++ more) pumps)
 
-  -- one pump
+  -- one pump sends a text
   pub text-pumped : (w v : W) (text : List ℕ) (n : ℕ) → Pumps takes w text well n v → SendsText takes w text well v
   text-pumped w v text n pumps =
       subst (λ (xs : List ℕ). SendsText takes w xs well v) (append-nil text) (part v pumps done)
@@ -71,7 +71,7 @@ module _ (W : Type 0) (takes : W → List ℕ → Result ℕ Error → W → Typ
   text-failed w v text e n pumps =
       subst (λ (xs : List ℕ). SendsText takes w xs (bad e) v) (append-nil text) (broken [] pumps)
 
-  -- a pump that fails has not taken all
+  -- a pump that fails hasn't taken all bytes
   failed-part : (s : W) (owed : List ℕ) (answer : Result (Unit {0}) Error) (e : Error) (n : ℕ) (t : W)
       → Pumps takes s owed answer n t → answer ≡ bad e → n < length owed
   failed-part s owed answer e n t all is = absurd (cc)

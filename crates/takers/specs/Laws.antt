@@ -6,24 +6,24 @@ use Rattle.takers.specs.Output.{TakesPart}
 use Rattle.takers.specs.Pump.{Pumps, Writes}
 use Rattle.takers.specs.Sent.{SendsText}
 
--- where a pump ends well, nothing is owed any more
+-- if a pump succeeds, no byte is owed any more
 abbrev pub TakesAll : {S : Type 0} → (S → List ℕ → Result ℕ Error → S → Type 0) → Type 0
 TakesAll {S} step = (s t : S) (owed : List ℕ) (n : ℕ) → Pumps step s owed (Ok tt) n t → drop n owed ≡ []
 
--- where nothing is owed, nothing is written
+-- if no byte is owed, no write is made
 abbrev pub WritesNothing : {S : Type 0} → (S → List ℕ → Result ℕ Error → S → Type 0) → Type 0
 WritesNothing {S} step = (s t : S) (answer : Result (Unit {0}) Error) (n : ℕ) → Pumps step s [] answer n t
     → (answer ≡ Ok tt) × (t ≡ s)
 
--- what a writer has of which the bytes are known grows by what it took: the front of what was owed, of which the rest
--- is owed then
+-- A pump appends the bytes taken to the known bytes of a writer. They are a prefix of the bytes owed, and the others
+-- are still owed.
 abbrev pub AppendsFront : {W : Type 0} → (W → Option (List ℕ)) → Type 0
 AppendsFront {W} contents = (s t : W) (owed : List ℕ) (answer : Result (Unit {0}) Error) (n : ℕ)
     → Pumps (Writes contents) s owed answer n t
     → Appends (contents s) (contents t) (take n owed) × (take n owed ++ drop n owed ≡ owed)
 
--- what a writer has of which the bytes are known grows by a text that is sent whole, and else by a front of it that
--- isn't all
+-- A text that is sent without an error is appended whole to the known bytes of a writer. After an error a prefix that
+-- isn't the whole text is appended.
 abbrev pub SentTextsAppend : {W : Type 0} → (W → List ℕ → Result ℕ Error → W → Type 0) → (W → Option (List ℕ)) → Type 0
 SentTextsAppend {W} takes contents = (w v : W) (text : List ℕ)
     → (SendsText takes w text (Ok tt) v → Appends (contents w) (contents v) text)

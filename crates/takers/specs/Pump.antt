@@ -5,9 +5,9 @@ use Rattle.std.specs.IoError.{error_kind}
 use Rattle.std.specs.declared.io.Error.{Error}
 use Rattle.std.specs.declared.io.ErrorKind.TheVariants.{WriteZero}
 
--- From a writer and the bytes that are owed, writes are made until all bytes are taken or one ends the pump: the pump
--- answers so, n bytes were taken, and the writer is left so. A step is what one write of these bytes answers and
--- leaves. A write that answers more than it was offered has taken what it was offered.
+-- A pump of the bytes owed: writes are made until all bytes are taken, or one write fails or takes nothing. It gives
+-- the pump's result, the number of bytes taken, and the writer after it. `step` gives the result of one write of these
+-- bytes, and the writer after it. If a write returns more than it was offered, it has taken all that it was offered.
 pub data Pumps {S : Type 0} (step : S → List ℕ → Result ℕ Error → S → Type 0) : S → List ℕ → Result (Unit {0}) Error → ℕ
     → S → Type 0 where
   all : {s : S} → Pumps step s [] (Ok tt) 0 s
@@ -18,10 +18,10 @@ pub data Pumps {S : Type 0} (step : S → List ℕ → Result ℕ Error → S �
       → step s owed (Ok n) m → Pumps step m (drop n owed) answer k t
       → Pumps step s owed answer (min n (length owed) + k) t
 
--- what std promises of one write of a writer whose known bytes are these
+-- what std promises of one write to a writer, by the bytes that it is known to have
 abbrev pub Writes : {W : Type 0} → (W → Option (List ℕ)) → W → List ℕ → Result ℕ Error → W → Type 0
 Writes contents s bytes answer t = WriteAppends (contents s) (contents t) answer bytes
 
--- a line was pumped, whatever the pump answered: all of it was taken, unless a write failed or took nothing
+-- a line was pumped, with any result: all of it was taken, unless a write failed or took nothing
 abbrev pub Tells : {S : Type 0} → (S → List ℕ → Result ℕ Error → S → Type 0) → S → List ℕ → S → Type 0
 Tells step s line t = (answer : Result (Unit {0}) Error) × (n : ℕ) × Pumps step s line answer n t

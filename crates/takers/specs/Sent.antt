@@ -1,11 +1,11 @@
--- Texts that a writer is handed one after another.
+-- Texts that are written one after another.
 use Rattle.std.specs.Prelude.{ℕ, List, [], ◌∷◌, ◌++◌, Option, Ok, Err, Result}
 use Rattle.std.specs.Io.KnownBytes.{Keeps}
 use Rattle.std.specs.declared.io.Error.{Error}
 use Rattle.takers.specs.Pump.{Pumps}
 
--- From a writer, these texts are pumped: so the last pump is answered, and so the writer is left. All before it end
--- well.
+-- These texts are pumped to a writer, one after another: the result of the last pump, and the writer after it. All
+-- pumps before the last succeed.
 pub data Sends {W : Type 0} (takes : W → List ℕ → Result ℕ Error → W → Type 0) : W → List (List ℕ)
     → Result (Unit {0}) Error → W → Type 0 where
   none : {w : W} → Sends takes w [] (Ok tt) w
@@ -14,8 +14,8 @@ pub data Sends {W : Type 0} (takes : W → List ℕ → Result ℕ Error → W �
   fault : {w v : W} {text : List ℕ} {e : Error} {n : ℕ} → Pumps takes w text (Err e) n v
       → Sends takes w (text ∷ []) (Err e) v
 
--- From a writer, a text is sent part by part, one pump after another: so the last pump is answered, and so the writer is
--- left. Where all pumps end well the parts are the whole text; where one fails there may be more of it.
+-- A text is sent part by part, one pump after another: the result of the last pump, and the writer after it. If all
+-- pumps succeed, the parts are the whole text. After a failed pump there may be more of the text.
 pub data SendsText {W : Type 0} (takes : W → List ℕ → Result ℕ Error → W → Type 0) : W → List ℕ
     → Result (Unit {0}) Error → W → Type 0 where
   done : {w : W} → SendsText takes w [] (Ok tt) w
@@ -24,6 +24,6 @@ pub data SendsText {W : Type 0} (takes : W → List ℕ → Result ℕ Error →
   broken : {w v : W} {text : List ℕ} {e : Error} {n : ℕ} (rest : List ℕ) → Pumps takes w text (Err e) n v
       → SendsText takes w (text ++ rest) (Err e) v
 
--- what std promises of a flush of a writer whose known bytes are these
+-- what std promises of a flush of a writer, by the bytes that it is known to have
 abbrev pub Flushes : {W : Type 0} → (W → Option (List ℕ)) → W → Result (Unit {0}) Error → W → Type 0
 Flushes contents s answer t = Keeps (contents s) (contents t)

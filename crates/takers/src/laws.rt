@@ -5,19 +5,21 @@ use crate::sink::Sink;
 use crate::taker::Taker;
 use std::io::Write;
 
-/// A pump that ends well leaves nothing owed, and where nothing is owed nothing is written, whatever takes the bytes.
+/// A pump that succeeds has written all the bytes (`all`). A pump of no bytes makes no write (`nothing`). Both hold for
+/// any sink.
 pub fn pumps_take_all<T: Taker>()
     ensures all { TakesAll T.takes }
     ensures nothing { WritesNothing T.takes }
 {}
 
-/// Where the bytes that a writer holds are known, a pump adds the front of what was owed, and the rest is owed then.
+/// A pump appends a prefix of the bytes to what a writer has, if the writer's bytes are known. The other bytes are
+/// still owed.
 pub fn pumps_append_the_front<W: Write>()
     ensures { AppendsFront W.contents }
 {}
 
-/// Where the bytes that a writer holds are known, a text that is sent part by part adds all of it where no write failed,
-/// and else a front of it that isn't all.
+/// A text that is sent part by part is appended whole to what a sink has, if no write failed. Otherwise a prefix of it
+/// that isn't the whole text is appended. This is about sinks whose bytes are known.
 pub fn sent_texts_append<W: Sink>()
     ensures { SentTextsAppend W.takes W.contents }
 {}

@@ -1,7 +1,8 @@
-//! What takes bytes, such as a pipe or a socket: the one loop that hands it bytes write by write, and what that tells.
+//! Byte sinks, such as a pipe or a socket, and the one loop that writes bytes to them.
 //!
-//! A [`Taker`] says what each write does to it, also when it fails, and so [`pump`] tells which writes were made and how
-//! many bytes they took. A [`Sink`] can be flushed, too. Every writer is both.
+//! A [`Taker`] is a sink whose contract says what each write does, also if it fails. So the contract of [`pump`] says
+//! which writes were made and how many bytes they took. A [`Sink`] can also be flushed. Every [`Write`](std::io::Write)
+//! is both.
 #![tactic(auto)]
 
 pub mod laws;

@@ -1,4 +1,4 @@
-//! What takes bytes and can be flushed.
+//! Byte sinks that can be flushed.
 ghost use Rattle.std.specs.Prelude.{ℕ, List, Option, Result};
 ghost use Rattle.std.specs.Io.KnownBytes.{Keeps};
 ghost use Rattle.std.specs.declared.io.Error.{Error};
@@ -9,15 +9,15 @@ use crate::taker::Taker;
 use std::io;
 use std::io::Write;
 
-/// What takes bytes and can be flushed. Each kind says what a write and a flush do to it, also when they fail.
+/// A byte sink that can be flushed. The ghosts of each kind say what a write and a flush do to it, also if they fail.
 pub trait Sink: Taker {
-    // the bytes that it has taken, where they are known
+    // the bytes that the sink has taken, if they are known
     ghost contents: { Self → Option (List ℕ) };
 
-    // what a flush answers and leaves
+    // the result of a flush, and the sink after it
     ghost flushes: { Self → Result (Unit {0}) Error → Self → Type 0 };
 
-    /// Flushes it.
+    /// Flushes the sink.
     fn finish(&mut self) -> io::Result<()>
         ensures flushes { flushes self.old result self.new };
 
@@ -28,7 +28,7 @@ pub trait Sink: Taker {
         → Keeps (contents s) (contents t) };
 }
 
-/// Of a writer it is known what [`Write`] promises.
+/// For a writer, the ghosts are what [`Write`] promises of writes and flushes.
 impl<W: Write> Sink for W {
     ghost contents = { W.contents };
 

@@ -1,4 +1,4 @@
-//! Handing bytes to a writer.
+//! Writing bytes to a sink.
 ghost use Rattle.std.specs.Prelude.{◌≡◌, ℕ, List, Result};
 ghost use Rattle.std.specs.declared.io.Error.{Error};
 ghost use Rattle.takers.specs.Pump.{Pumps, Writes};
@@ -6,16 +6,16 @@ ghost use Rattle.takers.specs.Pump.{Pumps, Writes};
 use std::io;
 use std::io::{ErrorKind, Write};
 
-/// What takes bytes. Each kind says what one write does to it, also when it fails.
+/// A byte sink. The ghost `takes` of each kind says what one write does to it, also if the write fails.
 pub trait Taker {
     ghost takes: { Self → List ℕ → Result ℕ Error → Self → Type 0 };
 
-    /// Offers bytes, and answers how many of them were taken.
+    /// Makes one write of these bytes. Returns how many of them were taken.
     fn offer(&mut self, bytes: &[u8]) -> io::Result<usize>
         ensures takes { takes self.old bytes.now result self.new };
 }
 
-/// Of a writer it is known what [`Write`] promises.
+/// For a writer, `takes` is what [`Write`] promises of a write.
 impl<W: Write> Taker for W {
     ghost takes = { Writes W.contents };
 
@@ -24,11 +24,12 @@ impl<W: Write> Taker for W {
     }
 }
 
-/// Offers the bytes until all are taken, and answers how many were.
+/// Writes the bytes, one write after another, until all are taken. Returns how many were taken, and how the last write
+/// ended.
 ///
-/// Any fault ends it and is handed back, an interrupted write too. A write that takes nothing is a fault of kind
-/// `WriteZero`, and one that answers more than it was offered has taken what it was offered. Where there are no bytes,
-/// nothing is offered.
+/// The first failed write ends the pump, and its error is returned, also if the write was interrupted. A write that
+/// takes no byte is an error of kind `WriteZero`. If a write returns more than the number of bytes it was offered, it
+/// counts as having taken all of them. If there are no bytes, no write is made.
 pub fn pump<T: Taker>(owed: &[u8], to: &mut T) -> (usize, io::Result<()>)
     ensures { Pumps T.takes to.old owed.now result.1 result.0 to.new }
 {

@@ -1,4 +1,4 @@
--- What a request for a frame is answered.
+-- The answers to requests for a frame.
 use Rattle.std.specs.Prelude.{◌≡◌, ◌≢◌, ℕ, zero, suc, ◌*◌, ◌≤◌, ◌==◌, ◌&&◌, Bool, true, false, List, [], ◌∷◌, ◌++◌}
 use Rattle.std.specs.Prelude.{Option, Some, None, if◌then◌else◌, length, nat_lt}
 use Rattle.vt100_forms.specs.Attrs.{attrs_eq}
@@ -25,6 +25,7 @@ modes_eq m n =
     bool_eq m.keypad n.keypad && (bool_eq m.cursor_keys n.cursor_keys && (bool_eq m.paste n.paste
     && ((mouse_number m.mouse == mouse_number n.mouse) && (encoding_number m.encoding == encoding_number n.encoding))))
 
+-- whether two screens of this size show the same: cells, wrapped rows, cursor, attributes, modes and cursor style
 unfoldable pub same_shown : Size → Shown → Shown → Bool
 same_shown z s t =
     all_below z.rows (λ r. all_below z.cols (λ k. cell_eq (s.cell r k) (t.cell r k)))
@@ -32,11 +33,11 @@ same_shown z s t =
     && ((s.row == t.row) && ((s.col == t.col) && (bool_eq s.hidden t.hidden && (attrs_eq s.attrs t.attrs
     && (modes_eq s.modes t.modes && (style_number s.style == style_number t.style)))))))
 
--- so that they are one
+-- if the comparison calls two screens of one size the same, they show the same
 abbrev pub EachSameIsOne : Type 0
 EachSameIsOne = (z : Size) (s t : Shown) → IsShown z s → IsShown z t → same_shown z s t ≡ true → s ≡ t
 
--- and what is shown is the same as itself
+-- the comparison calls a screen the same as itself
 abbrev pub EachOneIsSame : Type 0
 EachOneIsSame = (z : Size) (s : Shown) → same_shown z s s ≡ true
 
@@ -57,7 +58,7 @@ is_frame Behind = false
 is_frame Held = false
 is_frame TooLong = false
 
--- where the present screen is sure
+-- the answer if nothing is owed, the program is in no synchronized update and the present screen is sure
 abbrev pub due_from : Size → Shown → Option Shown → Answer
 due_from z now None = Full
 due_from z now (Some base) =
@@ -65,15 +66,15 @@ due_from z now (Some base) =
     else if same_shown z base now then Unchanged
     else Difference
 
--- where nothing is owed
+-- the answer if nothing is owed and the program is in no synchronized update
 abbrev pub due : Size → Shown → Option Shown → Answer
 due z now base = if is_unsure z now then Unsure else due_from z now base
 
--- while the program is in a synchronized update of its own, frames wait
+-- the answer is `Held` while the program is in a synchronized update of its own
 abbrev pub unless_updating : State → Answer → Answer
 unless_updating now answer = if now.updating then Held else answer
 
--- what would be answered to a client that is owed these bytes if a frame could have any length
+-- the answer to a client that is owed these bytes, if a frame could have any length
 abbrev pub wanted_to : State → Option Shown → List ℕ → Answer
 wanted_to now base [] = unless_updating now (due (grid_size now.shown) (shown_state now) base)
 wanted_to now base (b ∷ bs) = Behind
@@ -81,7 +82,7 @@ wanted_to now base (b ∷ bs) = Behind
 abbrev pub wanted_of : State → ClientState → Answer
 wanted_of now c = wanted_to now c.base c.owed
 
--- the longest text of a frame, in bytes: what a terminal holds of an update, and then parses as a whole
+-- the longest frame, in bytes: what a terminal buffers of a synchronized update, and then parses as a whole
 abbrev pub longest_frame : ℕ
 longest_frame = 2097150
 
@@ -89,21 +90,22 @@ longest_frame = 2097150
 abbrev pub is_too_long : Size → Shown → Option Shown → Bool
 is_too_long z now base = nat_lt longest_frame (length (frame_text z base now))
 
--- a frame that is too long isn't made
+-- the answer is `TooLong` if it would bring a frame that is too long
 abbrev pub unless_too_long : Size → Shown → Option Shown → Answer → Answer
 unless_too_long z now base answer = if is_frame answer && is_too_long z now base then TooLong else answer
 
+-- the answer to a client that is owed these bytes
 abbrev pub answer_to : State → Option Shown → List ℕ → Answer
 answer_to now base [] =
     unless_updating now (unless_too_long (grid_size now.shown) (shown_state now) base
     (due (grid_size now.shown) (shown_state now) base))
 answer_to now base (b ∷ bs) = Behind
 
--- where the program's screen is in this state
+-- the answer to a client, if the program's screen is in this state
 abbrev pub answer_for : State → ClientState → Answer
 answer_for now c = answer_to now c.base c.owed
 
--- whether memory is taken on the way to the answer: for a frame's text, also where it is too long then
+-- whether the request may allocate memory: it does for a frame's text, also if that turns out too long
 abbrev pub may_take_memory : Answer → Bool
 may_take_memory TooLong = true
 may_take_memory answer = is_frame answer
@@ -122,12 +124,14 @@ one_cell = record { rows = 1; cols = 1 }
 abbrev pub emoji : Shown
 emoji = record blank_shown { cell = λ r k. record default_cell { text = 0x2764 ∷ 0xFE0F ∷ [] } }
 
+-- a blank screen with its cursor moved by a column
 abbrev pub moved : Shown
 moved = record blank_shown { col = 1 }
 
 abbrev pub answer_after : Option Shown → Shown → Answer
 answer_after base now = due one_cell now base
 
+-- the answers on screens of one cell, and the order of the tests on any screen
 pub record EachExampleIsAnswered : Type 0 where
   pub first : answer_after None blank_shown ≡ Full
   pub same : answer_after (Some blank_shown) blank_shown ≡ Unchanged

@@ -1,4 +1,4 @@
--- Calls on a hub, one after another: what each is answered, and the hub after it.
+-- Calls on a hub, one after another: the reply to each, and the hub after it.
 use Rattle.std.specs.Prelude.{◌≡◌, ℕ, ◌+◌, ◌-◌, ◌==◌, nat_le, List, [], ◌∷◌, length, min, Result, Ok, Err}
 use Rattle.std.specs.Prelude.{if◌then◌else◌}
 use Rattle.std.specs.declared.io.Error.{Error}
@@ -13,16 +13,16 @@ use Rattle.termrelay.specs.declared.call.Reply.TheVariants.{Done, Attached, Answ
 use Rattle.termrelay.specs.declared.call.Call.{Call as Given}
 use Rattle.termrelay.specs.declared.call.Call.TheVariants as given
 
--- ---- writers that are told of
+-- ---- scripted writers
 
--- One write of these bytes to a writer whose next writes are told: it answers so, and these are told after it. Past the
--- last one all bytes are taken.
+-- One write of these bytes to a scripted writer: its script, the result of the write, and the rest of the script. After
+-- the end of the script a write takes all bytes.
 abbrev pub WritesAsTold : List Take → List ℕ → Result ℕ Error → List Take → Type 0
 WritesAsTold [] bytes answer rest = (answer ≡ Ok (length bytes)) × (rest ≡ [])
 WritesAsTold (Bytes n ∷ takes) bytes answer rest = (answer ≡ Ok (min n (length bytes))) × (rest ≡ takes)
 WritesAsTold (Fault ∷ takes) bytes answer rest = ((e : Error) × (answer ≡ Err e)) × (rest ≡ takes)
 
--- how many of n bytes such a writer takes
+-- how many of n bytes a scripted writer takes in a pump
 unfoldable pub taken_by : List Take → ℕ → ℕ
 taken_by [] n = n
 taken_by (Fault ∷ takes) n = 0
@@ -33,7 +33,7 @@ taken_by (Bytes m ∷ takes) n =
 
 -- ---- calls
 
--- a call by its values
+-- a call, with numbers and lists for its arguments
 pub data Call : Type 0 where
   Feed : List ℕ → Call
   Resize : (rows cols : ℕ) → Call
@@ -41,9 +41,10 @@ pub data Call : Type 0 where
   -- these three are on the client of a key
   Detach : ℕ → Call
   Frame : ℕ → Call
-  -- to a writer whose first writes are these; each further one takes all
+  -- to a scripted writer: the results of its first writes are given, and each later write takes all bytes
   Pump : ℕ → List Take → Call
 
+-- the value of a `Call` of the code
 abbrev pub call_of : Given → Call
 call_of (given.Feed bytes) = Feed bytes.now
 call_of (given.Resize rows cols) = Resize rows.value cols.value
@@ -52,7 +53,7 @@ call_of (given.Detach client) = Detach client
 call_of (given.Frame client) = Frame client
 call_of (given.Pump client takes) = Pump client takes.now
 
--- its numbers are of the code's types
+-- the call's numbers fit the code's types
 abbrev pub IsCall : Call → Type 0
 IsCall (Resize rows cols) = IsSide rows × IsSide cols
 IsCall call = Unit {0}
@@ -66,9 +67,9 @@ replied reply (Err e) = Refused e
 abbrev pub done : Result (Unit {0}) HubError → Reply
 done result = replied (λ u. Done) result
 
--- However it is told of:
+-- For each way to describe a hub:
 module _ {way : Telling} where
-  -- a hub h gets a call and gives a reply, and is g
+  -- a call takes the hub h to g, with this reply
   abbrev pub Serves : HubState way → Call → Reply → HubState way → Type 0
   Serves h (Feed bytes) reply g =
       (result : Result (Unit {0}) HubError) × Feeds h bytes result g × (reply ≡ done result)
@@ -83,7 +84,7 @@ module _ {way : Telling} where
       (result : Result (Unit {0}) HubError) × (rest : List Take)
       × PumpsClient WritesAsTold h key takes result rest g × (reply ≡ done result)
 
-  -- one call after another, with numbers of the code's types
+  -- Calls, one after another, take a hub h to k, with these replies. All their numbers fit the code's types.
   abbrev pub Runs : HubState way → List Call → List Reply → HubState way → Type 0
   Runs h [] [] k = k ≡ h
   Runs h (call ∷ calls) (reply ∷ replies) k =
@@ -91,8 +92,7 @@ module _ {way : Telling} where
   Runs h [] (reply ∷ replies) k = ⊥
   Runs h (call ∷ calls) [] k = ⊥
 
-  -- The same, with what is told beside the hub: from b to c, where `after` gives what is told after a call on a hub that
-  -- gets a reply.
+  -- The same calls also take a value b to c: `after` gives the value after one call on a hub with its reply.
   abbrev pub RunsBeside : {B : Type 0} → (HubState way → Call → Reply → B → B) → HubState way → B → List Call
       → List Reply → HubState way → B → Type 0
   RunsBeside after h b [] [] k c = (k ≡ h) × (c ≡ b)

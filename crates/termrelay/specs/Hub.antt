@@ -1,6 +1,7 @@
--- A hub: one program's screen, and clients that are sent frames of it. What each call does, and how it is refused.
+-- A hub: one program's screen, and clients that are sent frames of it. The effect of each call, and its errors.
 --
--- Of several refusals an unknown client comes first, then a failed hub, then want of memory.
+-- If a call can be refused for several reasons, an unknown client comes first, then a failed hub, then a failed
+-- allocation.
 use Rattle.std.specs.Prelude.{◌≡◌, ℕ, ◌==◌, Bool, true, false, List, [], ◌∷◌, ◌++◌, drop, Option, Some, None, Result}
 use Rattle.std.specs.Prelude.{Ok}
 use Rattle.std.specs.Prelude.{Err, slice_index_or, if◌then◌else◌, IfSome}
@@ -23,10 +24,10 @@ use Rattle.termrelay.specs.declared.answer.Answer.{Answer}
 use Rattle.termrelay.specs.declared.error.HubError.{HubError}
 use Rattle.termrelay.specs.declared.error.HubError.TheVariants.{Memory, Failed, UnknownClient, Write}
 
--- ---- what is told of a hub
+-- ---- ways to describe a hub
 
--- A way to tell of hubs: what stands for a parser, its screen, how it goes on by an act, and how it fails at bytes; and
--- what stands for the clients, and the one at each key.
+-- A way to describe hubs: a type for the parser, its screen, what an act does to it, and how it fails at bytes; and a
+-- type for the clients, and the client at each key.
 pub record Telling : Type 1 where
   pub Parser : Type 0
   pub screen : Parser → ScreenView
@@ -35,24 +36,24 @@ pub record Telling : Type 1 where
   pub Clients : Type 0
   pub client : Clients → ℕ → Option ClientState
 
--- a hub, as it is told of so
+-- a hub, in one way to describe it
 pub record HubState (way : Telling) : Type 0 where
   pub parser : way.Parser
   pub clients : way.Clients
 
--- a parser goes on by this act, whatever has been done to it before
+-- an act takes the parser p to q, whatever acts came before it
 abbrev pub GoesOn : ParserView (Unit {0}) → Act → ParserView (Unit {0}) → Type 0
 GoesOn p act q =
     (rows cols capacity : ℕ) (acts : List Act) → ParserStandsAt p rows cols capacity acts
     → ParserStandsAt q rows cols capacity (acts ++ act ∷ [])
 
--- it has failed at these bytes: whatever has been read before, one of their events may take memory
+-- The parser has failed at these bytes. Whatever bytes it read before, one of the events of these may allocate memory.
 abbrev pub FailsAt : ParserView (Unit {0}) → List ℕ → ParserView (Unit {0}) → Type 0
 FailsAt p bytes q =
     (q.screen.failed ≡ true)
     × ((past : List ℕ) → HasRead p past → some_may_take (events_added past bytes) p.screen.state ≡ true)
 
--- by what the code keeps: the parser, with what the bytes leave unfinished, and a record at each key
+-- hubs described by the code's fields: the parser, with its state inside a sequence, and a record at each key
 abbrev pub as_kept : Telling
 as_kept = record {
   Parser = ParserView (Unit {0});
@@ -70,21 +71,21 @@ new_client = record { owed = []; base = None }
 abbrev pub no_clients : ℕ → Option ClientState
 no_clients key = None
 
--- this is at the key, and the others are as they were
+-- this client (or none) is at the key, and the other keys are unchanged
 abbrev pub with_client : (ℕ → Option ClientState) → ℕ → Option ClientState → ℕ → Option ClientState
 with_client client key slot other = if other == key then slot else client other
 
--- a refusal of the screen, as one of the hub
+-- the hub's error for an error of the screen
 abbrev pub refusal_of : ScreenError → HubError
 refusal_of screen.Memory = Memory
 refusal_of screen.Failed = Failed
 
--- how the end of a pump is answered
+-- the result of a pump, as a result of the hub
 abbrev pub pump_answer : Result (Unit {0}) Error → Result (Unit {0}) HubError
 pump_answer (Ok u) = Ok tt
 pump_answer (Err e) = Err (Write e)
 
--- what a request for a frame can be answered for the client that may be at a key, where the screen is this
+-- The results that a request for a frame can have, by the present screen and the client at the key, if there is one.
 abbrev pub CanFrame : ScreenView → Option ClientState → Result Answer HubError → Type 0
 CanFrame now None result = result ≡ Err UnknownClient
 CanFrame now (Some c) (Ok answer) = (now.failed ≡ false) × (answer ≡ answer_for now.state c)
@@ -93,7 +94,7 @@ CanFrame now (Some c) (Err Failed) = now.failed ≡ true
 CanFrame now (Some c) (Err UnknownClient) = ⊥
 CanFrame now (Some c) (Err (Write e)) = ⊥
 
--- However it is told of:
+-- For each way to describe a hub:
 module _ {way : Telling} where
   abbrev pub screen_in : HubState way → ScreenView
   screen_in h = way.screen h.parser
@@ -113,13 +114,13 @@ module _ {way : Telling} where
   abbrev pub clients_in : HubState way → ℕ → Option ClientState
   clients_in h = way.client h.clients
 
-  -- this is at the key from now on, and nothing else changes
+  -- the hub h becomes g: this client (or none) is at the key, and nothing else changes
   abbrev pub Puts : HubState way → ℕ → Option ClientState → HubState way → Type 0
   Puts h key slot g = (g.parser ≡ h.parser) × (clients_in g ≡ with_client (clients_in h) key slot)
 
   -- ---- feed
 
-  -- a hub h is fed bytes, and is g: without memory it has failed, and only bytes that may take memory can fail it
+  -- A feed takes the hub h to g. If an allocation fails, g has failed, which only bytes that may allocate can cause.
   abbrev pub Feeds : HubState way → List ℕ → Result (Unit {0}) HubError → HubState way → Type 0
   Feeds h bytes (Ok u) g =
       (is_failed h ≡ false) × (is_failed g ≡ false) × (clients_in g ≡ clients_in h)
@@ -132,7 +133,7 @@ module _ {way : Telling} where
 
   -- ---- resize
 
-  -- a hub h gets this size, and is g: every client ends
+  -- a resize takes the hub h to g: if it succeeds, every client ends
   abbrev pub Resizes : HubState way → ℕ → ℕ → Result (Unit {0}) HubError → HubState way → Type 0
   Resizes h rows cols (Ok u) g =
       (is_failed h ≡ false) × (is_failed g ≡ false) × (clients_in g ≡ no_clients)
@@ -144,7 +145,7 @@ module _ {way : Telling} where
 
   -- ---- attach and detach
 
-  -- a client comes to a hub h, which is then g, and gets a key that no client has
+  -- an attach takes the hub h to g: the new client gets a key that no client has
   abbrev pub Attaches : HubState way → Result ℕ HubError → HubState way → Type 0
   Attaches h (Ok key) g = (is_failed h ≡ false) × (clients_in h key ≡ None) × Puts h key (Some new_client) g
   Attaches h (Err Memory) g = (is_failed h ≡ false) × (g ≡ h)
@@ -152,7 +153,7 @@ module _ {way : Telling} where
   Attaches h (Err UnknownClient) g = ⊥
   Attaches h (Err (Write e)) g = ⊥
 
-  -- the client at a key, if there is one, ends
+  -- a detach takes the hub h to g: the client at the key, if there is one, ends
   abbrev pub DetachesFrom : HubState way → ℕ → Option ClientState → Result (Unit {0}) HubError → HubState way
       → Type 0
   DetachesFrom h key None result g = (result ≡ Err UnknownClient) × (g ≡ h)
@@ -163,7 +164,7 @@ module _ {way : Telling} where
 
   -- ---- frame
 
-  -- the hub after a request for a frame: but for an answer nothing changes
+  -- the hub g after a request for a frame: if the call fails, nothing changes
   abbrev pub Framed : HubState way → ℕ → Option ClientState → Result Answer HubError → HubState way → Type 0
   Framed h key None result g = g ≡ h
   Framed h key (Some c) (Ok answer) g = Puts h key (Some (after_answer (size_in h) (shown_in h) c answer)) g
@@ -177,8 +178,8 @@ module _ {way : Telling} where
   abbrev pub OwesOneFrame : HubState way → ℕ → Type 0
   OwesOneFrame h key = IfSome (clients_in h key) (λ c. IsShortFrame (size_in h) c.owed)
 
-  -- the client at a key was owed nothing, and is now owed a frame whose forms touch local cells of its base's picture and
-  -- the screen's
+  -- The client at a key was owed nothing, and is now owed a frame. The frame's forms touch only local cells of its
+  -- base's picture and the screen's.
   pub record OwesLocalFrame (h : HubState way) (key : ℕ) (g : HubState way) : Type 0 where
     pub base : Shown
     pub text : List ℕ
@@ -188,8 +189,8 @@ module _ {way : Telling} where
 
   -- ---- pump
 
-  -- The client that may be at a key is pumped to a writer s, which is then t. A step is what one write of these bytes
-  -- answers and leaves. What was taken is no longer owed. A failed hub pumps too.
+  -- A pump of the client at a key, if there is one, takes a writer s to t. `step` gives the result of one write of
+  -- these bytes, and the writer after it. Bytes that were taken are no longer owed. A failed hub can pump too.
   abbrev pub PumpsFrom : {S : Type 0} → (S → List ℕ → Result ℕ Error → S → Type 0) → HubState way → ℕ
       → Option ClientState → S → Result (Unit {0}) HubError → S → HubState way → Type 0
   PumpsFrom step h key None s result t g = (result ≡ Err UnknownClient) × (t ≡ s) × (g ≡ h)
@@ -203,7 +204,7 @@ module _ {way : Telling} where
 
 -- ---- new
 
--- of this size, with a blank screen that keeps no rows
+-- a hub of this size, with a blank screen, no scrollback and no clients
 pub record IsNewHub (rows cols : ℕ) (h : HubState as_kept) : Type 0 where
   pub parser : ParserStandsAt h.parser rows cols 0 []
   pub clients : clients_in h ≡ no_clients

@@ -1,4 +1,4 @@
--- How a hub's fields give what a contract sees of it, and what is true of them.
+-- A hub's value in contracts, by its fields, and the invariant of the fields.
 use Rattle.std.specs.Prelude.{◌≡◌, ℕ, false, List, IfSome}
 use Rattle.slab.specs.Slab.{get}
 use Rattle.screen_model.specs.Made.{Act}
@@ -11,7 +11,7 @@ use Rattle.termrelay.specs.declared.hub.Hub.TheInside.{Inside}
 abbrev pub hub_of : Inside → HubState as_kept
 hub_of h = record { parser = h.parser; clients = h.clients.slots }
 
--- acts have made the parser of a new one
+-- the parser is in the state after some acts on a new one
 pub record IsMade (p : ParserView (Unit {0})) : Type 0 where
   pub rows : ℕ
   pub cols : ℕ
@@ -20,8 +20,8 @@ pub record IsMade (p : ParserView (Unit {0})) : Type 0 where
   pub are : AreActs rows cols capacity acts
   pub stands : ParserStandsAt p rows cols capacity acts
 
--- the parser was made, each base has the screen's size, each client is owed at most one frame, and the hub's own base is
--- the present screen
+-- Unless the hub has failed, its parser is in the state after some acts, each base has the screen's size, and each
+-- client is owed at most the longest frame's bytes. The copy that the hub keeps is of the present screen.
 pub record IsHub (h : Inside) : Type 0 where
   pub made : h.parser.screen.failed ≡ false → IsMade h.parser
   pub served : h.parser.screen.failed ≡ false → (key : ℕ)

@@ -6,12 +6,12 @@ use Rattle.termrelay.specs.Log.{SessionView, RunsLogged}
 use Rattle.termrelay.specs.declared.call.Reply.{Reply}
 use Rattle.termrelay.specs.declared.call.Reply.TheVariants.{Done}
 
--- feeding in two pieces is feeding the joined bytes
+-- two feeds that succeed give the same hub as one successful feed of the joined bytes
 abbrev pub TwoFeedsAreOne : Type 0
 TwoFeedsAreOne = (h g k : HubState as_kept) (a b : List ℕ) → Feeds h a (Ok tt) g → Feeds g b (Ok tt) k
     → Feeds h (a ++ b) (Ok tt) k
 
--- so it is in a run, and in what a log keeps of it but for one reply
+-- in a run the two feeds can be joined too: the log has one reply less, and the same sessions
 abbrev pub TwoFeedsRunAsOne : Type 0
 TwoFeedsRunAsOne = (h k : HubState as_kept) (ss ts : List SessionView) (a b : List ℕ) (calls : List Call) (replies : List Reply)
     → RunsLogged h ss (Feed a ∷ Feed b ∷ calls) (Done ∷ Done ∷ replies) k ts

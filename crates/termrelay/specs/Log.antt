@@ -1,4 +1,4 @@
--- What is kept of a run of calls: their replies, and the sessions that they began.
+-- The log of a run of calls: the replies, and the sessions that the attaches began.
 use Rattle.std.specs.Prelude.{◌≡◌, ℕ, ◌<◌, ◌==◌, ◌&&◌, Bool, true, false, not, List, [], ◌∷◌, ◌++◌, map, length, take}
 use Rattle.std.specs.Prelude.{Option, Some, None, Result, Ok, Err, if◌then◌else◌}
 use Rattle.std.specs.List.{list_any}
@@ -11,8 +11,7 @@ use Rattle.termrelay.specs.declared.call.Reply.TheVariants.{Done, Attached}
 use Rattle.termrelay.specs.declared.error.HubError.{HubError}
 use Rattle.termrelay.specs.declared.error.HubError.TheVariants.{Memory, Failed, UnknownClient, Write}
 
--- a session: the key of its client, the screen's size at its attach, the bytes that its pumps' writers took, and
--- whether it has ended
+-- the log of one client: its key, the screen's size at its attach, the bytes pumped to it, and whether it has ended
 pub record SessionView : Type 0 where
   pub client : ℕ
   pub rows : ℕ
@@ -30,11 +29,11 @@ empty_log = record { replies = []; sessions = [] }
 
 -- ---- sessions
 
--- it is of this key, and hasn't ended
+-- whether the session is of this key, and hasn't ended
 abbrev pub is_of : ℕ → SessionView → Bool
 is_of key s = not s.ended && (s.client == key)
 
--- the last one of which the test is true is changed so
+-- the list, with the last item that passes the test changed by f
 abbrev pub change_last : {A : Type 0} → (A → Bool) → (A → A) → List A → List A
 change_last test f [] = []
 change_last test f (x ∷ xs) =
@@ -42,7 +41,7 @@ change_last test f (x ∷ xs) =
     else if test x then f x ∷ xs
     else x ∷ xs
 
--- it stands there
+-- the last item that passes the test is at this index
 pub record IsLast {A : Type 0} (test : A → Bool) (xs : List A) (at : ℕ) : Type 0 where
   pub front : List A
   pub last : A
@@ -52,22 +51,25 @@ pub record IsLast {A : Type 0} (test : A → Bool) (xs : List A) (at : ℕ) : Ty
   pub is : test last ≡ true
   pub none : list_any test back ≡ false
 
+-- a session at its attach to a hub h
 abbrev pub begun : {way : Telling} → HubState way → ℕ → SessionView
 begun h key = record { client = key; rows = (size_in h).rows; cols = (size_in h).cols; pumped = []; ended = false }
 
+-- the session after its end
 abbrev pub ended : SessionView → SessionView
 ended s = record s { ended = true }
 
+-- the session after these bytes were pumped
 abbrev pub grown : List ℕ → SessionView → SessionView
 grown bytes s = record s { pumped = s.pumped ++ bytes }
 
--- the bytes that such a writer takes of what the client that may be at a key is owed
+-- the bytes that a scripted writer takes of those that the client is owed; none if there is no client
 abbrev pub bytes_taken : List Take → Option ClientState → List ℕ
 bytes_taken takes None = []
 bytes_taken takes (Some c) = take (taken_by takes (length c.owed)) c.owed
 
--- The sessions after a call on a hub h that gets this reply. An attach begins one; a detach ends the last one of its
--- key that hasn't ended, and a resize ends all; to that last one of its key go a pump's bytes.
+-- The sessions after a call on a hub h that gets this reply. An attach begins a session. A detach ends the last session
+-- of its key that hasn't ended, and a pump's bytes are added to that session. A resize ends all sessions.
 abbrev pub sessions_after : {way : Telling} → HubState way → Call → Reply → List SessionView → List SessionView
 sessions_after h (Resize rows cols) Done ss = map ended ss
 sessions_after h Attach (Attached key) ss = ss ++ begun h key ∷ []
@@ -75,7 +77,7 @@ sessions_after h (Detach key) Done ss = change_last (is_of key) ended ss
 sessions_after h (Pump key takes) reply ss = change_last (is_of key) (grown (bytes_taken takes (clients_in h key))) ss
 sessions_after h call reply ss = ss
 
--- a hub h gets a call and is g, and a log l of it is m
+-- a call takes the hub h to g, and its log l to m
 abbrev pub ServesLogged : HubState as_kept → Call → HubState as_kept → LogView → LogView → Type 0
 ServesLogged h call g l m =
     (reply : Reply) × IsCall call × Serves h call reply g × (m.replies ≡ l.replies ++ reply ∷ [])
@@ -83,18 +85,18 @@ ServesLogged h call g l m =
 
 -- ---- runs
 
--- one call after another, with numbers of the code's types: from a hub h and sessions ss to k and ts
+-- Calls, one after another, take a hub h and its sessions ss to k and ts. All their numbers fit the code's types.
 abbrev pub RunsLogged : HubState as_kept → List SessionView → List Call → List Reply → HubState as_kept
     → List SessionView → Type 0
 RunsLogged = RunsBeside sessions_after
 
--- all the calls were made: the log gets their replies, and its sessions are those after them
+-- all the calls were made: the log has their replies in addition, and its sessions are those after the calls
 abbrev pub MadeAll : HubState as_kept → LogView → List Call → HubState as_kept → LogView → Type 0
 MadeAll h l calls g m =
     (replies : List Reply) × (m.replies ≡ l.replies ++ replies) × RunsLogged h l.sessions calls replies g m.sessions
 
--- A run of calls on a hub h with a log l, which are g and m then: all were made, or, where there was no memory for what
--- the log keeps of a call, those before it.
+-- A run of calls takes a hub h to g, and its log l to m. All calls were made; or an allocation for the log failed, and
+-- the calls before that one were made.
 abbrev pub RunsCalls : HubState as_kept → LogView → List Call → Result (Unit {0}) HubError → HubState as_kept → LogView
     → Type 0
 RunsCalls h l calls (Ok u) g m = MadeAll h l calls g m

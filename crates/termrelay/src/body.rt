@@ -1,4 +1,4 @@
-//! What stands between the marks of a frame.
+//! The body of a frame: the bytes between its marks.
 ghost use Rattle.std.specs.Prelude.{◌≡◌, ◌++◌, OnOk, OnErr, Err};
 ghost use Rattle.vt100_forms.specs.Form.{spell};
 ghost use Rattle.screen_drawing.specs.Modes.{input_mode_diff};
@@ -11,7 +11,7 @@ ghost use Rattle.termrelay.specs.declared.error.HubError.TheVariants.{Memory};
 use crate::error::HubError;
 use vt100::Screen;
 
-/// Appends what draws the screen on a blank one.
+/// Appends the bytes that draw the screen on a blank terminal. Fails only if an allocation fails.
 pub(crate) fn push_state(text: &mut Vec<u8>, now: &Screen) -> Result<(), HubError>
     requires { IsUnscrolled now.now.state }
     ensures text { OnOk result (text.new.items ≡ text.old.items
@@ -22,7 +22,8 @@ pub(crate) fn push_state(text: &mut Vec<u8>, now: &Screen) -> Result<(), HubErro
     Ok(())
 }
 
-/// Appends what takes a terminal from all that the base shows to all that the screen shows.
+/// Appends the bytes that take a terminal from all that `base` shows to all that the screen shows. Fails only if an
+/// allocation fails.
 pub(crate) fn push_difference(
     text: &mut Vec<u8>,
     base: &Screen,
@@ -39,7 +40,7 @@ pub(crate) fn push_difference(
     Ok(())
 }
 
-/// Appends what draws the screen on one that has the base's modes.
+/// Appends the bytes that draw the screen on a terminal with the modes of `base`. Fails only if an allocation fails.
 pub(crate) fn push_redraw(text: &mut Vec<u8>, base: &Screen, now: &Screen) -> Result<(), HubError>
     requires { IsUnscrolled now.now.state }
     ensures text { OnOk result (text.new.items ≡ text.old.items

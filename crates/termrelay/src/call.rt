@@ -1,14 +1,14 @@
-//! Calls on a hub, and what they are answered.
+//! Calls on a hub, and the replies to them.
 
 use crate::answer::Answer;
 use crate::client::Client;
 use crate::error::HubError;
 use std::num::NonZeroU16;
 
-/// What one write of a pump's writer does.
+/// The result of one write to a scripted writer of a pump.
 #[derive(Clone, Copy, Debug, Eq, PartialEq)]
 pub enum Take {
-    /// The write takes at most so many bytes.
+    /// The write takes at most this many bytes.
     Bytes(usize),
     /// The write fails.
     Fault,
@@ -19,7 +19,7 @@ pub enum Take {
 pub enum Call<'a> {
     /// Gives the program's next bytes to the screen.
     Feed(&'a [u8]),
-    /// Gives the screen this many rows and columns.
+    /// Gives the screen this many rows and columns, in this order.
     Resize(NonZeroU16, NonZeroU16),
     /// Asks for a new client.
     Attach,
@@ -27,11 +27,12 @@ pub enum Call<'a> {
     Detach(Client),
     /// Asks for a frame for the client.
     Frame(Client),
-    /// Hands what the client is owed to a writer whose first writes are these. Each further one takes all.
+    /// Writes the bytes that the client is owed to a scripted writer. The results of its first writes are given; each
+    /// later write takes all bytes.
     Pump(Client, &'a [Take]),
 }
 
-/// What a call was answered.
+/// The reply to a call.
 #[derive(Debug, Drop)]
 pub enum Reply {
     /// The call was made: a feed, a resize, a detach, or a pump after which nothing is owed.

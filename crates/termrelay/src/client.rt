@@ -3,7 +3,7 @@ ghost use Rattle.std.specs.Prelude.{◌≡◌};
 
 use std::marker::Model;
 
-/// A client of a hub, by its key. The key of a client that has ended is unknown until another one gets it.
+/// The key of a client in its hub. After a client ends, its key is unknown to the hub until a new client gets it.
 #[derive(Clone, Copy, Debug, Eq, PartialEq)]
 pub struct Client {
     key: usize,
@@ -20,7 +20,7 @@ impl Model for Client {
 }
 
 impl Client {
-    /// The client with this key, if there is one.
+    /// The client with this key. A hub refuses the key with `UnknownClient` if it has no such client.
     pub fn from_key(key: usize) -> Self
         ensures { result ≡ key }
     {

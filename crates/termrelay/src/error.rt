@@ -11,16 +11,16 @@ use vt100::ScreenError;
 /// Why a call on a hub was refused.
 #[derive(Debug, Drop, Error)]
 pub enum HubError {
-    /// There was no memory for what the call would have stored.
+    /// An allocation failed.
     #[error("out of memory")]
     Memory,
-    /// An earlier feed found no memory, and left open what the hub's screen shows.
+    /// An earlier feed ran out of memory, so that what the hub's screen shows is unspecified.
     #[error("the hub has failed")]
     Failed,
-    /// The key isn't that of a client.
+    /// The hub has no client with this key.
     #[error("unknown client")]
     UnknownClient,
-    /// The writer that bytes were pumped to failed, or took nothing.
+    /// The writer of a pump failed, or took no byte (kind `WriteZero`).
     #[error("{0}")]
     Write(io::Error),
 }

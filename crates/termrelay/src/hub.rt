@@ -20,14 +20,16 @@ use vt100::{Parser, Screen};
 
 /// One program's screen, and clients that are sent frames of it.
 ///
-/// A client's frames, joined, make a terminal of the screen's size show what the screen shows. Each leads on from the
-/// one before, so that a client keeps the screen at its last frame. Of several refusals an unknown client comes first,
-/// then a failed hub, then want of memory.
+/// A client's frames, read one after another, make a terminal of the screen's size show what the screen shows. Each
+/// frame starts from what the one before it showed, so the hub keeps each client's screen at its last frame.
+///
+/// If a call can be refused for several reasons, an unknown client comes first, then a failed hub, then a failed
+/// allocation.
 #[derive(Drop)]
 pub struct Hub {
     parser: Parser<()>,
     clients: Slab<Record>,
-    /// The base that was made of the present screen.
+    /// A copy of the present screen, if one was made since the last change.
     present: Option<Rc<Screen>>,
     alloc: Global,
 }
@@ -48,7 +50,8 @@ impl Hub {
     ghost use Rattle.termrelay.specs.Hub.{clients_in, shown_in, Puts, IsNewHub, Feeds, Resizes, Attaches, Detaches};
     ghost use Rattle.termrelay.specs.Hub.{Frames, OwesOneFrame, OwesLocalFrame, PumpsClient, size_in, is_failed};
 
-    /// A hub with a blank screen of this size, which keeps no rows, and without clients.
+    /// A hub with a blank screen of this size, without scrollback rows and without clients. Fails only if an allocation
+    /// fails.
     pub fn new(alloc: Global, rows: NonZeroU16, cols: NonZeroU16) -> Result<Self, HubError>
         ensures new { IfOk result (λ hub. IsNewHub rows.value cols.value hub) }
         ensures memory { OnErr result (result ≡ Err Memory) }
@@ -61,7 +64,7 @@ impl Hub {
         })
     }
 
-    /// The program's screen. The hub has failed where the screen has.
+    /// The program's screen. The hub has failed exactly when its screen has.
     pub fn screen(&self) -> &Screen
         ensures { result.now ≡ self.now.parser.screen }
     {
@@ -74,10 +77,12 @@ impl Hub {
         self.parser.screen().failed()
     }
 
-    /// Gives the program's next bytes to the screen. They may be cut anywhere.
+    /// Gives the program's next bytes to the screen. A feed may end anywhere, also inside a character or an escape
+    /// sequence.
     ///
-    /// Without memory the hub has failed: no frame is made any more, but what is owed can be pumped. Only a full reset and
-    /// the alternate sheet's first showing take memory; bytes without them aren't refused.
+    /// If an allocation fails, the hub has failed: it makes no more frames, but the bytes that are owed can still be
+    /// pumped. Only a full reset (`ESC c`) and the first switch to the alternate screen allocate memory. Other bytes
+    /// are refused only by a hub that has failed.
     pub fn feed(&mut self, bytes: &[u8]) -> Result<(), HubError>
         ensures { Feeds self.old bytes.now result self.new }
     {
@@ -92,7 +97,8 @@ impl Hub {
         Ok(())
     }
 
-    /// Gives the screen another size. Every client ends, also where the size stays. Refused, nothing has changed.
+    /// Gives the screen another size. Every client ends, also if the size stays the same. Fails only if an allocation
+    /// fails or the hub has failed; then nothing has changed.
     pub fn resize(&mut self, rows: NonZeroU16, cols: NonZeroU16) -> Result<(), HubError>
         ensures { Resizes self.old rows.value cols.value result self.new }
     {
@@ -107,7 +113,8 @@ impl Hub {
         Ok(())
     }
 
-    /// A new client, which has had no frame. Refused, nothing has changed.
+    /// Adds a client, which has had no frame. Fails only if an allocation fails or the hub has failed; then nothing has
+    /// changed.
     pub fn attach(&mut self) -> Result<Client, HubError>
         ensures { Attaches self.old result self.new }
     {
@@ -120,7 +127,7 @@ impl Hub {
         }
     }
 
-    /// The client ends, and what it is owed is gone.
+    /// Ends the client. The bytes that it is still owed are dropped. Fails only for an unknown client.
     pub fn detach(&mut self, client: Client) -> Result<(), HubError>
         ensures { Detaches self.old client result self.new }
     {
@@ -130,8 +137,9 @@ impl Hub {
         }
     }
 
-    /// The bytes of the client's last frame that haven't been pumped yet: at most 1,024 for each cell of the screen, and
-    /// 1,024 more, as long as the hub hasn't failed (`short`). A failed hub's clients are owed what they were before.
+    /// The bytes of the client's last frame that haven't been pumped yet. Unless the hub has failed, these are at most
+    /// 1,024 bytes for each cell of the screen, and 1,024 more (`short`). When a hub fails, its clients are still owed
+    /// the same bytes. Fails only for an unknown client.
     pub fn owed(&self, client: Client) -> Result<&[u8], HubError>
         ensures owed { MatchOption (clients_in self.now client) (result ≡ Err UnknownClient)
             (λ c. IsOkAnd result (λ bytes. bytes.now ≡ c.owed)) }
@@ -143,12 +151,12 @@ impl Hub {
         }
     }
 
-    /// Hands what the client is owed to a writer, by writes alone: nothing is flushed, and where nothing is owed
-    /// nothing is written.
+    /// Writes the bytes that the client is owed to a writer. It doesn't flush the writer, and writes nothing if nothing
+    /// is owed.
     ///
-    /// Any fault ends the call and is handed back, an interrupted write too; a write that takes nothing is a fault of
-    /// kind `WriteZero`. What was taken is no longer owed. A write that answers more than it was offered has taken what
-    /// it was offered.
+    /// The first error of a write ends the call and is returned, also if the write was interrupted. A write that takes
+    /// no byte is an error of kind `WriteZero`. Bytes that were taken are no longer owed. If a write returns more than
+    /// the number of bytes it was offered, it counts as having taken all of them.
     pub fn pump<T: Taker>(&mut self, client: Client, to: &mut T) -> Result<(), HubError>
         ensures { PumpsClient T.takes self.old client to.old result to.new self.new }
     {
@@ -161,7 +169,7 @@ impl Hub {
         }
     }
 
-    /// A base of the present screen. One that was made of it before is shared.
+    /// A copy of the present screen. A copy that was made before is shared.
     fn present_base(&self) -> Result<Rc<Screen>, HubError>
         ensures base { IfOk result (λ base. base.value ≡ self.now.parser.screen) }
         ensures memory { OnErr result (result ≡ Err Memory) }
@@ -176,22 +184,25 @@ impl Hub {
         }
     }
 
-    /// Asks for a frame for the client. Where the answer brings one, its text is owed from now on, and the present
-    /// screen is the client's base. Refused, or with another answer, nothing has changed.
+    /// Asks for a frame for the client. If the answer brings a frame, the client is owed its bytes from now on, and its
+    /// next frame starts from the present screen. If the call fails, or with any other answer, nothing has changed.
     ///
-    /// `Held` is answered, and no memory is taken, while the program is in a synchronized update of its own: it has set
-    /// private mode 2026, as it does where a terminal is to show a change at once, and hasn't reset it. There is no
-    /// timeout: a program that never ends its update is held until a full reset or a resize. Till then a host can go on
-    /// showing the last frame, or resize to the same size, which ends the update and every client, and attach again.
+    /// The answer is `Held` while the program is in a synchronized update of its own: it has set private mode 2026 and
+    /// hasn't reset it. Then no memory is allocated. There is no timeout: only the program, a full reset or a resize
+    /// ends the update. Till then a host can go on showing the last frame. Or it can resize to the same size, which
+    /// ends the update and every client, and attach again.
     ///
-    /// `TooLong` is answered where a frame is due whose text, with the marks, would be longer than 2,097,150 bytes. The
-    /// text is made first, so that memory may be wanted on the way. It doesn't come where the screen has at most 2,000
-    /// cells (`small`). A later frame may be shorter; else a host can resize to fewer cells.
+    /// The answer is `TooLong` if the frame would be longer than 2,097,150 bytes, its marks included. The text is made
+    /// first, so this answer allocates memory too. It never comes on a screen of at most 2,000 cells (`small`). A later
+    /// frame may be shorter; else a host can resize to fewer cells.
     ///
     /// Whatever the answer is, the client is owed at most 1,024 bytes for each cell of the screen, and 1,024 more
-    /// (`short`). The forms of a difference touch local cells alone: those that differ, and, in rows that differ and right
-    /// below them, empty ones and those of the first and the last column; each with its other half. Where the cursor waits
-    /// at the end of a row, they may also touch the last cell of one row (`local`).
+    /// (`short`).
+    ///
+    /// The body of a difference touches only local cells (`local`): cells that differ, and some in rows that differ and
+    /// in the row right below each. In those rows, these are empty cells and the cells of the first and the last
+    /// column. Of a wide character both cells are touched. If the cursor waits to wrap at the end of a row, the last
+    /// cell of one row may also be touched.
     pub fn frame(&mut self, client: Client) -> Result<Answer, HubError>
         ensures frames { Frames self.old client result self.new }
         ensures short { OnOk result (OwesOneFrame self.new client) }
@@ -220,8 +231,8 @@ impl Hub {
         Ok(answer)
     }
 
-    /// From now on the client is owed a frame's text, and `base` is the screen at it, of which it isn't sure what another
-    /// terminal makes where `unsure` says so.
+    /// The client is owed a frame's text from now on. `base` is the screen at that frame, and `unsure` says whether it
+    /// shows U+FE0F.
     fn owe(&mut self, client: Client, text: Vec<u8>, base: Rc<Screen>, unsure: bool)
         requires known { IsSome (slice_index_or self.old.clients client None) }
         requires present { base.value ≡ self.old.parser.screen }

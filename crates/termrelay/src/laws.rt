@@ -4,37 +4,37 @@ ghost use Rattle.termrelay.specs.Frame.{EachSureIsPlain, EachFrameIsMarked, Each
 ghost use Rattle.termrelay.specs.Frame.{EachBodyIsSent, EachBodyIsOfForms, EachFrameIsShort};
 ghost use Rattle.termrelay.specs.Laws.{TwoFeedsAreOne, TwoFeedsRunAsOne};
 
-/// A screen is unsure wherever one of its cells has U+FE0F.
+/// On a screen that is sure, no cell has U+FE0F.
 pub fn sure_screens_are_plain()
     ensures { EachSureIsPlain }
 {}
 
-/// A frame is the start mark, a body and the end mark, and each mark stands in its own place alone; so where no cell
-/// shows U+FFFD, which a screen never does.
+/// A frame is the start mark, a body and the end mark. Neither mark occurs anywhere else in it. This holds for screens
+/// without U+FFFD in a cell; a screen never shows that character.
 pub fn frames_are_marked()
     ensures { EachFrameIsMarked }
 {}
 
-/// A frame's body leads a client that has had all earlier frames to the present screen, where no cell shows U+FE0F:
-/// the first one from a blank screen, later ones from what was shown at the last frame, and where that wasn't sure from
-/// any picture with its modes and style.
+/// If no cell of the present screen has U+FE0F, a frame's body makes a client that has had all earlier frames show the
+/// present screen. The first frame starts from a blank screen, and later ones from what the last one showed. After a
+/// screen with U+FE0F, a frame starts from any picture with that screen's modes and cursor style.
 pub fn frames_lead()
     ensures { EachFrameLeads }
 {}
 
-/// Also where U+FE0F is shown, the input modes and the cursor's style come out as they are.
+/// After a frame the client has the screen's input modes and cursor style, also if a cell shows U+FE0F.
 pub fn frames_set_modes()
     ensures { EachFrameSetsModes }
 {}
 
-/// What a frame has between its marks is spelled by forms that writers send; unless the present screen is unsure, by
-/// forms that a screen and a view read alike.
+/// A frame's body is a list of forms (texts and escape sequences) that the writers send. Unless the present screen
+/// shows U+FE0F, a `vt100` screen and a view of `termview` read these forms alike.
 pub fn bodies_are_of_forms()
     ensures sent { EachBodyIsSent }
     ensures forms { EachBodyIsOfForms }
 {}
 
-/// A frame is at most 1,024 bytes a cell long, and 1,024 more; also where U+FE0F is shown.
+/// A frame has at most 1,024 bytes for each cell, and 1,024 more, also if a cell shows U+FE0F.
 pub fn frames_are_short()
     ensures { EachFrameIsShort }
 {}
@@ -44,21 +44,22 @@ pub fn small_frames_are_not_too_long()
     ensures { EachSmallScreenFits }
 {}
 
-/// Screens of one size that the test takes for the same show the same, so that a client that is answered `Unchanged`
-/// misses nothing. And the test takes each screen for the same as one that shows the same, so that no frame is made of
-/// what the client has already.
+/// If the comparison calls two screens of one size the same, they show the same (`one`). So a client that is answered
+/// `Unchanged` misses nothing. If two screens show the same, the comparison calls them the same (`same`). So no frame
+/// is made of what the client has already.
 pub fn same_screens_are_one()
     ensures one { EachSameIsOne }
     ensures same { EachOneIsSame }
 {}
 
-/// What is answered on some screens of one cell; and on any screen: bytes that are owed come first, then the program's
-/// own update, then what is due, unless it is too long.
+/// Examples of answers, on screens of one cell. On any screen, `Behind` comes before `Held`, and `Held` before all
+/// other answers.
 pub fn examples_are_answered()
     ensures { EachExampleIsAnswered }
 {}
 
-/// Two feeds are one feed of the joined bytes, memory aside; so in a run, whose log has one reply less.
+/// Two feeds that succeed give the same hub as one successful feed of the joined bytes (`one`). In a run the log has
+/// one reply less, and is the same otherwise (`run`).
 pub fn feeds_are_joined()
     ensures one { TwoFeedsAreOne }
     ensures run { TwoFeedsRunAsOne }

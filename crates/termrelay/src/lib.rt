@@ -1,4 +1,5 @@
-//! A hub: one program's screen, and clients that are sent frames of it. Runs of calls on it, and logs of them.
+//! A hub: one program's screen, and clients that are sent frames of it. Sequences of calls on it (runs), and logs of
+//! them.
 #![tactic(auto)]
 
 pub mod answer;

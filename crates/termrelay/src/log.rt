@@ -1,4 +1,4 @@
-//! Runs of calls, and what is kept of them.
+//! Sequences of calls on a hub, and a log of them.
 ghost use Rattle.std.specs.Prelude.{◌≡◌, map, OnOk, OnErr, IfOk};
 ghost use Rattle.termrelay.specs.Calls.{Feed, Resize, Attach, Detach, Frame, Pump, Serves, IsCall, call_of};
 ghost use Rattle.termrelay.specs.Log.{empty_log, sessions_after, ServesLogged, RunsCalls};
@@ -12,7 +12,7 @@ use std::alloc::{AllocError, Global};
 use std::marker::Model;
 use std::num::NonZeroU16;
 
-/// What is kept of runs: what each call was answered, and what was pumped to each client that they attached.
+/// The log of one or more runs: the reply to each call, and a session for each client that a call attached.
 #[derive(Drop)]
 pub struct Log {
     replies: Vec<Reply>,
@@ -29,7 +29,7 @@ impl Model for Log {
 }
 
 impl Log {
-    /// Of no calls.
+    /// An empty log. Nothing is allocated yet.
     pub fn new(alloc: Global) -> Self
         ensures { result ≡ empty_log }
     {
@@ -40,21 +40,22 @@ impl Log {
         }
     }
 
-    /// What the calls were answered, in order.
+    /// The replies to the calls, in order.
     pub fn replies(&self) -> &[Reply]
         ensures { result.now ≡ self.now.replies }
     {
         &self.replies
     }
 
-    /// A session for each client that was attached, in order.
+    /// A session for each client that a call attached, in the order of the attaches.
     pub fn sessions(&self) -> &[Session]
         ensures { result.now ≡ self.now.sessions }
     {
         &self.sessions
     }
 
-    /// Makes a call on a hub, and keeps its reply. Where there is no memory for what is kept, nothing is done.
+    /// Makes a call on a hub, and keeps its reply. Fails only if an allocation for the log fails; then the call isn't
+    /// made.
     fn serve(&mut self, hub: &mut Hub, call: &Call<'_>) -> Result<(), AllocError>
         ensures served { OnOk result (ServesLogged hub.old (call_of call.now) hub.new self.old self.new) }
         ensures hub { OnErr result (hub.new ≡ hub.old) }
@@ -67,7 +68,7 @@ impl Log {
     }
 }
 
-/// Makes a call on a hub. Where there is no memory for what is kept of it, nothing is done.
+/// Makes a call on a hub. Fails only if an allocation for the sessions fails; then the call isn't made.
 fn serve(
     hub: &mut Hub,
     alloc: Global,
@@ -101,7 +102,7 @@ fn feed(hub: &mut Hub, bytes: &[u8]) -> Reply
     }
 }
 
-/// Gives a hub's screen another size. Then every session ends.
+/// Gives a hub's screen another size. If the hub does so, every session ends.
 fn resize(hub: &mut Hub, rows: NonZeroU16, cols: NonZeroU16, sessions: &mut [Session]) -> Reply
     ensures call { IsCall (Resize rows.value cols.value) }
     ensures served { Serves hub.old (Resize rows.value cols.value) result hub.new }
@@ -117,7 +118,7 @@ fn resize(hub: &mut Hub, rows: NonZeroU16, cols: NonZeroU16, sessions: &mut [Ses
     }
 }
 
-/// Attaches a client to a hub, and begins a session of it. The room for that is made first.
+/// Attaches a client to a hub, and begins a session of it. The memory for the session is allocated first.
 fn attach(hub: &mut Hub, alloc: Global, sessions: &mut Vec<Session>) -> Result<Reply, AllocError>
     ensures served { IfOk result (λ reply. Serves hub.old Attach reply hub.new) }
     ensures sessions { IfOk result (λ reply. sessions.new.items
@@ -160,7 +161,7 @@ fn frame(hub: &mut Hub, client: Client) -> Reply
     }
 }
 
-/// Pumps a client of a hub to a writer that is told of. What it takes goes to the last session of the client that
+/// Pumps a client of a hub to a scripted writer. The bytes written are added to the last session of the client that
 /// hasn't ended, if there is one.
 fn pump_kept(
     hub: &mut Hub,
@@ -180,14 +181,14 @@ fn pump_kept(
     }
 }
 
-/// Makes the calls in order, and keeps in the log what each is answered, and what is pumped.
+/// Makes the calls in order. The log keeps the reply to each, and the bytes that were pumped.
 ///
-/// An attach begins a session. A pump's bytes go to the last session of its key that hasn't ended; where there is none,
-/// as for a client that was attached outside, no session changes. A detach ends the last session of its key that hasn't
-/// ended, and a resize ends all. A refusal of a call is its reply, and the run goes on.
+/// An attach begins a session. A pump's bytes are added to the last session of its client that hasn't ended. If there
+/// is none, as for a client that was attached outside the log, no session changes. A detach ends that last session, and
+/// a resize ends all sessions. A refused call is kept as its reply, and the run goes on.
 ///
-/// Where there is no memory for what the log keeps of a call, the run ends before that call. Room for all that is owed
-/// is made before a pump.
+/// Fails only if an allocation for the log fails, with `Memory`. Then the calls before that one were made, and it and
+/// the later ones weren't. Before a pump, memory is allocated for all the bytes that are owed.
 pub fn run(hub: &mut Hub, calls: &[Call<'_>], log: &mut Log) -> Result<(), HubError>
     ensures { RunsCalls hub.old log.old (map call_of calls.now) result hub.new log.new }
 {

@@ -25,22 +25,23 @@ use std::rc::Rc;
 use takers::{Taker, pump};
 use vt100::Screen;
 
-/// What begins a synchronized update, and what ends it.
+/// The bytes that begin a synchronized update: private mode 2026 set (`CSI ? 2026 h`).
 const START_MARK: &[u8; 8] = b"\x1b[?2026h";
 
+/// The bytes that end a synchronized update: private mode 2026 reset (`CSI ? 2026 l`).
 const END_MARK: &[u8; 8] = b"\x1b[?2026l";
 
-/// How many bytes of a frame a terminal holds back at most, and then parses as a whole.
+/// The longest frame, in bytes, that a terminal buffers and then parses as a whole.
 const LONGEST_FRAME: usize = 2_097_150;
 
-/// Whether a frame's text is longer than what a terminal holds back.
+/// Whether a frame's text is longer than what a terminal buffers.
 pub(crate) fn is_too_long(text: &[u8]) -> bool
     ensures { result ≡ nat_lt longest_frame (length text.now) }
 {
     text.len() > LONGEST_FRAME
 }
 
-/// The answer, unless it isn't sure what another terminal makes of the screen.
+/// `Unsure` if the screen shows U+FE0F, else the answer.
 fn unless(unsure: bool, answer: Answer) -> Answer
     ensures { result ≡ (if unsure then Unsure else answer) }
 {
@@ -52,11 +53,11 @@ fn unless(unsure: bool, answer: Answer) -> Answer
 pub(crate) struct Record {
     /// The last frame's text.
     text: Vec<u8>,
-    /// How many of its bytes are no longer owed.
+    /// How many bytes of the text are no longer owed.
     taken: usize,
     /// The screen at the last frame.
     base: Option<Rc<Screen>>,
-    /// Whether it isn't sure what another terminal makes of that screen. It was found when the frame was made.
+    /// Whether that screen shows U+FE0F, about whose width terminals disagree. It was found when the frame was made.
     unsure: bool,
 }
 
@@ -77,7 +78,7 @@ impl Model for Record {
 }
 
 impl Record {
-    /// Of a client that has had no frame.
+    /// The record of a client that has had no frame.
     pub(crate) fn new(alloc: Global) -> Self
         ensures { result ≡ record { owed = []; base = None } }
     {
@@ -106,15 +107,15 @@ impl Record {
         }
     }
 
-    /// The screen at the last frame, where it is sure what another terminal makes of it.
+    /// The screen at the last frame, unless it shows U+FE0F.
     fn sure_base(&self) -> Option<&Screen>
         ensures { option_copied result ≡ sure_base self.now.base }
     {
         if self.unsure { None } else { self.base() }
     }
 
-    /// What is answered where nothing is owed and the program isn't in an update. Where the screen shows the same as a
-    /// sure base, it is sure too.
+    /// The answer if nothing is owed and the program isn't in a synchronized update. A screen that shows the same as a
+    /// sure base is itself sure.
     fn due(&self, now: &Screen) -> Answer
         requires unscrolled { IsUnscrolled now.now.state }
         requires served { IsRecordOf now.now self.now }
@@ -129,7 +130,7 @@ impl Record {
         unless(is_unsure_since(base, now), Answer::Difference)
     }
 
-    /// What a request for a frame is answered, unless the frame is too long.
+    /// The answer to a request for a frame, unless the frame is too long.
     pub(crate) fn answer(&self, now: &Screen) -> Answer
         requires unscrolled { IsUnscrolled now.now.state }
         requires served { IsRecordOf now.now self.now }
@@ -144,7 +145,8 @@ impl Record {
         self.due(now)
     }
 
-    /// The text of the frame that is due. It is a difference where that was answered, else a redraw.
+    /// The text of the frame that is due: a difference if that is the answer, else a redraw. Fails only if an
+    /// allocation fails.
     pub(crate) fn frame_text(
         &self,
         alloc: Global,
@@ -167,7 +169,7 @@ impl Record {
         Ok(text)
     }
 
-    /// Appends what stands between the marks of that frame.
+    /// Appends the body of that frame: the bytes between its marks.
     fn push_body(&self, text: &mut Vec<u8>, now: &Screen, answer: Answer) -> Result<(), HubError>
         requires unscrolled { IsUnscrolled now.now.state }
         requires served { IsRecordOf now.now self.now }
@@ -185,8 +187,8 @@ impl Record {
         }
     }
 
-    /// From now on a frame's text is owed, and `base` is the screen at it, of which it isn't sure what another terminal
-    /// makes where `unsure` says so.
+    /// The client is owed a frame's text from now on. `base` is the screen at that frame, and `unsure` says whether it
+    /// shows U+FE0F.
     pub(crate) fn owe(&mut self, text: Vec<u8>, base: Rc<Screen>, unsure: bool)
         requires { unsure ≡ is_unsure_screen base.value }
         ensures { self.new ≡ record { owed = text.items; base = Some base.value } }
@@ -197,7 +199,7 @@ impl Record {
         self.unsure = unsure;
     }
 
-    /// Hands what is owed to a writer. What it took is no longer owed.
+    /// Writes the bytes that are owed to a writer. The bytes it took are no longer owed.
     pub(crate) fn pump<T: Taker>(&mut self, to: &mut T) -> io::Result<()>
         ensures { (n : ℕ) × Pumps T.takes to.old self.old.owed result n to.new
             × (self.new ≡ record self.old { owed = drop n self.old.owed }) }

@@ -1,4 +1,4 @@
-//! A writer that does what it is told.
+//! A writer with a script.
 ghost use Rattle.std.specs.Prelude.{List};
 ghost use Rattle.termrelay.specs.Calls.{WritesAsTold};
 
@@ -8,7 +8,7 @@ use std::io::ErrorKind;
 use std::marker::Model;
 use takers::Taker;
 
-/// A writer of which it is told what its next writes do. Past the last one each write takes all.
+/// A scripted writer: the results of its next writes are given. After the last of them each write takes all bytes.
 #[derive(Drop)]
 pub(crate) struct Script<'a> {
     takes: &'a [Take],

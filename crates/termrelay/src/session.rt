@@ -1,4 +1,4 @@
-//! What is kept of a client of a run.
+//! The log of one client of a run.
 ghost use Rattle.std.specs.Prelude.{◌≡◌, ◌++◌, false, [], length, map, IfOk, OnOk, OnErr, MatchOption};
 ghost use Rattle.std.specs.List.{list_any};
 ghost use Rattle.termrelay.specs.Calls.{Pump, Serves};
@@ -13,7 +13,7 @@ use std::alloc::{AllocError, Global};
 use std::marker::Model;
 use std::num::NonZeroU16;
 
-/// What an attach of a run began.
+/// The log of one client, from its attach on: the bytes pumped to it, and whether it has ended.
 #[derive(Drop)]
 pub struct Session {
     client: Client,
@@ -38,7 +38,7 @@ impl Model for Session {
 }
 
 impl Session {
-    /// A session of a client that was attached to a screen of this size.
+    /// A session without bytes, of a client that was attached to a screen of this size.
     pub(crate) fn new(alloc: Global, client: Client, rows: NonZeroU16, cols: NonZeroU16) -> Self
         ensures { result ≡ record {
           client = client;
@@ -57,35 +57,35 @@ impl Session {
         }
     }
 
-    /// The client whose session this is. Where the session has ended, the key may be another client's by now.
+    /// The client whose session this is. After the session has ended, the key may belong to another client.
     pub fn client(&self) -> Client
         ensures { result ≡ self.now.client }
     {
         self.client
     }
 
-    /// How many rows the hub's screen had when the client was attached.
+    /// The height of the hub's screen at the attach, in rows.
     pub fn rows(&self) -> NonZeroU16
         ensures { result.value ≡ self.now.rows }
     {
         self.rows
     }
 
-    /// How many columns the hub's screen had when the client was attached.
+    /// The width of the hub's screen at the attach, in columns.
     pub fn cols(&self) -> NonZeroU16
         ensures { result.value ≡ self.now.cols }
     {
         self.cols
     }
 
-    /// The bytes that the writers of the client's pumps took, in order.
+    /// The bytes that were pumped to the client's writers, in order.
     pub fn pumped(&self) -> &[u8]
         ensures { result.now ≡ self.now.pumped }
     {
         &self.pumped
     }
 
-    /// Whether a call of a run with the session's log ended the session after it began.
+    /// Whether a detach or a resize that was made with this log has ended the session.
     pub fn ended(&self) -> bool
         ensures { result ≡ self.now.ended }
     {
@@ -106,8 +106,8 @@ impl Session {
         self.ended = true;
     }
 
-    /// Pumps its client to a writer that is told of, and keeps the bytes that it takes. Where there is no room for all
-    /// that is owed, nothing is pumped.
+    /// Pumps the session's client to a scripted writer, and keeps the bytes written. Fails only if an allocation fails;
+    /// then nothing is pumped.
     pub(crate) fn pump(&mut self, hub: &mut Hub, takes: &[Take]) -> Result<Reply, AllocError>
         ensures served { IfOk result (λ reply. Serves hub.old (Pump self.old.client takes.now) reply hub.new) }
         ensures grown { OnOk result (self.new
@@ -119,8 +119,8 @@ impl Session {
     }
 }
 
-/// Pumps a client to a writer that is told of, and puts the bytes that it takes behind others. Where there is no room
-/// for all that is owed, nothing is pumped.
+/// Pumps a client to a scripted writer, and appends the bytes written to `bytes`. Fails only if an allocation fails;
+/// then nothing is pumped.
 fn pump_into(
     hub: &mut Hub,
     client: Client,
@@ -142,7 +142,7 @@ fn pump_into(
     Ok(reply)
 }
 
-/// Pumps a client to a writer that is told of.
+/// Pumps a client to a scripted writer.
 pub(crate) fn pump(hub: &mut Hub, client: Client, takes: &[Take]) -> Reply
     ensures { Serves hub.old (Pump client takes.now) result hub.new }
 {
@@ -152,7 +152,7 @@ pub(crate) fn pump(hub: &mut Hub, client: Client, takes: &[Take]) -> Reply
     }
 }
 
-/// How many bytes the client is owed.
+/// How many bytes the client is owed: 0 for an unknown client.
 fn owed_count(hub: &Hub, client: Client) -> usize
     ensures { MatchOption (clients_in hub.now client) (result ≡ 0) (λ c. result ≡ length c.owed) }
 {
@@ -162,7 +162,7 @@ fn owed_count(hub: &Hub, client: Client) -> usize
     }
 }
 
-/// Where the last session of the client that hasn't ended stands, if there is one.
+/// The index of the client's last session that hasn't ended, if there is one.
 pub(crate) fn last_of(sessions: &[Session], client: Client) -> Option<usize>
     ensures { MatchOption result (list_any (is_of client) sessions.now ≡ false) (IsLast (is_of client) sessions.now) }
 {

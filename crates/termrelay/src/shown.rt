@@ -1,4 +1,4 @@
-//! What screens show, by the calls that ask them about it.
+//! Comparisons of what screens show.
 ghost use Rattle.std.specs.Prelude.{◌≡◌, ◌<◌, length, false};
 ghost use Rattle.vt100_forms.specs.Attrs.{attrs_eq};
 ghost use Rattle.vt100_cells.specs.Cell.{bool_eq, cell_eq};
@@ -12,10 +12,10 @@ ghost use Rattle.termrelay.specs.Frame.{any_below, asks_for_emoji, is_unsure};
 use vt100::{Cell, Screen};
 use vt100_cells::line::same_to;
 
-/// The character that asks for an emoji, by which a terminal may make a cell wide.
+/// U+FE0F, the variation selector that asks for an emoji. A terminal may make its cell wide.
 const EMOJI_SELECTOR: char = '\u{fe0f}';
 
-/// Whether a terminal may make something else of the cell. Most texts are shorter than that character.
+/// Whether the cell's text has U+FE0F. Most texts have fewer bytes than that character.
 fn asks_for_emoji(cell: &Cell) -> bool
     ensures { result ≡ asks_for_emoji cell.now }
 {
@@ -60,7 +60,7 @@ fn is_row_unsure(screen: &Screen, row: u16) -> bool
     one_asks_for_emoji(cells_of(screen, row))
 }
 
-/// Whether it isn't sure what another terminal makes of the screen: a cell asks for an emoji.
+/// Whether the screen is unsure: a cell has U+FE0F, about whose width terminals disagree.
 pub(crate) fn is_unsure(screen: &Screen) -> bool
     requires { IsState screen.now.state }
     ensures { result ≡ is_unsure (grid_size screen.now.state.shown) (shown_state screen.now.state) }
@@ -110,7 +110,8 @@ fn is_row_unsure_since(base: &Screen, now: &Screen, row: u16) -> bool
     is_row_unsure(now, row)
 }
 
-/// The same of a screen since one of which it is sure: only rows that aren't as they were there are looked through.
+/// Whether the screen `now` is unsure, where the screen `base` is sure. Only rows that differ between them are looked
+/// through.
 pub(crate) fn is_unsure_since(base: &Screen, now: &Screen) -> bool
     requires base_state { IsState base.now.state }
     requires state { IsState now.now.state }
@@ -144,7 +145,7 @@ fn same_cells(screen: &Screen, other: &Screen) -> bool
     true
 }
 
-/// Whether the same rows of both go on in the next one.
+/// Whether both screens have the same wrapped rows, which go on in the next row.
 fn same_wraps(screen: &Screen, other: &Screen) -> bool
     requires state { IsState screen.now.state }
     requires other_state { IsState other.now.state }
@@ -186,7 +187,7 @@ fn same_modes(screen: &Screen, other: &Screen) -> bool
         && screen.mouse_protocol_encoding() == other.mouse_protocol_encoding()
 }
 
-/// Whether two screens of one size show the same. It stops at the first difference.
+/// Whether two screens of one size show the same. The comparison stops at the first difference.
 pub(crate) fn same_shown(screen: &Screen, other: &Screen) -> bool
     requires state { IsState screen.now.state }
     requires other_state { IsState other.now.state }

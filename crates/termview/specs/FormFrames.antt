@@ -1,4 +1,4 @@
--- Frames of forms, and forms in pieces.
+-- Frames made of forms, and forms that arrive in pieces.
 use Rattle.std.specs.Prelude.{◌≡◌, ℕ, ◌<◌, false, List, ◌++◌, Option, None}
 use Rattle.std.specs.List.{AllByRecursion}
 use Rattle.vte_core.specs.Ground.{AtGround}
@@ -20,32 +20,32 @@ use Rattle.termview.specs.declared.view.View.{View}
 abbrev pub framed : List Form → List ℕ
 framed fs = start_mark ++ (spell fs ++ end_mark)
 
--- they are a frame
+-- the bytes of forms between the marks are a frame
 abbrev pub FormsMakeFrames : Type 0
 FormsMakeFrames = (fs : List Form) → AllByRecursion IsSentForm fs → IsFrame (framed fs)
 
--- whatever came before, it opens an update at its eighth byte, and at none before or after it
+-- whatever came before, such a frame opens a synchronized update at its eighth byte, and at no other byte
 abbrev pub FramesOpenOnce : Type 0
 FramesOpenOnce = (past : List ℕ) (fs : List Form) → AllByRecursion IsSentForm fs
     → OpensAt past (framed fs) 8 × (opens_in (past ++ start_mark) (spell fs ++ end_mark) ≡ false)
 
--- and nothing is unfinished after it
+-- such a frame doesn't end inside a character or an escape sequence
 abbrev pub FramesFinish : Type 0
 FramesFinish = (past : List ℕ) (fs : List Form) → AtGround 1024 (past ++ framed fs)
 
--- it does what the forms do
+-- such a frame has the effect of its forms
 abbrev pub FramesShowForms : Type 0
 FramesShowForms = (z : Size) (past : List ℕ) (fs : List Form) → 0 < z.rows → 0 < z.cols → IsSmall z
     → AtGround 1024 past → AllByRecursion IsSentForm fs → seen z (past ++ framed fs) ≡ run z fs (seen z past)
 
--- where no update is open and nothing is unfinished, the bytes of forms are all parsed and none is held, in whatever
--- pieces they come and wherever updates are stopped by hand
+-- If no update is open, and the past doesn't end inside a character or a sequence, the bytes of forms are all parsed
+-- and none is buffered. This holds for any pieces, and wherever `stop_sync` is called.
 abbrev pub SpellingsAreParsed : Type 0
 SpellingsAreParsed = (fs : List Form) (moves : List Move) (past parsed : List ℕ) (hold : Option (List ℕ))
     → AtGround 1024 past → AllByRecursion IsSentForm fs → given moves ≡ spell fs → Drives moves past None parsed hold
     → (parsed ≡ past ++ spell fs) × (hold ≡ None)
 
--- so a view that holds nothing reads them
+-- a view that has buffered nothing parses all bytes of forms at once
 abbrev pub SpellingsAreTaken : {T : Type 0} → Ticking T → Type 0
 SpellingsAreTaken {T} ticking = (fs : List Form) (past : List ℕ) (old new : View T)
     → AtGround 1024 past → AllByRecursion IsSentForm fs → Taken ticking old past None (spell fs) new

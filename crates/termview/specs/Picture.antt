@@ -1,4 +1,4 @@
--- What a contract sees of a picture, and what is true of each.
+-- A picture's value in contracts, and its invariant.
 use Rattle.std.specs.Prelude.{ℕ, ◌<◌, ◌≤◌, ◌≡◌, ◌^◌, ◌++◌, Bool, List, length, map}
 use Rattle.std.specs.Str.{chars}
 use Rattle.vte_types.specs.Call.{Call, Calls, input}
@@ -10,6 +10,7 @@ use Rattle.vt100_rows.specs.Sheet.{IsSheet}
 use Rattle.vt100_rows.specs.Picture.{lines_of, wraps_of}
 use Rattle.termview.specs.Step.{view_step}
 
+-- a picture: its size, rows, cursor, attributes, modes and cursor style, and the saved cursor and attributes
 pub record PictureView : Type 0 where
   pub size : Size
   -- the rows from the top
@@ -24,7 +25,7 @@ pub record PictureView : Type 0 where
   pub saved_col : ℕ
   pub saved_attrs : Attrs
 
--- the terminal that shows it
+-- the terminal that shows the picture
 abbrev pub term_of_picture : PictureView → Term
 term_of_picture p = record {
   cell = lines_of p.rows;
@@ -40,7 +41,7 @@ term_of_picture p = record {
   saved_attrs = p.saved_attrs;
 }
 
--- there is a row for each line, and both cursors are on the screen
+-- there is a row for each line of the screen, and the cursor and the saved cursor are on the screen
 pub record IsPicture (p : PictureView) : Type 0 where
   pub sheet : IsSheet p.size.rows p.size.cols p.rows
   pub full : length p.rows ≡ p.size.rows
@@ -53,15 +54,15 @@ pub record IsPicture (p : PictureView) : Type 0 where
   pub saved_in_rows : p.saved_row < p.size.rows
   pub saved_in_cols : p.saved_col ≤ p.size.cols
 
--- a picture has become one of the same size that shows this
+-- the picture p becomes q, which has the same size and shows t
 pub record Becomes (p q : PictureView) (t : Term) : Type 0 where
   pub size : q.size ≡ p.size
   pub shows : term_of_picture q ≡ t
 
--- a picture does what a call asks for
+-- a call takes the picture p to q
 abbrev pub Does : PictureView → Call → PictureView → Type 0
 Does p c q = Becomes p q (view_step p.size c (term_of_picture p))
 
--- the characters at the front of a text, of which these bytes are left, have been shown
+-- a prefix of the text's characters has been printed, and `left` are the bytes of the others
 abbrev pub ShowsFront : List ℕ → List ℕ → PictureView → PictureView → Type 0
 ShowsFront text left p q = (front : List ℕ) × (chars text ≡ front ++ chars left) × Calls Does p (map input front) q

@@ -1,4 +1,4 @@
--- How a picture's fields give what a contract sees of it.
+-- A picture's value in contracts, by its fields.
 use Rattle.termview.specs.declared.picture.Picture.TheInside.{Inside}
 use Rattle.termview.specs.Picture.{PictureView, IsPicture}
 

@@ -7,11 +7,11 @@ use Rattle.vt100_rows.specs.Text.{line_text}
 use Rattle.terminal_model.specs.Term.{Size, Term, blank_term}
 use Rattle.termview.specs.Step.{view_steps}
 
--- a blank terminal after the calls of the bytes' events
+-- what a blank terminal shows after the calls that a parser makes for these bytes
 abbrev pub seen : Size → List ℕ → Term
 seen z bytes = view_steps z (calls_of_all None (events 1024 bytes)) blank_term
 
--- the cell at a place of the screen
+-- the cell at a place, if it is on the screen
 abbrev pub cell_shown : Size → Term → ℕ → ℕ → Option CellView
 cell_shown z t r k = if nat_lt r z.rows && nat_lt k z.cols then Some (t.cell r k) else None
 

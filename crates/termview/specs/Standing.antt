@@ -1,4 +1,4 @@
--- Where a view stands: the bytes that it has parsed, those that it holds, and what it shows of the first.
+-- The state of a view: the bytes that it has parsed, the bytes that it has buffered, and what it shows of the first.
 use Rattle.std.specs.Prelude.{ℕ, false, List, [], ◌∷◌, ◌++◌, ◌≡◌, Option, is_some}
 use Rattle.vte_types.specs.Call.{Call}
 use Rattle.vte.specs.Timeout.{Ticking, Clears, Ticked, Awaits}
@@ -22,18 +22,18 @@ shown_by v = term_of_picture v.picture
 abbrev pub timeout_of : {T : Type 0} → View T → T
 timeout_of v = processor.timeout_of v.processor
 
--- the view has parsed these bytes and shows what they make of a blank terminal, and it holds those
+-- the view has parsed `parsed` and shows its effect on a blank terminal, and it has buffered `held`
 pub record ViewStandsAt {T : Type 0} (v : View T) (parsed held : List ℕ) : Type 0 where
   pub reads : processor.StandsAt v.processor parsed held
   pub shows : shown_by v ≡ seen (view_size v) parsed
 
--- the same, where the timeout says whether an update is open
+-- the view is in that state, and the timeout is pending exactly if an update is open
 pub record HoldsAt {T : Type 0} (ticking : Ticking T) (v : View T) (parsed : List ℕ) (hold : Option (List ℕ))
     : Type 0 where
   pub stands : ViewStandsAt v parsed (held_of hold)
   pub awaits : Awaits ticking (timeout_of v) (is_some hold)
 
--- what a piece led to
+-- the state of the view after the next bytes
 pub record Advanced {T : Type 0} (ticking : Ticking T) (old : View T) (parsed held piece : List ℕ) (new : View T)
     : Type 0 where
   pub parsed' : List ℕ
@@ -43,14 +43,14 @@ pub record Advanced {T : Type 0} (ticking : Ticking T) (old : View T) (parsed he
   pub stands : ViewStandsAt new parsed' held'
   pub size : view_size new ≡ view_size old
 
--- what a piece led to, under a timeout that is pending exactly from setting to clearing
+-- the state of the view after the next bytes, with a timeout that is pending exactly from setting to clearing
 pub record Taken {T : Type 0} (ticking : Ticking T) (old : View T) (parsed : List ℕ) (hold : Option (List ℕ))
     (piece : List ℕ) (new : View T) : Type 0 where
   pub leads : TakesPiece ticking (timeout_of old) parsed hold piece (timeout_of new)
   pub stands : HoldsAt ticking new leads.parsed' leads.hold'
   pub size : view_size new ≡ view_size old
 
--- all held bytes were parsed, and the update was closed
+-- all buffered bytes were parsed, and the update was closed
 pub record Emptied {T : Type 0} (ticking : Ticking T) (old : View T) (parsed held : List ℕ) (new : View T)
     : Type 0 where
   pub stands : ViewStandsAt new (parsed ++ held) []

@@ -1,5 +1,5 @@
--- What each call of a handler does to the terminal that a view shows. It is a plain terminal: the calls that a screen's
--- forms are read as do what the forms do, and every other call does nothing.
+-- The effect of each call of a handler on the terminal that a view shows. The calls that a screen's writers cause have
+-- their usual effect, and every other call does nothing.
 use Rattle.std.specs.Prelude.{ℕ, ℤ, pos, negsuc, ◌+◌, ◌-◌, ◌==◌, Bool, true, false, ◌&&◌, nat_lt, min, List, [], ◌∷◌}
 use Rattle.std.specs.Prelude.{Option, Some, None, if◌then◌else◌}
 use Rattle.vte_types.specs.declared.attr.Attr.{Attr}
@@ -36,13 +36,13 @@ use Rattle.terminal_model.specs.Apply.{erase, input, down, switched}
 
 -- ---- characters
 
--- U+FFFD stands for what couldn't be read, and isn't shown
+-- a character is printed, but for U+FFFD, which stands for bytes that couldn't be decoded
 unfoldable pub printed : Size → ℕ → Term → Term
 printed z c t = if c == 0xFFFD then t else input z c t
 
 -- ---- the next row
 
--- the row above the cursor goes on in the cursor's row if its last column shows something
+-- the row above the cursor is flagged as wrapped exactly if its last column shows something
 unfoldable pub flag_above : Size → Term → Term
 flag_above z t = record t {
   wrapped = update t.wrapped (t.row - 1) (is_filled (t.cell (t.row - 1) (z.cols - 1)));
@@ -50,7 +50,7 @@ flag_above z t = record t {
 
 -- ---- erasing
 
--- the cursor's row from the cursor on, and every row below it
+-- the cursor's row from the cursor on, and every row below it, are erased (ED)
 unfoldable pub erase_below : Size → Term → Term
 erase_below z t =
     let s = erase z z.cols t in
@@ -63,7 +63,7 @@ erase_below z t =
 
 -- ---- colours and attributes
 
--- the 16 colours that have numbers, and the terminal's own
+-- the 16 named colours by their numbers, and the terminal's default colour
 abbrev pub named_color : NamedColor → Option Color
 named_color n.Black = Some (Idx 0)
 named_color n.Red = Some (Idx 1)
@@ -98,7 +98,7 @@ abbrev pub with_background : Option Color → Attrs → Attrs
 with_background None x = x
 with_background (Some color) x = record x { bgcolor = color }
 
--- SGR
+-- the drawing attributes after a change of one of them (SGR)
 abbrev pub with_attr : Attr → Attrs → Attrs
 with_attr a.Reset x = default_attrs
 with_attr a.Bold x = with_bold x
@@ -116,6 +116,7 @@ with_attr _ x = x
 
 -- ---- the cursor's style
 
+-- the cursor's style with this shape, blinking or steady, if a screen has it
 abbrev pub style_by : CursorShape → Bool → Option CursorStyle
 style_by shape.Block true = Some style.BlinkBlock
 style_by shape.Block false = Some style.SteadyBlock
@@ -156,7 +157,7 @@ mouse_set m t = with_modes (record (t.modes) { mouse = m }) t
 abbrev pub encoding_set : MouseProtocolEncoding → Term → Term
 encoding_set e t = with_modes (record (t.modes) { encoding = e }) t
 
--- a mode of the mouse is reset only where it is the current one
+-- a mouse mode is reset only if it is the current one
 abbrev pub mouse_reset : MouseProtocolMode → Term → Term
 mouse_reset m t = mouse_set (switched mouse_number mouse.None m t.modes.mouse) t
 
@@ -181,27 +182,32 @@ abbrev pub by_row : Option (Term → Term) → Term → Term
 by_row None t = t
 by_row (Some f) t = f t
 
+-- the private mode with this number is set; an unknown one changes nothing
 abbrev pub mode_set : ℕ → Term → Term
 mode_set number t = by_row (lookup number set_rows) t
 
+-- the private mode with this number is reset; an unknown one changes nothing
 abbrev pub mode_reset : ℕ → Term → Term
 mode_reset number t = by_row (lookup number reset_rows) t
 
 -- ---- what is saved
 
+-- the cursor and the attributes are saved
 abbrev pub cursor_saved : Term → Term
 cursor_saved t = record t { saved_row = t.row; saved_col = t.col; saved_attrs = t.attrs }
 
+-- the saved cursor and attributes are restored
 abbrev pub cursor_restored : Term → Term
 cursor_restored t = record t { row = t.saved_row; col = t.saved_col; attrs = t.saved_attrs }
 
 -- ---- calls
 
--- a line above the first one counts as the first
+-- a negative line counts as line 0
 abbrev pub line_of : ℤ → ℕ
 line_of (pos r) = r
 line_of (negsuc r) = 0
 
+-- the effect of one call on a terminal of this size
 unfoldable pub view_step : Size → Call → Term → Term
 view_step z (call.input x) t = printed z x t
 view_step z call.backspace t = record t { col = t.col - 1 }
@@ -222,7 +228,7 @@ view_step z (call.unset_private_mode m) t = mode_reset (private_raw_of m) t
 view_step z (call.terminal_attribute x) t = record t { attrs = with_attr x t.attrs }
 view_step z _ t = t
 
--- one after the other
+-- the effect of calls, one after another
 abbrev pub view_steps : Size → List Call → Term → Term
 view_steps z [] t = t
 view_steps z (x ∷ xs) t = view_steps z xs (view_step z x t)

@@ -6,7 +6,7 @@ use vt100_forms::attrs::{Attrs, Color};
 use vte_types::attr::Attr;
 use vte_types::color::{Color as AnsiColor, NamedColor};
 
-/// Changes one attribute. Those that a screen doesn't have change nothing, and neither do colours that it doesn't have.
+/// Changes one attribute. Attributes and colours that a `vt100` screen doesn't have change nothing.
 pub(crate) fn set_attribute(attrs: &mut Attrs, attr: Attr)
     ensures { attrs.new ≡ with_attr attr attrs.old }
 {
@@ -27,7 +27,7 @@ pub(crate) fn set_attribute(attrs: &mut Attrs, attr: Attr)
     }
 }
 
-/// The colour on the screen, if it has it.
+/// The colour as a `vt100` screen has it, if it does.
 fn color_of(color: AnsiColor) -> Option<Color>
     ensures { result ≡ color_of color }
 {
@@ -38,7 +38,7 @@ fn color_of(color: AnsiColor) -> Option<Color>
     }
 }
 
-/// One of the 16 colours that have numbers, or the terminal's own.
+/// The number of one of the 16 named colours, or the terminal's default colour; no other name has a colour.
 fn named_color(named: NamedColor) -> Option<Color>
     ensures { result ≡ named_color named }
 {

@@ -1,4 +1,4 @@
-//! The refusal of what allocates.
+//! The error of calls that allocate.
 ghost use Rattle.std.specs.Prelude.{◌≡◌};
 ghost use Rattle.termview.specs.declared.error.ViewError.TheVariants.{Memory};
 
@@ -6,10 +6,10 @@ use thiserror::Error;
 use vt100_forms::GridError;
 use vte::ansi::OutOfMemory;
 
-/// Why a view wasn't made.
+/// The reason why a view wasn't made.
 #[derive(Clone, Copy, Debug, Eq, Error, PartialEq)]
 pub enum ViewError {
-    /// There was no memory for its cells, or for the bytes that it may have to hold.
+    /// The allocation of its cells failed, or that of the buffer for a synchronized update.
     #[error("out of memory")]
     Memory,
 }

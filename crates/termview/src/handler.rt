@@ -9,7 +9,7 @@ use vte_types::call::Call;
 use vte_types::clear::{ClearMode, LineClearMode};
 use vte_types::handler::Handler;
 
-/// The calls that a screen's forms are read as do what the forms do. Every other call does nothing.
+/// The calls that a screen's writers cause have their usual effect. Every other call does nothing.
 impl Handler for Picture {
     ghost step = { λ p call q. Becomes p q (view_step p.size call (term_of_picture p)) };
 
@@ -61,7 +61,7 @@ impl Handler for Picture {
     }
 }
 
-/// The row of a line. A line above the first one counts as the first.
+/// The row of a line, counted from 0. A negative line counts as line 0.
 fn row_at(line: i32) -> usize
     ensures { result ≡ line_of line }
 {

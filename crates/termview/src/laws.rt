@@ -8,45 +8,49 @@ ghost use Rattle.termview.specs.FormFrames.{SpellingsAreParsed, SpellingsAreTake
 pub use crate::until_cleared::until_cleared_is_exact;
 use vte::ansi::Timeout;
 
-/// What a view shows of some bytes and then others is what the calls of the others make of what it shows of the first.
+/// More bytes change what a view shows by the calls that a parser makes for them, one after another.
 pub fn bytes_are_shown_in_turn()
     ensures { MoreBytesStep }
 {}
 
-/// Where nothing is unfinished the marks of an update change nothing that is shown, and neither does a begun start
-/// mark; between them a body does what it does alone.
+/// Outside of a character or an escape sequence, the marks of a synchronized update change nothing that is shown.
+/// Neither does the prefix of a start mark (`marks`). A body between the marks has the same effect as without them,
+/// unless it ends inside a sequence (`bodies`).
 pub fn marks_show_nothing()
     ensures marks { MarksShowNothing }
     ensures bodies { FramesShowTheirBodies }
 {}
 
-/// Joined frames are shown whole, in whatever pieces they come and wherever their updates are stopped by hand.
+/// Frames that arrive one after another are shown whole. This holds for any cut into pieces, and wherever
+/// [`View::stop_sync`](crate::View::stop_sync) is called.
 pub fn whole_frames_are_shown()
     ensures { WholeFramesAreShown }
 {}
 
-/// Frames below the hold's limit are never torn: of a beginning of joined frames, in whatever pieces it comes, a view
-/// shows just those that came whole.
+/// A frame of at most 2,097,150 bytes is never shown in part. From any prefix of joined frames, in any pieces, a view
+/// shows exactly the frames that arrived whole.
 pub fn no_frame_is_torn()
     ensures { NoFrameIsTorn }
 {}
 
-/// Whatever calls a view gets, halves of wide cells stand together, nothing stands off the screen, a row that goes on
-/// shows something in its last column and isn't the last row, and both cursors are on the screen.
+/// Whatever calls a view gets, its picture stays sound. The two cells of a wide character stay together, and no cell
+/// lies off the screen. A wrapped row isn't the last one, and shows something in its last column. The cursor and the
+/// saved cursor are on the screen.
 pub fn views_show_terminals()
     ensures calls { EachCallKeepsTerminals }
     ensures streams { EachStreamShowsATerminal }
 {}
 
-/// After any bytes that leave nothing unfinished, the bytes of forms do what the forms do, on every screen of at most
-/// 65,535 rows and columns; and they leave nothing unfinished.
+/// The bytes of forms (texts and escape sequences of the writers) have the forms' effect, on every screen of at most
+/// 65,535 rows and columns. They may follow any bytes that don't end inside a character or an escape sequence, and they
+/// don't end inside one either.
 pub fn spellings_are_shown()
     ensures { EachSpellingIsShown }
 {}
 
-/// The bytes of forms between the marks of an update are a frame. Whatever came before it, it opens an update at its
-/// eighth byte and at none before or after, and nothing is unfinished after it; where nothing was unfinished before it,
-/// what is shown after it is what the forms make.
+/// The bytes of forms between the marks of a synchronized update are a frame (`frames`). Whatever came before, the
+/// frame opens an update only at its eighth byte (`opens`). It never ends inside a character or an escape sequence
+/// (`finished`). If the bytes before it didn't either, the frame has the forms' effect (`shown`).
 pub fn forms_are_framed()
     ensures frames { FormsMakeFrames }
     ensures opens { FramesOpenOnce }
@@ -54,8 +58,8 @@ pub fn forms_are_framed()
     ensures shown { FramesShowForms }
 {}
 
-/// Where no update is open and nothing is unfinished, all bytes of forms are parsed and none is held, in whatever
-/// pieces they come.
+/// If no synchronized update is open, all bytes of forms are parsed at once and none is buffered, in any pieces. They
+/// must not follow an unfinished character or escape sequence.
 pub fn spellings_are_read<T: Timeout>()
     ensures pieces { SpellingsAreParsed }
     ensures views { SpellingsAreTaken T.ticking }

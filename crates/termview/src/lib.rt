@@ -1,7 +1,9 @@
-//! A small far terminal: it reads what a screen's writers send, and shows the picture that they meant.
+//! A small terminal for the far end of a line: it reads what the writers of a `vt100` screen send, and shows the
+//! picture that they meant.
 //!
-//! A [`View`] has no scrollback, no scroll region, no origin mode and no second sheet. It knows the sequences that the
-//! writers use, and holds back a synchronized update until it is whole; every other sequence does nothing.
+//! A [`View`] has no scrollback, no scroll region, no origin mode and no alternate screen. It knows the sequences that
+//! the writers use; every other sequence does nothing. It buffers a synchronized update (private mode 2026) until it is
+//! whole.
 #![tactic(auto)]
 
 mod attributes;

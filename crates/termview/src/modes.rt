@@ -48,21 +48,21 @@ impl Picture {
         }
     }
 
-    /// Has the keypad send application sequences, or numbers.
+    /// Sets whether the keypad sends application sequences (DECKPAM) or numbers (DECKPNM).
     pub(crate) fn set_keypad(&mut self, application: bool)
         ensures { Becomes self.old self.new (with_keypad application (term_of_picture self.old)) }
     {
         self.application_keypad = application;
     }
 
-    /// Changes one drawing attribute.
+    /// Changes one drawing attribute (SGR).
     pub(crate) fn set_attribute(&mut self, attr: Attr)
         ensures { Becomes self.old self.new (record (term_of_picture self.old) { attrs = with_attr attr self.old.attrs }) }
     {
         set_attribute(&mut self.attrs, attr);
     }
 
-    /// Resets a mode of the mouse, if it is the current one.
+    /// Resets a mouse mode, if it is the current one.
     fn reset_mouse_mode(&mut self, mode: MouseProtocolMode)
         ensures { Becomes self.old self.new (mouse_reset mode (term_of_picture self.old)) }
     {
@@ -71,7 +71,7 @@ impl Picture {
         }
     }
 
-    /// Resets an encoding of the mouse, if it is the current one.
+    /// Resets a mouse encoding, if it is the current one.
     fn reset_mouse_encoding(&mut self, encoding: MouseProtocolEncoding)
         ensures { Becomes self.old self.new (encoding_reset encoding (term_of_picture self.old)) }
     {
@@ -80,8 +80,8 @@ impl Picture {
         }
     }
 
-    /// Sets the cursor's style (DECSCUSR), or the default one for `None`. A style that a screen doesn't have changes
-    /// nothing.
+    /// Sets the cursor's style (DECSCUSR); `None` sets the default one. A style that a `vt100` screen doesn't have
+    /// changes nothing.
     pub(crate) fn set_style(&mut self, style: Option<AnsiCursorStyle>)
         ensures { Becomes self.old self.new (with_style (style_of style) (term_of_picture self.old)) }
     {
@@ -96,7 +96,7 @@ impl Picture {
     }
 }
 
-/// The style with this shape, if a screen has it.
+/// The style with this shape, if a `vt100` screen has it.
 fn cursor_style(shape: CursorShape, blinking: bool) -> Option<CursorStyle>
     ensures { result ≡ style_by shape blinking }
 {

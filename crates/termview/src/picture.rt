@@ -1,4 +1,4 @@
-//! The picture of a terminal.
+//! The picture that a terminal shows.
 ghost use Rattle.std.specs.Prelude.{◌≡◌, ℕ, ◌+◌, ◌-◌, ◌<◌, ◌≤◌, ◌==◌, Some, true, false, min, length, IfOk};
 ghost use Rattle.std.specs.Prelude.{All, map, set, take};
 ghost use Rattle.vte_types.specs.Call as said;
@@ -25,7 +25,7 @@ use vt100_rows::printable::printable_len;
 use vt100_rows::rows_edit::{blank_rows, erase_forward, move_up};
 use vt100_rows::{Row, Size};
 
-/// What a terminal shows, and what it has saved.
+/// The picture that a terminal shows, with the saved cursor and attributes.
 #[derive(Drop)]
 pub struct Picture {
     pub(crate) size: Size,
@@ -55,7 +55,7 @@ impl Model for Picture {
 }
 
 impl Picture {
-    /// A blank one.
+    /// A blank picture. Fails only if an allocation fails.
     pub(crate) fn new(alloc: Global, size: Size) -> Result<Self, ViewError>
         ensures rows { IfOk result (λ p. p.size.rows ≡ size.rows.value) }
         ensures cols { IfOk result (λ p. p.size.cols ≡ size.cols.value) }
@@ -78,12 +78,14 @@ impl Picture {
         })
     }
 
-    /// Shows one character at the cursor, with the drawing attributes.
+    /// Prints one character at the cursor, with the drawing attributes.
     ///
-    /// It takes as many columns as its Unicode width says (UAX #11), but at most two. Where too few are left it goes to
-    /// the next row. One that takes no column joins the cell to the cursor's left, which never becomes wide by it.
-    /// Dropped are control characters, U+FFFD, what is wider than the screen, and zero-width characters at the first
-    /// column.
+    /// It takes as many columns as its Unicode width (UAX #11), but at most two. If the row has too few columns left,
+    /// it goes to the next row. A character of width zero is added to the cell on the cursor's left, which never
+    /// becomes wide by it.
+    ///
+    /// Control characters and U+FFFD are dropped. So are characters wider than the screen, and zero-width ones in the
+    /// first column.
     pub(crate) fn input(&mut self, c: char)
         ensures { Becomes self.old self.new (printed self.old.size c (term_of_picture self.old)) }
     {
@@ -97,7 +99,7 @@ impl Picture {
         }
     }
 
-    /// Shows the printable ASCII at the front of a text at once, or else its first character; returns what is left.
+    /// Prints the prefix of a text that is printable ASCII, or else its first character. Returns the rest.
     pub(crate) fn input_some<'a>(&mut self, text: &'a str) -> &'a str
         requires { 0 < length text.now }
         ensures shorter { length result.now < length text.now }
@@ -115,7 +117,7 @@ impl Picture {
         chars.as_str()
     }
 
-    /// Shows characters of printable ASCII, row by row, as [`input`](Self::input) shows each in turn.
+    /// Prints printable ASCII, row by row. The effect is that of [`input`](Self::input) for each character.
     fn input_run(&mut self, text: &[u8])
         requires { All IsPrintable text.now }
         ensures { Calls Does self.old (map said.input text.now) self.new }
@@ -127,7 +129,7 @@ impl Picture {
         }
     }
 
-    /// Shows the first of the characters, as many as go into a row. How many they are.
+    /// Prints as many of the characters as fit into a row. Returns their number.
     fn input_row(&mut self, text: &[u8]) -> usize
         requires some { 0 < length text.now }
         requires printable { All IsPrintable text.now }
@@ -143,7 +145,7 @@ impl Picture {
         n
     }
 
-    /// Puts the characters at the cursor, whose row has room for them.
+    /// Puts the characters at the cursor. Its row has enough columns left for them.
     fn put_run(&mut self, text: &[u8])
         requires printable { All IsPrintable text.now }
         requires fits { self.old.col + length text.now ≤ self.old.size.cols }
@@ -158,7 +160,7 @@ impl Picture {
         self.pos.col = col + text.len() as u16;
     }
 
-    /// Has a zero-width character join the cell to the cursor's left, if there is one.
+    /// Adds a zero-width character to the cell on the cursor's left, if there is one.
     fn join(&mut self, c: char)
         requires { drawn_columns c ≡ Some 0 }
         ensures { Becomes self.old self.new (input self.old.size c (term_of_picture self.old)) }
@@ -168,7 +170,7 @@ impl Picture {
         }
     }
 
-    /// Shows a character of one or two columns, if the screen is as wide.
+    /// Prints a character of one or two columns, unless it is wider than the screen.
     fn print(&mut self, c: char, columns: u16)
         requires drawn { drawn_columns c ≡ Some columns }
         requires spacing { 0 < columns }
@@ -180,7 +182,7 @@ impl Picture {
         }
     }
 
-    /// Puts a zero-width character on the cell to the cursor's left.
+    /// Adds a zero-width character to the cell on the cursor's left, which exists.
     fn join_left(&mut self, c: char)
         requires zero_width { drawn_columns c ≡ Some 0 }
         requires after_some { 0 < self.old.col }
@@ -202,7 +204,7 @@ impl Picture {
         self.pos.col = col + columns;
     }
 
-    /// Has the cursor stand where so many columns are left.
+    /// Moves the cursor to the next row unless its row has this many columns left.
     fn make_room(&mut self, columns: u16)
         requires { columns ≤ self.old.size.cols }
         ensures picture { Becomes self.old self.new (made_to_fit self.old.size columns (term_of_picture self.old)) }
@@ -213,8 +215,8 @@ impl Picture {
         }
     }
 
-    /// Moves the cursor to the start of the next row. The row that it leaves goes on there if it shows something in its
-    /// last column.
+    /// Moves the cursor to the start of the next row. The row that it leaves is flagged as wrapped if its last column
+    /// shows something.
     fn wrap(&mut self)
         ensures picture { Becomes self.old self.new (wrap self.old.size (term_of_picture self.old)) }
         ensures start { self.new.col ≡ 0 }
@@ -227,7 +229,7 @@ impl Picture {
         }
     }
 
-    /// Has the row above the cursor go on in the cursor's row if it shows something in its last column.
+    /// Flags the row above the cursor as wrapped exactly if its last column shows something.
     fn flag_row_above(&mut self)
         requires { 0 < self.old.row }
         ensures { Becomes self.old self.new (flag_above self.old.size (term_of_picture self.old)) }
@@ -235,7 +237,7 @@ impl Picture {
         self.rows[usize::from(self.pos.row) - 1].wrap(true);
     }
 
-    /// Moves the cursor down a row. In the last one the rows go up instead, and a blank one comes.
+    /// Moves the cursor down a row. In the last row, the rows scroll up by one instead.
     pub(crate) fn linefeed(&mut self)
         ensures { Becomes self.old self.new (down self.old.size (term_of_picture self.old)) }
     {
@@ -246,7 +248,7 @@ impl Picture {
         }
     }
 
-    /// Moves the rows up by one, and makes the last one blank.
+    /// Scrolls the rows up by one, and makes the last row blank.
     fn scroll(&mut self)
         requires { self.old.size.rows ≤ self.old.row + 1 }
         ensures { Becomes self.old self.new (down self.old.size (term_of_picture self.old)) }
@@ -255,7 +257,7 @@ impl Picture {
         move_up(&mut self.rows, 0, end, 1, self.size.cols());
     }
 
-    /// Moves the cursor to a place, kept on the screen.
+    /// Moves the cursor to a place, clamped to the screen.
     pub(crate) fn goto(&mut self, row: usize, col: usize)
         ensures { Becomes self.old self.new (record (term_of_picture self.old) {
           row = min row (self.old.size.rows - 1);
@@ -279,7 +281,7 @@ impl Picture {
         self.pos.col = at_most(col, self.size.cols() - 1);
     }
 
-    /// Empties cells from the cursor on, as many as there are up to the row's end.
+    /// Erases this many cells from the cursor on, but none past the row's end (ECH).
     pub(crate) fn erase_chars(&mut self, count: usize)
         ensures { Becomes self.old self.new (erase self.old.size (min
             (self.old.col + count) self.old.size.cols) (term_of_picture self.old)) }
@@ -288,7 +290,7 @@ impl Picture {
         self.erase_up_to(at_most(end, self.size.cols()));
     }
 
-    /// Empties the columns from the cursor up to `end`.
+    /// Erases the columns from the cursor up to `end`, which isn't erased.
     fn erase_up_to(&mut self, end: u16)
         requires { end ≤ self.old.size.cols }
         ensures { Becomes self.old self.new (erase self.old.size end (term_of_picture self.old)) }
@@ -297,14 +299,14 @@ impl Picture {
         self.rows[usize::from(self.pos.row)].erase_range(start..end, self.attrs);
     }
 
-    /// Empties the cursor's row from the cursor on.
+    /// Erases the cursor's row from the cursor to its end (EL).
     pub(crate) fn erase_right(&mut self)
         ensures { Becomes self.old self.new (erase self.old.size self.old.size.cols (term_of_picture self.old)) }
     {
         self.erase_up_to(self.size.cols());
     }
 
-    /// The same, and empties every row below.
+    /// Erases the cursor's row from the cursor to its end, and every row below (ED).
     pub(crate) fn erase_below(&mut self)
         ensures { Becomes self.old self.new (erase_below self.old.size (term_of_picture self.old)) }
     {
@@ -335,7 +337,7 @@ impl Picture {
         self.saved_attrs = self.attrs;
     }
 
-    /// Brings back what was saved last.
+    /// Restores the cursor and the drawing attributes that were saved last.
     pub(crate) fn restore_cursor(&mut self)
         ensures { Becomes self.old self.new (cursor_restored (term_of_picture self.old)) }
     {
@@ -344,7 +346,7 @@ impl Picture {
     }
 }
 
-/// What it shows.
+/// Readers of the picture.
 impl Picture {
     /// The cell at a place, if there is one.
     pub(crate) fn cell(&self, row: u16, col: u16) -> Option<&Cell>
@@ -353,7 +355,7 @@ impl Picture {
         self.rows.get(usize::from(row))?.get(col)
     }
 
-    /// Whether the text of a row goes on in the next one.
+    /// Whether the text of a row wraps into the next row.
     pub(crate) fn row_wrapped(&self, row: u16) -> bool
         ensures { result ≡ (term_of_picture self.now).wrapped row }
     {
@@ -363,7 +365,7 @@ impl Picture {
         }
     }
 
-    /// The cells of a row; none past the last.
+    /// The cells of a row; none past the last row.
     pub(crate) fn row_cells(&self, row: u16) -> &[Cell]
         ensures { line_text (cell_at result.now) 0 (length result.now) ≡ text_shown self.now.size
             (term_of_picture self.now) row }
@@ -375,7 +377,7 @@ impl Picture {
     }
 }
 
-/// The number, or the bound where it is greater.
+/// The smaller of the number and the bound.
 fn at_most(n: usize, bound: u16) -> u16
     ensures { result ≡ min n bound }
 {

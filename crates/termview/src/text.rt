@@ -10,7 +10,8 @@ use takers::{Taker, pump};
 use vt100_cells::Cell;
 use vt100_cells::line::at;
 
-/// Writes what the cells show, without the empty ones at their end: a pump for each cell. Any fault of a write ends it.
+/// Writes the text of the cells, without the empty cells at their end. Each cell is written with a pump of its own. The
+/// first failed write ends it.
 pub(crate) fn write_cells<T: Taker>(cells: &[Cell], to: &mut T) -> io::Result<()>
     ensures { SendsText T.takes to.old (encode_utf8_all (line_text (cell_at cells.now) 0 (length cells.now))) result
         to.new }
@@ -21,7 +22,7 @@ pub(crate) fn write_cells<T: Taker>(cells: &[Cell], to: &mut T) -> io::Result<()
     Ok(())
 }
 
-/// How many cells stand up to the last that has a text.
+/// How many cells there are up to the last one with text.
 fn text_len(cells: &[Cell]) -> usize
     ensures text { columns_text (cell_at cells.now) 0 result ≡ line_text (cell_at cells.now) 0 (length cells.now) }
     ensures bound { result ≤ length cells.now }
@@ -36,7 +37,8 @@ fn text_len(cells: &[Cell]) -> usize
     len
 }
 
-/// What a cell shows in a text: a space where it shows nothing, and nothing for the second half of a wide character.
+/// A cell's part of the row's text: its characters, or a space if it is empty. The second half of a wide character has
+/// no text; as the first cell of all it is a space.
 fn cell_text(cell: &Cell, is_first: bool) -> &str
     ensures { result.now ≡ encode_utf8_all (cell_text cell.now is_first) }
 {

@@ -40,7 +40,7 @@ impl Timeout for UntilCleared {
     }
 }
 
-/// It is pending exactly from setting to clearing.
+/// An `UntilCleared` is pending from `set_timeout` to `clear_timeout`, and at no other time.
 pub fn until_cleared_is_exact()
     ensures { IsExact ⟦<UntilCleared as Timeout>⟧.ticking }
 {}

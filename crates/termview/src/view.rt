@@ -1,4 +1,4 @@
-//! A far terminal.
+//! A terminal at the far end of a line.
 ghost use Rattle.std.specs.Prelude.{◌≡◌, ℕ, List, [], Option, Some, None, false, length, IfOk, OnErr, Err};
 ghost use Rattle.std.specs.Prelude.{encode_utf8_all, ◌++◌, ◌≤◌};
 ghost use Rattle.std.specs.Option.{option_copied};
@@ -19,10 +19,11 @@ use vt100_forms::{Color, CursorStyle, MouseProtocolEncoding, MouseProtocolMode};
 use vt100_rows::Size;
 use vte::ansi::{Processor, Timeout};
 
-/// A terminal at the far end of a line: it reads what a screen's writers send, in any pieces, and shows the picture
-/// that they meant.
+/// A terminal at the far end of a line. It reads what the writers of a `vt100` screen send, in any pieces, and shows
+/// the picture that they meant.
 ///
-/// The contracts speak of every past: the bytes that the view has parsed and those that it holds.
+/// The contracts hold for every past of the view. A past is the bytes that it has parsed, and the bytes of an open
+/// synchronized update that it has buffered.
 #[derive(Drop)]
 pub struct View<T: Timeout> {
     processor: Processor<T, Global>,
@@ -35,8 +36,9 @@ impl<T: Timeout + Drop> View<T> {
     ghost use Rattle.termview.specs.Standing.{view_size, shown_by, timeout_of, ViewStandsAt, HoldsAt, Advanced, Emptied};
     ghost use Rattle.termview.specs.Standing.{Taken};
 
-    /// A view of this size that shows nothing. All that it will need is reserved, so no later call is refused for
-    /// memory. The timeout says whether an update is open, so it is not to be pending yet.
+    /// A blank view of this size. It allocates all the memory that it will need, so no later call fails for want of
+    /// memory. The timeout says whether a synchronized update is open, so it should not be pending yet. Fails only if
+    /// an allocation fails.
     pub fn new(
         alloc: Global,
         rows: NonZeroU16,
@@ -55,7 +57,7 @@ impl<T: Timeout + Drop> View<T> {
         Ok(View { processor, picture })
     }
 
-    /// Reads the next piece of the stream.
+    /// Reads the next bytes of the stream. They may end anywhere, also inside a character or an escape sequence.
     pub fn advance(&mut self, bytes: &[u8])
         ensures advanced { (parsed held : List ℕ) → ViewStandsAt self.old parsed held
             → Advanced T.ticking self.old parsed held bytes.now self.new }
@@ -66,7 +68,7 @@ impl<T: Timeout + Drop> View<T> {
         self.processor.advance(&mut self.picture, bytes);
     }
 
-    /// Parses what is held, and closes the update.
+    /// Parses the buffered bytes, and closes the synchronized update.
     pub fn stop_sync(&mut self)
         ensures emptied { (parsed held : List ℕ) → ViewStandsAt self.old parsed held
             → Emptied T.ticking self.old parsed held self.new }
@@ -77,7 +79,7 @@ impl<T: Timeout + Drop> View<T> {
         self.processor.stop_sync(&mut self.picture);
     }
 
-    /// How many bytes are held: at most 2,097,150.
+    /// How many bytes of a synchronized update are buffered: at most 2,097,150.
     pub fn sync_bytes_count(&self) -> usize
         ensures count { (parsed held : List ℕ) → ViewStandsAt self.now parsed held → result ≡ length held }
         ensures most { result ≤ 2_097_150 }
@@ -86,11 +88,11 @@ impl<T: Timeout + Drop> View<T> {
     }
 }
 
-/// What the view shows.
+/// Readers of what the view shows.
 impl<T: Timeout> View<T> {
     ghost use Rattle.termview.specs.Standing.{view_size, shown_by};
 
-    /// How many rows and columns it has.
+    /// The size of the screen, as rows and columns.
     pub fn size(&self) -> (NonZeroU16, NonZeroU16)
         ensures rows { result.0.value ≡ (view_size self.now).rows }
         ensures cols { result.1.value ≡ (view_size self.now).cols }
@@ -98,30 +100,30 @@ impl<T: Timeout> View<T> {
         (self.picture.size.rows, self.picture.size.cols)
     }
 
-    /// The cell at a place, counted from 0, if there is one.
+    /// The cell in a row and a column, both counted from 0. `None` if it lies off the screen.
     pub fn cell(&self, row: u16, col: u16) -> Option<&Cell>
         ensures { option_copied result ≡ cell_shown (view_size self.now) (shown_by self.now) row col }
     {
         self.picture.cell(row, col)
     }
 
-    /// Whether the text of the row, counted from 0, goes on in the next one.
+    /// Whether the text of the row, counted from 0, wraps into the next row.
     pub fn row_wrapped(&self, row: u16) -> bool
         ensures { result ≡ (shown_by self.now).wrapped row }
     {
         self.picture.row_wrapped(row)
     }
 
-    /// The cursor's row and column, counted from 0. The column is the number of columns where the next character goes
-    /// to the next row.
+    /// The cursor's row and column, counted from 0. The column equals the screen's width while the cursor waits to
+    /// wrap: then the next character goes to the next row.
     pub fn cursor_position(&self) -> (u16, u16)
         ensures { result ≡ ((shown_by self.now).row, (shown_by self.now).col) }
     {
         (self.picture.pos.row, self.picture.pos.col)
     }
 
-    /// Writes the row's text, as UTF-8 and without the empty columns at its end; nothing past the last row. Any fault
-    /// of a write ends it, and so does a write that takes nothing, and nothing else does; what was taken by then stays
+    /// Writes the text of the row, counted from 0, as UTF-8 and without the empty columns at its end. It writes nothing
+    /// for a row past the last. Fails only if a write fails or takes no byte; the bytes that were taken before stay
     /// written.
     pub fn row_text<W: Taker>(&self, row: u16, to: &mut W) -> io::Result<()>
         ensures { SendsText W.takes to.old (encode_utf8_all (text_shown (view_size self.now) (shown_by self.now) row))
@@ -137,56 +139,56 @@ impl<T: Timeout> View<T> {
         self.picture.hide_cursor
     }
 
-    /// Whether the keypad sends application sequences.
+    /// Whether the keypad sends application sequences (DECKPAM).
     pub fn application_keypad(&self) -> bool
         ensures { result ≡ (shown_by self.now).modes.keypad }
     {
         self.picture.application_keypad
     }
 
-    /// Whether the cursor keys send application sequences.
+    /// Whether the cursor keys send application sequences (DECCKM).
     pub fn application_cursor(&self) -> bool
         ensures { result ≡ (shown_by self.now).modes.cursor_keys }
     {
         self.picture.application_cursor
     }
 
-    /// Whether pasted text is marked as such.
+    /// Whether pasted text is put between marks (bracketed paste, private mode 2004).
     pub fn bracketed_paste(&self) -> bool
         ensures { result ≡ (shown_by self.now).modes.paste }
     {
         self.picture.bracketed_paste
     }
 
-    /// Which events of the mouse a program is told of.
+    /// Which mouse events the terminal reports to the program.
     pub fn mouse_protocol_mode(&self) -> MouseProtocolMode
         ensures { result ≡ (shown_by self.now).modes.mouse }
     {
         self.picture.mouse_protocol_mode
     }
 
-    /// How they are told.
+    /// The encoding of the mouse reports.
     pub fn mouse_protocol_encoding(&self) -> MouseProtocolEncoding
         ensures { result ≡ (shown_by self.now).modes.encoding }
     {
         self.picture.mouse_protocol_encoding
     }
 
-    /// How the cursor looks.
+    /// The cursor's style (DECSCUSR).
     pub fn cursor_style(&self) -> CursorStyle
         ensures { result ≡ (shown_by self.now).style }
     {
         self.picture.cursor_style
     }
 
-    /// The colour of the text that comes next.
+    /// The foreground colour of the text that comes next.
     pub fn fgcolor(&self) -> Color
         ensures { result ≡ (shown_by self.now).attrs.fgcolor }
     {
         self.picture.attrs.fgcolor
     }
 
-    /// The colour of the background of the text that comes next.
+    /// The background colour of the text that comes next.
     pub fn bgcolor(&self) -> Color
         ensures { result ≡ (shown_by self.now).attrs.bgcolor }
     {
@@ -200,28 +202,28 @@ impl<T: Timeout> View<T> {
         self.picture.attrs.bold()
     }
 
-    /// Whether it is dim.
+    /// Whether the text that comes next is dim.
     pub fn dim(&self) -> bool
         ensures { result ≡ is_dim (shown_by self.now).attrs }
     {
         self.picture.attrs.dim()
     }
 
-    /// Whether it is italic.
+    /// Whether the text that comes next is italic.
     pub fn italic(&self) -> bool
         ensures { result ≡ is_italic (shown_by self.now).attrs }
     {
         self.picture.attrs.italic()
     }
 
-    /// Whether it is underlined.
+    /// Whether the text that comes next is underlined.
     pub fn underline(&self) -> bool
         ensures { result ≡ is_underlined (shown_by self.now).attrs }
     {
         self.picture.attrs.underline()
     }
 
-    /// Whether its foreground and background are exchanged.
+    /// Whether the foreground and background of the text that comes next are exchanged (SGR 7).
     pub fn inverse(&self) -> bool
         ensures { result ≡ is_inverse (shown_by self.now).attrs }
     {
