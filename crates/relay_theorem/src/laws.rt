@@ -105,8 +105,8 @@ pub fn logs_have_histories()
     ensures { EachLogHasAHistory }
 {}
 
-/// The log of a run on a new hub has, for each session, the bytes pumped of a session of the history. So the laws on
-/// views that read a history's session hold for views that read the log's bytes.
+/// Each session in the log of a run on a new hub is a session of the run's history, with the same bytes pumped. So the
+/// laws on views that read a history's session hold for views that read the log's bytes.
 pub fn logged_reads_are_reads()
     ensures { EachLoggedReadIsARead }
 {}

@@ -18,7 +18,7 @@ same-first x y xs ys e = cc
 same-rest : (x y : ℕ) (xs ys : List ℕ) → x ∷ xs ≡ y ∷ ys → xs ≡ ys
 same-rest x y xs ys e = cc
 
--- a mark occurs only after bytes without an ESC
+-- if bytes without an ESC come first, a mark begins only after them
 behind-bytes : (bs : List ℕ) → list_any (λ b. b == 27) bs ≡ false → (r xs ys : List ℕ)
     → bs ++ r ≡ xs ++ (mark_head ++ ys) → (zs : List ℕ) × (xs ≡ bs ++ zs) × (r ≡ zs ++ (mark_head ++ ys))
 behind-bytes [] h r xs ys e = (xs, refl, e)
