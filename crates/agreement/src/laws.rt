@@ -58,8 +58,8 @@ pub fn spellings_are_agreed_on()
     ensures parsers { EachFeedIsAgreedOn }
 {}
 
-/// A state and a view that show the same have the same modes and cursor style (`begin`). A plain state and a view of
-/// one size with the same modes and style still have the same ones after forms whose texts may have U+FE0F (`keep`).
+/// A state and a view that show the same have the same modes and cursor style (`begin`). If a plain state and a view of
+/// one size have the same modes and style, they still do after any forms (`keep`). The forms' texts may have U+FE0F.
 pub fn sent_spellings_are_agreed_on()
     ensures begin { AgreeingModes }
     ensures keep { EachSentSpellingIsAgreedOn }

@@ -1,4 +1,4 @@
--- A session's own calls can be made alone.
+-- A session's own calls can be made without any others.
 use Rattle.std.proofs.Common.{◌≡◌, ◌∙◌, ℕ, false, ◌||◌, List, [], ◌∷◌, ◌++◌, map, Option, Some, None, Result, Ok, Err}
 use Rattle.std.proofs.Common.{drop, refl, sym, ap, subst, if◌then◌else◌}
 use Rattle.std.specs.Prelude.{◌==◌, slice_get}
@@ -24,7 +24,7 @@ use Rattle.relay_theorem.proofs.OwnLemmas.{Life, past, story_of, born, answer_no
 use Rattle.relay_theorem.proofs.OwnLemmas.{CanCome, Lives}
 use Rattle.relay_theorem.proofs.OwnRunLemmas.{EndsAs, lives-run, session-found}
 
--- however a pump ends, it wasn't refused for want of memory
+-- a pump with any result didn't fail for want of memory
 pump-fed : (end : Result (Unit {0}) Error) → is_starved (done (pump_answer end)) ≡ false
 pump-fed (Ok u) = refl
 pump-fed (Err e) = refl

@@ -1,4 +1,4 @@
--- What one call does to a hub that a history tells of.
+-- The effect of one call on a hub described by its history.
 use Rattle.std.proofs.Common.{◌≡◌, ◌∙◌, ℕ, true, List, [], ◌∷◌, ◌++◌, drop, length, Option, Some, None, Result, Ok}
 use Rattle.std.proofs.Common.{Err, refl, sym, ap, subst}
 use Rattle.std.specs.declared.io.Error.{Error}
@@ -25,7 +25,7 @@ use Rattle.relay_theorem.proofs.StoryLemmas.{put}
 abbrev pub acted : HubState as_told → Act → (ℕ → Option ClientState) → HubState as_told
 acted h act clients = record { parser = record (h.parser) { acts = h.parser.acts ++ act ∷ [] }; clients = clients }
 
--- it has failed
+-- the hub has failed
 abbrev pub broken : HubState as_told → HubState as_told
 broken h = record h { parser = record (h.parser) { failed = true } }
 

@@ -1,4 +1,4 @@
--- A view that reads a frame comes to show what the frame was made of.
+-- A view that has read a frame shows the screen that the frame was made of.
 use Rattle.std.proofs.Common.{◌≡◌, ◌∙◌, ℕ, ◌<◌, ◌≤◌, Bool, true, false, List, ◌++◌, Option, Some, None, refl, sym, ap}
 use Rattle.std.proofs.Common.{subst}
 use Rattle.vte_core.specs.Ground.{AtGround}

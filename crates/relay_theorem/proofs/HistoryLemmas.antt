@@ -1,4 +1,4 @@
--- What is true of each session stays true, call by call.
+-- Each call keeps the facts about each session.
 use Rattle.std.proofs.Common.{◌≡◌, ◌∙◌, ℕ, Bool, true, false, ◌||◌, List, [], ◌∷◌, ◌++◌, map, length, take, drop}
 use Rattle.std.proofs.Common.{Option, Some, None, refl, sym, ap, subst, append_assoc, append-nil, take-append-drop}
 use Rattle.std.proofs.Common.{arith}

@@ -1,4 +1,4 @@
--- A run of a session's own calls alone has a session that is alike.
+-- A run of only a session's own calls has a session that is like it.
 use Rattle.std.proofs.Common.{◌≡◌, ◌∙◌, ℕ, true, false, List, [], ◌∷◌, ◌++◌, map, Option, Some, None, Result, Ok, Err}
 use Rattle.std.proofs.Common.{refl, sym, ap, subst, if◌then◌else◌}
 use Rattle.std.specs.Prelude.{◌==◌, slice_get}

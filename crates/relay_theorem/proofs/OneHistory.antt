@@ -1,4 +1,4 @@
--- The calls and their replies tell one history.
+-- The calls and their replies determine the history.
 use Rattle.std.proofs.Common.{◌≡◌, ◌∙◌, [], ◌∷◌, sym, subst}
 use Rattle.relay_theorem.specs.History.{stories_after, RunsTold}
 use Rattle.relay_theorem.specs.Serves.{EachHistoryIsOne}

@@ -1,4 +1,4 @@
--- What a program's bytes and resizes make can be shown by frames.
+-- Each screen after a program's bytes and resizes can be shown by frames.
 use Rattle.std.proofs.Common.{◌≡◌, ℕ, false, List, subst, Option, Some, None}
 use Rattle.vt100_forms.specs.Attrs.{IsProper}
 use Rattle.terminal_model.specs.Term.{Size, Shown}
@@ -37,7 +37,7 @@ shot-made rows cols acts z h height width size =
       attrs = is.state.attrs;
     }
 
--- where no cell has U+FE0F, it can be drawn
+-- a screen without U+FE0F can be drawn
 pub shot-screen : (z : Size) (s : Shown) → IsShot z s → is_unsure z s ≡ false → IsDrawableScreen z s
 shot-screen z s h sure = record {
   drawable = record {

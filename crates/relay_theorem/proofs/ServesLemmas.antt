@@ -304,7 +304,7 @@ ends-later first k n end h later =
     subst (λ b. IsPumpReply b (done (pump_answer end)))
     (let same : (k == n - first) ≡ (min first n + k == n) = grind (arith, nat_tests) in same) later
 
--- a pump to a writer that is told of is answered by what is told
+-- the reply to a pump to a scripted writer, by its script
 pump-ends : (takes rest : List Take) (owed : List ℕ) (end : Result (Unit {0}) Error) (n : ℕ)
     → Pumps WritesAsTold takes owed end n rest → Ends (taken_by takes (length owed)) (length owed) end
 pump-ends takes rest owed end n all = ends-all (taken_by takes 0) 0 (takes-nothing takes) refl

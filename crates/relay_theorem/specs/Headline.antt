@@ -48,8 +48,8 @@ pub record ReadsFront (bytes : List ℕ) (pieces : List (List ℕ)) (parsed : Li
 abbrev pub last_read : Story → List (List ℕ) → Option Entry
 last_read t pieces = last_whole None t.entries (length (concat pieces))
 
--- In any pieces of the bytes pumped to a session, a view of its size shows the screen at the moment of the last whole
--- frame, unless that screen had U+FE0F.
+-- A view of a session's size reads the bytes pumped to it in any pieces. It shows the screen at the moment of the last
+-- whole frame, unless that screen had U+FE0F.
 abbrev pub LastWholeFrameIsShown : Type 0
 LastWholeFrameIsShown = (rows cols : ℕ) (calls : List Call) (replies : List Reply) (n : ℕ) (t : Story)
     (pieces : List (List ℕ)) (parsed : List ℕ) → IsSession rows cols calls replies n t

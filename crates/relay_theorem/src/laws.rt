@@ -105,15 +105,15 @@ pub fn logs_have_histories()
     ensures { EachLogHasAHistory }
 {}
 
-/// The log of a run on a new hub has, for each session, the bytes pumped of a session of the history. So the laws on
-/// views that read a history's session hold for views that read the log's bytes.
+/// Each session in the log of a run on a new hub is a session of the run's history, with the same bytes pumped. So the
+/// laws on views that read a history's session hold for views that read the log's bytes.
 pub fn logged_reads_are_reads()
     ensures { EachLoggedReadIsARead }
 {}
 
-/// The main law. A run is made on a new hub with an empty log, and a new view of a session's size reads any prefix of
-/// the bytes pumped to it, in any pieces. The view shows the program's screen at the request for the last frame that
-/// lies wholly in the prefix, or a blank screen if none does. This holds unless that screen showed U+FE0F.
+/// The main law. A run is made on a new hub with an empty log. A new view of a session's size reads any prefix of the
+/// bytes pumped to that session, in any pieces. The view shows the program's screen at the request for the last frame
+/// that lies wholly in the prefix, or a blank screen if none does. This holds unless that screen showed U+FE0F.
 pub fn logged_frames_are_shown()
     ensures { LoggedFramesAreShown }
 {}
@@ -134,9 +134,8 @@ pub fn sessions_are_isolated()
 /// Each session has what it would have without the other sessions.
 ///
 /// A session's own calls can be made on a new hub without any others, at any key, and are then the own calls of its one
-/// session (`made`). In each such run in which the attach gets that key and no call fails for want of memory, that
-/// session is like the first in all that [`sessions_are_isolated`] says (`alike`). The same holds for the session of a
-/// log (`logged`).
+/// session (`made`). If the attach gets that key and no call fails for want of memory, that session is like the first
+/// one (`alike`): in all that [`sessions_are_isolated`] says. The same holds for the session of a log (`logged`).
 pub fn sessions_stand_alone()
     ensures made { EachSessionStandsAlone }
     ensures alike { EachLoneSessionIsAlike }

@@ -1,4 +1,4 @@
--- What is answered where a frame may be too long, and where none can be.
+-- The answers where a frame may be too long, and where none can be.
 use Rattle.std.proofs.Common.{◌≡◌, ℕ, ◌*◌, ◌≤◌, ◌&&◌, Bool, true, false, List, [], ◌∷◌, Option, Some, None, refl, sym, ◌∙◌}
 use Rattle.std.proofs.Common.{arith, length, if◌then◌else◌}
 use Rattle.std.specs.Prelude.{nat_lt}
@@ -16,7 +16,7 @@ use Rattle.termrelay.proofs.FrameLengths.{frame-short}
 
 -- ---- what is wanted
 
--- a frame is wanted where it is due
+-- a frame is wanted if it is due
 pub wanted-due : (now : State) (base : Option Shown) (owed : List ℕ) → is_frame (wanted_to now base owed) ≡ true
     → wanted_to now base owed ≡ due (grid_size now.shown) (shown_state now) base
 wanted-due now base [] frame = grind arith

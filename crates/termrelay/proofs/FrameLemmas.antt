@@ -1,4 +1,4 @@
--- Where the body of a frame leads.
+-- What a client shows after the body of a frame.
 use Rattle.std.proofs.Common.{◌≡◌, Bool, true, false, ◌||◌, ◌++◌, Some, None, ap, ◌∙◌, refl}
 use Rattle.std.proofs.lemmas.Bool.{cond_both, or_parts}
 use Rattle.terminal_model.specs.Term.{Size, Shown, Term, shown_of, blank_shown}

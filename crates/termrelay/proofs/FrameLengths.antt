@@ -1,4 +1,4 @@
--- How long a frame can be.
+-- The length of a frame.
 use Rattle.std.proofs.Common.{◌≡◌, ◌||◌, ◌++◌, length, Option, Some, None, refl, arith, length-append}
 use Rattle.std.proofs.lemmas.Bool.{cond_both}
 use Rattle.vt100_forms.specs.Form.{spell}

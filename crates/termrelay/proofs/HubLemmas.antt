@@ -1,4 +1,4 @@
--- What is kept of a hub's clients, and what contracts see of it.
+-- The records of a hub's clients, and their values in contracts.
 use Rattle.std.proofs.Common.{◌≡◌, ℕ, ◌<◌, ◌==◌, List, [], length, Option, Some, None, arith, drop, length-drop, ap, ◌∙◌}
 use Rattle.std.proofs.Common.{refl, subst, false, slice_index_or, if◌then◌else◌, inl, inr}
 use Rattle.std.specs.Option.{option_map, IfSome}
@@ -19,7 +19,7 @@ use Rattle.termrelay.proofs.MadeLemmas.{made-unscrolled}
 
 -- ---- bases
 
--- where the size stays, bases stay bases, and a frame is as long as it was
+-- if the size stays the same, bases stay bases, and the bound on a frame's length stays the same
 pub served-still : (now next : ScreenView) (r : Option RecordView)
     → grid_size now.state.shown ≡ grid_size next.state.shown → IfSome r (IsRecordOf now) → IfSome r (IsRecordOf next)
 served-still now next r same h =
@@ -65,12 +65,12 @@ updated-at s t key other slot u = elim (cases_eq other key) [
   | inr ne ↦ rw (u.others other ne, ne_eqb other key ne)
 ]
 
--- this is at the key from now on
+-- this client is at the key from now on
 pub updated-client : (p : ParserView (Unit {0})) (s t : Slab RecordView) (key : ℕ) (slot : Option RecordView)
     → Updates s t key slot → Puts (holding p s) key (option_map client_of slot) (holding p t)
 updated-client p s t key slot u = (refl, λ i other. updated-at s t key other slot u i)
 
--- another record stands at a client's key
+-- another record is put at a client's key
 with-record : (s : Slab RecordView) (key : ℕ) (old new : RecordView) → get s key ≡ Some old
     → Updates s (with_value s key new) key (Some new)
 with-record s key old new found =
@@ -90,7 +90,7 @@ pub found-served : (s : Slab RecordView) (key : ℕ) (r : RecordView) (now : Scr
     → ((k : ℕ) → IfSome (get s k) (IsRecordOf now)) → IsRecordOf now r
 found-served s key r now found each = rw found at (each key)
 
--- another record of this screen stands at a client's key
+-- another record of this screen is put at a client's key
 pub hub-put : (h : Inside) (key : ℕ) (old new : RecordView) → IsHub h → get h.clients key ≡ Some old
     → (h.parser.screen.failed ≡ false → IsRecordOf h.parser.screen old → IsRecordOf h.parser.screen new)
     → IsHub (record h { clients = with_value h.clients key new })

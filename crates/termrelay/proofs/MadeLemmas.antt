@@ -1,4 +1,4 @@
--- Parsers that acts have made of new ones.
+-- Parsers in the state after some acts on a new one.
 use Rattle.std.proofs.Common.{◌≡◌, ℕ, List, [], ◌∷◌, ◌++◌, append-nil, append_assoc, ap, sym, ◌∙◌, refl}
 use Rattle.std.proofs.lemmas.List.Elements.{All-push}
 use Rattle.vt100_core.specs.Picture.{grid_size}

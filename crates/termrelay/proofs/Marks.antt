@@ -1,4 +1,4 @@
--- The marks of a frame stand at its ends alone.
+-- The marks of a frame occur only at its two ends.
 use Rattle.std.proofs.Common.{◌≡◌, ℕ, false, ◌==◌, List, [], ◌∷◌, ◌++◌, length, refl, ap, sym, ◌∙◌, arith}
 use Rattle.std.proofs.Common.{append_assoc, length-append}
 use Rattle.std.specs.List.{AllByRecursion, list_any}
@@ -18,7 +18,7 @@ same-first x y xs ys e = cc
 same-rest : (x y : ℕ) (xs ys : List ℕ) → x ∷ xs ≡ y ∷ ys → xs ≡ ys
 same-rest x y xs ys e = cc
 
--- a mark stands behind bytes of which none is an ESC
+-- if bytes without an ESC come first, a mark begins only after them
 behind-bytes : (bs : List ℕ) → list_any (λ b. b == 27) bs ≡ false → (r xs ys : List ℕ)
     → bs ++ r ≡ xs ++ (mark_head ++ ys) → (zs : List ℕ) × (xs ≡ bs ++ zs) × (r ≡ zs ++ (mark_head ++ ys))
 behind-bytes [] h r xs ys e = (xs, refl, e)
@@ -34,11 +34,11 @@ start-tail = 91 ∷ 63 ∷ 50 ∷ 48 ∷ 50 ∷ 54 ∷ 104 ∷ []
 end-tail : List ℕ
 end-tail = 91 ∷ 63 ∷ 50 ∷ 48 ∷ 50 ∷ 54 ∷ 108 ∷ []
 
--- no mark stands in nothing
+-- no mark occurs in an empty list
 none-in_nil : (zs ys : List ℕ) → [] ≡ zs ++ (mark_head ++ ys) → ⊥
 none-in_nil zs ys e = omega (arith, ap length e, length-append zs (mark_head ++ ys), length-append mark_head ys)
 
--- in an end mark stands no other
+-- no other mark occurs in an end mark
 at-end : (zs ys : List ℕ) → end_mark ≡ zs ++ (mark_head ++ ys) → ys ≡ 108 ∷ []
 unfolding end-tail
 at-end [] ys e = sym (append_cancel_left mark_head (108 ∷ []) ys e)
@@ -47,7 +47,7 @@ at-end (z ∷ zs) ys e =
     (same-rest 27 z end-tail (zs ++ (mark_head ++ ys)) e) in
     absurd (none-in_nil ws ys left)
 
--- a mark behind the first byte of a frame is the end mark
+-- a mark after the first byte of a frame is the end mark
 behind-first : (fs : List Form) → AllByRecursion HasPlainText fs → (x : ℕ) (xs ys : List ℕ)
     → start_mark ++ (spell fs ++ end_mark) ≡ (x ∷ xs) ++ (mark_head ++ ys) → ys ≡ 108 ∷ []
 unfolding start-tail

@@ -1,4 +1,4 @@
--- The cells that a screen tells of a row, and two rows that are compared.
+-- The cells that a screen gives for a row, and the comparison of two rows.
 use Rattle.std.proofs.Common.{◌≡◌, ◌∙◌, ℕ, zero, suc, ◌<◌, ◌≤◌, ◌==◌, false, Option, Some, None, List}
 use Rattle.std.proofs.Common.{length, take, sym, ap, arith}
 use mathlib.Core.Logic.{⊎_elim}
@@ -31,12 +31,12 @@ reaches : (n : ℕ) (cells : List CellView) (f : ℕ → CellView) → ((c : ℕ
 reaches zero cells f h = omega arith
 reaches (suc n) cells f h = omega (arith, slice_get_within cells n (f n) (h n (omega arith)))
 
--- they are the cells that the screen shows there, and more where the row is wider
+-- the list has the cells that the screen shows in the row, and more if the row is wider
 pub record AreCellsOf (s : State) (r : ℕ) (cells : List CellView) : Type 0 where
   pub wide : s.shown.width ≤ length cells
   pub same : AreSame (cell_at cells) ((shown_state s).cell r) 0 s.shown.width
 
--- the cells that a screen tells of a row on it
+-- the cells that a screen gives for one of its rows
 pub cells-told : (s : State) (r : ℕ) → IsState s → r < s.shown.height → (cells : List CellView)
     → option_map (λ v. v.cells) (visible_row_at s.shown r) ≡ Some cells → AreCellsOf s r cells
 cells-told s r i inside cells e =

@@ -42,7 +42,7 @@ pub made-all : (h g : HubState as_kept) (l m : LogView) (calls : List Given) (n 
     → MadeAll h l (map call_of (take n calls)) g m → MadeAll h l (map call_of calls) g m
 made-all h g l m calls n le made = rw (take_all n calls le) at made
 
--- there was no memory for what is kept of a call
+-- an allocation for the log of a call failed
 pub made-some : (h g k : HubState as_kept) (l m o : LogView) (calls : List Given) (n : ℕ) (result : Result (Unit {0}) HubError)
     → n < length calls → MadeAll h l (map call_of (take n calls)) g m → k ≡ g → o ≡ m → result ≡ Err Memory
     → RunsCalls h l (map call_of calls) result k o

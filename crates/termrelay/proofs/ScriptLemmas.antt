@@ -1,4 +1,4 @@
--- What a writer takes that is told of.
+-- The bytes that a scripted writer takes.
 use Rattle.std.proofs.Common.{◌≡◌, ◌∙◌, ◌≢◌, ℕ, ◌+◌, ◌-◌, ◌<◌, List, [], ◌∷◌}
 use Rattle.std.proofs.Common.{◌++◌, take, drop, length, min, Option, Some, None, Result, Ok, Err, refl, sym, ap}
 use Rattle.std.proofs.Common.{arith, length-drop, length-append, take-append-drop, append_assoc}
@@ -52,7 +52,7 @@ first-some [] rest owed first pos told = grind (arith, takes-nothing rest)
 first-some (Bytes j ∷ takes) rest owed first pos told = grind (arith, nat_tests, takes-nothing rest)
 first-some (Fault ∷ takes) rest owed first pos told = absurd (grind arith)
 
--- a pump to it takes what is told
+-- a pump to a scripted writer takes the bytes that the script says
 pub taken-as-told : (takes rest : List Take) (owed : List ℕ) (end : Result (Unit {0}) Error) (n : ℕ)
     → Pumps WritesAsTold takes owed end n rest → n ≡ taken_by takes (length owed)
 taken-as-told takes rest owed end n all = sym (takes-nothing takes)
@@ -66,7 +66,7 @@ taken-as-told takes rest owed end n (some middle first k more pos told later) =
 -- ---- what it leaves
 
 module _ {way : Telling} where
-  -- what stands at a key after it was put there
+  -- the client at a key after it was put there
   pub put-there : (h g : HubState way) (key : ℕ) (slot : Option ClientState) → Puts h key slot g → clients_in g key ≡ slot
   put-there h g key slot put =
       ap (λ (clients : ℕ → Option ClientState). clients key) put.1 ∙ rw (eq-eqb key key refl)
@@ -78,7 +78,7 @@ module _ {way : Telling} where
       let at : PumpsFrom WritesAsTold h key (Some c) takes result rest g = rw found at f in
       put-there h g key _ at.4 ∙ rw (taken-as-told takes rest c.owed at.0 at.1 at.2)
 
--- bytes behind others, of which those that are left are cut off
+-- bytes are appended, and those that weren't taken are cut off
 pub front-kept : (bytes owed : List ℕ) (n left : ℕ) → left ≡ length (drop n owed)
     → take (length (bytes ++ owed) - left) (bytes ++ owed) ≡ bytes ++ take n owed
 front-kept bytes owed n left is =

@@ -1,4 +1,4 @@
--- What the calls that ask a screen tell of what it shows, and two screens that are told alike.
+-- What a screen's getters give, and the comparison of two screens by them.
 use Rattle.std.proofs.Common.{◌≡◌, ℕ, ◌<◌, Bool, true, false, ◌&&◌, ◌==◌, List, [], ◌∷◌, length, length-append}
 use Rattle.std.proofs.Common.{arith, ap, refl, encode_utf8, encode_utf8_all}
 use mathlib.Core.Bool.{beq}
@@ -32,7 +32,7 @@ short-asks_not (x ∷ xs) h =
 same-test : (a b : Bool) → beq a b ≡ bool_eq a b
 same-test a b = grind arith
 
--- the flags that two screens tell of a row are compared
+-- the wrap flags of a row are compared on two screens
 pub wraps-compared : (s t : State) (r : ℕ) → IsState s → IsState t → (a b : Bool) → a ≡ told_wrap s r
     → b ≡ told_wrap t r → beq a b ≡ bool_eq ((shown_state s).wrapped r) ((shown_state t).wrapped r)
 wraps-compared s t r i j a b e f =

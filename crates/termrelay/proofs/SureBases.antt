@@ -1,4 +1,4 @@
--- What is due where there is a base of which it is sure, and where there is none.
+-- What is due if there is a sure base, and if there is none.
 use Rattle.std.proofs.Common.{◌≡◌, ◌∙◌, ℕ, List, Bool, true, false, Option, Some, None, refl, sym, ap, if◌then◌else◌, arith}
 use denote.Enum.Bare.{sameb}
 use Rattle.std.specs.Option.{option_map, IfSome}
@@ -30,7 +30,7 @@ sure-base now w v same of e is =
       ap (λ z. same_shown z (shown_state w.state) (shown_state now.state)) (sym of.size) ∙ rw one at is,
     )
 
--- the same is shown as at a sure base, so that the present screen is sure too
+-- the screen shows the same as a sure base, so it is sure too
 pub same-due : (now : ScreenView) (base : Option ScreenView) (v : ScreenView) → IsUnscrolled now.state
     → IfSome base (IsBaseOf now) → Some v ≡ sure_base base
     → same_shown (grid_size v.state.shown) (shown_state v.state) (shown_state now.state) ≡ true
@@ -43,7 +43,7 @@ same-due now (Some w) v u h e same =
     let one = same-one z (shown_state w.state) (shown_state now.state) base (shown-is now.state u) alike in
     rw (rw one at sure, sure, alike)
 
--- a base of which it is sure is one of this screen, and is sure
+-- a sure base fits this screen, and is sure
 pub base-sure : (now : ScreenView) (base : Option ScreenView) (v : ScreenView) → IfSome base (IsBaseOf now)
     → Some v ≡ sure_base base
     → IsBaseOf now v × (is_unsure (grid_size now.state.shown) (shown_state v.state) ≡ false)
@@ -53,7 +53,7 @@ base-sure now (Some w) v h e =
     let one : v ≡ w = grind arith in
     rw one (h, ap (λ z. is_unsure z (shown_state w.state)) (sym h.size) ∙ sure)
 
--- something else is shown than at a sure base
+-- the screen doesn't show the same as a sure base
 pub other-due : (now : ScreenView) (base : Option ScreenView) (v : ScreenView) → IfSome base (IsBaseOf now)
     → Some v ≡ sure_base base
     → same_shown (grid_size v.state.shown) (shown_state v.state) (shown_state now.state) ≡ false
@@ -63,7 +63,7 @@ other-due now None v h e other = absurd cc
 other-due now (Some w) v h e other =
     let (sure, alike) = sure-base now w v false h e other in rw (sure, alike)
 
--- there is no base, or one of which it isn't sure
+-- there is no base, or an unsure one
 pub redraw-due : (now : ScreenView) (base : Option ScreenView) → IfSome base (IsBaseOf now) → None ≡ sure_base base
     → (if is_unsure_screen now then Unsure else Full)
     ≡ due (grid_size now.state.shown) (shown_state now.state) (option_map (λ v. shown_state v.state) base)

@@ -20,7 +20,7 @@ pub record IsMade (p : ParserView (Unit {0})) : Type 0 where
   pub are : AreActs rows cols capacity acts
   pub stands : ParserStandsAt p rows cols capacity acts
 
--- Unless the hub has failed, its parser is in the state after some acts, each base has the screen's size, and each
+-- Unless the hub has failed, its parser is in the state after some acts. Then each base has the screen's size, and each
 -- client is owed at most the longest frame's bytes. The copy that the hub keeps is of the present screen.
 pub record IsHub (h : Inside) : Type 0 where
   pub made : h.parser.screen.failed ≡ false → IsMade h.parser

@@ -64,7 +64,7 @@ goes-on p q parsed parsed' n calls shows h g =
     ∙ ap (seen p.size) (sym h.more) in
     (done.size, now ∙ ap (λ z. seen z parsed') (sym done.size))
 
--- the same where the hold was emptied
+-- the same, if the buffered bytes were parsed
 pub emptied-on : (p q : PictureView) (parsed bytes : List ℕ) → term_of_picture p ≡ seen p.size parsed
     → Calls Does p (calls_from parsed bytes ++ hold.closing) q
     → (q.size ≡ p.size) × (term_of_picture q ≡ seen q.size (parsed ++ bytes))

@@ -1,4 +1,4 @@
--- Frames of forms, and forms in pieces.
+-- Frames made of forms, and forms that arrive in pieces.
 use Rattle.std.proofs.Common.{◌≡◌, ℕ, ◌+◌, ◌<◌, ◌==◌, Bool, true, false, ◌&&◌, ◌||◌, List, [], ◌∷◌, ◌++◌, map}
 use Rattle.std.proofs.Common.{nat_eq, length, get_or, Option, None, refl, sym, ap, subst, ◌∙◌, arith, inl, inr}
 use Rattle.std.proofs.Common.{append-nil, append_assoc, length-append}
@@ -162,7 +162,7 @@ end-apart (a ∷ b ∷ c ∷ d ∷ f ∷ g ∷ []) after h e = absurd (omega (ar
 end-apart (a ∷ b ∷ c ∷ d ∷ f ∷ g ∷ i ∷ []) after h e = absurd (omega (arith, ap (λ xs. get_or xs 7 0) e))
 end-apart (a ∷ b ∷ c ∷ d ∷ f ∷ g ∷ i ∷ j ∷ front) after h e = absurd (omega (arith, h))
 
--- an end mark stands at the end only, where none is among the events of the body
+-- an end mark occurs only at the end, if none is among the events of the body
 ends-once : (body before after : List ℕ) → Unmarked (events 1024 body)
     → body ++ end_mark ≡ before ++ (end_mark ++ after) → after ≡ []
 ends-once body before after none e =
@@ -196,7 +196,7 @@ forms-framed fs k = record {
   opens_nothing = opens-nothing fs k;
 }
 
--- where nothing is unfinished, forms open no update
+-- outside of a character or a sequence, forms open no update
 opens_in-spelling : (past : List ℕ) (fs : List Form) → AtGround 1024 past → AllByRecursion IsSentForm fs
     → opens_in past (spell fs) ≡ false
 opens_in-spelling past fs g k = ap (list_any opens) (ground-added 1024 past (spell fs) g) ∙ opens-nothing fs k

@@ -1,4 +1,4 @@
--- What is true of a picture stays true.
+-- Every call keeps the invariant of a picture.
 use Rattle.std.proofs.Common.{◌≡◌, ℕ, ◌+◌, ◌-◌, ◌<◌, ◌≤◌, ◌==◌, true, false, cond, not, ◌&&◌, nat_lt, List, length}
 use Rattle.std.proofs.Common.{set, Some, refl, ap, ◌∙◌, arith, length-set}
 use Rattle.std.specs.Char.{IsScalar}

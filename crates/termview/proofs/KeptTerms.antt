@@ -1,4 +1,4 @@
--- What is true of every terminal stays true under every call.
+-- Every call keeps the invariant of a terminal.
 use Rattle.std.proofs.Common.{◌≡◌, ℕ, ◌+◌, ◌-◌, ◌<◌, ◌≤◌, ◌==◌, Bool}
 use Rattle.std.proofs.Common.{true, false, cond, ◌&&◌, nat_lt, nat_eq, min, List}
 use Rattle.std.proofs.Common.{[], ◌∷◌, Option, None, Some, sym, refl, ap, subst, ◌∙◌, arith, ⊎_elim}

@@ -133,7 +133,7 @@ scrolled-is p width i h =
     (λ k. record (term_of_picture p) { cell = lines k; wrapped = flags k })
     ∙ sym (down-up p.size (term_of_picture p) h)
 
--- the row above the cursor goes on
+-- the row above the cursor is flagged as wrapped
 pub flagged-is : (p : PictureView) → IsPicture p → 0 < p.row
     → term_of_picture (record p { rows = set p.rows (p.row - 1) (with_wrap (row_at p.rows (p.row - 1)) true) })
     ≡ flag_above p.size (term_of_picture p)

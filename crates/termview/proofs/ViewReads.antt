@@ -1,4 +1,4 @@
--- A view reads the calls of forms as they are meant.
+-- The calls of forms have the forms' effect on a view.
 use Rattle.std.proofs.Common.{◌≡◌, ℕ, ◌+◌, ◌<◌, ◌≤◌, ◌==◌, Bool, true, false, cond, not, ◌&&◌, ◌||◌}
 use Rattle.std.proofs.Common.{nat_lt, nat_le, Some, refl, sym, ap, ◌∙◌, arith, rules, ⊎_elim}
 use Rattle.std.proofs.lemmas.Bool.{cond_both, ne_eqb, eq-eqb, lt-ltb, le-ltb, ltb-true, cases_lt}

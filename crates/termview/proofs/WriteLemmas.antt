@@ -17,7 +17,7 @@ use Rattle.termview.specs.Writing.{cell_text}
 
 -- ---- columns
 
--- what stands in further columns
+-- the text of further columns
 pub columns-split : (f : ℕ → CellView) (m k : ℕ)
     → (rest : List ℕ) × (columns_text f 0 (m + k) ≡ columns_text f 0 m ++ rest)
 columns-split f m zero =
