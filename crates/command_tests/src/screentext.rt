@@ -3,15 +3,16 @@
 mod refusals;
 
 use crate::same::{same, written};
-use screentext_command::command;
+use screentext_command::{Files, TextError, command, command_with};
 use scripted_io::{Few, Narrow, Script, Step};
+use std::alloc::Global;
 use std::io::ErrorKind;
 use std::process::Abort;
 use std::test::Fail;
 
 const USAGE: &[u8] =
     b"usage: screentext [ROWS COLS] [--at SECONDS] [--diff SECONDS] [--history N] [--joined] \
-[--colours] [--html | --svg]\n";
+[--colours] [--html | --svg] [--list] [--kind NAME] [--timing FILE]\n";
 
 /// A screen of two rows: `a` from the beginning, `b` from half a second on.
 const CAST: &[u8] = b"{\"version\": 2, \"width\": 4, \"height\": 2}\n\
@@ -86,10 +87,10 @@ fn words_that_are_not_understood(rt: HostRuntime) {
         &["000001", "2"],
         &["1", "+2"],
         &["--at"],
-        &["--at=x"],
         &["--at=-1"],
-        &["--at", "\"1\""],
-        &["--diff="],
+        &["--diff=-0.5"],
+        &["--kind=cast"],
+        &["--timing"],
         &["--history=0000000001"],
         &["--history=+1"],
         &["--joined=1"],
@@ -107,31 +108,138 @@ fn lines_that_are_no_events(rt: HostRuntime) {
     let rows: [(&[u8], &[u8]); 6] = [
         (
             b"{\"version\": 1, \"width\": 4, \"height\": 2}\n",
-            b"screentext: line 1: not a header of asciicast v2\n",
+            b"screentext: line 1: not a header of asciicast v2 or v3\n",
         ),
         (
             b"{\"version\": 2, \"width\": 4}\n",
-            b"screentext: line 1: not a header of asciicast v2\n",
+            b"screentext: line 1: not a header of asciicast v2 or v3\n",
         ),
         (
             b"{\"version\": 2, \"width\": 4, \"height\": 2}\n\n[0, \"o\"]\n",
-            b"screentext: line 3: not an event of asciicast v2\n",
+            b"screentext: line 3: not an event of asciicast\n",
         ),
         (
             b"{\"version\": 2, \"width\": 4, \"height\": 2}\nhi\n",
-            b"screentext: line 2: not an event of asciicast v2\n",
+            b"screentext: line 2: not an event of asciicast\n",
         ),
         (
             b"{\"version\": 2, \"width\": 4, \"height\": 2}\n[0, \"r\", \"4x0\"]\n",
-            b"screentext: line 2: not an event of asciicast v2\n",
+            b"screentext: line 2: not an event of asciicast\n",
         ),
         (
             b"{\"version\": 2, \"width\": 4, \"height\": 2}\n[-1, \"o\", \"a\"]\n",
-            b"screentext: line 2: not an event of asciicast v2\n",
+            b"screentext: line 2: not an event of asciicast\n",
         ),
     ];
     for (input, errors) in rows {
         check(&rt, &[], input, 1, b"", errors);
+    }
+}
+
+/// Two seconds on a screen of two rows, with a comment, a marker and the program's end.
+const CAST_3: &[u8] = b"{\"version\": 3, \"term\": {\"cols\": 4, \"rows\": 2}}\n\
+# a comment\n\
+[0.5, \"o\", \"a\"]\n\
+[0.25, \"m\", \"mid\"]\n\
+[0.25, \"i\", \"q\"]\n\
+[0.5, \"o\", \"b\"]\n\
+[0.25, \"r\", \"6x3\"]\n\
+[0.25, \"x\", \"0\"]\n";
+
+/// Two frames of ttyrec, a second and a half apart.
+const FRAMES: &[u8] = b"\x01\x00\x00\x00\x00\x00\x00\x00\x02\x00\x00\x00hi\
+\x02\x00\x00\x00\x20\xa1\x07\x00\x01\x00\x00\x00!";
+
+#[test]
+fn kinds(rt: HostRuntime) {
+    let rows: [(&[&str], &[u8], &[u8]); 9] = [
+        (&[], CAST_3, b"ab\n\n\n"),
+        (&["--at", "mid"], CAST_3, b"a\n\n"),
+        (&["--at=1.25"], CAST_3, b"a\n\n"),
+        (&["--diff=mid", "--at=1.5"], CAST_3, b"-1: a\n+1: ab\n"),
+        (
+            &["--list"],
+            CAST_3,
+            b"kind asciicast\nsize 2 4\nlength 2.000000\nevents 4\nmarker 0.750000 mid\n",
+        ),
+        (&["1", "4"], FRAMES, b"hi!\n"),
+        (&["1", "4", "--at=1.4"], FRAMES, b"hi\n"),
+        (
+            &["--list"],
+            FRAMES,
+            b"kind ttyrec\nlength 1.500000\nevents 2\n",
+        ),
+        (&["1", "4", "--kind", "raw"], b"{\"version\":2}", b"}\n"),
+    ];
+    for (words, input, output) in rows {
+        check(&rt, words, input, 0, output, b"");
+    }
+}
+
+#[test]
+fn faults_of_recordings(rt: HostRuntime) {
+    let rows: [(&[&str], &[u8], &[u8]); 4] = [
+        (&["--at=end"], CAST_3, b"screentext: no such marker\n"),
+        (
+            &["--kind=ttyrec"],
+            b"\x01\x00\x00\x00\x00\x00\x00\x00\x01\x00\x00\x00hi",
+            b"screentext: byte 13: not a frame of ttyrec\n",
+        ),
+        (
+            &["--kind=script"],
+            b"",
+            b"screentext: a typescript needs its timing file: --timing FILE\n",
+        ),
+        (
+            &["--timing=t"],
+            b"",
+            b"screentext: the timing file can't be read\n",
+        ),
+    ];
+    for (words, input, errors) in rows {
+        check(&rt, words, input, 1, b"", errors);
+    }
+}
+
+/// The file `classic` and the file `advanced`: the times of one typescript, in both formats of util-linux.
+struct Times;
+
+impl Files for Times {
+    fn read(&self, alloc: Global, path: &str) -> Result<Vec<u8>, TextError> {
+        let bytes: &[u8] = match path {
+            "classic" => b"0.500000 2\n1.000000 1\n",
+            "advanced" => {
+                b"H 0.000000 COLUMNS 4\nH 0.000000 LINES 1\nO 0.500000 2\nI 0.250000 1\n\
+S 0.250000 SIGWINCH ROWS=2 COLS=4\nO 0.500000 1\n"
+            }
+            _ => return Err(TextError::File),
+        };
+        Ok(bytes.to_vec(alloc)?)
+    }
+}
+
+#[test]
+fn typescripts(rt: HostRuntime) {
+    let rows: [(&[&str], &[u8]); 4] = [
+        (&["1", "4", "--timing", "classic"], b"hi!\n"),
+        (&["1", "4", "--timing", "classic", "--at=1"], b"hi\n"),
+        (&["--timing", "advanced"], b"hi!\n\n"),
+        (&["--timing", "advanced", "--at=0.75"], b"hi\n"),
+    ];
+    for (words, output) in rows {
+        let mut written = Vec::new(rt.alloc());
+        let mut told = Vec::new(rt.alloc());
+        let mut left: &[u8] = b"Script started on 2026-01-01\nhi!Script done\n";
+        let answer = command_with(
+            rt.alloc(),
+            words,
+            &Times,
+            &mut left,
+            &mut written,
+            &mut told,
+        );
+        same(&rt, &words, &answer, &0);
+        same(&rt, &words, &written.as_slice(), &output);
     }
 }
 
@@ -161,11 +269,12 @@ fn readers(rt: HostRuntime) {
             b"",
             b"screentext: read\n",
         ),
+        // Want of memory in the reader is a read's fault, too.
         (
             &[Step::Give(b"h"), Step::Fail(ErrorKind::OutOfMemory)],
             1,
             b"",
-            b"screentext: memory\n",
+            b"screentext: read\n",
         ),
         (
             &[

@@ -2,7 +2,7 @@
 use Rattle.std.proofs.Common.{◌≡◌, ℕ, Bool, List, [], ◌∷◌, ◌++◌, true, false, refl, ap, nat_le}
 use Rattle.std.specs.Prelude.{if◌then◌else◌}
 use Rattle.screen_model.specs.Made.{Act}
-use Rattle.recorded_screen.specs.declared.recording.Event.{Event}
+use Rattle.recordings.specs.declared.recording.Event.{Event}
 use Rattle.recorded_screen.specs.Moment.{act_of, acts_until}
 
 chosen-append : (b : Bool) (a : Act) (xs ys zs : List Act) → zs ≡ xs ++ ys

@@ -5,12 +5,11 @@ mod moment;
 mod page;
 mod palette;
 mod picture;
-mod recording;
 mod runs;
 mod style;
 mod tag;
 
 pub use moment::{END, terminal_at};
 pub use picture::{html, svg};
-pub use recording::{Change, Event, Recording, Size};
+pub use recordings::{Change, Event, Kind, Recording, RecordingError, Size};
 pub use style::Style;

@@ -6,7 +6,7 @@ ghost use Rattle.screen_model.specs.Made.{Act};
 ghost use Rattle.vt100.specs.declared.error.ScreenError.TheVariants.{Memory};
 ghost use Rattle.recorded_screen.specs.Moment.{act_of, acts_until};
 
-use crate::recording::{Change, Event, Size};
+use recordings::{Change, Event, Size};
 use std::alloc::Global;
 use vt100::{Parser, ScreenError};
 
@@ -69,5 +69,6 @@ fn act(parser: &mut Parser<()>, change: &Change) -> Result<(), ScreenError>
     match change {
         Change::Output(bytes) => parser.process(bytes),
         Change::Resize(size) => parser.set_size(size.rows, size.cols),
+        Change::Marker(_) => parser.process(b""),
     }
 }

@@ -7,7 +7,7 @@ use Rattle.clap.specs.Words.{AddsAliases, AddsArg, App, IsAmong, Kinds, Row, Rul
 use Rattle.clap.specs.Words.{rule_of, with_rule}
 use Rattle.clap.specs.declared.error.ErrorKind.{ErrorKind}
 use Rattle.clap.proofs.OnLiterals.{clap_on_literals}
-use Rattle.screentext_command.specs.Words.{are_values, is_order_of, is_request, known}
+use Rattle.screentext_command.specs.Words.{are_words, is_order_of, is_request, known}
 use Rattle.screentext_command.proofs.KindLemmas.{IsSingle}
 use Rattle.clap.specs.declared.Arg.{Arg}
 use Rattle.clap.specs.declared.Command.{Command}
@@ -33,8 +33,8 @@ unfolding clap_on_literals
 known_is_free = refl
 
 -- words that `clap` takes, by their values
-pub taken : (kinds : Kinds) (rows told : List Row) → kinds ≡ [] → told ≡ rows → are_values told ≡ is_order_of kinds rows
-taken kinds rows told none same = ap are_values same ∙ ap (λ ks. is_order_of ks rows) (sym none)
+pub taken : (kinds : Kinds) (rows told : List Row) → kinds ≡ [] → told ≡ rows → are_words told ≡ is_order_of kinds rows
+taken kinds rows told none same = ap are_words same ∙ ap (λ ks. is_order_of ks rows) (sym none)
 
 -- words that it doesn't take, by the kind of its error
 pub not_taken : (k : ErrorKind) (kinds told : Kinds) (rows : List Row) → told ≡ kinds → IsSingle kinds → IsAmong k told

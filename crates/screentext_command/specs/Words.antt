@@ -1,15 +1,14 @@
 -- The words of the command line.
-use Rattle.std.specs.Prelude.{ℕ, nat_lt, Bool, true, false, not, ◌&&◌, List, [], ◌∷◌, ◌++◌, Option, Some, None, codes}
+use Rattle.std.specs.Prelude.{ℕ, nat_lt, Bool, true, false, not, ◌&&◌, ◌||◌, is_some, List, [], ◌∷◌, ◌++◌, Option, Some, None, codes}
 use Rattle.std.specs.Option.{option_map_or}
-use Rattle.std.specs.Float.{float_zero}
-use Rattle.std.specs.Float.Ieee.{lt}
 use Rattle.clap.specs.Words.{App, Kinds, Row, Rule, Text, count_of, fault_of, first_of, matches_of, new_app, new_rule, with_rule}
 use Rattle.clap.specs.declared.builder.ArgAction.TheVariants.{Count}
 use Rattle.clap.specs.declared.error.ErrorKind.{ErrorKind}
 use Rattle.clap.specs.declared.error.ErrorKind.TheVariants.{DisplayHelp, DisplayVersion}
 use Rattle.serde_json.specs.Data.{Data}
-use Rattle.serde_json.specs.Find.{as_number, to_float}
-use Rattle.serde_json.specs.Read.{read as read_text}
+use Rattle.serde_json.specs.Find.{as_number}
+use Rattle.recordings.specs.Kinds.{kind_named}
+use Rattle.recordings.specs.Times.{json_in, time_of}
 use Rattle.command_line.specs.Numbers.{is_size, is_count}
 
 -- an option with a value
@@ -36,9 +35,13 @@ abbrev pub with_flags : App → App
 with_flags a = with_rule (with_rule (with_rule (with_rule a (flag_rule (codes "joined"))) colors_rule) (flag_rule (codes "html")))
     (flag_rule (codes "svg"))
 
--- what `clap` is told of `[ROWS COLS] [--at SECONDS] [--diff SECONDS] [--history N] [--joined] [--colours] [--html | --svg]`
+abbrev pub with_sources : App → App
+with_sources a = with_rule (with_rule (with_rule a (flag_rule (codes "list"))) (value_rule (codes "kind"))) (value_rule (codes "timing"))
+
+-- what `clap` is told of `[ROWS COLS] [--at TIME] [--diff TIME] [--history N] [--joined] [--colours] [--html | --svg]
+-- [--list] [--kind NAME] [--timing FILE]`
 abbrev pub known : App
-known = with_flags (with_values program)
+known = with_sources (with_flags (with_values program))
 
 -- both are numbers of rows and columns, or there is neither
 abbrev pub is_screen : Option Text → Option Text → Bool
@@ -46,12 +49,12 @@ is_screen None None = true
 is_screen (Some rows) (Some cols) = is_size rows && is_size cols
 is_screen _ _ = false
 
--- a number in JSON that isn't negative
+-- a number in JSON that isn't negative, or no number: then it is a marker's name
 abbrev pub is_time : Option Data → Bool
-is_time json = option_map_or (λ value. option_map_or (λ n. not (lt (to_float n) float_zero)) (as_number value) false) json false
+is_time json = option_map_or (λ value. not (is_some (as_number value)) || is_some (time_of value)) json true
 
 abbrev pub is_moment : Option Text → Bool
-is_moment word = option_map_or (λ text. is_time (read_text text)) word true
+is_moment word = option_map_or (λ text. is_time (json_in text)) word true
 
 -- the values of the words that `clap` takes
 abbrev pub are_values : List Row → Bool
@@ -60,13 +63,19 @@ are_values rows = is_screen (first_of (codes "ROWS") rows) (first_of (codes "COL
     && (option_map_or is_count (first_of (codes "history") rows) true
     && not (nat_lt 0 (count_of (codes "html") rows) && nat_lt 0 (count_of (codes "svg") rows)))))
 
+abbrev pub are_sources : List Row → Bool
+are_sources rows = option_map_or (λ word. is_some (kind_named word)) (first_of (codes "kind") rows) true
+
+abbrev pub are_words : List Row → Bool
+are_words rows = are_values rows && are_sources rows
+
 abbrev pub is_request : ErrorKind → Bool
 is_request DisplayHelp = true
 is_request DisplayVersion = true
 is_request _ = false
 
 abbrev pub is_order_of : Kinds → List Row → Bool
-is_order_of [] rows = are_values rows
+is_order_of [] rows = are_words rows
 is_order_of (k ∷ ks) rows = is_request k
 
 -- `clap` takes the words, and their values have the right form; or the first of its errors, which is the only one, is
@@ -76,7 +85,7 @@ is_order words = is_order_of (fault_of known words) (matches_of known words)
 
 -- what words that aren't understood are told
 abbrev pub usage_line : List ℕ
-usage_line = codes "usage: screentext [ROWS COLS] [--at SECONDS] [--diff SECONDS] [--history N] [--joined] [--colours] [--html | --svg]"
+usage_line = codes "usage: screentext [ROWS COLS] [--at SECONDS] [--diff SECONDS] [--history N] [--joined] [--colours] [--html | --svg] [--list] [--kind NAME] [--timing FILE]"
     ++ 0x0A ∷ []
 
 -- what is told where memory is refused

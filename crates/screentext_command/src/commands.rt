@@ -6,11 +6,14 @@ ghost use Rattle.screentext_command.specs.Words.{is_order, memory_line, usage_li
 ghost use Rattle.screentext_command.specs.declared.error.TextError.TheVariants.{Memory};
 
 use crate::answer::answer_of;
-use crate::cast::parse_recording;
 use crate::error::TextError;
+use crate::files::{Files, NoFiles};
+use crate::list::list_of;
+use crate::source::{Source, with_markers};
 use crate::streams::write_all;
 use crate::words::{Order, parse};
 use command_line::{FAULT, SUCCESS, USAGE, read_all, report};
+use recordings::{Recording, parse_recording};
 use std::alloc::Global;
 use std::fmt::Write;
 use std::io::Read;
@@ -20,16 +23,39 @@ const MEMORY_LINE: &[u8] = b"screentext: memory\n";
 
 const USAGE_LINE: &[u8] =
     b"usage: screentext [ROWS COLS] [--at SECONDS] [--diff SECONDS] [--history N] [--joined] \
-[--colours] [--html | --svg]\n";
+[--colours] [--html | --svg] [--list] [--kind NAME] [--timing FILE]\n";
+
+/// Runs the program where no file can be read: [`command_with`] without a timing file.
+pub fn command<R: Read, W: Sink, V: Taker>(
+    alloc: Global,
+    words: &[&str],
+    input: &mut R,
+    output: &mut W,
+    errors: &mut V,
+) -> u8
+    ensures refused { is_order (map (λ w. w.now) words.now) ≡ false → (input.new ≡ input.old)
+        × (output.new ≡ output.old) × (((result ≡ 2) × Tells V.takes errors.old usage_line errors.new)
+        ⊎ ((result ≡ 1) × Tells V.takes errors.old memory_line errors.new)) }
+    ensures understood { is_order (map (λ w. w.now) words.now) ≡ true → result ≤ 1 }
+
+    // Whatever the words are:
+    ensures usage { result ≡ 2 → (input.new ≡ input.old) × (output.new ≡ output.old)
+        × Tells V.takes errors.old usage_line errors.new }
+    ensures done { result ≡ 0 → errors.new ≡ errors.old }
+    ensures status { result ≤ 2 }
+{
+    command_with(alloc, words, &NoFiles, input, output, errors)
+}
 
 /// Runs the program on the words after its name, and answers its exit status.
 ///
 /// A fault is told in a line on `errors`. Words that aren't understood get the usage line there, and then nothing is read
 /// or written, unless memory is refused before that is known: that is a fault. Such a line is written whole, unless a
 /// write of it fails or takes nothing; that changes nothing else.
-pub fn command<R: Read, W: Sink, V: Taker>(
+pub fn command_with<F: Files, R: Read, W: Sink, V: Taker>(
     alloc: Global,
     words: &[&str],
+    files: &F,
     input: &mut R,
     output: &mut W,
     errors: &mut V,
@@ -53,7 +79,7 @@ pub fn command<R: Read, W: Sink, V: Taker>(
         }
         Err(error) => return report_fault(alloc, errors, error),
     };
-    match obey(alloc, order, input, output) {
+    match obey(alloc, order, files, input, output) {
         Ok(()) => SUCCESS,
         Err(error) => report_fault(alloc, errors, error),
     }
@@ -75,19 +101,39 @@ pub fn report_fault<V: Taker>(alloc: Global, errors: &mut V, error: TextError) -
     FAULT
 }
 
-fn obey<R: Read, W: Sink>(
+fn obey<F: Files, R: Read, W: Sink>(
     alloc: Global,
     order: Order,
+    files: &F,
     input: &mut R,
     output: &mut W,
 ) -> Result<(), TextError> {
     match order {
         Order::Tell(text) => write_all(output, text.as_bytes()),
-        Order::Print(request) => {
-            let bytes = read_all(alloc, input)?;
-            let recording = parse_recording(alloc, bytes)?;
-            let answer = answer_of(alloc, &recording, request)?;
+        Order::Print(request, source) => {
+            let recording = recording_of(alloc, &source, files, input)?;
+            let request = with_markers(alloc, &recording, &source, request)?;
+            let answer = if source.list {
+                list_of(alloc, &recording)?
+            } else {
+                answer_of(alloc, &recording, request)?
+            };
             write_all(output, &answer)
         }
     }
+}
+
+// What is recorded in the input, and in the timing file if the words have one.
+fn recording_of<F: Files, R: Read>(
+    alloc: Global,
+    source: &Source,
+    files: &F,
+    input: &mut R,
+) -> Result<Recording, TextError> {
+    let bytes = read_all(alloc, input)?;
+    let Some(path) = &source.timing else {
+        return Ok(parse_recording(alloc, bytes, None, source.kind)?);
+    };
+    let timing = files.read(alloc, path.as_str())?;
+    Ok(parse_recording(alloc, bytes, Some(&timing), source.kind)?)
 }

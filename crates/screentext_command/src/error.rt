@@ -3,8 +3,10 @@
 ghost use Rattle.std.specs.Prelude.{◌≡◌};
 ghost use Rattle.screentext_command.specs.Faults.{input_fault};
 ghost use Rattle.screentext_command.specs.declared.error.TextError.TheVariants.{Memory};
+ghost use Rattle.recordings.specs.declared.error.RecordingError.TheVariants.{Memory as Refused};
 
 use command_line::InputError;
+use recordings::RecordingError;
 use std::alloc::{AllocError, AllocFailed};
 use thiserror::Error;
 use vt100::ScreenError;
@@ -21,12 +23,15 @@ pub enum TextError {
     /// Memory was refused.
     #[error("memory")]
     Memory,
-    /// The first line is a header of asciicast, but of another version than 2, or without a size.
-    #[error("line 1: not a header of asciicast v2")]
-    Header,
-    /// This line of a recording, counted from 1, is no event.
-    #[error("line {0}: not an event of asciicast v2")]
-    Line(u64),
+    /// A file that the words name can't be read.
+    #[error("the timing file can't be read")]
+    File,
+    /// The recording has no marker of the name that the words tell.
+    #[error("no such marker")]
+    Marker,
+    /// What was read is no recording.
+    #[error("{0}")]
+    Recording(RecordingError),
 }
 
 impl From<AllocError> for TextError {
@@ -62,5 +67,16 @@ impl From<ScreenError> for TextError {
 
     fn from(_error: ScreenError) -> Self {
         TextError::Memory
+    }
+}
+
+impl From<RecordingError> for TextError {
+    ghost from_gives = { λ old e. old ≡ Refused → e ≡ Memory };
+
+    fn from(error: RecordingError) -> Self {
+        match error {
+            RecordingError::Memory => TextError::Memory,
+            error => TextError::Recording(error),
+        }
     }
 }

@@ -3,7 +3,7 @@
 ghost use Rattle.std.specs.Prelude.{◌≡◌, [], ◌∷◌, false, codes, IfOk};
 ghost use Rattle.clap.specs.Words.{app_of, new_rule, rule_of, with_rule};
 ghost use Rattle.screentext_command.specs.Words.{colors_rule, flag_rule, known, program as program_app, value_rule};
-ghost use Rattle.screentext_command.specs.Words.{with_flags as with_flags_on, with_values as with_values_on};
+ghost use Rattle.screentext_command.specs.Words.{with_flags as with_flags_on, with_values as with_values_on, with_sources as with_sources_on};
 
 use clap::{Arg, ArgAction, Command};
 use std::alloc::{AllocError, Global};
@@ -13,9 +13,17 @@ const ABOUT: &str = "Prints what a recorded terminal stream shows, at its end or
 const USAGE: &str = "screentext [ROWS COLS] [OPTIONS] < RECORDING";
 
 const NOTES: &str = "\
-The recording is an asciicast v2, or the raw bytes of a program's output. ROWS and
-COLS, both or neither, are the size of the screen at first, in place of that in the
-recording's header; a raw stream with none is shown on 24 rows and 80 columns.
+The recording is an asciicast v2 or v3, a typescript with its timing file, a ttyrec, or
+the raw bytes of a program's output. ROWS and COLS, both or neither, are the size of the
+screen at first, in place of that in the recording's header; a recording with none is
+shown on 24 rows and 80 columns.
+
+Examples:
+  screentext < demo.cast                         the last screen, as text
+  screentext --at 12.5 --svg < demo.cast         a picture of the screen after 12.5 seconds
+  screentext --at done --html < demo.cast        a page of the screen at the marker `done`
+  screentext --timing times 24 80 < typescript   a session that script(1) recorded
+  screentext --list < game.ttyrec                its kind, length and markers
 
 The status is 0 at success, 1 at a fault, 2 for words that aren't understood.";
 
@@ -23,7 +31,35 @@ The status is 0 at success, 1 at a fault, 2 for words that aren't understood.";
 pub(crate) fn known_words<'a>(alloc: Global) -> Result<Command<'a>, AllocError>
     ensures { IfOk result (λ c. app_of c ≡ known) }
 {
-    with_flags(alloc, with_values(alloc, program(alloc))?)
+    with_sources(
+        alloc,
+        with_flags(alloc, with_values(alloc, program(alloc))?)?,
+    )
+}
+
+fn with_sources<'a>(alloc: Global, command: Command<'a>) -> Result<Command<'a>, AllocError>
+    ensures { IfOk result (λ c. app_of c ≡ with_sources_on (app_of command.entry)) }
+{
+    Ok(
+        command
+            .arg(flag(
+                alloc,
+                "list",
+                "The recording's kind, size, length and markers, and no screen",
+            ))?
+            .arg(value(
+                alloc,
+                "kind",
+                "NAME",
+                "asciicast, script, ttyrec or raw, in place of what its first bytes say",
+            ))?
+            .arg(value(
+                alloc,
+                "timing",
+                "FILE",
+                "The timing file of a typescript that was made by script",
+            ))?,
+    )
 }
 
 // The program, with no words. A later use of an option replaces an earlier one.
@@ -49,13 +85,13 @@ fn with_values<'a>(alloc: Global, command: Command<'a>) -> Result<Command<'a>, A
             .arg(value(
                 alloc,
                 "at",
-                "SECONDS",
-                "The screen at this time of the recording, and not at its end",
+                "SECONDS|MARKER",
+                "The screen at this time of the recording, or at this marker, and not at its end",
             ))?
             .arg(value(
                 alloc,
                 "diff",
-                "SECONDS",
+                "SECONDS|MARKER",
                 "The rows that changed from this time on, before and after",
             ))?
             .arg(value(

@@ -1,18 +1,21 @@
 //! The command line of `screentext`: what a recorded terminal stream shows, at its end or at a moment.
 //!
-//! The stream comes from a reader, as raw bytes or as a recording in asciicast v2.
+//! The stream comes from a reader, as raw bytes or as a recording: an asciicast, a typescript with its timing file, or a ttyrec.
 #![tactic(auto)]
 
 mod answer;
-mod cast;
 mod changes;
 mod commands;
 mod error;
+mod files;
 mod known;
+mod list;
 mod sgr;
+mod source;
 mod streams;
 mod text;
 mod words;
 
-pub use commands::{command, report_fault};
+pub use commands::{command, command_with, report_fault};
 pub use error::TextError;
+pub use files::{Files, NoFiles};

@@ -5,17 +5,18 @@ ghost use Rattle.std.specs.Option.{option_map, option_map_or};
 ghost use Rattle.clap.specs.Words.{App, Kinds, app_of, fault_of, found_of, kind_of, matches_of, rows_of};
 ghost use Rattle.clap.specs.declared.error.ErrorKind.TheVariants.{OutOfMemory};
 ghost use Rattle.command_line.specs.Numbers.{is_count};
-ghost use Rattle.serde_json.specs.Read.{read as read_text};
+ghost use Rattle.recordings.specs.Times.{json_in};
 ghost use Rattle.screentext_command.specs.declared.error.TextError.TheVariants.{Memory};
-ghost use Rattle.screentext_command.specs.Words.{are_values, is_moment, is_order, is_request, is_screen, is_time};
+ghost use Rattle.screentext_command.specs.Words.{are_values, are_words, is_moment, is_order, is_request, is_screen, is_time};
 
-use crate::cast::{microseconds, parse_text};
 use crate::error::TextError;
 use crate::known::known_words;
+use crate::source::{Source, source_of};
 use clap::error::ErrorKind;
 use clap::{ArgMatches, Error};
 use command_line::{parse_count, parse_size};
 use recorded_screen::{END, Size};
+use recordings::{microseconds, parse_json};
 use std::alloc::Global;
 use std::fmt::Write;
 
@@ -24,8 +25,8 @@ use std::fmt::Write;
 pub(crate) enum Order {
     /// Tell this text: the help or the version.
     Tell(String),
-    /// Print a screen.
-    Print(Request),
+    /// Print a screen, or describe the recording.
+    Print(Request, Source),
 }
 
 /// The form in which a screen is printed.
@@ -91,7 +92,22 @@ fn asked(alloc: Global, error: &Error) -> Result<Option<Order>, TextError>
 
 fn order_of(alloc: Global, matches: &ArgMatches<'_>) -> Result<Option<Order>, TextError>
     ensures fault { IfErr result (λ e. e ≡ Memory) }
-    ensures order { IfOk result (λ o. is_some o ≡ are_values (rows_of (found_of matches.now))) }
+    ensures order { IfOk result (λ o. is_some o ≡ are_words (rows_of (found_of matches.now))) }
+{
+    let request = request_of(alloc, matches)?;
+    let source = source_of(alloc, matches)?;
+    Ok(both(request, source))
+}
+
+fn both(request: Option<Request>, source: Option<Source>) -> Option<Order>
+    ensures { is_some result ≡ (is_some request && is_some source) }
+{
+    Some(Order::Print(request?, source?))
+}
+
+fn request_of(alloc: Global, matches: &ArgMatches<'_>) -> Result<Option<Request>, TextError>
+    ensures fault { IfErr result (λ e. e ≡ Memory) }
+    ensures request { IfOk result (λ r. is_some r ≡ are_values (rows_of (found_of matches.now))) }
 {
     let size = size_of(matches.get_str("ROWS"), matches.get_str("COLS"));
     let moment = moment_of(alloc, matches.get_str("at"))?;
@@ -102,28 +118,28 @@ fn order_of(alloc: Global, matches: &ArgMatches<'_>) -> Result<Option<Order>, Te
         joined: matches.get_count("joined") > 0,
         colors: matches.get_count("colours") > 0,
     };
-    Ok(print_order(size, moment, since, history, form, look))
+    Ok(new_request(size, moment, since, history, form, look))
 }
 
-fn print_order(
+fn new_request(
     size: Option<Option<Size>>,
     moment: Option<Option<u64>>,
     since: Option<Option<u64>>,
     history: Option<usize>,
     form: Option<Form>,
     look: Look,
-) -> Option<Order>
+) -> Option<Request>
     ensures { is_some result ≡ (is_some size && (is_some moment && (is_some since
         && (is_some history && is_some form)))) }
 {
-    Some(Order::Print(Request {
+    Some(Request {
         size: size?,
         moment: moment?.unwrap_or(END),
         since: since?,
         history: history?,
         look,
         form: form?,
-    }))
+    })
 }
 
 // A size: of rows and columns, or none where there is neither.
@@ -151,15 +167,19 @@ fn moment_of(alloc: Global, word: Option<&str>) -> Result<Option<Option<u64>>, T
     }
 }
 
-// A number of seconds, written as in JSON, in whole microseconds.
+// A number of seconds, written as in JSON, in whole microseconds. Any other word is a marker's name, whose time isn't
+// known yet.
 fn time_of(alloc: Global, word: &str) -> Result<Option<u64>, TextError>
     ensures fault { IfErr result (λ e. e ≡ Memory) }
-    ensures time { IfOk result (λ t. is_some t ≡ is_time (read_text word.now)) }
+    ensures time { IfOk result (λ t. is_some t ≡ is_time (json_in word.now)) }
 {
-    match parse_text(alloc, word)? {
-        Some(number) => Ok(microseconds(&number)),
-        None => Ok(None),
+    let Some(value) = parse_json(alloc, word.as_bytes())? else {
+        return Ok(Some(END));
+    };
+    if !value.is_number() {
+        return Ok(Some(END));
     }
+    Ok(microseconds(&value))
 }
 
 fn history_of(word: Option<&str>) -> Option<usize>

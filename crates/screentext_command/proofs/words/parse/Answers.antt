@@ -1,7 +1,7 @@
 use Rattle.std.proofs.Common.{◌≡◌, ◌∙◌, ap, inl, inr, sym, map, List, ℕ}
 use Rattle.std.specs.Borrow.{Bor}
 use Rattle.clap.specs.Words.{App, Text, app_of, fault_of, found_of, is_simple, is_simple_and_free, kind_of, matches_of, rows_of}
-use Rattle.screentext_command.specs.Words.{are_values, is_order, is_request, known}
+use Rattle.screentext_command.specs.Words.{are_words, is_order, is_request, known}
 use Rattle.screentext_command.proofs.KindLemmas.{one_kind}
 use Rattle.screentext_command.proofs.WordsLemmas.{by_same_test, err_passes, known_is_free, known_is_simple, not_taken, taken}
 use Rattle.screentext_command.proofs.words.parse.Goals as goal
@@ -13,7 +13,7 @@ returns-in-Ok-clause-order c =
     let none = ap (λ (a : App). fault_of a words) (sym app) ∙ c.in-Ok.ensures.kinds (ap is_simple_and_free app ∙ known_is_free) in
     let rows = (c.in-Ok.ensures.matches (ap is_simple app ∙ known_is_simple)).0 ∙ ap (λ (a : App). matches_of a words) app in
     let values = taken (fault_of known words) (matches_of known words) (rows_of (found_of c.in-Ok.matches)) none rows in
-    by_same_test c.order_of.result (are_values (rows_of (found_of c.in-Ok.matches))) (is_order words) values
+    by_same_test c.order_of.result (are_words (rows_of (found_of c.in-Ok.matches))) (is_order words) values
     c.order_of.ensures.order
 
 pub returns-in-Err-clause-order : goal.returns-in-Err-clause-order

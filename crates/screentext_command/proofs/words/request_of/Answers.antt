@@ -4,10 +4,10 @@ use Rattle.clap.specs.Words.{found_of}
 use Rattle.clap.proofs.WalkLemmas.{first_value-rows}
 use Rattle.command_line.specs.Numbers.{is_count}
 use Rattle.screentext_command.specs.Words.{is_moment, is_screen}
-use Rattle.screentext_command.proofs.words.order_of.Goals as goal
+use Rattle.screentext_command.proofs.words.request_of.Goals as goal
 
-pub returns-clause-order : goal.returns-clause-order
-returns-clause-order c =
+pub returns-clause-request : goal.returns-clause-request
+returns-clause-request c =
     let f = found_of c.args.matches.now in
     let size = c.size_of-size.ensures
     ∙ ap₂ is_screen (c.get_str.ensures ∙ first_value-rows f (codes "ROWS")) (c.get_str-2.ensures ∙ first_value-rows f (codes "COLS")) in
@@ -17,5 +17,5 @@ returns-clause-order c =
     ∙ ap (λ o. option_map_or is_count o true) (c.get_str-5.ensures ∙ first_value-rows f (codes "history")) in
     let form = c.form_of-form.ensures
     ∙ ap₂ (λ a b. not (nat_lt 0 a && nat_lt 0 b)) c.get_count.ensures.value c.get_count-2.ensures.value in
-    c.print_order.ensures
+    c.new_request.ensures
     ∙ ap₂ (λ a b. a && b) size (ap₂ (λ a b. a && b) moment (ap₂ (λ a b. a && b) since (ap₂ (λ a b. a && b) history form)))

@@ -1,0 +1,29 @@
+-- Values in JSON.
+use Rattle.std.proofs.Common.{◌≡◌, ◌∙◌, ◌≢◌, ℕ, Bool, true, false, List, [], ◌∷◌, Option, Some, None, length, refl, sym, ap}
+use Rattle.std.specs.Prelude.{if◌then◌else◌}
+use Rattle.std.specs.Str.{IsUtf8, is_utf8}
+use Rattle.std.proofs.lemmas.Str.{IsUtf8-from_is_utf8, is_utf8-from_IsUtf8}
+use Rattle.serde_json.specs.Data.{Data}
+use Rattle.serde_json.specs.Read.{read}
+use Rattle.serde_json.specs.View.{items_view}
+use Rattle.serde_json.specs.declared.value.Value.{Value}
+use Rattle.recordings.specs.Asciicast.{row_of_items}
+use Rattle.recordings.specs.Times.{json_in}
+
+pub json_is_read : (bs : List ℕ) → IsUtf8 bs → json_in bs ≡ read bs
+json_is_read bs h = ap (λ b. if b then read bs else None) (is_utf8-from_IsUtf8 bs h)
+
+pub no_json : (bs : List ℕ) → ¬ (IsUtf8 bs) → json_in bs ≡ None
+no_json bs h = go (is_utf8 bs) refl
+  where
+    go : (b : Bool) → is_utf8 bs ≡ b → (if b then read bs else None) ≡ None
+    go true e = absurd (h (IsUtf8-from_is_utf8 bs e))
+    go false e = refl
+
+-- an event has three parts
+pub not_three : (vs : List Value) → length vs ≢ 3 → row_of_items (items_view vs) ≡ None
+not_three [] h = refl
+not_three (a ∷ []) h = refl
+not_three (a ∷ b ∷ []) h = refl
+not_three (a ∷ b ∷ c ∷ []) h = absurd (h refl)
+not_three (a ∷ b ∷ c ∷ d ∷ vs) h = refl

@@ -1,0 +1,4 @@
+mod FrameLemmas
+mod JsonLemmas
+mod LineLemmas
+mod RowLemmas

@@ -1,0 +1,91 @@
+-- Lines, one after another.
+use Rattle.std.proofs.Common.{◌≡◌, ◌∙◌, ◌<◌, ◌≤◌, ◌+◌, ◌==◌, ℕ, suc, Bool, true, false, cond, ltb, List, [], ◌∷◌, ◌++◌, map, length, take, drop, get_or, refl, sym, ap, subst, Option, Some, None, is_some, Result, IfOk, ◌⊎◌, inl, inr, append_assoc, arith}
+use Rattle.std.specs.Borrow.{Bor}
+use Rattle.std.specs.Prelude.{unwrap_or, Vec}
+use Rattle.std.specs.List.{All, flat_map}
+use Rattle.std.specs.Vec.{vec_items}
+use Rattle.std.proofs.Math.Numerals.{add-one}
+use Rattle.std.proofs.Math.Seq.{drop-cons, take-suc}
+use Rattle.std.proofs.lemmas.Grind.{flat_map-append}
+use Rattle.std.proofs.lemmas.List.{append-nil, get_or-map, length-map, length-take-le, take-append-drop}
+use Rattle.std.proofs.lemmas.List.Elements.{All-push}
+use Rattle.std.proofs.lemmas.List.Splits.{length-slice_split}
+use Rattle.std.proofs.lemmas.Result.{IfOk-weaker}
+use Rattle.recordings.specs.Asciicast.{AreEvents, IsFaultIn, rows_in, rows_of}
+use Rattle.recordings.specs.Lines.{lines_in}
+use Rattle.recordings.specs.Recorded.{Row, StandsAt}
+use Rattle.recordings.specs.declared.error.RecordingError.{RecordingError}
+use Rattle.recordings.specs.declared.error.RecordingError.TheVariants.{Line, Memory}
+use Rattle.recordings.specs.declared.timeline.Pace.{Pace}
+use Rattle.recordings.specs.declared.timeline.Timeline.{Timeline}
+
+pub found : (b : Bool) (p i : ℕ) → Some i ≡ cond b (Some p) None → i ≡ p
+found true p i e = ap (λ o. unwrap_or o 0) e
+found false p i e = grind arith
+
+pub not_found : (p n : ℕ) → None ≡ cond (ltb p n) (Some p) None → n ≤ p
+not_found p n e = grind arith
+
+abbrev pub texts : List (Bor (List ℕ)) → List (List ℕ)
+texts lines = map {A = Bor (List ℕ)} {B = List ℕ} (λ x. x.now) lines
+
+-- a text has a line at least
+pub some_lines : {E Z : Type 0} (text : List ℕ) (r : Result (Vec (Bor (List ℕ)) Z) E)
+    → IfOk r (λ v. map {A = Bor (List ℕ)} {B = List ℕ} (λ x. x.now) (vec_items v) ≡ lines_in text)
+    → IfOk r (λ v. 0 < length (vec_items v))
+some_lines text r h =
+    IfOk-weaker r (λ v. map {A = Bor (List ℕ)} {B = List ℕ} (λ x. x.now) (vec_items v) ≡ lines_in text)
+    (λ v. 0 < length (vec_items v))
+    (λ v is. let n = sym (length-map (vec_items v) (λ (x : Bor (List ℕ)). x.now)) ∙ (ap length is
+    ∙ length-slice_split (λ b. b == 10) text) in omega (arith, n)) h
+
+taken_next : (lines : List (Bor (List ℕ))) (i : ℕ) (d : Bor (List ℕ)) → i < length lines
+    → take (i + 1) (texts lines) ≡ take i (texts lines) ++ (get_or lines i d).now ∷ []
+taken_next lines i d lt =
+    let n = length-map lines (λ (x : Bor (List ℕ)). x.now) in
+    ap (λ k. take k (texts lines)) (add-one i) ∙ (take-suc (texts lines) i [] (omega (arith, n))
+    ∙ ap (λ x. take i (texts lines) ++ x ∷ []) (get_or-map (λ (x : Bor (List ℕ)). x.now) lines i d [] lt))
+
+more_rows : (pace : Pace) (xs : List (List ℕ)) (x : List ℕ)
+    → rows_of pace (xs ++ x ∷ []) ≡ rows_of pace xs ++ unwrap_or (rows_in pace x) []
+more_rows pace xs x =
+    flat_map-append (λ line. unwrap_or (rows_in pace line) []) xs (x ∷ [])
+    ∙ ap (λ (rows : List Row). rows_of pace xs ++ rows) (append-nil (unwrap_or (rows_in pace x) []))
+
+-- one more line
+pub next_line : (pace : Pace) (lines : List (Bor (List ℕ))) (i : ℕ) (d : Bor (List ℕ)) (t : Timeline) → i < length lines
+    → AreEvents pace (take i (texts lines)) → is_some (rows_in pace (get_or lines i d).now) ≡ true
+    → StandsAt pace (rows_of pace (take i (texts lines)) ++ unwrap_or (rows_in pace (get_or lines i d).now) []) t
+    → AreEvents pace (take (i + 1) (texts lines)) × StandsAt pace (rows_of pace (take (i + 1) (texts lines))) t
+next_line pace lines i d t lt fine event stands = (
+  subst (AreEvents pace) (sym (taken_next lines i d lt))
+      (All-push (λ line. is_some (rows_in pace line) ≡ true) (take i (texts lines)) (get_or lines i d).now fine event),
+  subst (λ (rows : List Row). StandsAt pace rows t)
+      (sym (ap (rows_of pace) (taken_next lines i d lt) ∙ more_rows pace (take i (texts lines)) (get_or lines i d).now)) stands,
+)
+
+parts_at : (lines : List (Bor (List ℕ))) (i : ℕ) (d : Bor (List ℕ)) → i < length lines
+    → texts lines ≡ take i (texts lines) ++ (get_or lines i d).now ∷ drop (suc i) (texts lines)
+parts_at lines i d lt =
+    let n = length-map lines (λ (x : Bor (List ℕ)). x.now) in
+    sym (take-append-drop i (texts lines))
+    ∙ ap (λ xs. take i (texts lines) ++ xs) (drop-cons (texts lines) i [] (omega (arith, n))
+    ∙ ap (λ x. x ∷ drop (suc i) (texts lines)) (get_or-map (λ (x : Bor (List ℕ)). x.now) lines i d [] lt))
+
+-- the first line that is no event
+pub faulty : (pace : Pace) (lines : List (Bor (List ℕ))) (i n : ℕ) (d : Bor (List ℕ)) (e : RecordingError) → i < length lines
+    → AreEvents pace (take i (texts lines)) → n ≡ i + 2
+    → (e ≡ Memory) ⊎ ((e ≡ Line n) × (rows_in pace (get_or lines i d).now ≡ None)) → IsFaultIn pace (texts lines) e
+faulty pace lines i n d e lt fine number (inl is) = subst (IsFaultIn pace (texts lines)) (sym is) tt
+faulty pace lines i n d e lt fine number (inr p) =
+    let m = length-map lines (λ (x : Bor (List ℕ)). x.now) in
+    let k = length-take-le i (texts lines) (omega (arith, m)) in
+    subst (IsFaultIn pace (texts lines)) (sym p.0) (record {
+      before = take i (texts lines);
+      line = (get_or lines i d).now;
+      after = drop (suc i) (texts lines);
+      parts = parts_at lines i d lt;
+      number = omega (arith, k);
+      fine = fine;
+      ill = p.1;
+    })

@@ -1,0 +1,137 @@
+-- Asciicasts, versions 2 and 3: a header, and an event a line.
+use Rattle.std.specs.Prelude.{◌≡◌, ℕ, ◌+◌, ◌==◌, ◌&&◌, ◌||◌, nat_le, Bool, true, false, List, [], ◌∷◌, ◌++◌, map, take, drop, length, slice_index, slice_get, Option, Some, None, is_some, option_and_then, unwrap_or, if◌then◌else◌, codes, IsSomeAnd, ◌⊎◌}
+use Rattle.std.specs.Char.{is_ascii_whitespace}
+use Rattle.std.specs.List.{list_all, flat_map, before_first, after_first, position_or_len, All}
+use Rattle.std.specs.Option.{option_map, option_map_or}
+use Rattle.std.specs.Str.{bytes_eq}
+use Rattle.serde_json.specs.Data.{Data, Items, item, no_items}
+use Rattle.serde_json.specs.Find.{as_array, as_number, as_str, as_u64, get}
+use Rattle.command_line.specs.Numbers.{size_in}
+use Rattle.recordings.specs.Lines.{first_line, lines_in}
+use Rattle.recordings.specs.Recorded.{Deed, Row, deed_of, ended, marks, resizes, said, size_said, told, writes}
+use Rattle.recordings.specs.Times.{json_in, time_of}
+use Rattle.recordings.specs.declared.asciicast.Entry.{Entry}
+use Rattle.recordings.specs.declared.asciicast.Entry.TheVariants as entry
+use Rattle.recordings.specs.declared.asciicast.Header.{Header}
+use Rattle.recordings.specs.declared.error.RecordingError.{RecordingError}
+use Rattle.recordings.specs.declared.error.RecordingError.TheVariants as error
+use Rattle.recordings.specs.declared.recording.Recording.{Recording}
+use Rattle.recordings.specs.declared.timeline.Pace.{Pace}
+use Rattle.recordings.specs.declared.timeline.Pace.TheVariants.{FromStart, FromLast}
+
+-- ---- the header
+
+-- rows or columns
+abbrev pub side_in : List ℕ → Data → Option ℕ
+side_in name json =
+    option_and_then (λ n. if nat_le 1 n && nat_le n 65535 then Some n else None)
+    (option_and_then as_u64 (option_and_then as_number (get name json)))
+
+abbrev pub sides_in : List ℕ → List ℕ → Data → Option (ℕ × ℕ)
+sides_in rows cols json = option_and_then (λ r. option_map (λ c. (r, c)) (side_in cols json)) (side_in rows json)
+
+-- version 2 has the size in the header, with times from the beginning; version 3 in its `term`, with times between events
+abbrev pub header_of_version : Data → ℕ → Option (Pace × (ℕ × ℕ))
+header_of_version json version =
+    if version == 2 then option_map (λ size. (FromStart, size)) (sides_in (codes "height") (codes "width") json)
+    else (if version == 3 then option_map (λ size. (FromLast, size)) (option_and_then (sides_in (codes "rows") (codes "cols")) (get (codes "term") json))
+    else None)
+
+abbrev pub header_of : Data → Option (Pace × (ℕ × ℕ))
+header_of json = option_and_then (header_of_version json) (option_and_then as_u64 (option_and_then as_number (get (codes "version") json)))
+
+abbrev pub header_in : List ℕ → Option (Pace × (ℕ × ℕ))
+header_in line = option_and_then header_of (json_in line)
+
+abbrev pub header_said : Header → Pace × (ℕ × ℕ)
+header_said h = (h.pace, size_said h.size)
+
+-- ---- the events
+
+-- `COLSxROWS`
+abbrev pub resize_in : List ℕ → Option (ℕ × ℕ)
+resize_in text =
+    if position_or_len (λ b. b == 0x78) text == length text then None
+    else option_and_then (λ cols. option_map (λ rows. (rows, cols)) (size_in (after_first (λ b. b == 0x78) text)))
+    (size_in (before_first (λ b. b == 0x78) text))
+
+-- what an event of this code does with this text; other codes are of no account to a screen or a reader
+abbrev pub deed_in : List ℕ → List ℕ → Option (Option Deed)
+deed_in code text =
+    if bytes_eq code (codes "o") then Some (Some (writes text))
+    else (if bytes_eq code (codes "m") then Some (Some (marks text))
+    else (if bytes_eq code (codes "r") then option_map (λ size. Some (resizes size.0 size.1)) (resize_in text)
+    else Some None))
+
+abbrev pub row_of_parts : Option ℕ → Option (List ℕ) → Option (List ℕ) → Option Row
+row_of_parts (Some time) (Some code) (Some text) = option_map (λ deed. (time, deed)) (deed_in code text)
+row_of_parts _ _ _ = None
+
+-- `[TIME, CODE, TEXT]`
+abbrev pub row_of_items : Items → Option Row
+row_of_items (item time (item code (item text no_items))) = row_of_parts (time_of time) (as_str code) (as_str text)
+row_of_items _ = None
+
+abbrev pub row_in : Data → Option (List Row)
+row_in json = option_map (λ row. row ∷ []) (option_and_then row_of_items (as_array json))
+
+-- a comment, of version 3
+abbrev pub comments : Pace → List ℕ → Bool
+comments FromStart line = false
+comments FromLast line = slice_index line 0 == 0x23
+
+-- a line is an event, or none where it is blank or a comment
+abbrev pub rows_in : Pace → List ℕ → Option (List Row)
+rows_in pace line =
+    if list_all is_ascii_whitespace line || comments pace line then Some []
+    else option_and_then row_in (json_in line)
+
+abbrev pub rows_of : Pace → List (List ℕ) → List Row
+rows_of pace lines = flat_map (λ line. unwrap_or (rows_in pace line) []) lines
+
+abbrev pub AreEvents : Pace → List (List ℕ) → Type 0
+AreEvents pace lines = All (λ line. is_some (rows_in pace line) ≡ true) lines
+
+-- ---- the recording
+
+-- what an asciicast with this header and these lines after it says
+pub record Says (header : Pace × (ℕ × ℕ)) (lines : List (List ℕ)) (r : Recording) : Type 0 where
+  pub size : option_map size_said r.size ≡ Some header.1
+  pub events : AreEvents header.0 lines
+  pub moments : said r.events.items ≡ told header.0 0 (rows_of header.0 lines)
+  pub length : r.length ≡ ended header.0 0 (rows_of header.0 lines)
+
+abbrev pub IsAsciicast : List ℕ → Recording → Type 0
+IsAsciicast text r = IsSomeAnd (header_in (first_line text)) (λ header. Says header (drop 1 (lines_in text)) r)
+
+-- the first line that is no event, counted from 1 for the header
+pub record IsBadLine (pace : Pace) (lines : List (List ℕ)) (n : ℕ) : Type 0 where
+  pub before : List (List ℕ)
+  pub line : List ℕ
+  pub after : List (List ℕ)
+  pub parts : lines ≡ before ++ line ∷ after
+  pub number : n ≡ length before + 2
+  pub fine : AreEvents pace before
+  pub ill : rows_in pace line ≡ None
+
+-- why the lines after the header aren't read
+abbrev pub IsFaultIn : Pace → List (List ℕ) → RecordingError → Type 0
+IsFaultIn pace lines error.Memory = Unit {0}
+IsFaultIn pace lines (error.Line n) = IsBadLine pace lines n
+IsFaultIn pace lines _ = ⊥
+
+-- why a text isn't read: it has no header, or a line after that is no event
+abbrev pub IsFault : List ℕ → RecordingError → Type 0
+IsFault text error.Header = header_in (first_line text) ≡ None
+IsFault text e = IsSomeAnd (header_in (first_line text)) (λ header. IsFaultIn header.0 (drop 1 (lines_in text)) e) ⊎ (e ≡ error.Memory)
+
+-- ---- its kind
+
+-- the first line is an object that has a version
+abbrev pub is_header : List ℕ → Bool
+is_header text = is_some (option_and_then (get (codes "version")) (json_in (first_line text)))
+
+abbrev pub entry_said : Entry → Option (List Row)
+entry_said entry.Blank = Some []
+entry_said (entry.Row time change) = Some ((time, option_map deed_of change) ∷ [])
+entry_said entry.Fault = None

@@ -1,0 +1,20 @@
+//! Recordings of terminal sessions: their events and times, read from asciicasts, typescripts, ttyrecs and raw streams.
+#![tactic(auto)]
+
+mod asciicast;
+mod error;
+mod kind;
+mod lines;
+mod recording;
+mod time;
+mod timeline;
+mod ttyrec;
+mod typescript;
+
+pub use asciicast::parse_asciicast;
+pub use error::RecordingError;
+pub use kind::{guess_kind, parse_recording};
+pub use recording::{Change, Event, Kind, Recording, Size};
+pub use time::{microseconds, parse_json, parse_seconds};
+pub use ttyrec::parse_ttyrec;
+pub use typescript::parse_typescript;

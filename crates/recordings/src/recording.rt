@@ -1,0 +1,86 @@
+//! Recordings of what a program writes to its terminal.
+
+ghost use Rattle.std.specs.Prelude.{◌≡◌};
+ghost use Rattle.recordings.specs.Kinds.{kind_named};
+
+use std::num::NonZeroU16;
+
+/// How many rows and columns a screen has.
+#[derive(Clone, Copy)]
+pub struct Size {
+    /// How many rows there are.
+    pub rows: NonZeroU16,
+    /// How many columns there are.
+    pub cols: NonZeroU16,
+}
+
+/// What an event of a recording does.
+#[derive(Drop)]
+pub enum Change {
+    /// The program writes these bytes.
+    Output(Vec<u8>),
+    /// The terminal gets this size.
+    Resize(Size),
+    /// Nothing: this names the moment.
+    Marker(String),
+}
+
+/// An event of a recording.
+#[derive(Drop)]
+pub struct Event {
+    /// Microseconds since the beginning.
+    pub time: u64,
+    /// What happens then.
+    pub change: Change,
+}
+
+/// The form in which a recording is stored.
+#[derive(Clone, Copy, Debug, PartialEq, Eq)]
+pub enum Kind {
+    /// An asciicast, version 2 or 3: <https://docs.asciinema.org/manual/asciicast/v3/>.
+    Asciicast,
+    /// A typescript of `script`, with its timing file: `scriptreplay(1)` of util-linux.
+    Script,
+    /// A ttyrec: frames with a header of 12 bytes each, `ttyrec(1)`.
+    Ttyrec,
+    /// The bytes alone.
+    Raw,
+}
+
+impl Kind {
+    /// The name by which the kind is told and asked for.
+    pub fn name(self) -> &'static str {
+        match self {
+            Kind::Asciicast => "asciicast",
+            Kind::Script => "script",
+            Kind::Ttyrec => "ttyrec",
+            Kind::Raw => "raw",
+        }
+    }
+
+    /// The kind of this name.
+    pub fn of_name(name: &str) -> Option<Self>
+        ensures { result ≡ kind_named name.now }
+    {
+        match name {
+            "asciicast" => Some(Kind::Asciicast),
+            "script" => Some(Kind::Script),
+            "ttyrec" => Some(Kind::Ttyrec),
+            "raw" => Some(Kind::Raw),
+            _ => None,
+        }
+    }
+}
+
+/// A recorded stream.
+#[derive(Drop)]
+pub struct Recording {
+    /// The form in which it was stored.
+    pub kind: Kind,
+    /// The size at first, where the recording says it.
+    pub size: Option<Size>,
+    /// What happens, in order.
+    pub events: Vec<Event>,
+    /// Microseconds from the beginning to the last event, be it one in which a screen has no part.
+    pub length: u64,
+}

@@ -1,0 +1,182 @@
+//! Typescripts of `script`: the output in one file, and its times in another.
+
+use crate::error::RecordingError;
+use crate::lines::{is_blank, lines_of};
+use crate::recording::{Change, Kind, Recording, Size};
+use crate::time::parse_seconds;
+use crate::timeline::{Pace, Timeline};
+use command_line::{parse_count, parse_size};
+use std::alloc::{AllocError, Global};
+use std::num::NonZeroU16;
+use std::str;
+
+/// Reads a typescript by its timing file, of either format: lines `DELAY BYTES`, or lines that begin with `H`, `I`, `O`
+/// or `S`. The first line of the typescript, which says when it began, isn't output.
+pub fn parse_typescript(
+    alloc: Global,
+    typescript: &[u8],
+    timing: &[u8],
+) -> Result<Recording, RecordingError> {
+    let lines = lines_of(alloc, timing)?;
+    let mut timeline = Timeline::new(alloc, Pace::FromLast);
+    let mut left = after_line(typescript);
+    for (index, line) in lines.iter().enumerate() {
+        let Some(step) = parse_step(alloc, line)? else {
+            return Err(RecordingError::Step(index as u64 + 1));
+        };
+        left = match push_step(alloc, &mut timeline, step, left)? {
+            Some(left) => left,
+            None => return Err(RecordingError::Step(index as u64 + 1)),
+        };
+    }
+    Ok(Recording {
+        kind: Kind::Script,
+        size: size_in(&lines),
+        events: timeline.events,
+        length: timeline.time,
+    })
+}
+
+// What comes after the first line.
+fn after_line(text: &[u8]) -> &[u8] {
+    match text.iter().position(|b| *b == b'\n') {
+        Some(end) => &text[end + 1..],
+        None => &[],
+    }
+}
+
+/// What a line of a timing file says.
+#[derive(Clone, Copy)]
+pub enum Step {
+    /// After so many microseconds the program writes so many bytes.
+    Output(u64, usize),
+    /// After so many microseconds the terminal gets this size.
+    Resize(u64, Size),
+    /// So many microseconds pass.
+    Other(u64),
+}
+
+// Does a step, and answers what is left of the typescript, unless that has too few bytes.
+fn push_step<'a>(
+    alloc: Global,
+    timeline: &mut Timeline,
+    step: Step,
+    left: &'a [u8],
+) -> Result<Option<&'a [u8]>, AllocError> {
+    match step {
+        Step::Output(time, count) => match left.split_at_checked(count) {
+            Some((bytes, after)) => {
+                let output = Change::Output(bytes.to_vec(alloc)?);
+                timeline.push(time, Some(output))?;
+                Ok(Some(after))
+            }
+            None => Ok(None),
+        },
+        Step::Resize(time, size) => {
+            timeline.push(time, Some(Change::Resize(size)))?;
+            Ok(Some(left))
+        }
+        Step::Other(time) => {
+            timeline.push(time, None)?;
+            Ok(Some(left))
+        }
+    }
+}
+
+fn parse_step(alloc: Global, line: &[u8]) -> Result<Option<Step>, AllocError> {
+    if is_blank(line) {
+        return Ok(Some(Step::Other(0)));
+    }
+    let (first, rest) = cut(line);
+    match first {
+        b"O" => output_step(alloc, rest),
+        b"S" => signal_step(alloc, rest),
+        b"H" | b"I" => other_step(alloc, rest),
+        _ => output_step(alloc, line),
+    }
+}
+
+// Reads `DELAY BYTES`.
+fn output_step(alloc: Global, text: &[u8]) -> Result<Option<Step>, AllocError> {
+    let (delay, count) = cut(text);
+    match (parse_seconds(alloc, delay)?, count_in(count)) {
+        (Some(time), Some(count)) => Ok(Some(Step::Output(time, count))),
+        _ => Ok(None),
+    }
+}
+
+// Reads `DELAY SIGNAL`, which for `SIGWINCH` goes on as `ROWS=N COLS=N`.
+fn signal_step(alloc: Global, text: &[u8]) -> Result<Option<Step>, AllocError> {
+    let (delay, signal) = cut(text);
+    let Some(time) = parse_seconds(alloc, delay)? else {
+        return Ok(None);
+    };
+    let (name, size) = cut(signal);
+    if name != b"SIGWINCH".as_slice() {
+        return Ok(Some(Step::Other(time)));
+    }
+    match window_in(size) {
+        Some(size) => Ok(Some(Step::Resize(time, size))),
+        None => Ok(None),
+    }
+}
+
+// Reads a delay, and passes over what follows.
+fn other_step(alloc: Global, text: &[u8]) -> Result<Option<Step>, AllocError> {
+    let (delay, _) = cut(text);
+    match parse_seconds(alloc, delay)? {
+        Some(time) => Ok(Some(Step::Other(time))),
+        None => Ok(None),
+    }
+}
+
+// Reads `ROWS=N COLS=N`.
+fn window_in(text: &[u8]) -> Option<Size> {
+    let (rows, cols) = cut(text);
+    Some(Size {
+        rows: side_in(rows.strip_prefix(b"ROWS=")?)?,
+        cols: side_in(cols.strip_prefix(b"COLS=")?)?,
+    })
+}
+
+// The size in the header: the values of `LINES` and `COLUMNS`.
+fn size_in(lines: &[&[u8]]) -> Option<Size> {
+    Some(Size {
+        rows: header_in(lines, b"LINES")?,
+        cols: header_in(lines, b"COLUMNS")?,
+    })
+}
+
+fn header_in(lines: &[&[u8]], name: &[u8]) -> Option<NonZeroU16> {
+    for line in lines {
+        let (first, rest) = cut(line);
+        let (_, field) = cut(rest);
+        let (found, value) = cut(field);
+        if first == b"H".as_slice() && found == name {
+            return side_in(value);
+        }
+    }
+    None
+}
+
+fn side_in(text: &[u8]) -> Option<NonZeroU16> {
+    match str::from_utf8(text) {
+        Ok(text) => parse_size(text),
+        Err(_) => None,
+    }
+}
+
+fn count_in(text: &[u8]) -> Option<usize> {
+    match str::from_utf8(text) {
+        Ok(text) => parse_count(text),
+        Err(_) => None,
+    }
+}
+
+// What stands before the first space, and what after it.
+fn cut(text: &[u8]) -> (&[u8], &[u8]) {
+    match text.iter().position(|b| *b == b' ') {
+        Some(end) => (&text[..end], &text[end + 1..]),
+        None => (text, &[]),
+    }
+}

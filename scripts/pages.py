@@ -1,0 +1,130 @@
+#!/usr/bin/env python3
+"""Writes the manual pages of the programs, and their completions for bash, zsh and fish, from one table.
+
+They lie below the folder that is named: man/man1, bash-completion/completions,
+zsh/site-functions and fish/vendor_completions.d.
+"""
+import os
+import sys
+
+SIZE = [("ROWS", "The rows of the screen"), ("COLS", "Its columns")]
+FILES = "files"
+
+# Each program: what it does, its words in order, its options (name, value, what completes the value, help), and notes.
+PROGRAMS = {
+    "screenrelay": (
+        "relay a program's output as frames, or show frames",
+        [("relay|show", "What is done")] + SIZE,
+        [],
+        "Reads standard input to its end. relay writes frames to standard output; show prints the rows that they leave.",
+    ),
+    "screenlive": (
+        "relay a program's output as it comes, in whole frames",
+        SIZE,
+        [],
+        "Reads standard input, and writes a frame after each read.",
+    ),
+    "screencat": (
+        "print the screen that a program's output leaves",
+        SIZE,
+        [],
+        "Reads standard input to its end, and prints the rows of the screen.",
+    ),
+    "screentext": (
+        "print what a recorded terminal stream shows, at its end or at a moment",
+        [("[ROWS", "The rows of the screen at first"), ("COLS]", "Its columns")],
+        [
+            ("at", "TIME", None, "The screen at this second of the recording, or at this marker"),
+            ("diff", "TIME", None, "The rows that changed from this second or marker on"),
+            ("history", "N", None, "The newest N rows that left at the top come first"),
+            ("joined", None, None, "A row that goes on in the next is one line with it"),
+            ("colours", None, None, "Colours and other attributes, as escape sequences (SGR)"),
+            ("html", None, None, "A page in HTML that shows the screen"),
+            ("svg", None, None, "A picture in SVG of the screen"),
+            ("list", None, None, "The kind, size, length and markers, and no screen"),
+            ("kind", "NAME", "asciicast script ttyrec raw", "What the recording is"),
+            ("timing", "FILE", FILES, "The timing file of a typescript"),
+            ("help", None, None, "Tell the words"),
+            ("version", None, None, "Tell the version"),
+        ],
+        "Reads standard input to its end: an asciicast v2 or v3, a typescript, a ttyrec, or raw bytes.",
+    ),
+}
+
+STATUS = "0 at success, 1 at a fault, 2 for words that aren't understood."
+
+
+def man(name):
+    about, words, options, notes = PROGRAMS[name]
+    roff = [f'.TH {name.upper()} 1 "" "Jeihpal 0.1"', ".SH NAME", f"{name} \\- {about}", ".SH SYNOPSIS"]
+    roff.append(f".B {name}\n" + " ".join(word for word, _ in words) + (" [OPTIONS]" if options else ""))
+    roff += [".SH DESCRIPTION", notes]
+    for option, value, _, text in options:
+        shown = f"\\fB\\-\\-{option}\\fR" + (f" \\fI{value}\\fR" if value else "")
+        roff += [".TP", shown, text + "."]
+    return "\n".join(roff + [".SH EXIT STATUS", STATUS, ""])
+
+
+def bash(name):
+    _, words, options, _ = PROGRAMS[name]
+    known = " ".join(f"--{option}" for option, *_ in options) or words[0][0].replace("|", " ")
+    cases = []
+    for option, value, completes, _ in options:
+        if value:
+            reply = "compgen -f" if completes == FILES else f'compgen -W "{completes or ""}"'
+            cases.append(f'        --{option}) mapfile -t COMPREPLY < <({reply} -- "$2"); return ;;')
+    chosen = ["    case $3 in", *cases, "    esac"] if cases else []
+    body = [f"_{name}() {{", *chosen, f'    mapfile -t COMPREPLY < <(compgen -W "{known}" -- "$2")', "}"]
+    return "\n".join(body + [f"complete -F _{name} {name}", ""])
+
+
+def quoted(text):
+    return text.replace("'", "'\\''").replace("[", "\\[").replace("]", "\\]").replace(":", "\\:")
+
+
+def zsh(name):
+    _, words, options, _ = PROGRAMS[name]
+    lines = [f"#compdef {name}", "_arguments \\"]
+    for option, value, completes, text in options:
+        action = "_files" if completes == FILES else f"({completes})" if completes else " "
+        lines.append(f"    '--{option}{'=' if value else ''}[{quoted(text)}]{f':{value}:{action}' if value else ''}' \\")
+    for place, (word, text) in enumerate(words, 1):
+        choices = f"({word.replace('|', ' ')})" if "|" in word else " "
+        lines.append(f"    '{place}:{quoted(text)}:{choices}' \\")
+    return "\n".join(lines)[:-2] + "\n"
+
+
+def fish(name):
+    _, words, options, _ = PROGRAMS[name]
+    lines = [f"complete -c {name} -f"]
+    for option, value, completes, text in options:
+        kind = "" if not value else " -r -F" if completes == FILES else f" -x -a '{completes or ''}'"
+        lines.append(f"complete -c {name} -l {option}{kind} -d \"{text}\"")
+    if "|" in words[0][0]:
+        lines.append(f"complete -c {name} -n __fish_is_first_arg -a '{words[0][0].replace('|', ' ')}' -d \"{words[0][1]}\"")
+    return "\n".join(lines) + "\n"
+
+
+PLACES = {
+    "man/man1/{}.1": man,
+    "bash-completion/completions/{}": bash,
+    "zsh/site-functions/_{}": zsh,
+    "fish/vendor_completions.d/{}.fish": fish,
+}
+
+
+def main():
+    if len(sys.argv) != 2:
+        sys.exit("usage: pages.py FOLDER")
+    top = sys.argv[1]
+    for name in PROGRAMS:
+        for place, write in PLACES.items():
+            path = os.path.join(top, place.format(name))
+            os.makedirs(os.path.dirname(path), exist_ok=True)
+            with open(path, "w", encoding="utf-8") as file:
+                file.write(write(name))
+            print(path)
+
+
+if __name__ == "__main__":
+    main()
