@@ -1,5 +1,5 @@
 -- What a recording says.
-use Rattle.std.specs.Prelude.{◌≡◌, ℕ, ◌+◌, ◌-◌, ◌^◌, max, min, List, [], ◌∷◌, ◌++◌, map, Option, Some, None, string_bytes}
+use Rattle.std.specs.Prelude.{◌≡◌, ℕ, ◌+◌, ◌-◌, ◌^◌, max, min, List, [], ◌∷◌, map, Option, Some, None, string_bytes}
 use Rattle.recordings.specs.declared.recording.Change.{Change}
 use Rattle.recordings.specs.declared.recording.Change.TheVariants.{Output, Resize, Marker}
 use Rattle.recordings.specs.declared.recording.Event.{Event}

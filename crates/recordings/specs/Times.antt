@@ -1,5 +1,5 @@
 -- Times.
-use Rattle.std.specs.Prelude.{ℕ, List, Bool, Float, Option, Some, None, option_and_then, pos, if◌then◌else◌}
+use Rattle.std.specs.Prelude.{ℕ, List, Option, Some, None, option_and_then, if◌then◌else◌}
 use Rattle.std.specs.Float.{float_zero, binary64, float_to_unsigned}
 use Rattle.std.specs.Float.Ieee.{add, mul, lt, of_bits}
 use Rattle.std.specs.Int.{w64}

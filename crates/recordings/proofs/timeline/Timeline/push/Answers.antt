@@ -1,4 +1,4 @@
-use Rattle.std.proofs.Common.{◌≡◌, ◌∙◌, ◌++◌, [], Option, ap, ap₂, refl, sym}
+use Rattle.std.proofs.Common.{◌∙◌, ◌++◌, [], Option, ap, ap₂, refl, sym}
 use Rattle.std.specs.Option.{option_map}
 use Rattle.std.proofs.lemmas.List.{append-nil}
 use Rattle.recordings.specs.Recorded.{deed_of, reached, said, with_deed}
