@@ -13,5 +13,6 @@ pub mod WriteLemmas
 pub mod RowTexts
 pub mod FormLists
 pub mod ShortLists
+pub mod RenewLemmas
 mod LendTwo
 mod ParserParts

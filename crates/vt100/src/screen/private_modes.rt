@@ -181,7 +181,7 @@ impl Screen {
     }
 
     /// Shows the main sheet.
-    fn exit_alternate_grid(&mut self)
+    pub(crate) fn exit_alternate_grid(&mut self)
         ensures { self.new ≡ record self.old { state = main_shown self.old.state } }
     {
         if self.alternate_screen {

@@ -1,7 +1,7 @@
 //! Calls on a whole screen.
 ghost use Rattle.std.specs.Prelude.{◌≡◌, min, length, OnErr, IfOk, IsOk, Err, true, false};
-ghost use Rattle.screen_model.specs.State.{main_sheet};
-ghost use Rattle.vt100_core.specs.Grid.{IsShownWide};
+ghost use Rattle.vt100_core.specs.Grid.{IsShownWide, IsAllocated, allocated, new_grid};
+ghost use Rattle.vt100_core.specs.declared.scrollback.Scrollback.TheVariants.{Enabled};
 ghost use Rattle.screen_model.specs.Step.{kept_shown, kept_dropped, resized_to, sheets_resized, made_anew, quietly};
 ghost use Rattle.vt100.specs.Tries.{Tries, TriesAlone, Resizes, TakesNone, SameBounds, Stops, alive, unless_failed};
 ghost use Rattle.vt100.specs.declared.error.ScreenError.TheVariants.{Memory};
@@ -11,7 +11,8 @@ use crate::error::ScreenError;
 use crate::screen::reported::resize_both;
 use crate::screen::{Screen, WrappedScreen, settle};
 use std::num::NonZeroU16;
-use vt100_core::{Grid, Size};
+use vt100_core::attrs::Attrs;
+use vt100_core::{CursorStyle, Grid, MouseProtocolEncoding, MouseProtocolMode, Scrollback, Size};
 
 impl Screen {
     /// Gives the screen another size, and tells no callbacks of the rows that leave it. A synchronized update of the
@@ -98,24 +99,25 @@ impl Screen {
         }
     }
 
-    /// The main sheet, shown or not.
-    fn main_grid(&self) -> &Grid
-        ensures { result.now ≡ main_sheet self.now.state }
+    /// Makes everything as at first, at the size and the capacity of the main sheet, whose rows serve again.
+    fn renew(&mut self)
+        requires { self.old.failed ≡ false }
+        ensures { self.new ≡ alive (made_anew self.old.state) }
     {
-        if self.alternate_screen {
-            &self.other_grid
-        } else {
-            &self.grid
-        }
-    }
-
-    /// A screen as at first, of the size and the capacity of the main sheet.
-    fn renewed(&self) -> Result<Screen, ScreenError>
-        ensures screen { IfOk result (λ screen. screen ≡ alive (made_anew self.now.state)) }
-        ensures memory { OnErr result (result ≡ Err Memory) }
-    {
-        let main = self.main_grid();
-        Screen::new(self.alloc, main.size(), main.scrollback_capacity())
+        self.exit_alternate_grid();
+        renew_sheet(&mut self.grid);
+        self.other_grid = Grid::new(self.alloc, self.grid.size(), Scrollback::Disabled);
+        self.attrs = Attrs::new();
+        self.saved_attrs = Attrs::new();
+        self.application_keypad = false;
+        self.application_cursor = false;
+        self.hide_cursor = false;
+        self.bracketed_paste = false;
+        self.synchronized_update = false;
+        self.mouse_protocol_mode = MouseProtocolMode::None;
+        self.mouse_protocol_encoding = MouseProtocolEncoding::Default;
+        self.cursor_style = CursorStyle::Default;
+        self.last_char = None;
     }
 
     /// An equal screen, also of one that has failed.
@@ -146,6 +148,18 @@ impl Screen {
     }
 }
 
+/// Makes a sheet that keeps rows as at first. Its rows serve again.
+fn renew_sheet(grid: &mut Grid)
+    requires drawn { IsAllocated grid.old }
+    requires keeps { grid.old.kept.keeps ≡ true }
+    ensures sheet { grid.new ≡ allocated (new_grid grid.old.height grid.old.width (Enabled grid.old.kept.capacity)) }
+    ensures drawn { IsAllocated grid.new }
+{
+    prove!(grid.is_allocated());
+    grid.clear();
+    grid.erase_all_scrollback(&mut ());
+}
+
 impl<CB: Callbacks> WrappedScreen<CB> {
     /// Makes everything as at first, at this size and capacity (RIS). The callbacks are told of no row.
     pub fn ris(&mut self) -> Result<(), ScreenError>
@@ -156,8 +170,7 @@ impl<CB: Callbacks> WrappedScreen<CB> {
         if self.screen.failed {
             return Err(ScreenError::Failed);
         }
-        let renewed = self.screen.renewed();
-        self.screen = settle(&mut self.screen.failed, renewed)?;
+        self.screen.renew();
         Ok(())
     }
 
