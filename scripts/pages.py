@@ -44,6 +44,7 @@ PROGRAMS = {
             ("list", None, None, "The kind, size, length and markers, and no screen"),
             ("kind", "NAME", "asciicast script ttyrec raw", "What the recording is"),
             ("timing", "FILE", FILES, "The timing file of a typescript"),
+            ("no-line-drawing", None, None, "Letters stay where a program draws lines with DEC's special graphics"),
             ("help", None, None, "Tell the words"),
             ("version", None, None, "Tell the version"),
         ],

@@ -12,7 +12,7 @@ use std::test::Fail;
 
 const USAGE: &[u8] =
     b"usage: screentext [ROWS COLS] [--at SECONDS] [--diff SECONDS] [--history N] [--joined] \
-[--colours] [--html | --svg] [--list] [--kind NAME] [--timing FILE]\n";
+[--colours] [--html | --svg] [--list] [--kind NAME] [--timing FILE] [--no-line-drawing]\n";
 
 /// A screen of two rows: `a` from the beginning, `b` from half a second on.
 const CAST: &[u8] = b"{\"version\": 2, \"width\": 4, \"height\": 2}\n\
@@ -57,8 +57,10 @@ fn moments(rt: HostRuntime) {
 
 #[test]
 fn raw_streams(rt: HostRuntime) {
-    let rows: [(&[&str], &[u8], &[u8]); 5] = [
+    let rows: [(&[&str], &[u8], &[u8]); 7] = [
         (&["1", "4"], b"hi", b"hi\n"),
+        (&["1", "4"], b"\x1b(0lqk", "┌─┐\n".as_bytes()),
+        (&["1", "4", "--no-line-drawing"], b"\x1b(0lqk", b"lqk\n"),
         (&["2", "2", "--joined"], b"abc ", b"abc \n"),
         (
             &["1", "2", "--colours"],

@@ -1,19 +1,37 @@
 //! Prints what a recorded terminal stream shows, at its end or at a moment: `screentext --help` tells the words.
 //!
-//! The stream comes on standard input, as raw bytes or as a recording in asciicast v2.
+//! The stream comes on standard input: an asciicast, a typescript, a ttyrec, or raw bytes.
 #![tactic(auto)]
 
 use command_line::run;
-use screentext_command::{TextError, command, report_fault};
-use std::env;
+use screentext_command::{Files, TextError, command_with, report_fault};
+use std::alloc::Global;
 use std::process::ExitCode;
+use std::{env, fs};
 
 fn main(rt: HostRuntime) -> ExitCode {
     run(
         rt.alloc(),
         env::args(&rt),
         &mut (rt.stdin(), rt.stdout(), rt.stderr()),
-        |(input, output, errors), words| command(rt.alloc(), words, input, output, errors),
+        |(input, output, errors), words| command_with(
+            rt.alloc(),
+            words,
+            &Disk(&rt),
+            input,
+            output,
+            errors,
+        ),
         |(_, _, errors)| report_fault(rt.alloc(), errors, TextError::Memory),
     )
+}
+
+// Files of the system.
+#[derive(Clone, Copy)]
+struct Disk<'a>(&'a HostRuntime);
+
+impl Files for Disk<'_> {
+    fn read(&self, _alloc: Global, path: &str) -> Result<Vec<u8>, TextError> {
+        fs::read(self.0, path).map_err(|_| TextError::File)
+    }
 }

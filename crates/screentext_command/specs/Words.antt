@@ -36,10 +36,11 @@ with_flags a = with_rule (with_rule (with_rule (with_rule a (flag_rule (codes "j
     (flag_rule (codes "svg"))
 
 abbrev pub with_sources : App → App
-with_sources a = with_rule (with_rule (with_rule a (flag_rule (codes "list"))) (value_rule (codes "kind"))) (value_rule (codes "timing"))
+with_sources a = with_rule (with_rule (with_rule (with_rule a (flag_rule (codes "list"))) (value_rule (codes "kind")))
+    (value_rule (codes "timing"))) (flag_rule (codes "no-line-drawing"))
 
 -- what `clap` is told of `[ROWS COLS] [--at TIME] [--diff TIME] [--history N] [--joined] [--colours] [--html | --svg]
--- [--list] [--kind NAME] [--timing FILE]`
+-- [--list] [--kind NAME] [--timing FILE] [--no-line-drawing]`
 abbrev pub known : App
 known = with_sources (with_flags (with_values program))
 
@@ -85,7 +86,7 @@ is_order words = is_order_of (fault_of known words) (matches_of known words)
 
 -- what words that aren't understood are told
 abbrev pub usage_line : List ℕ
-usage_line = codes "usage: screentext [ROWS COLS] [--at SECONDS] [--diff SECONDS] [--history N] [--joined] [--colours] [--html | --svg] [--list] [--kind NAME] [--timing FILE]"
+usage_line = codes "usage: screentext [ROWS COLS] [--at SECONDS] [--diff SECONDS] [--history N] [--joined] [--colours] [--html | --svg] [--list] [--kind NAME] [--timing FILE] [--no-line-drawing]"
     ++ 0x0A ∷ []
 
 -- what is told where memory is refused

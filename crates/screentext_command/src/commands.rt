@@ -13,6 +13,7 @@ use crate::source::{Source, with_markers};
 use crate::streams::write_all;
 use crate::words::{Order, parse};
 use command_line::{FAULT, SUCCESS, USAGE, read_all, report};
+use recording_filter::with_lines_drawn;
 use recordings::{Recording, parse_recording};
 use std::alloc::Global;
 use std::fmt::Write;
@@ -23,7 +24,7 @@ const MEMORY_LINE: &[u8] = b"screentext: memory\n";
 
 const USAGE_LINE: &[u8] =
     b"usage: screentext [ROWS COLS] [--at SECONDS] [--diff SECONDS] [--history N] [--joined] \
-[--colours] [--html | --svg] [--list] [--kind NAME] [--timing FILE]\n";
+[--colours] [--html | --svg] [--list] [--kind NAME] [--timing FILE] [--no-line-drawing]\n";
 
 /// Runs the program where no file can be read: [`command_with`] without a timing file.
 pub fn command<R: Read, W: Sink, V: Taker>(
@@ -123,8 +124,23 @@ fn obey<F: Files, R: Read, W: Sink>(
     }
 }
 
-// What is recorded in the input, and in the timing file if the words have one.
+// What is recorded, with boxes as box characters unless the words say otherwise.
 fn recording_of<F: Files, R: Read>(
+    alloc: Global,
+    source: &Source,
+    files: &F,
+    input: &mut R,
+) -> Result<Recording, TextError> {
+    let recording = read_recording(alloc, source, files, input)?;
+    if source.draws_lines {
+        Ok(with_lines_drawn(alloc, &recording)?)
+    } else {
+        Ok(recording)
+    }
+}
+
+// What is recorded in the input, and in the timing file if the words have one.
+fn read_recording<F: Files, R: Read>(
     alloc: Global,
     source: &Source,
     files: &F,

@@ -58,6 +58,11 @@ fn with_sources<'a>(alloc: Global, command: Command<'a>) -> Result<Command<'a>, 
                 "timing",
                 "FILE",
                 "The timing file of a typescript that was made by script",
+            ))?
+            .arg(flag(
+                alloc,
+                "no-line-drawing",
+                "Letters stay where a program draws lines with DEC's special graphics",
             ))?,
     )
 }

@@ -25,6 +25,8 @@ pub(crate) struct Source {
     pub(crate) since: Option<String>,
     /// Whether the recording is described, in place of a screen.
     pub(crate) list: bool,
+    /// Whether what programs draw with the line drawing set comes as box characters.
+    pub(crate) draws_lines: bool,
 }
 
 /// Reads the words that say it.
@@ -39,7 +41,8 @@ pub(crate) fn source_of(
     let moment = owned(alloc, matches.get_str("at"))?;
     let since = owned(alloc, matches.get_str("diff"))?;
     let list = matches.get_count("list") > 0;
-    Ok(new_source(kind, timing, moment, since, list))
+    let draws_lines = matches.get_count("no-line-drawing") == 0;
+    Ok(new_source(kind, timing, moment, since, list, draws_lines))
 }
 
 fn new_source(
@@ -48,6 +51,7 @@ fn new_source(
     moment: Option<String>,
     since: Option<String>,
     list: bool,
+    draws_lines: bool,
 ) -> Option<Source>
     ensures { is_some result ≡ is_some kind }
 {
@@ -57,6 +61,7 @@ fn new_source(
         moment,
         since,
         list,
+        draws_lines,
     })
 }
 

@@ -77,5 +77,5 @@ fn pictures(rt: HostRuntime) {
 #[test]
 fn words(rt: HostRuntime) {
     check(&rt, &["--help"], 0);
-    check(&rt, &["--at=x"], 2);
+    check(&rt, &["--at=-1"], 2);
 }

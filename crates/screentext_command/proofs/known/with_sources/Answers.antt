@@ -7,6 +7,8 @@ returns c =
     let list = c.flag.ensures in
     let kind = c.value.ensures in
     let timing = c.value-2.ensures in
-    added _ _ _ _ _ c.in_ok-arg-3.ensures timing.rule timing.local
+    let letters = c.flag-2.ensures in
+    added _ _ _ _ _ c.in_ok-arg-4.ensures letters.rule letters.local
+    (added _ _ _ _ _ c.in_ok-arg-3.ensures timing.rule timing.local
     (added _ _ _ _ _ c.in_ok-arg-2.ensures kind.rule kind.local
-    (added _ _ _ _ _ c.in_ok-arg.ensures list.rule list.local refl))
+    (added _ _ _ _ _ c.in_ok-arg.ensures list.rule list.local refl)))
