@@ -4,7 +4,7 @@ use Rattle.std.proofs.Common.{arith}
 use Rattle.std.specs.List.{AllByRecursion}
 use Rattle.std.proofs.lemmas.List.{append-nil}
 use Rattle.vte_core.specs.Ground.{AtGround}
-use Rattle.vt100_forms.specs.Form.{Form, spell}
+use Rattle.vt100_forms.specs.Form.{Form, bytes_of}
 use Rattle.terminal_model.specs.Term.{Size, Term}
 use Rattle.terminal_model.specs.Apply.{run}
 use Rattle.terminal_model.specs.FormText.{IsSentForm}
@@ -15,12 +15,12 @@ use Rattle.forms_read.specs.Terminals.{IsSmall}
 use Rattle.agreement.specs.Plain.{terminal_of, size_shown, IsPlainState}
 use Rattle.agreement.proofs.FreshStates.{fresh-blank}
 use Rattle.terminal_model.proofs.FormTexts.{forms-sent}
-use Rattle.agreement.proofs.Playing.{spelling-made}
-use Rattle.agreement.proofs.SentPlaying.{sent-spelling-made, run-alike}
+use Rattle.agreement.proofs.Playing.{written_form-made}
+use Rattle.agreement.proofs.SentPlaying.{sent-written_form-made, run-alike}
 use Rattle.termview.specs.Seen.{seen}
-use Rattle.termview.proofs.Spellings.{spelling-shown}
-use Rattle.agreement.specs.Laws.{ShowsAlike, NewOnesAgree, EachSpellingIsAgreedOn, AgreeingModes}
-use Rattle.agreement.specs.Laws.{EachSentSpellingIsAgreedOn, EachFeedIsAgreedOn}
+use Rattle.termview.proofs.WrittenForms.{written_form-shown}
+use Rattle.agreement.specs.Laws.{ShowsAlike, NewOnesAgree, EachWrittenFormIsAgreedOn, AgreeingModes}
+use Rattle.agreement.specs.Laws.{EachSentWrittenFormIsAgreedOn, EachFeedIsAgreedOn}
 
 some-rows : (z : Size) (s : State) → size_shown s ≡ z → IsPlainState s → 0 < z.rows
 some-rows z s e p = subst (λ (x : Size). 0 < x.rows) e (omega (arith, p.1.cursor_row))
@@ -39,18 +39,18 @@ same-run z s parsed fs a = (λ i. run (a.size i) fs (a.shows i))
 -- the effect of the forms' bytes on the view
 view-shows : (z : Size) (s : State) (parsed : List ℕ) (fs : List Form) → AtGround 1024 parsed → size_shown s ≡ z
     → IsPlainState s → AllByRecursion IsSentForm fs
-    → (seen z (parsed ++ spell fs) ≡ run z fs (seen z parsed)) × AtGround 1024 (parsed ++ spell fs)
+    → (seen z (parsed ++ bytes_of fs) ≡ run z fs (seen z parsed)) × AtGround 1024 (parsed ++ bytes_of fs)
 view-shows z s parsed fs g e p k =
-    spelling-shown z parsed fs (some-rows z s e p) (some-cols z s e p) (small z s e p) g k
+    written_form-shown z parsed fs (some-rows z s e p) (some-cols z s e p) (small z s e p) g k
 
 pub new-agree : NewOnesAgree
 new-agree rows cols capacity some_rows few_rows some_cols few_cols =
     let f = fresh-blank rows cols capacity some_rows few_rows some_cols few_cols in
     record { size = refl; plain = f.0; shows = f.1 }
 
-pub spelling-agreed : EachSpellingIsAgreedOn
-spelling-agreed z past s parsed fs g h a k =
-    let made = spelling-made past s fs g a.plain k in
+pub written_form-agreed : EachWrittenFormIsAgreedOn
+written_form-agreed z past s parsed fs g h a k =
+    let made = written_form-made past s fs g a.plain k in
     let view = view-shows z s parsed fs h a.size a.plain (forms-sent fs k) in (
       record {
         size = made.0.size ∙ a.size;
@@ -80,10 +80,10 @@ bytes-after (Resized rows cols ∷ acts) bs = bytes-after acts bs
 
 pub feed-agreed : EachFeedIsAgreedOn
 feed-agreed z rows cols capacity acts parsed fs g h a k =
-    let r = spelling-agreed z (bytes_fed acts) (made rows cols capacity acts) parsed fs g h a k in (
-      subst (λ (s : State). ShowsAlike z s (parsed ++ spell fs))
-          (sym (made-after [] (fresh_state rows cols capacity) acts (Fed (spell fs) ∷ []))) r.0,
-      subst (λ (bs : List ℕ). AtGround 1024 bs) (sym (bytes-after acts (spell fs))) r.1,
+    let r = written_form-agreed z (bytes_fed acts) (made rows cols capacity acts) parsed fs g h a k in (
+      subst (λ (s : State). ShowsAlike z s (parsed ++ bytes_of fs))
+          (sym (made-after [] (fresh_state rows cols capacity) acts (Fed (bytes_of fs) ∷ []))) r.0,
+      subst (λ (bs : List ℕ). AtGround 1024 bs) (sym (bytes-after acts (bytes_of fs))) r.1,
       r.2,
     )
 
@@ -97,9 +97,9 @@ agreeing-modes z s parsed a = record {
   style = ap (λ (t : Term). t.style) a.shows;
 }
 
-pub sent-spelling-agreed : EachSentSpellingIsAgreedOn
-sent-spelling-agreed z past s parsed fs g h a k =
-    let made = sent-spelling-made past s fs g a.plain k in
+pub sent-written_form-agreed : EachSentWrittenFormIsAgreedOn
+sent-written_form-agreed z past s parsed fs g h a k =
+    let made = sent-written_form-made past s fs g a.plain k in
     let view = view-shows z s parsed fs h a.size a.plain k in
     let there = ap (λ (y : Size). run y fs (terminal_of s)) a.size in
     let same = run-alike z fs (seen z parsed) (terminal_of s) (record { modes = a.modes; style = a.style }) in (

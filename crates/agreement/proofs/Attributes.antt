@@ -19,7 +19,7 @@ use Rattle.screen_model.specs.Sgr.{colored, change, separate_color, asks, Read, 
 use Rattle.screen_model.specs.Made.{played}
 use Rattle.agreement.specs.Plain.{terminal_of, size_shown, IsPlainState}
 use Rattle.agreement.specs.StateLaws.{Shows}
-use Rattle.forms_read.proofs.Told.{Below, each-below}
+use Rattle.forms_read.proofs.Reported.{Below, each-below}
 use Rattle.screen_model.proofs.Tables.{◌&◌}
 
 -- ---- numbers that are read one after the other

@@ -4,7 +4,7 @@ use Rattle.vte_core.specs.Event.{Event}
 use Rattle.vte_core.specs.Added.{added}
 use Rattle.vt100_forms.specs.Form.{Text, MoveTo, MoveRight, EraseChar, ClearRowForward, ClearScreen}
 use Rattle.vt100_forms.specs.Form.{Crlf, Lf, Backspace, SaveCursor, RestoreCursor, HideCursor, Keypad, CursorKeys}
-use Rattle.vt100_forms.specs.Form.{Paste, Mouse, Encoding, Style, Sgr, spell}
+use Rattle.vt100_forms.specs.Form.{Paste, Mouse, Encoding, Style, Sgr, bytes_of}
 use Rattle.terminal_model.specs.Apply.{apply, run}
 use Rattle.terminal_model.proofs.FormTexts.{forms-sent}
 use Rattle.forms_read.specs.Events.{events_of, events_of_all}
@@ -14,7 +14,7 @@ use Rattle.screen_model.specs.State.{State}
 use Rattle.screen_model.specs.Effect.{effect}
 use Rattle.screen_model.specs.Made.{played, events_added}
 use Rattle.agreement.specs.Plain.{terminal_of, size_shown}
-use Rattle.agreement.specs.StateLaws.{EachFormIsPlayed, EachListIsPlayed, EachSpellingIsMade}
+use Rattle.agreement.specs.StateLaws.{EachFormIsPlayed, EachListIsPlayed, EachWrittenFormIsMade}
 use Rattle.agreement.proofs.PlainStates.{shows-at, shows-same, shows-then}
 use Rattle.agreement.proofs.Cursors.{shows-MoveTo, shows-MoveRight, shows-Backspace, shows-SaveCursor}
 use Rattle.agreement.proofs.Cursors.{shows-RestoreCursor}
@@ -63,12 +63,12 @@ list-played s (x ∷ fs) h f =
     (sym (λ i. run (one.size i) fs (one.shows i)))
     (shows-then s u v (apply (size_shown s) x (terminal_of s)) w one (list-played u fs one.plain f.1))
 
-pub spelling-made : EachSpellingIsMade
+pub written_form-made : EachWrittenFormIsMade
 unfolding added
-spelling-made past s fs g h f =
+written_form-made past s fs g h f =
     let r = list-read 1024 past fs g (forms-readable fs (forms-sent fs f)) in
     let t = run (size_shown s) fs (terminal_of s) in (
-      shows-at s (played (events_added past (spell fs)) s) (played (events_of_all fs) s) t t
+      shows-at s (played (events_added past (bytes_of fs)) s) (played (events_of_all fs) s) t t
           (ap (λ es. played es s) r.0) refl (list-played s fs h f),
       r.1,
     )

@@ -21,7 +21,7 @@ use Rattle.forms_read.proofs.SentTexts.{forms-readable}
 use Rattle.screen_model.specs.State.{State}
 use Rattle.screen_model.specs.Made.{played}
 use Rattle.agreement.specs.Plain.{terminal_of, size_shown, IsPlainState}
-use Rattle.agreement.specs.StateLaws.{Shows, HasModes, EachSentListIsPlayed, EachSentSpellingIsMade}
+use Rattle.agreement.specs.StateLaws.{Shows, HasModes, EachSentListIsPlayed, EachSentWrittenFormIsMade}
 use Rattle.agreement.proofs.Playing.{form-played, played-joined}
 use Rattle.agreement.proofs.SentTexts.{like-text}
 
@@ -153,9 +153,9 @@ sent-list-played s (x ∷ fs) h f =
       plain = rest.plain;
     })
 
-pub sent-spelling-made : EachSentSpellingIsMade
+pub sent-written_form-made : EachSentWrittenFormIsMade
 unfolding added
-sent-spelling-made past s fs g h f =
+sent-written_form-made past s fs g h f =
     let r = list-read 1024 past fs g (forms-readable fs f) in (
       subst (HasModes s (run (size_shown s) fs (terminal_of s))) (sym (ap (λ es. played es s) r.0))
           (sent-list-played s fs h f),

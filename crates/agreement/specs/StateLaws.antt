@@ -2,7 +2,7 @@
 use Rattle.std.specs.Prelude.{ℕ, ◌≡◌, ◌<◌, ◌^◌, true, List, [], ◌∷◌, ◌++◌}
 use Rattle.std.specs.List.{AllByRecursion}
 use Rattle.vte_core.specs.Ground.{AtGround}
-use Rattle.vt100_forms.specs.Form.{Form, spell}
+use Rattle.vt100_forms.specs.Form.{Form, bytes_of}
 use Rattle.terminal_model.specs.FormText.{IsForm, IsSentForm}
 use Rattle.terminal_model.specs.Term.{Term, blank_term}
 use Rattle.terminal_model.specs.Apply.{apply, run}
@@ -38,11 +38,11 @@ EachListIsPlayed = (s : State) (fs : List Form) → IsPlainState s → AllByRecu
     → Shows s (run (size_shown s) fs (terminal_of s)) (played (events_of_all fs) s)
 
 -- the bytes of forms have the forms' effect on a plain state, after any past that leaves the parser at ground
-abbrev pub EachSpellingIsMade : Type 0
-EachSpellingIsMade = (past : List ℕ) (s : State) (fs : List Form) → AtGround 1024 past → IsPlainState s
+abbrev pub EachWrittenFormIsMade : Type 0
+EachWrittenFormIsMade = (past : List ℕ) (s : State) (fs : List Form) → AtGround 1024 past → IsPlainState s
     → AllByRecursion IsForm fs
-    → Shows s (run (size_shown s) fs (terminal_of s)) (made_on past s (Fed (spell fs) ∷ []))
-    × AtGround 1024 (past ++ spell fs)
+    → Shows s (run (size_shown s) fs (terminal_of s)) (made_on past s (Fed (bytes_of fs) ∷ []))
+    × AtGround 1024 (past ++ bytes_of fs)
 
 -- ---- texts with U+FE0F, by which a state may make a cell wide
 
@@ -59,8 +59,8 @@ EachSentListIsPlayed = (s : State) (fs : List Form) → IsPlainState s → AllBy
     → HasModes s (run (size_shown s) fs (terminal_of s)) (played (events_of_all fs) s)
 
 -- the same holds after the bytes of forms, after any past that leaves the parser at ground
-abbrev pub EachSentSpellingIsMade : Type 0
-EachSentSpellingIsMade = (past : List ℕ) (s : State) (fs : List Form) → AtGround 1024 past → IsPlainState s
+abbrev pub EachSentWrittenFormIsMade : Type 0
+EachSentWrittenFormIsMade = (past : List ℕ) (s : State) (fs : List Form) → AtGround 1024 past → IsPlainState s
     → AllByRecursion IsSentForm fs
-    → HasModes s (run (size_shown s) fs (terminal_of s)) (made_on past s (Fed (spell fs) ∷ []))
-    × AtGround 1024 (past ++ spell fs)
+    → HasModes s (run (size_shown s) fs (terminal_of s)) (made_on past s (Fed (bytes_of fs) ∷ []))
+    × AtGround 1024 (past ++ bytes_of fs)

@@ -1,9 +1,9 @@
 -- A row's text that is sent to a vector.
 use Rattle.std.proofs.Common.{◌≡◌, ◌∙◌, ℕ, List, [], ◌++◌, Option, Some, Result, Ok, refl, ap}
 use Rattle.std.specs.Global.{Vec}
-use Rattle.takers.specs.Pump.{Writes}
-use Rattle.takers.specs.Sent.{SendsText}
-use Rattle.takers.proofs.SendLemmas.{text-appends}
+use Rattle.byte_sinks.specs.Pump.{Writes}
+use Rattle.byte_sinks.specs.Sent.{SendsText}
+use Rattle.byte_sinks.proofs.SendLemmas.{text-appends}
 
 abbrev held : Vec ℕ → Option (List ℕ)
 held v = Some v.items
@@ -13,5 +13,5 @@ pub row-text : (w v : Vec ℕ) (text : List ℕ) (u : Unit {0}) → SendsText (W
     → v.items ≡ text
 row-text w v text u sends none =
     let grown : v.items ≡ w.items ++ text =
-    text-appends (Vec ℕ) (Writes held) held (λ s bytes answer t told. told) w v text (Ok u) sends refl in
+    text-appends (Vec ℕ) (Writes held) held (λ s bytes answer t reported. reported) w v text (Ok u) sends refl in
     grown ∙ ap (λ xs. xs ++ text) none

@@ -5,12 +5,12 @@ use Rattle.std.proofs.Common.{if◌then◌else◌, inl, inr, refl, sym, ap, subs
 use Rattle.std.proofs.lemmas.Bool.Decides.{nat_tests}
 use Rattle.std.specs.declared.io.Error.{Error}
 use Rattle.screen_model.specs.Holds.{IsSide}
-use Rattle.takers.specs.Pump.{Pumps}
+use Rattle.byte_sinks.specs.Pump.{Pumps}
 use Rattle.termrelay.specs.Answers.{ClientState}
 use Rattle.termrelay.specs.Hub as hub
 use Rattle.termrelay.specs.Hub.{HubState, as_kept, clients_in, pump_answer, Puts}
 use Rattle.termrelay.specs.Calls as call
-use Rattle.termrelay.specs.Calls.{Call, WritesAsTold, taken_by, IsCall, Serves, done, replied}
+use Rattle.termrelay.specs.Calls.{Call, WritesAsReported, taken_by, IsCall, Serves, done, replied}
 use Rattle.termrelay.specs.Log as log
 use Rattle.termrelay.specs.Log.{SessionView, change_last, grown, is_of, RunsLogged}
 use Rattle.termrelay.specs.declared.answer.Answer.{Answer}
@@ -84,13 +84,13 @@ record Taking (owed : List ℕ) (count : ℕ) : Type 0 where
   takes : List Take
   answer : Result (Unit {0}) Error
   rest : List Take
-  pumps : Pumps WritesAsTold takes owed answer count rest
+  pumps : Pumps WritesAsReported takes owed answer count rest
   taken : taken_by takes (length owed) ≡ count
 
 some-bytes : (x : ℕ) (xs : List ℕ) → x ∷ xs ≢ []
 some-bytes x xs = λ is. omega (arith, ap length is)
 
-faults : (e : Error) (x : ℕ) (xs : List ℕ) → Pumps WritesAsTold (Fault ∷ []) (x ∷ xs) (Err e) 0 []
+faults : (e : Error) (x : ℕ) (xs : List ℕ) → Pumps WritesAsReported (Fault ∷ []) (x ∷ xs) (Err e) 0 []
 faults e x xs = Pumps.fault (some-bytes x xs) ((e, refl), refl)
 
 takes-none : Error → (owed : List ℕ) → Taking owed 0
@@ -108,7 +108,7 @@ left-takes : List ℕ → List Take
 left-takes [] = Fault ∷ []
 left-takes (x ∷ xs) = []
 
-left : (e : Error) (owed : List ℕ) → Pumps WritesAsTold (Fault ∷ []) owed (left-answer e owed) 0 (left-takes owed)
+left : (e : Error) (owed : List ℕ) → Pumps WritesAsReported (Fault ∷ []) owed (left-answer e owed) 0 (left-takes owed)
 unfolding left-answer left-takes
 left e [] = Pumps.all
 left e (x ∷ xs) = faults e x xs
@@ -125,7 +125,7 @@ takes-some e owed count some fits ne =
       takes = Bytes count ∷ Fault ∷ [];
       answer = left-answer e (drop count owed);
       rest = left-takes (drop count owed);
-      pumps = subst (λ n. Pumps WritesAsTold (Bytes count ∷ Fault ∷ []) owed (left-answer e (drop count owed)) n
+      pumps = subst (λ n. Pumps WritesAsReported (Bytes count ∷ Fault ∷ []) owed (left-answer e (drop count owed)) n
           (left-takes (drop count owed))) end
           (Pumps.some (Fault ∷ []) count 0 ne some (ap Ok (sym whole), refl) (left e (drop count owed)));
       taken = taken-some (length owed) count some fits;

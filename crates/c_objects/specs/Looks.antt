@@ -12,7 +12,7 @@ use Rattle.vt100_cells.specs.Cell.{CellView}
 use Rattle.screen_model.specs.Call.{ScreenView}
 use Rattle.termview.specs.Standing.{view_size, shown_by}
 use Rattle.termview.specs.declared.view.View.{View}
-use Rattle.c_objects.specs.Texts.{with_front}
+use Rattle.c_objects.specs.Texts.{with_prefix}
 use Rattle.c_objects.specs.declared.plain.CColor.{CColor}
 use Rattle.c_objects.specs.declared.plain.CCell.{CCell}
 use Rattle.c_objects.specs.declared.plain.CLook.{CLook}
@@ -32,7 +32,7 @@ width_of x = if x.continuation then 0 else if x.wide then 2 else 1
 
 abbrev pub cell_of : CellView → CCell
 cell_of x = record {
-  text = with_front (encode_utf8_all x.text) (replicate 32 0);
+  text = with_prefix (encode_utf8_all x.text) (replicate 32 0);
   length = length (encode_utf8_all x.text);
   width = width_of x;
   attributes = x.attrs.mode;

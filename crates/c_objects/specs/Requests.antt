@@ -3,7 +3,7 @@ use Rattle.std.specs.Prelude.{◌≡◌, ◌⊎◌, ◌<◌, ◌≤◌, ◌+◌,
 use Rattle.std.specs.Prelude.{if◌then◌else◌}
 use Rattle.screen_model.specs.Call.{Call, ScreenView, audible_bell, visual_bell, resize, set_window_icon_name}
 use Rattle.screen_model.specs.Call.{set_window_title, copy_to_clipboard, paste_from_clipboard}
-use Rattle.c_objects.specs.Texts.{with_front}
+use Rattle.c_objects.specs.Texts.{with_prefix}
 use Rattle.c_objects.specs.declared.plain.CRequest.{CRequest}
 
 -- A request: its kind; the rows and columns that are asked for; how many bytes of the text are letters of clipboards;
@@ -49,19 +49,19 @@ pub record Gets (q : RequestsView) (r : RequestView) (new : RequestsView) : Type
 abbrev pub Queues : RequestsView → RequestView → RequestsView → Type 0
 Queues q r new = Gets q r new ⊎ (new ≡ record q { dropped = min (q.dropped + 1) 18446744073709551615 })
 
-abbrev pub HearsOf : RequestsView → Option RequestView → RequestsView → Type 0
-HearsOf q None new = new ≡ q
-HearsOf q (Some r) new = Queues q r new
+abbrev pub ReceivesOf : RequestsView → Option RequestView → RequestsView → Type 0
+ReceivesOf q None new = new ≡ q
+ReceivesOf q (Some r) new = Queues q r new
 
 -- a callback changes the queue so; the screen stays as it is
-abbrev pub Hears : RequestsView → ScreenView → Call → RequestsView → ScreenView → Type 0
-Hears q v call new w = (w ≡ v) × HearsOf q (request_of call) new
+abbrev pub Receives : RequestsView → ScreenView → Call → RequestsView → ScreenView → Type 0
+Receives q v call new w = (w ≡ v) × ReceivesOf q (request_of call) new
 
 -- ---- what is taken out
 
 -- a request as C reads it, after so many were dropped
-abbrev pub told_of : RequestView → ℕ → CRequest
-told_of r dropped = record {
+abbrev pub reported_of : RequestView → ℕ → CRequest
+reported_of r dropped = record {
   length = length r.text;
   letters = r.letters;
   dropped = dropped;
@@ -72,11 +72,11 @@ told_of r dropped = record {
 
 -- the oldest of these requests is copied, and removed if its text fits
 abbrev pub TakesOldest : List RequestView → List ℕ → List ℕ → CRequest → RequestsView → ℤ → RequestsView → Type 0
-TakesOldest [] old new told q code after =
-    (code ≡ pos 0) × (told ≡ told_of (of_kind 0 []) q.dropped) × (new ≡ old) × (after ≡ q)
-TakesOldest (r ∷ rs) old new told q code after =
-    (code ≡ pos r.kind) × (told ≡ told_of r q.dropped) × (new ≡ with_front r.text old)
+TakesOldest [] old new reported q code after =
+    (code ≡ pos 0) × (reported ≡ reported_of (of_kind 0 []) q.dropped) × (new ≡ old) × (after ≡ q)
+TakesOldest (r ∷ rs) old new reported q code after =
+    (code ≡ pos r.kind) × (reported ≡ reported_of r q.dropped) × (new ≡ with_prefix r.text old)
     × (after ≡ (if nat_le (length r.text) (length old) then record q { waiting = rs } else q))
 
 abbrev pub Takes : List ℕ → List ℕ → CRequest → RequestsView → ℤ → RequestsView → Type 0
-Takes old new told q code after = TakesOldest q.waiting old new told q code after
+Takes old new reported q code after = TakesOldest q.waiting old new reported q code after

@@ -38,9 +38,9 @@ Does (Sent key count) h code g = Sends key count h code g
 -- ---- what a client was handed
 
 -- the first n bytes that the client with this key is owed, if there is one
-abbrev pub front_owed : ℕ → Option ClientState → List ℕ
-front_owed n None = []
-front_owed n (Some c) = take n c.owed
+abbrev pub prefix_owed : ℕ → Option ClientState → List ℕ
+prefix_owed n None = []
+prefix_owed n (Some c) = take n c.owed
 
 -- The sessions after a call from C that succeeded on a hub h. An attach begins one. A detach ends the last open one of
 -- its key, and a resize ends all. Sent bytes go to the last open one of their key.
@@ -50,7 +50,7 @@ sessions_done h (Resize rows cols) ss = map ended ss
 sessions_done h (Attach old new) ss = ss ++ begun h new ∷ []
 sessions_done h (Detach key) ss = change_last (is_of key) ended ss
 sessions_done h (Frame key) ss = ss
-sessions_done h (Sent key n) ss = change_last (is_of key) (grown (front_owed n (clients_in h key))) ss
+sessions_done h (Sent key n) ss = change_last (is_of key) (grown (prefix_owed n (clients_in h key))) ss
 
 -- the sessions after a call from C that may have been refused
 abbrev pub sessions_after : HubState as_kept → FromC → ℤ → List SessionView → List SessionView

@@ -11,7 +11,7 @@ use Rattle.screen_model.specs.Made.{Act, Fed, Resized, events_added}
 use Rattle.screen_model.specs.Step.{kept_shown, resized_to}
 use Rattle.vt100.specs.Goes.{GoesThrough}
 use Rattle.vt100.specs.Memory.{some_may_take}
-use Rattle.vt100.specs.Parsing.{ParserView, HasRead, ParserStandsAt}
+use Rattle.vt100.specs.Parsing.{ParserView, HasRead, ParserIsAfter}
 use Rattle.vt100.specs.Texts.{text_between}
 use Rattle.vt100.specs.Tries.{Tries, TriesAlone, SameBounds, Stops}
 use Rattle.vt100.specs.Writers.{contents_formatted, state_formatted, state_diff}
@@ -21,7 +21,7 @@ use Rattle.vt100.specs.declared.error.ScreenError.TheVariants.{Memory, Failed}
 use Rattle.c_objects.specs.Codes.{ok, bad_size, memory, screen_code}
 use Rattle.c_objects.specs.Hubs.{ShowsCell, ShowsRow, ShowsContents}
 use Rattle.c_objects.specs.Looks.{screen_look}
-use Rattle.c_objects.specs.Requests.{RequestsView, no_requests, Hears, Takes}
+use Rattle.c_objects.specs.Requests.{RequestsView, no_requests, Receives, Takes}
 use Rattle.c_objects.specs.Texts.{CopiesText, Copies}
 use Rattle.c_objects.specs.declared.plain.CCell.{CCell}
 use Rattle.c_objects.specs.declared.plain.CLook.{CLook}
@@ -34,7 +34,7 @@ use Rattle.c_objects.specs.declared.object.Object.TheVariants.{Hub, View, Screen
 
 -- a new screen: blank, without a mark and without requests
 pub record IsNewScreen (rows cols capacity : ℕ) (m : Marked) : Type 0 where
-  pub stands : ParserStandsAt m.parser rows cols capacity []
+  pub state_after : ParserIsAfter m.parser rows cols capacity []
   pub requests : m.parser.callbacks ≡ no_requests
   pub mark : m.mark ≡ None
 
@@ -58,11 +58,11 @@ pub record Reads (bytes : List ℕ) (p : ParserView RequestsView) (answer : Resu
   pub dead : p.screen.failed ≡ true → (answer ≡ Err Failed) × (q ≡ p)
   pub reads : p.screen.failed ≡ false → (past : List ℕ) → HasRead p past → HasRead q (past ++ bytes)
   pub goes : p.screen.failed ≡ false → (past : List ℕ) → HasRead p past
-      → GoesThrough Hears keeps_queue (events_added past bytes) p.callbacks p.screen q.callbacks q.screen
-  pub made : (rows cols capacity : ℕ) (acts : List Act) → ParserStandsAt p rows cols capacity acts
-      → OnOk answer (ParserStandsAt q rows cols capacity (acts ++ Fed bytes ∷ []))
+      → GoesThrough Receives keeps_queue (events_added past bytes) p.callbacks p.screen q.callbacks q.screen
+  pub made : (rows cols capacity : ℕ) (acts : List Act) → ParserIsAfter p rows cols capacity acts
+      → OnOk answer (ParserIsAfter q rows cols capacity (acts ++ Fed bytes ∷ []))
   pub bounds : (rows cols capacity : ℕ) (acts : List Act) → AreActs rows cols capacity acts
-      → ParserStandsAt p rows cols capacity acts → SameBounds p.screen.state q.screen.state
+      → ParserIsAfter p rows cols capacity acts → SameBounds p.screen.state q.screen.state
   pub takes : answer ≡ Err Memory → (past : List ℕ) → HasRead p past
       → some_may_take (events_added past bytes) p.screen.state ≡ true
 
@@ -79,8 +79,8 @@ pub record Resizes (rows cols : ℕ) (p : ParserView RequestsView) (answer : Res
   pub same : p.screen.failed ≡ false → rows ≡ p.screen.state.shown.height → cols ≡ p.screen.state.shown.width
       → IsOk answer
   pub reader : q.reader ≡ p.reader
-  pub made : (height width capacity : ℕ) (acts : List Act) → ParserStandsAt p height width capacity acts
-      → OnOk answer (ParserStandsAt q height width capacity (acts ++ Resized rows cols ∷ []))
+  pub made : (height width capacity : ℕ) (acts : List Act) → ParserIsAfter p height width capacity acts
+      → OnOk answer (ParserIsAfter q height width capacity (acts ++ Resized rows cols ∷ []))
 
 -- the mark is dropped if the resize succeeds
 abbrev pub mark_after : Result (Unit {0}) ScreenError → Option ScreenView → Option ScreenView
@@ -126,8 +126,8 @@ with_requests m q = record m { parser = record (m.parser) { callbacks = q } }
 
 -- the oldest request is copied
 abbrev pub TellsOldest : List ℕ → List ℕ → CRequest → Marked → ℤ → Marked → Type 0
-TellsOldest old new told m code n =
-    Takes old new told m.parser.callbacks code n.parser.callbacks × (n ≡ with_requests m n.parser.callbacks)
+TellsOldest old new reported m code n =
+    Takes old new reported m.parser.callbacks code n.parser.callbacks × (n ≡ with_requests m n.parser.callbacks)
 
 -- ---- calls that read it
 

@@ -4,12 +4,12 @@ use Rattle.vt100.specs.declared.error.ScreenError.{ScreenError}
 use Rattle.c_objects.specs.Codes.{ok, memory, screen_refusal}
 
 -- `to`, with as long a prefix of `from` as fits written over its start
-abbrev pub with_front : List ℕ → List ℕ → List ℕ
-with_front from to = let n = min (length from) (length to) in take n from ++ drop n to
+abbrev pub with_prefix : List ℕ → List ℕ → List ℕ
+with_prefix from to = let n = min (length from) (length to) in take n from ++ drop n to
 
 -- as long a prefix of the text as fits is copied, and all its bytes are counted
 abbrev pub IsCopied : List ℕ → List ℕ → List ℕ → ℕ → Type 0
-IsCopied text old new count = (new ≡ with_front text old) × (count ≡ length text)
+IsCopied text old new count = (new ≡ with_prefix text old) × (count ≡ length text)
 
 -- the text is copied, or an allocation failed
 abbrev pub CopiesText : List ℕ → List ℕ → List ℕ → ℕ → ℤ → Type 0

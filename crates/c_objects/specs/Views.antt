@@ -2,7 +2,7 @@
 use Rattle.std.specs.Prelude.{◌≡◌, ℕ, ◌≤◌, ℤ, List, [], ◌++◌, length, Option, None, MatchOption, encode_utf8_all}
 use Rattle.vte.specs.Timeout.{IsExact}
 use Rattle.vte.specs.Hold.{held_of}
-use Rattle.termview.specs.Standing.{ViewStandsAt, HoldsAt, Advanced, Taken, Emptied, view_size, shown_by}
+use Rattle.termview.specs.Standing.{ViewIsAfter, HoldsAt, Advanced, Taken, Emptied, view_size, shown_by}
 use Rattle.termview.specs.Seen.{cell_shown, text_shown}
 use Rattle.termview.specs.Timeout.{until_cleared}
 use Rattle.termview.specs.declared.until_cleared.UntilCleared.{UntilCleared}
@@ -22,7 +22,7 @@ ViewState = declared.View UntilCleared
 
 -- a fresh view, which holds nothing back
 pub record IsNewView (rows cols : ℕ) (v : ViewState) : Type 0 where
-  pub stands : ViewStandsAt v [] []
+  pub state_after : ViewIsAfter v [] []
   pub holds : HoldsAt until_cleared v [] None
   pub rows_are : (view_size v).rows ≡ rows
   pub cols_are : (view_size v).cols ≡ cols
@@ -37,14 +37,14 @@ IsNewViewOf rows cols (Screen m) = ⊥
 -- the view reads a piece of the stream
 pub record Advances (bytes : List ℕ) (v : ViewState) (code : ℤ) (w : ViewState) : Type 0 where
   pub code_is : code ≡ ok
-  pub advanced : (parsed held : List ℕ) → ViewStandsAt v parsed held → Advanced until_cleared v parsed held bytes w
+  pub advanced : (parsed held : List ℕ) → ViewIsAfter v parsed held → Advanced until_cleared v parsed held bytes w
   pub exact : (parsed : List ℕ) (hold : Option (List ℕ)) → IsExact until_cleared → HoldsAt until_cleared v parsed hold
       → Taken until_cleared v parsed hold bytes w
 
 -- the view parses the bytes that it holds back
 pub record Stops (v : ViewState) (code : ℤ) (w : ViewState) : Type 0 where
   pub code_is : code ≡ ok
-  pub emptied : (parsed held : List ℕ) → ViewStandsAt v parsed held → Emptied until_cleared v parsed held w
+  pub emptied : (parsed held : List ℕ) → ViewIsAfter v parsed held → Emptied until_cleared v parsed held w
   pub exact : (parsed : List ℕ) (hold : Option (List ℕ)) → IsExact until_cleared → HoldsAt until_cleared v parsed hold
       → HoldsAt until_cleared w (parsed ++ held_of hold) None
 
@@ -53,7 +53,7 @@ pub record Stops (v : ViewState) (code : ℤ) (w : ViewState) : Type 0 where
 -- how many bytes the view holds back
 pub record Holds (count : ℕ) (v : ViewState) (code : ℤ) : Type 0 where
   pub code_is : code ≡ ok
-  pub count_is : (parsed held : List ℕ) → ViewStandsAt v parsed held → count ≡ length held
+  pub count_is : (parsed held : List ℕ) → ViewIsAfter v parsed held → count ≡ length held
   pub most : count ≤ 2097150
 
 abbrev pub Looks : CLook → ViewState → ℤ → Type 0

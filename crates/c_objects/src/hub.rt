@@ -9,7 +9,7 @@ use crate::code::{
     BAD_SIZE, MEMORY, NO_CELL, NOT_OWED, OK, OTHER_KIND, UNKNOWN_CLIENT, code_of, frame_code,
     refusal_code,
 };
-use crate::copy::{copy_front, copy_text};
+use crate::copy::{copy_prefix, copy_text};
 use crate::look::{cell_of, screen_look};
 use crate::object::Object;
 use crate::plain::{CCell, CLook};
@@ -117,7 +117,7 @@ fn copy_owed(hub: &Hub, client: Client, to: &mut [u8], count: &mut usize) -> i32
 {
     match hub.owed(client) {
         Ok(bytes) => {
-            copy_front(bytes, to, count);
+            copy_prefix(bytes, to, count);
             OK
         }
         Err(_) => UNKNOWN_CLIENT,

@@ -1,11 +1,11 @@
 //! The values that C reads from a screen or a view.
 ghost use Rattle.std.specs.Prelude.{◌≡◌, ◌≤◌, replicate};
 ghost use Rattle.vt100_cells.specs.Cell.{IsCell};
-ghost use Rattle.c_objects.specs.Texts.{with_front};
+ghost use Rattle.c_objects.specs.Texts.{with_prefix};
 ghost use Rattle.c_objects.specs.Looks.{switch, color_of, width_of, cell_of, screen_look, view_look};
 ghost use Rattle.c_objects.specs.Looks.{mouse_number, encoding_number, style_number};
 
-use crate::copy::copy_front;
+use crate::copy::copy_prefix;
 use crate::plain::{CCell, CColor, CLook};
 use termview::{UntilCleared, View};
 use vt100::{Cell, Color, CursorStyle, MouseProtocolEncoding, MouseProtocolMode, Screen};
@@ -58,11 +58,11 @@ fn byte_of(length: usize) -> u8
 
 /// A text, padded with zeros.
 fn padded(contents: &[u8]) -> [u8; 32]
-    ensures { result ≡ with_front contents.now (replicate 32 0) }
+    ensures { result ≡ with_prefix contents.now (replicate 32 0) }
 {
     let mut text = [0; 32];
     let mut length = 0;
-    copy_front(contents, &mut text, &mut length);
+    copy_prefix(contents, &mut text, &mut length);
     text
 }
 

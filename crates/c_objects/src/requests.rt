@@ -2,7 +2,7 @@
 ghost use Rattle.std.specs.Prelude.{◌≡◌, ◌∷◌, ◌++◌, [], length, true, false};
 ghost use Rattle.c_objects.specs.Requests.{no_requests, request_of, Queues, Gets, Takes};
 
-use crate::copy::copy_front;
+use crate::copy::copy_prefix;
 use crate::plain::CRequest;
 use std::alloc::Global;
 use std::marker::Model;
@@ -118,11 +118,11 @@ impl Requests {
     }
 
     /// Copies the oldest request and returns its kind, or 0 if there is none. The request is removed if its text fits.
-    pub(crate) fn take(&mut self, to: &mut [u8], told: &mut CRequest) -> i32
-        ensures { Takes to.old to.new told.new self.old result self.new }
+    pub(crate) fn take(&mut self, to: &mut [u8], reported: &mut CRequest) -> i32
+        ensures { Takes to.old to.new reported.new self.old result self.new }
     {
         let Some(oldest) = self.waiting.first() else {
-            *told = CRequest {
+            *reported = CRequest {
                 length: 0,
                 letters: 0,
                 dropped: self.dropped,
@@ -133,7 +133,7 @@ impl Requests {
             return 0;
         };
         let kind = oldest.kind;
-        *told = CRequest {
+        *reported = CRequest {
             length: oldest.text.len(),
             letters: oldest.letters,
             dropped: self.dropped,
@@ -142,7 +142,7 @@ impl Requests {
             kind,
         };
         let mut length = 0;
-        copy_front(&oldest.text, to, &mut length);
+        copy_prefix(&oldest.text, to, &mut length);
         if length <= to.len() {
             let _taken = self.waiting.remove(0);
         }
@@ -152,9 +152,9 @@ impl Requests {
 
 /// Queues the calls that C can receive, and leaves the screen as it is.
 impl Callbacks for Requests {
-    ghost use Rattle.c_objects.specs.Requests.{Hears};
+    ghost use Rattle.c_objects.specs.Requests.{Receives};
 
-    ghost step = { λ c v k d w. Hears c v k d w };
+    ghost step = { λ c v k d w. Receives c v k d w };
 
     ghost scrolls = { λ c v a d. c ≡ d };
 

@@ -129,19 +129,19 @@ pub fn mark(object: &mut Object) -> i32
     }
 }
 
-fn tell_request(marked: &mut Marked, to: &mut [u8], told: &mut CRequest) -> i32
-    ensures { TellsOldest to.old to.new told.new marked.old result marked.new }
+fn tell_request(marked: &mut Marked, to: &mut [u8], reported: &mut CRequest) -> i32
+    ensures { TellsOldest to.old to.new reported.new marked.old result marked.new }
 {
-    marked.parser.callbacks_mut().take(to, told)
+    marked.parser.callbacks_mut().take(to, reported)
 }
 
 /// Takes the oldest request out of a screen's queue.
-pub fn request(object: &mut Object, to: &mut [u8], told: &mut CRequest) -> i32
-    ensures told { ScreenDoes (TellsOldest to.old to.new told.new) object.old result object.new }
-    ensures refused { IsRefusal result → (to.new ≡ to.old) × (told.new ≡ told.old) }
+pub fn request(object: &mut Object, to: &mut [u8], reported: &mut CRequest) -> i32
+    ensures reported { ScreenDoes (TellsOldest to.old to.new reported.new) object.old result object.new }
+    ensures refused { IsRefusal result → (to.new ≡ to.old) × (reported.new ≡ reported.old) }
 {
     match object {
-        Object::Screen(marked) => tell_request(marked, to, told),
+        Object::Screen(marked) => tell_request(marked, to, reported),
         _ => OTHER_KIND,
     }
 }

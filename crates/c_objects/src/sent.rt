@@ -2,8 +2,8 @@
 ghost use Rattle.std.specs.Prelude.{◌≡◌, ◌≤◌, length};
 ghost use Rattle.c_objects.specs.Taken.{takes_so_many};
 
+use byte_sinks::ByteSink;
 use std::io;
-use takers::Taker;
 
 /// A sink that takes `left` more bytes.
 #[derive(Drop)]
@@ -11,7 +11,7 @@ pub(crate) struct SoMany {
     pub(crate) left: usize,
 }
 
-impl Taker for SoMany {
+impl ByteSink for SoMany {
     ghost use Rattle.c_objects.specs.Taken.{takes_so_many};
 
     ghost takes = { λ s bytes answer t. takes_so_many s.left bytes answer t.left };

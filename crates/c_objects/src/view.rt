@@ -6,7 +6,7 @@ ghost use Rattle.c_objects.specs.Objects.{ViewDoes, ViewSays};
 ghost use Rattle.c_objects.specs.Views.{IsNewViewOf, Advances, Stops, Holds, Looks, HasCell, HasRow};
 
 use crate::code::{BAD_SIZE, MEMORY, NO_CELL, OK, OTHER_KIND};
-use crate::copy::copy_front;
+use crate::copy::copy_prefix;
 use crate::look::{cell_of, view_look};
 use crate::object::Object;
 use crate::plain::{CCell, CLook};
@@ -123,7 +123,7 @@ fn copy_row(
     let mut text = Vec::new(alloc);
     match view.row_text(row, &mut text) {
         Ok(()) => {
-            copy_front(&text, to, count);
+            copy_prefix(&text, to, count);
             OK
         }
         Err(_) => MEMORY,

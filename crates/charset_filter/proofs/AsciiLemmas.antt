@@ -9,7 +9,7 @@ use Rattle.vte_core.specs.Event.{Event, Print, Execute, Hook, Put, Unhook, Osc, 
 use Rattle.vte_core.specs.Pending.{Pending, InText, InEscape, InCsi, InOsc, InHook, InDevice, InSwallowed, closed}
 use Rattle.vte_core.specs.Pending.{events_of_byte, after_byte, events_from}
 use Rattle.vte_core.proofs.Characters.{bool_cases, if_holds}
-use Rattle.vte_core.proofs.Machine.{events-told}
+use Rattle.vte_core.proofs.Machine.{events-reported}
 use Rattle.vte_types.specs.Charset.{mapped}
 use Rattle.vte_types.specs.declared.charset.StandardCharset.{StandardCharset}
 use Rattle.vte_types.specs.declared.charset.StandardCharset.TheVariants.{Ascii}
@@ -180,4 +180,4 @@ all-given n q s (b ∷ bs) a h =
 
 pub keeps-ascii : KeepsAscii
 keeps-ascii n bs h = all-given n (InText []) first_sets bs ascii-first
-    (subst (λ (es : List Event). names_none es ≡ true) (events-told n bs) h)
+    (subst (λ (es : List Event). names_none es ≡ true) (events-reported n bs) h)

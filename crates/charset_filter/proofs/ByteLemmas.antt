@@ -10,7 +10,7 @@ use Rattle.vte_core.specs.Bytes.{is_esc, is_abort, is_control, is_put, ends_head
 use Rattle.vte_core.specs.Text.{char_len, first_bits, joined, char_event, malformed_event}
 use Rattle.vte_core.specs.Header.{is_well_formed}
 use Rattle.vte_core.specs.Pending.{Pending, InText, InEscape, InCsi, InOsc, InHook, InDevice, InSwallowed, IsSound}
-use Rattle.vte_core.specs.Pending.{told, goes_on, begun, text_told, closed, final_told, events_of_byte}
+use Rattle.vte_core.specs.Pending.{reported, goes_on, begun, text_reported, closed, final_reported, events_of_byte}
 use Rattle.vte_core.specs.Pending.{after_byte, events_from, after_bytes}
 use Rattle.vte_core.specs.Stopping.{is_text}
 use Rattle.vte_core.proofs.Characters.{bool_cases, if_holds}
@@ -27,10 +27,10 @@ use Rattle.charset_filter.proofs.Drawings.{begun-one, drawable-plain, mapped-sam
 abbrev Silent : List Event → Type 0
 Silent es = prints_nothing es ≡ true
 
-silent-told : (p : ℕ → Bool) (b : ℕ) → Silent (told p Execute b)
-silent-told p b = if_holds Silent (p b) (Execute b ∷ []) [] refl refl
+silent-reported : (p : ℕ → Bool) (b : ℕ) → Silent (reported p Execute b)
+silent-reported p b = if_holds Silent (p b) (Execute b ∷ []) [] refl refl
 
-silent-final : (is : List ℕ) (b : ℕ) → Silent (final_told is b)
+silent-final : (is : List ℕ) (b : ℕ) → Silent (final_reported is b)
 silent-final is b =
     if_holds Silent (length is == 0 && b == 0x5B) _ _ refl (if_holds Silent (length is == 0 && b == 0x5D) _ _ refl
     (if_holds Silent (length is == 0 && b == 0x50) _ _ refl
@@ -40,19 +40,19 @@ pub silent-byte : (n : ℕ) (q : Pending) (b : ℕ) → is_text q ≡ false → 
 silent-byte n (InText u) b h = absurd (let no : true ≡ false = h in cc)
 silent-byte n (InEscape is) b h = if_holds Silent (is_esc b) _ _ refl
     (if_holds Silent (ends_escape b) _ _ (if_holds Silent (is_abort b) _ _ refl (silent-final is b))
-    (silent-told is_control b))
+    (silent-reported is_control b))
 silent-byte n (InCsi x) b h = if_holds Silent (is_esc b) _ _ refl
     (if_holds Silent (ends_header b) _ _
     (if_holds Silent (is_abort b) _ _ refl (if_holds Silent (is_well_formed x) _ _ refl refl))
-    (silent-told is_control b))
+    (silent-reported is_control b))
 silent-byte n (InOsc d) b h = if_holds Silent (is_esc b) _ _ refl
-    (if_holds Silent (ends_osc b) _ _ (silent-told is_abort b) refl)
+    (if_holds Silent (ends_osc b) _ _ (silent-reported is_abort b) refl)
 silent-byte n (InHook x) b h = if_holds Silent (is_esc b) _ _ refl
     (if_holds Silent (ends_header b) _ _
     (if_holds Silent (is_abort b) _ _ refl (if_holds Silent (is_well_formed x) _ _ refl refl)) refl)
 silent-byte n InDevice b h = if_holds Silent (is_esc b) _ _ refl
-    (if_holds Silent (ends_device b) _ _ (silent-told is_abort b) (if_holds Silent (is_put b) _ _ refl refl))
-silent-byte n InSwallowed b h = if_holds Silent (is_esc b) _ _ refl (silent-told is_abort b)
+    (if_holds Silent (ends_device b) _ _ (silent-reported is_abort b) (if_holds Silent (is_put b) _ _ refl refl))
+silent-byte n InSwallowed b h = if_holds Silent (is_esc b) _ _ refl (silent-reported is_abort b)
 
 -- text that no set draws otherwise
 
@@ -100,7 +100,7 @@ high-undrawn c h = grind (arith, nat_tests)
 pub is-len : (k l : ℕ) → (k == l) ≡ true → k ≡ l
 is-len k l h = grind (arith, nat_tests)
 
-fixed-text : (u : List ℕ) (b : ℕ) → IsSound (InText u) → is_drawable b ≡ false → Fixed (text_told u b)
+fixed-text : (u : List ℕ) (b : ℕ) → IsSound (InText u) → is_drawable b ≡ false → Fixed (text_reported u b)
 fixed-text [] b k h = fixed-begun b h
 fixed-text (a ∷ t) b k h =
     elim (bool_cases (goes_on a t b)) [
@@ -155,12 +155,12 @@ shown-drawn n s (a ∷ t) b = ap (λ (x : Event). x ∷ Print (mapped (drawing_s
     (steady-print 0xFFFD refl s)
 
 -- what is given tells what the byte tells, as it is drawn, and leaves what the byte leaves
-abbrev pub Stands-for : Pending → CharacterSets → ℕ → Type 0
-Stands-for q s b = (n : ℕ) → (events_from n q (given_for q s b) ≡ drawn_events s (events_of_byte n q b))
+abbrev pub Represents : Pending → CharacterSets → ℕ → Type 0
+Represents q s b = (n : ℕ) → (events_from n q (given_for q s b) ≡ drawn_events s (events_of_byte n q b))
     × (after_bytes q (given_for q s b) ≡ after_byte q b)
 
 as-it-is : (q : Pending) (s : CharacterSets) (b : ℕ) → given_for q s b ≡ b ∷ []
-    → ((n : ℕ) → drawn_events s (events_of_byte n q b) ≡ events_of_byte n q b) → Stands-for q s b
+    → ((n : ℕ) → drawn_events s (events_of_byte n q b) ≡ events_of_byte n q b) → Represents q s b
 as-it-is q s b given same n =
     rw given (append-nil (events_of_byte n q b) ∙ sym (same n), refl)
 
@@ -170,16 +170,16 @@ silent-given q s b h =
     silent-last s None (events_of_byte 0 q b) (silent-byte 0 q b h) in
     rw none (if_holds (λ (x : List ℕ). x ≡ b ∷ []) (is_drawable b) (b ∷ []) (b ∷ []) refl refl)
 
-stands-silent : (q : Pending) (s : CharacterSets) (b : ℕ) → is_text q ≡ false → Stands-for q s b
-stands-silent q s b h = as-it-is q s b (silent-given q s b h)
+state_after-silent : (q : Pending) (s : CharacterSets) (b : ℕ) → is_text q ≡ false → Represents q s b
+state_after-silent q s b h = as-it-is q s b (silent-given q s b h)
     (λ n. silent-events s (events_of_byte n q b) (silent-byte n q b h))
 
 fixed-byte : (n : ℕ) (u : List ℕ) (b : ℕ) → IsSound (InText u) → is_drawable b ≡ false
     → Fixed (events_of_byte n (InText u) b)
 fixed-byte n u b k h = if_holds Fixed (is_esc b) _ _ (fixed-closed n u) (fixed-text u b k h)
 
-stands-text : (u : List ℕ) (s : CharacterSets) (b : ℕ) → IsSound (InText u) → Stands-for (InText u) s b
-stands-text u s b k =
+state_after-text : (u : List ℕ) (s : CharacterSets) (b : ℕ) → IsSound (InText u) → Represents (InText u) s b
+state_after-text u s b k =
     elim (bool_cases (is_drawable b)) [
       | inl e ↦ λ n.
           let x = drawing_set (set_behind s u) in
@@ -191,14 +191,14 @@ stands-text u s b k =
       | inr e ↦ as-it-is (InText u) s b (rw e refl) (λ n. fixed-byte n u b k e s)
     ]
 
-pub stands-for : (q : Pending) (s : CharacterSets) (b : ℕ) → IsSound q → Stands-for q s b
-stands-for (InText u) s b k = stands-text u s b k
-stands-for (InEscape is) s b k = stands-silent (InEscape is) s b refl
-stands-for (InCsi x) s b k = stands-silent (InCsi x) s b refl
-stands-for (InOsc d) s b k = stands-silent (InOsc d) s b refl
-stands-for (InHook x) s b k = stands-silent (InHook x) s b refl
-stands-for InDevice s b k = stands-silent InDevice s b refl
-stands-for InSwallowed s b k = stands-silent InSwallowed s b refl
+pub represents : (q : Pending) (s : CharacterSets) (b : ℕ) → IsSound q → Represents q s b
+represents (InText u) s b k = state_after-text u s b k
+represents (InEscape is) s b k = state_after-silent (InEscape is) s b refl
+represents (InCsi x) s b k = state_after-silent (InCsi x) s b refl
+represents (InOsc d) s b k = state_after-silent (InOsc d) s b refl
+represents (InHook x) s b k = state_after-silent (InHook x) s b refl
+represents InDevice s b k = state_after-silent InDevice s b refl
+represents InSwallowed s b k = state_after-silent InSwallowed s b refl
 
 -- how much of an operating system command is kept makes no difference to the sets
 

@@ -2,13 +2,13 @@
 use Rattle.std.proofs.Common.{◌≡◌, ℕ, List, [], ◌∷◌, ◌++◌, refl, sym, ◌∙◌, ap, append_assoc}
 use Rattle.vte_core.specs.Event.{Event}
 use Rattle.vte_core.specs.Pending.{Pending, InText, IsSound, events_of_byte, after_byte, events_from, after_bytes, pending}
-use Rattle.vte_core.proofs.Machine.{IsSound-byte, events-told, events_from-append, after_bytes-append}
+use Rattle.vte_core.proofs.Machine.{IsSound-byte, events-reported, events_from-append, after_bytes-append}
 use Rattle.charset_filter.specs.Sets.{after_events, drawn_events, first_sets}
 use Rattle.charset_filter.specs.Given.{given_for, given_from, given_after, filtered, sets_of}
 use Rattle.charset_filter.specs.Laws.{DrawsEvents, GivesInOrder}
 use Rattle.charset_filter.specs.declared.sets.CharacterSets.{CharacterSets}
 use Rattle.charset_filter.proofs.EventLemmas.{after_events-append, drawn_events-append}
-use Rattle.charset_filter.proofs.ByteLemmas.{stands-for, sets-alike}
+use Rattle.charset_filter.proofs.ByteLemmas.{represents, sets-alike}
 
 pub sound-after : (q : Pending) (bs : List ℕ) → IsSound q → IsSound (after_bytes q bs)
 sound-after q [] k = k
@@ -18,7 +18,7 @@ pub drawn-from : (n : ℕ) (q : Pending) (s : CharacterSets) (bs : List ℕ) →
     → events_from n q (given_from q s bs) ≡ drawn_events s (events_from n q bs)
 drawn-from n q s [] k = refl
 drawn-from n q s (b ∷ bs) k =
-    let p = stands-for q s b k n in
+    let p = represents q s b k n in
     let t = after_events s (events_of_byte 0 q b) in
     let r = after_byte q b in
     let es = events_of_byte n q b in
@@ -30,8 +30,8 @@ drawn-from n q s (b ∷ bs) k =
     ∙ sym (drawn_events-append s es (events_from n r bs))))))
 
 pub draws-events : DrawsEvents
-draws-events n bs = events-told n (filtered bs)
-    ∙ (drawn-from n (InText []) first_sets bs tt ∙ ap (drawn_events first_sets) (sym (events-told n bs)))
+draws-events n bs = events-reported n (filtered bs)
+    ∙ (drawn-from n (InText []) first_sets bs tt ∙ ap (drawn_events first_sets) (sym (events-reported n bs)))
 
 pub given_from-append : (q : Pending) (s : CharacterSets) (xs ys : List ℕ)
     → given_from q s (xs ++ ys)
@@ -49,10 +49,10 @@ given_from-append q s (x ∷ xs) ys =
 pub sets-past : (past bs : List ℕ)
     → sets_of (past ++ bs) ≡ after_events (sets_of past) (events_from 0 (pending past) bs)
 sets-past past bs =
-    ap (after_events first_sets) (events-told 0 (past ++ bs) ∙ events_from-append 0 (InText []) past bs)
+    ap (after_events first_sets) (events-reported 0 (past ++ bs) ∙ events_from-append 0 (InText []) past bs)
     ∙ (after_events-append first_sets (events_from 0 (InText []) past) (events_from 0 (pending past) bs)
     ∙ ap (λ (es : List Event). after_events (after_events first_sets es) (events_from 0 (pending past) bs))
-    (sym (events-told 0 past)))
+    (sym (events-reported 0 past)))
 
 pub given-past : (past xs ys : List ℕ)
     → given_after past (xs ++ ys) ≡ given_after past xs ++ given_after (past ++ xs) ys

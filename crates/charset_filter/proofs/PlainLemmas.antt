@@ -12,7 +12,7 @@ use Rattle.vte_core.specs.Bytes.{is_esc, is_abort, is_control, is_put, ends_head
 use Rattle.vte_core.specs.Text.{char_len, first_bits, joined, char_event, malformed_event}
 use Rattle.vte_core.specs.Header.{is_well_formed}
 use Rattle.vte_core.specs.Pending.{Pending, InText, InEscape, InCsi, InOsc, InHook, InDevice, InSwallowed, IsSound}
-use Rattle.vte_core.specs.Pending.{told, goes_on, begun, text_told, closed, byte_rest, final_rest}
+use Rattle.vte_core.specs.Pending.{reported, goes_on, begun, text_reported, closed, byte_rest, final_rest}
 use Rattle.vte_core.specs.Pending.{events_of_byte, after_byte, after_bytes}
 use Rattle.vte_core.proofs.Characters.{bool_cases, if_holds}
 use Rattle.vte_core.proofs.Machine.{IsSound-byte}
@@ -147,8 +147,8 @@ IsOther b = not (b == 0x0E || b == 0x0F) ≡ true
 quiet-execute : (b : ℕ) → IsOther b → Quiet (Execute b ∷ [])
 quiet-execute b h = rw h refl
 
-quiet-told : (p : ℕ → Bool) (b : ℕ) → IsOther b → Quiet (told p Execute b)
-quiet-told p b h = if_holds Quiet (p b) (Execute b ∷ []) [] (quiet-execute b h) refl
+quiet-reported : (p : ℕ → Bool) (b : ℕ) → IsOther b → Quiet (reported p Execute b)
+quiet-reported p b h = if_holds Quiet (p b) (Execute b ∷ []) [] (quiet-execute b h) refl
 
 high-other : (c : ℕ) → 0x80 ≤ c → IsOther c
 high-other c h = grind (arith, nat_tests)
@@ -168,7 +168,7 @@ quiet-begun b h =
       | inr e ↦ rw e (if_holds Quiet (char_len b == 0) _ _ (quiet-malformed b h) refl)
     ]
 
-quiet-text : (u : List ℕ) (b : ℕ) → IsSound (InText u) → IsOther b → Quiet (text_told u b)
+quiet-text : (u : List ℕ) (b : ℕ) → IsSound (InText u) → IsOther b → Quiet (text_reported u b)
 quiet-text [] b k h = quiet-begun b h
 quiet-text (a ∷ t) b k h =
     elim (bool_cases (goes_on a t b)) [
@@ -192,15 +192,15 @@ quiet-byte (InEscape is) b k e h = absurd (let no : true ≡ false = e in cc)
 quiet-byte (InCsi x) b k e h = if_holds Quiet (is_esc b) _ _ refl
     (if_holds Quiet (ends_header b) _ _
     (if_holds Quiet (is_abort b) _ _ (quiet-execute b h) (if_holds Quiet (is_well_formed x) _ _ refl refl))
-    (quiet-told is_control b h))
+    (quiet-reported is_control b h))
 quiet-byte (InOsc d) b k e h = if_holds Quiet (is_esc b) _ _ refl
-    (if_holds Quiet (ends_osc b) _ _ (quiet-told is_abort b h) refl)
+    (if_holds Quiet (ends_osc b) _ _ (quiet-reported is_abort b h) refl)
 quiet-byte (InHook x) b k e h = if_holds Quiet (is_esc b) _ _ refl
     (if_holds Quiet (ends_header b) _ _
     (if_holds Quiet (is_abort b) _ _ (quiet-execute b h) (if_holds Quiet (is_well_formed x) _ _ refl refl)) refl)
 quiet-byte InDevice b k e h = if_holds Quiet (is_esc b) _ _ refl
-    (if_holds Quiet (ends_device b) _ _ (quiet-told is_abort b h) (if_holds Quiet (is_put b) _ _ refl refl))
-quiet-byte InSwallowed b k e h = if_holds Quiet (is_esc b) _ _ refl (quiet-told is_abort b h)
+    (if_holds Quiet (ends_device b) _ _ (quiet-reported is_abort b h) (if_holds Quiet (is_put b) _ _ refl refl))
+quiet-byte InSwallowed b k e h = if_holds Quiet (is_esc b) _ _ refl (quiet-reported is_abort b h)
 
 -- such a byte is given as it is
 

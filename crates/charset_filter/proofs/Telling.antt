@@ -6,8 +6,8 @@ use Rattle.std.proofs.Math.Seq.{take-add, take-length}
 use Rattle.vte_core.specs.Event.{Event, Performs}
 use Rattle.vte_core.specs.Bytes.{is_esc, ends_escape}
 use Rattle.vte_core.specs.Pending.{InText, events_from, events_of_byte, pending}
-use Rattle.vte_core.specs.Standing.{Stands}
-use Rattle.vte_core.specs.Told.{Told}
+use Rattle.vte_core.specs.Standing.{IsAfter}
+use Rattle.vte_core.specs.Reported.{Reported}
 use Rattle.vte_core.specs.declared.parser.Parser.{Parser}
 use Rattle.vte_core.proofs.AddedLemmas.{added-is, added-from}
 use Rattle.vte_core.proofs.Machine.{after_bytes-append}
@@ -44,49 +44,49 @@ listener-performed p q (e ∷ es) h =
     )
 
 -- what was told is what is pending tells
-told-is : {S : Type 0} (step : S → Event → S → Type 0) (parser : Parser 0) (old new : S) (past bytes : List ℕ)
-    (h : Told step 0 parser old bytes new) → Stands 0 parser past → h.told ≡ events_from 0 (pending past) bytes
-told-is step parser old new past bytes h stands =
-    added-is 0 past bytes h.told (h.added past stands) ∙ added-from 0 past bytes
+reported-is : {S : Type 0} (step : S → Event → S → Type 0) (parser : Parser 0) (old new : S) (past bytes : List ℕ)
+    (h : Reported step 0 parser old bytes new) → IsAfter 0 parser past → h.reported ≡ events_from 0 (pending past) bytes
+reported-is step parser old new past bytes h state_after =
+    added-is 0 past bytes h.reported (h.added past state_after) ∙ added-from 0 past bytes
 
-pub sets-told : (parser : Parser 0) (old new : CharacterSets) (past bytes : List ℕ)
-    → Told SetsStep 0 parser old bytes new → Stands 0 parser past → old ≡ sets_of past → new ≡ sets_of (past ++ bytes)
-sets-told parser old new past bytes h stands is =
-    sets-performed old new h.told h.performed
-    ∙ (ap (after_events old) (told-is SetsStep parser old new past bytes h stands)
+pub sets-reported : (parser : Parser 0) (old new : CharacterSets) (past bytes : List ℕ)
+    → Reported SetsStep 0 parser old bytes new → IsAfter 0 parser past → old ≡ sets_of past → new ≡ sets_of (past ++ bytes)
+sets-reported parser old new past bytes h state_after is =
+    sets-performed old new h.reported h.performed
+    ∙ (ap (after_events old) (reported-is SetsStep parser old new past bytes h state_after)
     ∙ (ap (λ (x : CharacterSets). after_events x (events_from 0 (pending past) bytes)) is ∙ sym (sets-past past bytes)))
 
-pub listener-told : (parser : Parser 0) (old new : Listener) (past bytes : List ℕ)
-    → Told ListenerStep 0 parser old bytes new → Stands 0 parser past → old.sets ≡ sets_of past
+pub listener-reported : (parser : Parser 0) (old new : Listener) (past bytes : List ℕ)
+    → Reported ListenerStep 0 parser old bytes new → IsAfter 0 parser past → old.sets ≡ sets_of past
     → (new.sets ≡ sets_of (past ++ bytes))
     × (new.drawn ≡ last_drawn old.sets old.drawn (events_from 0 (pending past) bytes))
-listener-told parser old new past bytes h stands is =
-    let p = listener-performed old new h.told h.performed in
-    let told = told-is ListenerStep parser old new past bytes h stands in (
-      p.0 ∙ (ap (after_events old.sets) told
+listener-reported parser old new past bytes h state_after is =
+    let p = listener-performed old new h.reported h.performed in
+    let reported = reported-is ListenerStep parser old new past bytes h state_after in (
+      p.0 ∙ (ap (after_events old.sets) reported
           ∙ (ap (λ (x : CharacterSets). after_events x (events_from 0 (pending past) bytes)) is
           ∙ sym (sets-past past bytes))),
-      p.1 ∙ ap (last_drawn old.sets old.drawn) told,
+      p.1 ∙ ap (last_drawn old.sets old.drawn) reported,
     )
 
 -- a plain run
 
-pub plain-run : (old new : CharsetFilter) (bytes front : List ℕ) (k : ℕ) (before after : List ℕ) → k ≤ length bytes
-    → IsPlain old.sets → old.in_escape ≡ false → is_plain_run false (take k bytes) ≡ true → front ≡ take k bytes
-    → ((past : List ℕ) → Stands 0 old.parser past → Stands 0 new.parser (past ++ front))
-    → Told SetsStep 0 old.parser old.sets front new.sets → new.in_escape ≡ old.in_escape → after ≡ before ++ front
+pub plain-run : (old new : CharsetFilter) (bytes prefix : List ℕ) (k : ℕ) (before after : List ℕ) → k ≤ length bytes
+    → IsPlain old.sets → old.in_escape ≡ false → is_plain_run false (take k bytes) ≡ true → prefix ≡ take k bytes
+    → ((past : List ℕ) → IsAfter 0 old.parser past → IsAfter 0 new.parser (past ++ prefix))
+    → Reported SetsStep 0 old.parser old.sets prefix new.sets → new.in_escape ≡ old.in_escape → after ≡ before ++ prefix
     → Gives old bytes k new before after
-plain-run old new bytes front k before after within plain escape run all stands told kept is =
+plain-run old new bytes prefix k before after within plain escape run all state_after reported kept is =
     let unchanged = λ (past : List ℕ) (h : HasRead old past).
-    run-unchanged false (pending past) (sets_of past) front (sound-after (InText []) past tt) (subst IsPlain h.sets plain)
+    run-unchanged false (pending past) (sets_of past) prefix (sound-after (InText []) past tt) (subst IsPlain h.sets plain)
     (sym h.escape ∙ escape) (ap (is_plain_run false) all ∙ run) in
     record {
       within = within;
       reads = λ past h. subst (λ (xs : List ℕ). HasRead new (past ++ xs)) all (record {
-        stands = stands past h.stands;
-        sets = sets-told old.parser old.sets new.sets past front told h.stands h.sets;
+        state_after = state_after past h.state_after;
+        sets = sets-reported old.parser old.sets new.sets past prefix reported h.state_after h.sets;
         escape = kept ∙ (escape ∙ (sym (unchanged past h).escape
-            ∙ ap is_escape (sym (after_bytes-append (InText []) past front))));
+            ∙ ap is_escape (sym (after_bytes-append (InText []) past prefix))));
       });
       given = λ past h. subst (λ (xs : List ℕ). after ≡ before ++ given_after past xs) all
           (is ∙ ap (λ (xs : List ℕ). before ++ xs) (sym (unchanged past h).given));
@@ -95,22 +95,22 @@ plain-run old new bytes front k before after within plain escape run all stands 
 -- one byte
 
 pub byte-read : (old new : CharsetFilter) (b : ℕ) (listener heard : Listener) → listener.sets ≡ old.sets
-    → new.sets ≡ heard.sets → ((past : List ℕ) → Stands 0 old.parser past → Stands 0 new.parser (past ++ b ∷ []))
-    → Told ListenerStep 0 old.parser listener (b ∷ []) heard
+    → new.sets ≡ heard.sets → ((past : List ℕ) → IsAfter 0 old.parser past → IsAfter 0 new.parser (past ++ b ∷ []))
+    → Reported ListenerStep 0 old.parser listener (b ∷ []) heard
     → new.in_escape ≡ (if is_esc b then true else (if ends_escape b then false else old.in_escape))
     → (past : List ℕ) → HasRead old past → HasRead new (past ++ b ∷ [])
-byte-read old new b listener heard same is stands told escape past h = record {
-  stands = stands past h.stands;
-  sets = is ∙ (listener-told old.parser listener heard past (b ∷ []) told h.stands (same ∙ h.sets)).0;
+byte-read old new b listener heard same is state_after reported escape past h = record {
+  state_after = state_after past h.state_after;
+  sets = is ∙ (listener-reported old.parser listener heard past (b ∷ []) reported h.state_after (same ∙ h.sets)).0;
   escape = escape ∙ (ap (λ (v : Bool). if is_esc b then true else (if ends_escape b then false else v)) h.escape
       ∙ (sym (escape-after (pending past) b) ∙ ap is_escape (sym (after_bytes-append (InText []) past (b ∷ [])))));
 }
 
 pub byte-drawn : (old : CharsetFilter) (b : ℕ) (listener heard : Listener) → listener.sets ≡ old.sets
-    → listener.drawn ≡ None → Told ListenerStep 0 old.parser listener (b ∷ []) heard → (past : List ℕ)
+    → listener.drawn ≡ None → Reported ListenerStep 0 old.parser listener (b ∷ []) heard → (past : List ℕ)
     → HasRead old past → heard.drawn ≡ last_drawn old.sets None (events_of_byte 0 (pending past) b)
-byte-drawn old b listener heard same none told past h =
-    (listener-told old.parser listener heard past (b ∷ []) told h.stands (same ∙ h.sets)).1
+byte-drawn old b listener heard same none reported past h =
+    (listener-reported old.parser listener heard past (b ∷ []) reported h.state_after (same ∙ h.sets)).1
     ∙ (ap (λ (x : CharacterSets). last_drawn x listener.drawn (events_from 0 (pending past) (b ∷ []))) same
     ∙ (ap (λ (d : Option ℕ). last_drawn old.sets d (events_from 0 (pending past) (b ∷ []))) none
     ∙ ap (last_drawn old.sets None) (append-nil (events_of_byte 0 (pending past) b))))
@@ -120,12 +120,12 @@ pub byte-gives : (old new : CharsetFilter) (bytes : List ℕ) (drawn : Option �
     → ((past : List ℕ) → HasRead old past
     → drawn ≡ last_drawn old.sets None (events_of_byte 0 (pending past) (get_or bytes 0 0)))
     → mid ≡ before → after ≡ mid ++ given_byte (get_or bytes 0 0) drawn → Gives old bytes 1 new before after
-byte-gives old new [] drawn before mid after some reads told same is = absurd (omega (arith, some))
-byte-gives old new (b ∷ bs) drawn before mid after some reads told same is = record {
+byte-gives old new [] drawn before mid after some reads reported same is = absurd (omega (arith, some))
+byte-gives old new (b ∷ bs) drawn before mid after some reads reported same is = record {
   within = omega arith;
   reads = reads;
   given = λ past h.
-      let d : drawn ≡ last_drawn (sets_of past) None (events_of_byte 0 (pending past) b) = told past h
+      let d : drawn ≡ last_drawn (sets_of past) None (events_of_byte 0 (pending past) b) = reported past h
       ∙ ap (λ (x : CharacterSets). last_drawn x None (events_of_byte 0 (pending past) b)) h.sets in
       is ∙ (ap (λ (xs : List ℕ). xs ++ given_byte b drawn) same
       ∙ ap (λ (xs : List ℕ). before ++ xs) (ap (given_byte b) d

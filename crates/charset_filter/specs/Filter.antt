@@ -1,7 +1,7 @@
 -- Where a filter stands.
 use Rattle.std.specs.Prelude.{◌≡◌, ℕ, ◌≤◌, Bool, true, false, List, ◌++◌, length, take}
 use Rattle.vte_core.specs.Pending.{Pending, InText, InEscape, InCsi, InOsc, InHook, InDevice, InSwallowed, pending}
-use Rattle.vte_core.specs.Standing.{Stands}
+use Rattle.vte_core.specs.Standing.{IsAfter}
 use Rattle.charset_filter.specs.Given.{given_after, sets_of}
 use Rattle.charset_filter.specs.declared.filter.CharsetFilter.{CharsetFilter}
 
@@ -17,7 +17,7 @@ is_escape InSwallowed = false
 
 -- the filter has read these bytes
 pub record HasRead (filter : CharsetFilter) (past : List ℕ) : Type 0 where
-  pub stands : Stands 0 filter.parser past
+  pub state_after : IsAfter 0 filter.parser past
   pub sets : filter.sets ≡ sets_of past
   pub escape : filter.in_escape ≡ is_escape (pending past)
 
@@ -29,5 +29,5 @@ pub record Gives (old : CharsetFilter) (bytes : List ℕ) (k : ℕ) (new : Chars
   pub given : (past : List ℕ) → HasRead old past → after ≡ before ++ given_after past (take k bytes)
 
 -- the same of some bytes at the front
-abbrev pub GivesFront : CharsetFilter → List ℕ → CharsetFilter → List ℕ → List ℕ → Type 0
-GivesFront old bytes new before after = (k : ℕ) × Gives old bytes k new before after
+abbrev pub GivesPrefix : CharsetFilter → List ℕ → CharsetFilter → List ℕ → List ℕ → Type 0
+GivesPrefix old bytes new before after = (k : ℕ) × Gives old bytes k new before after

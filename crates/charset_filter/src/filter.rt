@@ -3,7 +3,7 @@
 ghost use Rattle.std.specs.Prelude.{◌≡◌, ◌<◌, ℕ, List, [], ◌∷◌, ◌++◌, length, false, true, None, Some, IsTrue};
 ghost use Rattle.std.specs.Prelude.{if◌then◌else◌, take, ◌+◌, ◌≤◌, vec_capacity, vec_len};
 ghost use Rattle.std.specs.Result.{OnOk, OnErr, IfOk};
-ghost use Rattle.charset_filter.specs.Filter.{Gives, GivesFront, HasRead};
+ghost use Rattle.charset_filter.specs.Filter.{Gives, GivesPrefix, HasRead};
 ghost use Rattle.charset_filter.specs.Given.{given_byte, is_drawable, last_drawn};
 ghost use Rattle.charset_filter.specs.Plain.{IsPlain, is_plain_run};
 ghost use Rattle.vte_core.specs.Bytes.{ends_escape, is_esc};
@@ -46,7 +46,7 @@ impl CharsetFilter {
     pub fn advance(&mut self, bytes: &[u8], output: &mut Vec<u8>) -> Result<(), AllocError>
         ensures given { OnOk result (Gives self.old bytes.now (length bytes.now) self.new output.old.items
             output.new.items) }
-        ensures front { OnErr result (GivesFront self.old bytes.now self.new output.old.items output.new.items) }
+        ensures prefix { OnErr result (GivesPrefix self.old bytes.now self.new output.old.items output.new.items) }
     {
         let mut read = 0;
         while read < bytes.len() {

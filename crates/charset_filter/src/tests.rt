@@ -77,8 +77,8 @@ fn given(alloc: Global, stream: &[u8], cut: usize) -> Result<Vec<u8>, AllocError
 fn streams_are_drawn_at_every_cut(rt: HostRuntime) -> Result<(), Fail> {
     for (stream, want) in CASES {
         for cut in 0..=stream.len() {
-            let told = given(rt.alloc(), stream, cut)?;
-            assert_eq!(rt; told.as_slice(), *want, "{stream:?} at {cut}");
+            let reported = given(rt.alloc(), stream, cut)?;
+            assert_eq!(rt; reported.as_slice(), *want, "{stream:?} at {cut}");
         }
     }
     Ok(())

@@ -1,8 +1,8 @@
 //! Exit statuses, and what is told on the error output.
 
-ghost use Rattle.takers.specs.Pump.{Tells};
+ghost use Rattle.byte_sinks.specs.Pump.{Tells};
 
-use takers::{Taker, pump};
+use byte_sinks::{ByteSink, pump};
 
 /// The exit status of a command that did its work.
 pub const SUCCESS: u8 = 0;
@@ -14,7 +14,7 @@ pub const FAULT: u8 = 1;
 pub const USAGE: u8 = 2;
 
 /// Writes a line: all of it, unless a write of it fails or takes nothing.
-pub fn report<T: Taker>(errors: &mut T, line: &[u8])
+pub fn report<T: ByteSink>(errors: &mut T, line: &[u8])
     ensures { Tells T.takes errors.old line.now errors.new }
 {
     let _ = pump(line, errors);

@@ -4,8 +4,8 @@ use std::fmt::Debug;
 use std::process::Abort;
 
 /// What was told is what was wanted, where this was asked.
-pub fn same<R: Abort, A: Debug, T: PartialEq + Debug>(rt: &R, asked: &A, told: &T, wanted: &T) {
-    assert_eq!(rt; told, wanted, "{asked:?}");
+pub fn same<R: Abort, A: Debug, T: PartialEq + Debug>(rt: &R, asked: &A, reported: &T, wanted: &T) {
+    assert_eq!(rt; reported, wanted, "{asked:?}");
 }
 
 /// Words, a stream, and then: the status, the output or what it begins with, and the error output.
@@ -29,10 +29,10 @@ pub fn written<'a, C: FnOnce(&mut &'a [u8], &mut Vec<u8>, &mut Vec<u8>) -> u8>(
     requires { C.IsAlwaysCallable command }
 {
     let mut written = Vec::new(rt.alloc());
-    let mut told = Vec::new(rt.alloc());
+    let mut reported = Vec::new(rt.alloc());
     let mut left = input;
-    let answer = command(&mut left, &mut written, &mut told);
-    same(rt, &words, &(answer, told.as_slice()), &wanted);
+    let answer = command(&mut left, &mut written, &mut reported);
+    same(rt, &words, &(answer, reported.as_slice()), &wanted);
     if answer == 2 {
         same(rt, &words, &left, &input);
     }

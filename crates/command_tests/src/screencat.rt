@@ -34,8 +34,8 @@ fn output_of(
     input: &[u8],
     wanted: (u8, &[u8]),
 ) -> Vec<u8> {
-    written(rt, words, input, wanted, |left, written, told| {
-        command(rt.alloc(), words, left, written, told)
+    written(rt, words, input, wanted, |left, written, reported| {
+        command(rt.alloc(), words, left, written, reported)
     })
 }
 
@@ -76,11 +76,17 @@ fn readers(rt: HostRuntime) -> Result<(), Fail> {
     ];
     for (steps, status, output, errors, reads) in rows {
         let mut written = Vec::new(rt.alloc());
-        let mut told = Vec::new(rt.alloc());
+        let mut reported = Vec::new(rt.alloc());
         let mut input = Script::new(steps);
-        let answer = command(rt.alloc(), &["2", "4"], &mut input, &mut written, &mut told);
+        let answer = command(
+            rt.alloc(),
+            &["2", "4"],
+            &mut input,
+            &mut written,
+            &mut reported,
+        );
         assert_eq!(rt;
-            (answer, written.as_slice(), told.as_slice(), input.reads),
+            (answer, written.as_slice(), reported.as_slice(), input.reads),
             (status, output, errors, reads)
         );
     }
@@ -97,11 +103,22 @@ fn writers(rt: HostRuntime) -> Result<(), Fail> {
     for (room, flushes, status, taken, flushed, line) in rows {
         let mut written = Narrow::new(rt.alloc(), room);
         written.flushes = flushes;
-        let mut told = Vec::new(rt.alloc());
+        let mut reported = Vec::new(rt.alloc());
         let mut left = b"hi".as_slice();
-        let answer = command(rt.alloc(), &["2", "4"], &mut left, &mut written, &mut told);
+        let answer = command(
+            rt.alloc(),
+            &["2", "4"],
+            &mut left,
+            &mut written,
+            &mut reported,
+        );
         assert_eq!(rt;
-            (answer, written.kept.len(), written.flushed, told.as_slice()),
+            (
+                answer,
+                written.kept.len(),
+                written.flushed,
+                reported.as_slice()
+            ),
             (status, taken, flushed, line)
         );
     }

@@ -70,8 +70,8 @@ const COMMANDS: &[Row] = &[
 fn check_command(rt: &(impl Abort + AllocGlobal), row: Row) {
     let (words, input, status, output, errors) = row;
     let wanted = (status, errors);
-    let written = written(rt, words, input, wanted, |left, written, told| {
-        command(rt.alloc(), words, left, written, told)
+    let written = written(rt, words, input, wanted, |left, written, reported| {
+        command(rt.alloc(), words, left, written, reported)
     });
     let begins = written.as_slice().starts_with(output);
     same(rt, &words, &begins, &true);
@@ -94,11 +94,11 @@ fn readers(rt: HostRuntime) {
     for (steps, line) in rows {
         for words in [["1", "2"].as_slice(), ["run"].as_slice()] {
             let mut written = Vec::new(rt.alloc());
-            let mut told = Vec::new(rt.alloc());
+            let mut reported = Vec::new(rt.alloc());
             let mut input = Script::new(steps);
-            let answer = command(rt.alloc(), words, &mut input, &mut written, &mut told);
+            let answer = command(rt.alloc(), words, &mut input, &mut written, &mut reported);
             same(&rt, &words, &(answer, written.is_empty()), &(1, true));
-            same(&rt, &words, &told.as_slice(), &line);
+            same(&rt, &words, &reported.as_slice(), &line);
         }
     }
 }
@@ -110,14 +110,14 @@ fn writers(rt: HostRuntime) {
         for (words, input) in rows {
             let mut output = Narrow::new(rt.alloc(), room);
             output.flushes = flushes;
-            let mut told = Vec::new(rt.alloc());
+            let mut reported = Vec::new(rt.alloc());
             let mut left = input;
-            let answer = command(rt.alloc(), words, &mut left, &mut output, &mut told);
+            let answer = command(rt.alloc(), words, &mut left, &mut output, &mut reported);
             same(&rt, &words, &answer, &1);
             same(
                 &rt,
                 &words,
-                &told.as_slice(),
+                &reported.as_slice(),
                 &b"screendump: write\n".as_slice(),
             );
         }

@@ -91,8 +91,8 @@ fn output_of(
     input: &[u8],
     wanted: (u8, &[u8]),
 ) -> Vec<u8> {
-    written(rt, words, input, wanted, |left, written, told| {
-        command(rt.alloc(), words, left, written, told)
+    written(rt, words, input, wanted, |left, written, reported| {
+        command(rt.alloc(), words, left, written, reported)
     })
 }
 
@@ -152,12 +152,12 @@ fn readers(rt: HostRuntime) -> Result<(), Fail> {
     ];
     for (job, steps, status, output, errors, reads) in rows {
         let mut written = Vec::new(rt.alloc());
-        let mut told = Vec::new(rt.alloc());
+        let mut reported = Vec::new(rt.alloc());
         let mut input = Script::new(steps);
         let words = [job, "2", "4"];
-        let answer = command(rt.alloc(), &words, &mut input, &mut written, &mut told);
+        let answer = command(rt.alloc(), &words, &mut input, &mut written, &mut reported);
         assert_eq!(rt;
-            (answer, written.as_slice(), told.as_slice(), input.reads),
+            (answer, written.as_slice(), reported.as_slice(), input.reads),
             (status, output, errors, reads)
         );
     }
@@ -168,11 +168,14 @@ fn readers(rt: HostRuntime) -> Result<(), Fail> {
 #[test]
 fn errors(rt: HostRuntime) -> Result<(), Fail> {
     for (room, kept) in [(100, USAGE), (10, &USAGE[..10])] {
-        let mut told = Narrow::new(rt.alloc(), room);
+        let mut reported = Narrow::new(rt.alloc(), room);
         let mut written = Vec::new(rt.alloc());
         let mut left = b"".as_slice();
-        let answer = command(rt.alloc(), &[], &mut left, &mut written, &mut told);
-        assert_eq!(rt; (answer, told.kept.as_slice(), told.flushed), (2, kept, 0));
+        let answer = command(rt.alloc(), &[], &mut left, &mut written, &mut reported);
+        assert_eq!(rt;
+            (answer, reported.kept.as_slice(), reported.flushed),
+            (2, kept, 0)
+        );
     }
     Ok(())
 }
@@ -233,8 +236,8 @@ fn pieces(rt: HostRuntime) -> Result<(), Fail> {
     let words: [&str; 3] = ["show", "1", "1"];
     let mut input = Few::new(&stream, 14);
     let mut written = Vec::new(rt.alloc());
-    let mut told = Vec::new(rt.alloc());
-    let answer = command(rt.alloc(), &words, &mut input, &mut written, &mut told);
+    let mut reported = Vec::new(rt.alloc());
+    let answer = command(rt.alloc(), &words, &mut input, &mut written, &mut reported);
     assert_eq!(rt; (answer, written.as_slice()), (0, b"\n".as_slice()));
     Ok(())
 }
@@ -252,17 +255,22 @@ fn writers(rt: HostRuntime) -> Result<(), Fail> {
     for (job, input, room, flushes, status, taken, flushed) in rows {
         let mut written = Narrow::new(rt.alloc(), room);
         written.flushes = flushes;
-        let mut told = Vec::new(rt.alloc());
+        let mut reported = Vec::new(rt.alloc());
         let mut left = input;
         let words = [job, "2", "4"];
-        let answer = command(rt.alloc(), &words, &mut left, &mut written, &mut told);
+        let answer = command(rt.alloc(), &words, &mut left, &mut written, &mut reported);
         let line: &[u8] = if status == 0 {
             b""
         } else {
             b"screenrelay: write\n"
         };
         assert_eq!(rt;
-            (answer, written.kept.len(), written.flushed, told.as_slice()),
+            (
+                answer,
+                written.kept.len(),
+                written.flushed,
+                reported.as_slice()
+            ),
             (status, taken, flushed, line)
         );
     }
@@ -282,9 +290,9 @@ fn long_frames(rt: HostRuntime) -> Result<(), Fail> {
 // An input that has no end takes longer than a test, and so its line is asked for here.
 #[test]
 fn too_many_reads(rt: HostRuntime) -> Result<(), Fail> {
-    let mut told = Vec::new(rt.alloc());
-    let answer = report_fault(&mut told, RelayError::TooManyReads);
+    let mut reported = Vec::new(rt.alloc());
+    let answer = report_fault(&mut reported, RelayError::TooManyReads);
     let wanted = b"screenrelay: too many reads\n".as_slice();
-    assert_eq!(rt; (answer, told.as_slice()), (1, wanted));
+    assert_eq!(rt; (answer, reported.as_slice()), (1, wanted));
     Ok(())
 }

@@ -29,8 +29,8 @@ fn check(
     errors: &[u8],
 ) {
     let wanted = (status, errors);
-    let written = written(rt, words, input, wanted, |left, written, told| {
-        command(rt.alloc(), words, left, written, told)
+    let written = written(rt, words, input, wanted, |left, written, reported| {
+        command(rt.alloc(), words, left, written, reported)
     });
     same(rt, &words, &written.as_slice(), &output);
 }
@@ -230,7 +230,7 @@ fn typescripts(rt: HostRuntime) {
     ];
     for (words, output) in rows {
         let mut written = Vec::new(rt.alloc());
-        let mut told = Vec::new(rt.alloc());
+        let mut reported = Vec::new(rt.alloc());
         let mut left: &[u8] = b"Script started on 2026-01-01\nhi!Script done\n";
         let answer = command_with(
             rt.alloc(),
@@ -238,7 +238,7 @@ fn typescripts(rt: HostRuntime) {
             &Times,
             &mut left,
             &mut written,
-            &mut told,
+            &mut reported,
         );
         same(&rt, &words, &answer, &0);
         same(&rt, &words, &written.as_slice(), &output);
@@ -251,14 +251,14 @@ fn help_and_version(rt: HostRuntime) {
     check(&rt, &["-V"], b"", 0, b"screentext 0.1\n", b"");
     for word in ["--help", "-h"] {
         let mut written = Vec::new(rt.alloc());
-        let mut told = Vec::new(rt.alloc());
+        let mut reported = Vec::new(rt.alloc());
         let mut left = CAST;
-        let answer = command(rt.alloc(), &[word], &mut left, &mut written, &mut told);
+        let answer = command(rt.alloc(), &[word], &mut left, &mut written, &mut reported);
         same(&rt, &word, &(answer, left.len()), &(0, CAST.len()));
         let begins = written
             .as_slice()
             .starts_with(b"Prints what a recorded terminal stream shows");
-        same(&rt, &word, &(begins, told.is_empty()), &(true, true));
+        same(&rt, &word, &(begins, reported.is_empty()), &(true, true));
     }
 }
 
@@ -292,12 +292,18 @@ fn readers(rt: HostRuntime) {
     ];
     for (steps, status, output, errors) in rows {
         let mut written = Vec::new(rt.alloc());
-        let mut told = Vec::new(rt.alloc());
+        let mut reported = Vec::new(rt.alloc());
         let mut input = Script::new(steps);
-        let answer = command(rt.alloc(), &["1", "4"], &mut input, &mut written, &mut told);
+        let answer = command(
+            rt.alloc(),
+            &["1", "4"],
+            &mut input,
+            &mut written,
+            &mut reported,
+        );
         same(&rt, &input.reads, &answer, &status);
         same(&rt, &input.reads, &written.as_slice(), &output);
-        same(&rt, &input.reads, &told.as_slice(), &errors);
+        same(&rt, &input.reads, &reported.as_slice(), &errors);
     }
 }
 
@@ -306,11 +312,11 @@ fn readers(rt: HostRuntime) {
 fn a_byte_a_time(rt: HostRuntime) {
     let mut input = Few::new(CAST, 1);
     let mut output = Narrow::new(rt.alloc(), 100);
-    let mut told = Narrow::new(rt.alloc(), 100);
-    let answer = command(rt.alloc(), &[], &mut input, &mut output, &mut told);
+    let mut reported = Narrow::new(rt.alloc(), 100);
+    let answer = command(rt.alloc(), &[], &mut input, &mut output, &mut reported);
     same(&rt, &output.flushed, &answer, &0);
     same(&rt, &answer, &output.kept.as_slice(), &b"a\nb\n".as_slice());
-    same(&rt, &answer, &told.kept.is_empty(), &true);
+    same(&rt, &answer, &reported.kept.is_empty(), &true);
 }
 
 #[test]
@@ -323,15 +329,15 @@ fn writers(rt: HostRuntime) {
     for (room, flushes, kept) in rows {
         let mut output = Narrow::new(rt.alloc(), room);
         output.flushes = flushes;
-        let mut told = Vec::new(rt.alloc());
+        let mut reported = Vec::new(rt.alloc());
         let mut left = CAST;
-        let answer = command(rt.alloc(), &[], &mut left, &mut output, &mut told);
+        let answer = command(rt.alloc(), &[], &mut left, &mut output, &mut reported);
         same(&rt, &room, &answer, &1);
         same(&rt, &room, &output.kept.as_slice(), &kept);
         same(
             &rt,
             &room,
-            &told.as_slice(),
+            &reported.as_slice(),
             &b"screentext: write\n".as_slice(),
         );
     }

@@ -22,9 +22,9 @@ use Rattle.forms_read.specs.Events.{sgr_events, events_of, events_of_all}
 use Rattle.forms_read.specs.Laws.{IsReadable}
 use Rattle.forms_read.proofs.ReadForms.{cond-two, mouse-small, encoding-small, list-read}
 use Rattle.terminal_model.proofs.FormTexts.{all-each}
-use Rattle.forms_read.specs.Calls.{set_call, reset_call, mode_calls, style_told, form_calls}
-use Rattle.forms_read.specs.CallLaws.{EachFormCalls, EachListCalls, EachSpellingCalls}
-use Rattle.forms_read.proofs.Told.{groups_told, IsToldBy, told-change, told-all}
+use Rattle.forms_read.specs.Calls.{set_call, reset_call, mode_calls, style_reported, form_calls}
+use Rattle.forms_read.specs.CallLaws.{EachFormCalls, EachListCalls, EachWrittenFormCalls}
+use Rattle.forms_read.proofs.Reported.{groups_reported, IsReportedBy, reported-change, reported-all}
 
 -- ---- text
 
@@ -50,17 +50,17 @@ calls-MoveTo last r c =
 nonzero : (k : ℕ) → (k == 0) ≡ false → 0 < k
 nonzero k h = grind (arith, nat_tests)
 
-calls-counted : (last : Option ℕ) (k final : ℕ) (told : ℕ → Call)
-    → calls_of_all last (bare final ∷ []) ≡ told 1 ∷ []
+calls-counted : (last : Option ℕ) (k final : ℕ) (reported : ℕ → Call)
+    → calls_of_all last (bare final ∷ []) ≡ reported 1 ∷ []
     → calls_of_all last (sequence [] (k ∷ []) final ∷ [])
-    ≡ told (cond (nat_eq (kept_number k) 0) 1 (kept_number k)) ∷ []
-    → calls_of_all last (counted_events k final) ≡ cond (k == 0) [] (told (kept_number k) ∷ [])
-calls-counted last k final told one many =
+    ≡ reported (cond (nat_eq (kept_number k) 0) 1 (kept_number k)) ∷ []
+    → calls_of_all last (counted_events k final) ≡ cond (k == 0) [] (reported (kept_number k) ∷ [])
+calls-counted last k final reported one many =
     cond-two (λ es cs. calls_of_all last es ≡ cs) (k == 0) _ _ _ _ (λ _. refl)
     (λ e. cond_both (k == 1) (bare final ∷ []) (sequence [] (k ∷ []) final ∷ [])
-    (λ es. calls_of_all last es ≡ told (kept_number k) ∷ [])
-    (λ q. one ∙ ap (λ j. told (kept_number j) ∷ []) (sym (eqb-true k 1 q)))
-    (λ _. many ∙ ap (λ b. told (cond b 1 (kept_number k)) ∷ []) (kept-some k (nonzero k e))))
+    (λ es. calls_of_all last es ≡ reported (kept_number k) ∷ [])
+    (λ q. one ∙ ap (λ j. reported (kept_number j) ∷ []) (sym (eqb-true k 1 q)))
+    (λ _. many ∙ ap (λ b. reported (cond b 1 (kept_number k)) ∷ []) (kept-some k (nonzero k e))))
 
 -- ---- modes
 
@@ -79,7 +79,7 @@ calls-mode last to from h k =
 
 style-called : (last : Option ℕ) (s : CursorStyle)
     → calls_of_all last (sequence (0x20 ∷ []) (style_number s ∷ []) 0x71 ∷ [])
-    ≡ call.set_cursor_style (style_told s) ∷ []
+    ≡ call.set_cursor_style (style_reported s) ∷ []
 style-called last style.Default = refl
 style-called last s = refl
 
@@ -91,12 +91,12 @@ calls-Style last to from =
 
 -- ---- attributes
 
-calls-sgr : (last : Option ℕ) (ns : List ℕ) (xs : List Attr) → IsToldBy ns xs
+calls-sgr : (last : Option ℕ) (ns : List ℕ) (xs : List Attr) → IsReportedBy ns xs
     → calls_of_all last (sgr_events ns) ≡ map call.terminal_attribute xs
-calls-sgr last [] xs h = ap (map call.terminal_attribute) (told-all [] xs h)
+calls-sgr last [] xs h = ap (map call.terminal_attribute) (reported-all [] xs h)
 calls-sgr last (k ∷ ns) xs h =
-    append-nil (map call.terminal_attribute (attributes nothing (groups_told (k ∷ ns))))
-    ∙ ap (map call.terminal_attribute) (told-all (k ∷ ns) xs h)
+    append-nil (map call.terminal_attribute (attributes nothing (groups_reported (k ∷ ns))))
+    ∙ ap (map call.terminal_attribute) (reported-all (k ∷ ns) xs h)
 
 -- ---- forms, lists of them, and their bytes
 
@@ -114,7 +114,7 @@ form-called last (Mouse to from) h =
 form-called last (Encoding to from) h =
     calls-mode last (encoding_number to) (encoding_number from) (encoding-small to) (encoding-small from)
 form-called last (Style to from) h = calls-Style last to from
-form-called last (Sgr c) h = calls-sgr last (sgr_numbers c) _ (told-change c h.0 h.1)
+form-called last (Sgr c) h = calls-sgr last (sgr_numbers c) _ (reported-change c h.0 h.1)
 form-called last f h = refl
 
 calls-joined : (last : Option ℕ) (es gs : List Event)
@@ -131,7 +131,7 @@ list-called last (f ∷ fs) h =
     calls-joined last (events_of f) (events_of_all fs)
     ∙ (λ i. form-called last f h.0 i ++ list-called (last_after_all last (events_of f)) fs h.1 i)
 
-pub spelling-called : EachSpellingCalls
-spelling-called k past last fs g h =
+pub written_form-called : EachWrittenFormCalls
+written_form-called k past last fs g h =
     ap (calls_of_all last) (list-read k past fs g h).0
     ∙ list-called last fs (all-each IsReadable HasSmallNumbers (λ f k. k.1) fs h)

@@ -2,6 +2,6 @@ pub mod Examples
 pub mod Numbers
 pub mod ReadForms
 pub mod SentTexts
-pub mod Told
+pub mod Reported
 pub mod Calling
 pub mod Stepping

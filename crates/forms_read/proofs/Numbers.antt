@@ -63,8 +63,8 @@ abbrev pub AreSmall : List ℕ → Type 0
 AreSmall ns = AllByRecursion (λ n. n < 2 ^ 64) ns
 
 -- the numbers n ∷ ns in digits, with `;` between them
-abbrev pub spelled : ℕ → List ℕ → List ℕ
-spelled n ns = decimal n ++ further_numbers ns
+abbrev pub written : ℕ → List ℕ → List ℕ
+written n ns = decimal n ++ further_numbers ns
 
 abbrev AreNumeric : List ℕ → Type 0
 AreNumeric bs = AllByRecursion (λ b. is_numeric b ≡ true) bs
@@ -77,8 +77,8 @@ further-numeric (n ∷ ns) h = (
       (further-numeric ns h.1),
 )
 
-spelled-numeric : (n : ℕ) (ns : List ℕ) → n < 2 ^ 64 → AreSmall ns → AreNumeric (spelled n ns)
-spelled-numeric n ns h k =
+written-numeric : (n : ℕ) (ns : List ℕ) → n < 2 ^ 64 → AreSmall ns → AreNumeric (written n ns)
+written-numeric n ns h k =
     all-append (λ b. is_numeric b ≡ true) (decimal n) (further_numbers ns) (digits-numeric (decimal n) (digits-of n h))
     (further-numeric ns k)
 
@@ -91,9 +91,9 @@ numeric-header b h = grind (arith, nat_tests)
 numeric-headers : (bs : List ℕ) → AreNumeric bs → AllByRecursion (λ b. is_header b ≡ true) bs
 numeric-headers = all-each (λ b. is_numeric b ≡ true) (λ b. is_header b ≡ true) numeric-header
 
-pub spelled-header : (n : ℕ) (ns : List ℕ) → n < 2 ^ 64 → AreSmall ns
-    → AllByRecursion (λ b. is_header b ≡ true) (spelled n ns)
-spelled-header n ns h k = numeric-headers (spelled n ns) (spelled-numeric n ns h k)
+pub written-header : (n : ℕ) (ns : List ℕ) → n < 2 ^ 64 → AreSmall ns
+    → AllByRecursion (λ b. is_header b ≡ true) (written n ns)
+written-header n ns h k = numeric-headers (written n ns) (written-numeric n ns h k)
 
 numeric-unmarked : (bs : List ℕ) → AreNumeric bs → unmarked bs ≡ bs
 numeric-unmarked [] h = refl
@@ -133,9 +133,9 @@ each-number (n ∷ ns) h = λ i. one-number n h.0 i ∷ each-number ns h.1 i
 abbrev singles : List ℕ → List (List ℕ)
 singles ns = map (λ n. kept_number n ∷ []) ns
 
-spelled-groups : (n : ℕ) (ns : List ℕ) → n < 2 ^ 64 → AreSmall ns → groups (spelled n ns) ≡ singles (n ∷ ns)
-spelled-groups n ns h k =
-    ap groups_of (numeric-kept (spelled n ns) (spelled-numeric n ns h k))
+written-groups : (n : ℕ) (ns : List ℕ) → n < 2 ^ 64 → AreSmall ns → groups (written n ns) ≡ singles (n ∷ ns)
+written-groups n ns h k =
+    ap groups_of (numeric-kept (written n ns) (written-numeric n ns h k))
     ∙ ap (map (λ p. map number (slice_split (λ b. b == 0x3A) p)))
     (cut-numbers (decimal n) ns (digits-without 0x3B (decimal n) (omega arith) (digits-of n h)) k)
     ∙ each-number (n ∷ ns) (h, k)
@@ -161,26 +161,26 @@ singles-length : (ns : List ℕ) → length (concat (singles ns)) ≡ length ns
 singles-length [] = refl
 singles-length (n ∷ ns) = ap suc (singles-length ns)
 
-spelled-overflow : (n : ℕ) (ns : List ℕ) → n < 2 ^ 64 → AreSmall ns → length (n ∷ ns) ≤ 32
-    → overflows (spelled n ns) ≡ false
-spelled-overflow n ns h k l =
-    ap (λ gs. nat_lt 32 (length (concat gs)) || nat_lt 2 (length (intermediates (spelled n ns))))
-    (spelled-groups n ns h k)
+written-overflow : (n : ℕ) (ns : List ℕ) → n < 2 ^ 64 → AreSmall ns → length (n ∷ ns) ≤ 32
+    → overflows (written n ns) ≡ false
+written-overflow n ns h k l =
+    ap (λ gs. nat_lt 32 (length (concat gs)) || nat_lt 2 (length (intermediates (written n ns))))
+    (written-groups n ns h k)
     ∙ ap (λ is. nat_lt 32 (length (concat (singles (n ∷ ns)))) || nat_lt 2 (length is))
-    (numeric-between (spelled n ns) (spelled-numeric n ns h k))
+    (numeric-between (written n ns) (written-numeric n ns h k))
     ∙ ap (λ j. nat_lt 32 j || false) (singles-length (n ∷ ns))
     ∙ ap (λ b. b || false) (le-ltb 32 (length (n ∷ ns)) l)
 
-pub spelled-event : (n : ℕ) (ns : List ℕ) (final : ℕ) → n < 2 ^ 64 → AreSmall ns → length (n ∷ ns) ≤ 32
-    → header_event (spelled n ns) final ≡ sequence [] (n ∷ ns) final ∷ []
-spelled-event n ns final h k l =
-    let numeric = spelled-numeric n ns h k in
-    let formed : is_well_formed (spelled n ns) ≡ true =
-    ap in_order (numeric-unmarked (spelled n ns) numeric) ∙ numeric-order (spelled n ns) numeric in
-    let kept : kept_groups (spelled n ns) ≡ singles (n ∷ ns) =
-    ap (first_numbers 32) (spelled-groups n ns h k) ∙ singles-first 32 (n ∷ ns) l in
-    let none : kept_intermediates (spelled n ns) ≡ [] = ap (take 2) (numeric-between (spelled n ns) numeric) in
-    let fits = spelled-overflow n ns h k l in
+pub written-event : (n : ℕ) (ns : List ℕ) (final : ℕ) → n < 2 ^ 64 → AreSmall ns → length (n ∷ ns) ≤ 32
+    → header_event (written n ns) final ≡ sequence [] (n ∷ ns) final ∷ []
+written-event n ns final h k l =
+    let numeric = written-numeric n ns h k in
+    let formed : is_well_formed (written n ns) ≡ true =
+    ap in_order (numeric-unmarked (written n ns) numeric) ∙ numeric-order (written n ns) numeric in
+    let kept : kept_groups (written n ns) ≡ singles (n ∷ ns) =
+    ap (first_numbers 32) (written-groups n ns h k) ∙ singles-first 32 (n ∷ ns) l in
+    let none : kept_intermediates (written n ns) ≡ [] = ap (take 2) (numeric-between (written n ns) numeric) in
+    let fits = written-overflow n ns h k l in
     rw formed (λ i. Csi (kept i) (none i) (fits i) final ∷ [])
 
 -- one number after a `?`
@@ -190,7 +190,7 @@ marked-event n final h =
     let numeric = digits-numeric (decimal n) (digits-of n h) in
     let formed : is_well_formed (63 ∷ decimal n) ≡ true = numeric-order (decimal n) numeric in
     let numbers : groups (63 ∷ decimal n) ≡ singles (n ∷ []) =
-    ap groups (sym (append-nil (decimal n))) ∙ spelled-groups n [] h tt in
+    ap groups (sym (append-nil (decimal n))) ∙ written-groups n [] h tt in
     let between : intermediates (63 ∷ decimal n) ≡ 63 ∷ [] = ap (λ is. 63 ∷ is) (numeric-between (decimal n) numeric) in
     let fits : overflows (63 ∷ decimal n) ≡ false =
     λ i. nat_lt 32 (length (concat (numbers i))) || nat_lt 2 (length (between i)) in

@@ -29,14 +29,14 @@ use Rattle.vt100_forms.specs.Form.{Form, Text, MoveTo, MoveRight, EraseChar, Cle
 use Rattle.vt100_forms.specs.Form.{Crlf, Lf, Backspace, SaveCursor, RestoreCursor, HideCursor, Keypad, CursorKeys}
 use Rattle.vt100_forms.specs.Form.{Paste, Mouse, Encoding, Style, Sgr, Change, csi, counted}
 use Rattle.vt100_forms.specs.Form.{mode_change, mouse_number, encoding_number, style_number, color_numbers, color_part}
-use Rattle.vt100_forms.specs.Form.{intensity_part, flag_part, sgr_numbers, sgr_text, further_numbers, spelling, spell}
+use Rattle.vt100_forms.specs.Form.{intensity_part, flag_part, sgr_numbers, sgr_text, further_numbers, form_bytes, bytes_of}
 use Rattle.vt100_forms.specs.Attrs.{IsByteColor}
 use Rattle.vt100_forms.specs.Length.{IsByteOption}
 use Rattle.forms_read.specs.Events.{sequence, bare, counted_events, mode_events, sgr_events}
 use Rattle.forms_read.specs.Events.{events_of, events_of_all}
 use Rattle.forms_read.specs.Laws.{IsPrinted, IsReadable, IsReadAs, EachFormIsRead, EachListIsRead}
 use Rattle.terminal_model.proofs.PlainText.{all-append, is_no_esc, no_esc-all}
-use Rattle.forms_read.proofs.Numbers.{AreSmall, spelled, spelled-event, spelled-header, marked-event, marked-header}
+use Rattle.forms_read.proofs.Numbers.{AreSmall, written, written-event, written-header, marked-event, marked-header}
 
 -- ---- pieces
 
@@ -57,8 +57,8 @@ read-numbers : (k n : ℕ) (ns : List ℕ) (final : ℕ) → is_in_range 0x40 0x
 read-numbers k n ns final f h g l =
     subst (λ bs. IsReadAs k (csi bs) (sequence [] (n ∷ ns) final ∷ []))
     (append_assoc (decimal n) (further_numbers ns) (final ∷ []))
-    (read-header k (spelled n ns) final (sequence [] (n ∷ ns) final ∷ []) (spelled-header n ns h g, f)
-    (spelled-event n ns final h g l))
+    (read-header k (written n ns) final (sequence [] (n ∷ ns) final ∷ []) (written-header n ns h g, f)
+    (written-event n ns final h g l))
 
 read-bare : (k final : ℕ) → is_in_range 0x40 0x7E final ≡ true → IsReadAs k (csi (final ∷ [])) (bare final ∷ [])
 read-bare k final f = read-header k [] final (bare final ∷ []) (tt, f) refl
@@ -74,7 +74,7 @@ cond-two P false x y u v h g = g refl
 
 -- ---- numbers
 
-read-MoveTo : (k r c : ℕ) → r < 2 ^ 16 → c < 2 ^ 16 → IsReadAs k (spelling (MoveTo r c)) (events_of (MoveTo r c))
+read-MoveTo : (k r c : ℕ) → r < 2 ^ 16 → c < 2 ^ 16 → IsReadAs k (form_bytes (MoveTo r c)) (events_of (MoveTo r c))
 read-MoveTo k r c hr hc =
     cond-two (IsReadAs k) ((r == 0) && (c == 0)) _ _ _ _ (λ _. read-bare k 72 refl)
     (λ _. subst (λ bs. IsReadAs k (csi (decimal (r + 1) ++ (59 ∷ (bs ++ 72 ∷ [])))) (sequence [] ((r + 1) ∷ (c + 1)
@@ -231,12 +231,12 @@ form-read k (Style to from) h =
     cond-two (IsReadAs k) (style_number to == style_number from) _ _ _ _ (λ _. read-nil k) (λ _. read-style k to)
 form-read k (Sgr c) h = read-sgr k (sgr_numbers c) (few-sgr c h.1.0 h.1.1)
 
-forms-read : (k : ℕ) (fs : List Form) → AllByRecursion IsReadable fs → IsReadAs k (spell fs) (events_of_all fs)
+forms-read : (k : ℕ) (fs : List Form) → AllByRecursion IsReadable fs → IsReadAs k (bytes_of fs) (events_of_all fs)
 forms-read k [] h = read-nil k
-forms-read k (f ∷ fs) h = read-append k (spelling f) (spell fs) (events_of f) (events_of_all fs) (form-read k f h.0)
+forms-read k (f ∷ fs) h = read-append k (form_bytes f) (bytes_of fs) (events_of f) (events_of_all fs) (form-read k f h.0)
     (forms-read k fs h.1)
 
 pub list-read : EachListIsRead
 list-read k past fs g h =
     let r = forms-read k fs h in
-    (ground-added k past (spell fs) g ∙ r.0, ground-joins k past (spell fs) g r.1)
+    (ground-added k past (bytes_of fs) g ∙ r.0, ground-joins k past (bytes_of fs) g r.1)

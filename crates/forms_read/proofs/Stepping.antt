@@ -31,13 +31,13 @@ use Rattle.terminal_model.proofs.TermLemmas.{IsTerm-moved, IsTerm-apply}
 use Rattle.forms_read.specs.Events.{kept_number}
 use Rattle.terminal_model.specs.FormText.{IsSentForm}
 use Rattle.forms_read.proofs.SentTexts.{forms-readable}
-use Rattle.forms_read.specs.Calls.{place_told, foreground_told, background_told, intensity_told, flag_told}
-use Rattle.forms_read.specs.Calls.{change_told, mode_calls, style_told, set_call, reset_call, form_calls}
+use Rattle.forms_read.specs.Calls.{place_reported, foreground_reported, background_reported, intensity_reported, flag_reported}
+use Rattle.forms_read.specs.Calls.{change_reported, mode_calls, style_reported, set_call, reset_call, form_calls}
 use Rattle.forms_read.specs.Calls.{form_calls_all}
 use Rattle.forms_read.specs.Terminals.{stepped, ReadsAttributes, ReadsCalls, IsSmall, EachFormIsStepped}
-use Rattle.forms_read.specs.Terminals.{EachListIsStepped, EachSpellingIsStepped}
+use Rattle.forms_read.specs.Terminals.{EachListIsStepped, EachWrittenFormIsStepped}
 use Rattle.forms_read.proofs.ReadForms.{cond-two}
-use Rattle.forms_read.proofs.Calling.{spelling-called}
+use Rattle.forms_read.proofs.Calling.{written_form-called}
 
 stepped-joined : (step : Size → Call → Term → Term) (z : Size) (xs ys : List Call) (t : Term)
     → stepped step z (xs ++ ys) t ≡ stepped step z ys (stepped step z xs t)
@@ -66,17 +66,17 @@ read-both f xs ys g h p q x = read-joined f xs ys x ∙ ap (all_read f ys) (p x)
 
 module _ (f : Attr → Attrs → Attrs) (r : ReadsAttributes f) where
   fore-read : (o : Option Color) → IsByteOption o
-      → IsReadAs f (foreground_told o) (λ x. record x { fgcolor = unwrap_or o x.fgcolor })
+      → IsReadAs f (foreground_reported o) (λ x. record x { fgcolor = unwrap_or o x.fgcolor })
   fore-read None h = λ x. refl
   fore-read (Some c) h = λ x. r.foreground c x h
 
   back-read : (o : Option Color) → IsByteOption o
-      → IsReadAs f (background_told o) (λ x. record x { bgcolor = unwrap_or o x.bgcolor })
+      → IsReadAs f (background_reported o) (λ x. record x { bgcolor = unwrap_or o x.bgcolor })
   back-read None h = λ x. refl
   back-read (Some c) h = λ x. r.background c x h
 
   intensity-read : (o : Option Intensity)
-      → IsReadAs f (intensity_told o) (λ x. with_mode x (intensity_set o x.mode))
+      → IsReadAs f (intensity_reported o) (λ x. with_mode x (intensity_set o x.mode))
   intensity-read None = λ x. refl
   intensity-read (Some Normal) = λ x. r.normal x
   intensity-read (Some Bold) = λ x. r.bold x
@@ -84,26 +84,26 @@ module _ (f : Attr → Attrs → Attrs) (r : ReadsAttributes f) where
 
   flag-read : (on off : Attr) (bit : ℕ) → ((x : Attrs) → f on x ≡ with_mode x (flag_set bit (Some true) x.mode))
       → ((x : Attrs) → f off x ≡ with_mode x (flag_set bit (Some false) x.mode)) → (o : Option Bool)
-      → IsReadAs f (flag_told on off o) (λ x. with_mode x (flag_set bit o x.mode))
+      → IsReadAs f (flag_reported on off o) (λ x. with_mode x (flag_set bit o x.mode))
   flag-read on off bit h k None = λ x. refl
   flag-read on off bit h k (Some true) = h
   flag-read on off bit h k (Some false) = k
 
   change-read : (c : Change) → IsByteOption c.fgcolor → IsByteOption c.bgcolor
-      → IsReadAs f (change_told c) (λ x. with_change c x)
+      → IsReadAs f (change_reported c) (λ x. with_change c x)
   change-read c hf hb =
-      let fg = foreground_told c.fgcolor in
-      let bg = background_told c.bgcolor in
-      let it = flag_told a.Italic a.CancelItalic c.italic in
-      let ul = flag_told a.Underline a.CancelUnderline c.underline in
+      let fg = foreground_reported c.fgcolor in
+      let bg = background_reported c.bgcolor in
+      let it = flag_reported a.Italic a.CancelItalic c.italic in
+      let ul = flag_reported a.Underline a.CancelUnderline c.underline in
       let one = read-both f fg bg _ _ (fore-read c.fgcolor hf) (back-read c.bgcolor hb) in
-      let two = read-both f (fg ++ bg) (intensity_told c.intensity) _ _ one (intensity-read c.intensity) in
-      let three = read-both f (fg ++ bg ++ intensity_told c.intensity) it _ _ two
+      let two = read-both f (fg ++ bg) (intensity_reported c.intensity) _ _ one (intensity-read c.intensity) in
+      let three = read-both f (fg ++ bg ++ intensity_reported c.intensity) it _ _ two
       (flag-read _ _ 4 r.italic r.upright c.italic) in
-      let four = read-both f (fg ++ bg ++ intensity_told c.intensity ++ it) ul _ _ three
+      let four = read-both f (fg ++ bg ++ intensity_reported c.intensity ++ it) ul _ _ three
       (flag-read _ _ 8 r.underline r.no_line c.underline) in
-      read-both f (fg ++ bg ++ intensity_told c.intensity ++ it ++ ul)
-      (flag_told a.Reverse a.CancelReverse c.inverse) _ _ four (flag-read _ _ 16 r.inverse r.positive c.inverse)
+      read-both f (fg ++ bg ++ intensity_reported c.intensity ++ it ++ ul)
+      (flag_reported a.Reverse a.CancelReverse c.inverse) _ _ four (flag-read _ _ 16 r.inverse r.positive c.inverse)
 
 -- ---- modes
 
@@ -157,7 +157,7 @@ module _ (step : Size → Call → Term → Term) (f : Attr → Attrs → Attrs)
       ap (stepped step z (map call.input cs)) (s.prints c t (λ e. h (0, omega arith, e)))
       ∙ step-text cs (input z c t) (λ q. h (suc q.0, (let l = q.1 in omega arith), q.2))
 
-  place : (r m : ℕ) → m < 2 ^ 16 → min (place_told r) (m - 1) ≡ min r (m - 1)
+  place : (r m : ℕ) → m < 2 ^ 16 → min (place_reported r) (m - 1) ≡ min r (m - 1)
   place r m h = omega (arith, h)
 
   step-MoveTo : (i j : ℕ) (t : Term) → stepped step z (form_calls (MoveTo i j)) t ≡ apply z (MoveTo i j) t
@@ -165,7 +165,7 @@ module _ (step : Size → Call → Term → Term) (f : Attr → Attrs → Attrs)
   step-MoveTo i j t =
       let row = place i z.rows small.0 in
       let col = place j z.cols small.1 in
-      s.goto (place_told i) (place_told j) t ∙ (λ k. record t { row = row k; col = col k })
+      s.goto (place_reported i) (place_reported j) t ∙ (λ k. record t { row = row k; col = col k })
 
   step-MoveRight : (k : ℕ) (t : Term) → stepped step z (form_calls (MoveRight k)) t ≡ apply z (MoveRight k) t
   unfolding apply
@@ -227,7 +227,7 @@ module _ (step : Size → Call → Term → Term) (f : Attr → Attrs → Attrs)
   unfolding apply
   step-Style to from t =
       cond-two (λ cs m. stepped step z cs t ≡ record t { style = m }) (style_number to == style_number from) []
-      (call.set_cursor_style (style_told to) ∷ []) t.style to (λ _. refl) (λ _. s.style to t)
+      (call.set_cursor_style (style_reported to) ∷ []) t.style to (λ _. refl) (λ _. s.style to t)
 
   form-stepped : (x : Form) (t : Term) → IsTerm z t → IsSentForm x → stepped step z (form_calls x) t ≡ apply z x t
   unfolding apply
@@ -254,7 +254,7 @@ module _ (step : Size → Call → Term → Term) (f : Attr → Attrs → Attrs)
   form-stepped (Mouse to from) t h k = step-Mouse to from t
   form-stepped (Encoding to from) t h k = step-Encoding to from t
   form-stepped (Style to from) t h k = step-Style to from t
-  form-stepped (Sgr c) t h k = step-attributes (change_told c) t
+  form-stepped (Sgr c) t h k = step-attributes (change_reported c) t
       ∙ (λ i. record t { attrs = change-read f r c k.1.0 k.1.1 t.attrs i })
 
   list-stepped : (fs : List Form) (t : Term) → IsTerm z t → AllByRecursion IsSentForm fs
@@ -271,7 +271,7 @@ form_is_stepped step f z s r small x t h k = form-stepped step f z s r small x t
 pub list_is_stepped : EachListIsStepped
 list_is_stepped step f z s r small fs t h k = list-stepped step f z s r small fs t h k
 
-pub spelling_is_stepped : EachSpellingIsStepped
-spelling_is_stepped step f z s r small n past last fs t g h k =
-    ap (λ cs. stepped step z cs t) (spelling-called n past last fs g (forms-readable fs k))
+pub written_form_is_stepped : EachWrittenFormIsStepped
+written_form_is_stepped step f z s r small n past last fs t g h k =
+    ap (λ cs. stepped step z cs t) (written_form-called n past last fs g (forms-readable fs k))
     ∙ list-stepped step f z s r small fs t h k

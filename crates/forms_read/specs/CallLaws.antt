@@ -4,7 +4,7 @@ use Rattle.std.specs.List.{AllByRecursion}
 use Rattle.vte_core.specs.Added.{added}
 use Rattle.vte_core.specs.Ground.{AtGround}
 use Rattle.vte.specs.Performed.{calls_of_all}
-use Rattle.vt100_forms.specs.Form.{Form, spell}
+use Rattle.vt100_forms.specs.Form.{Form, bytes_of}
 use Rattle.vt100_forms.specs.Length.{HasSmallNumbers}
 use Rattle.forms_read.specs.Events.{events_of, events_of_all}
 use Rattle.forms_read.specs.Laws.{IsReadable}
@@ -21,6 +21,6 @@ EachListCalls = (last : Option ℕ) (fs : List Form) → AllByRecursion HasSmall
 
 -- The bytes of forms cause the forms' calls, after any past that leaves the parser at ground. The parser keeps n bytes
 -- of an operating system command (OSC).
-abbrev pub EachSpellingCalls : Type 0
-EachSpellingCalls = (n : ℕ) (past : List ℕ) (last : Option ℕ) (fs : List Form) → AtGround n past
-    → AllByRecursion IsReadable fs → calls_of_all last (added n past (spell fs)) ≡ form_calls_all fs
+abbrev pub EachWrittenFormCalls : Type 0
+EachWrittenFormCalls = (n : ℕ) (past : List ℕ) (last : Option ℕ) (fs : List Form) → AtGround n past
+    → AllByRecursion IsReadable fs → calls_of_all last (added n past (bytes_of fs)) ≡ form_calls_all fs

@@ -10,7 +10,7 @@ use Rattle.vte_types.specs.declared.attr.Attr.{Attr}
 use Rattle.vte_types.specs.declared.attr.Attr.TheVariants as a
 use Rattle.vte_types.specs.declared.clear.ClearMode.TheVariants as screen
 use Rattle.vte_types.specs.declared.clear.LineClearMode.TheVariants as line
-use Rattle.vte_types.specs.declared.color.Color.{Color as Told}
+use Rattle.vte_types.specs.declared.color.Color.{Color as Reported}
 use Rattle.vte_types.specs.declared.color.Color.TheVariants.{Named, Spec, Indexed}
 use Rattle.vte_types.specs.declared.color.NamedColor.{NamedColor}
 use Rattle.vte_types.specs.declared.color.NamedColor.TheVariants as n
@@ -42,36 +42,36 @@ abbrev pub name_of : ℕ → NamedColor
 name_of i = unwrap_or (lookup i named_rows) n.Foreground
 
 -- a colour as a handler's calls have it; `own` is the terminal's default colour
-abbrev pub color_told : NamedColor → Color → Told
-color_told own Default = Named own
-color_told own (Idx i) = if nat_lt i 16 then Named (name_of i) else Indexed i
-color_told own (Rgb r g b) = Spec (record { r = r; g = g; b = b })
+abbrev pub color_reported : NamedColor → Color → Reported
+color_reported own Default = Named own
+color_reported own (Idx i) = if nat_lt i 16 then Named (name_of i) else Indexed i
+color_reported own (Rgb r g b) = Spec (record { r = r; g = g; b = b })
 
-abbrev pub foreground_told : Option Color → List Attr
-foreground_told None = []
-foreground_told (Some x) = a.Foreground (color_told n.Foreground x) ∷ []
+abbrev pub foreground_reported : Option Color → List Attr
+foreground_reported None = []
+foreground_reported (Some x) = a.Foreground (color_reported n.Foreground x) ∷ []
 
-abbrev pub background_told : Option Color → List Attr
-background_told None = []
-background_told (Some x) = a.Background (color_told n.Background x) ∷ []
+abbrev pub background_reported : Option Color → List Attr
+background_reported None = []
+background_reported (Some x) = a.Background (color_reported n.Background x) ∷ []
 
-abbrev pub intensity_told : Option Intensity → List Attr
-intensity_told None = []
-intensity_told (Some Normal) = a.CancelBoldDim ∷ []
-intensity_told (Some Bold) = a.Bold ∷ []
-intensity_told (Some Dim) = a.Dim ∷ []
+abbrev pub intensity_reported : Option Intensity → List Attr
+intensity_reported None = []
+intensity_reported (Some Normal) = a.CancelBoldDim ∷ []
+intensity_reported (Some Bold) = a.Bold ∷ []
+intensity_reported (Some Dim) = a.Dim ∷ []
 
-abbrev pub flag_told : Attr → Attr → Option Bool → List Attr
-flag_told on off None = []
-flag_told on off (Some true) = on ∷ []
-flag_told on off (Some false) = off ∷ []
+abbrev pub flag_reported : Attr → Attr → Option Bool → List Attr
+flag_reported on off None = []
+flag_reported on off (Some true) = on ∷ []
+flag_reported on off (Some false) = off ∷ []
 
 -- the attributes that a change of the drawing attributes sets, in order
-abbrev pub change_told : Change → List Attr
-change_told c =
-    foreground_told c.fgcolor ++ background_told c.bgcolor ++ intensity_told c.intensity
-    ++ flag_told a.Italic a.CancelItalic c.italic
-    ++ flag_told a.Underline a.CancelUnderline c.underline ++ flag_told a.Reverse a.CancelReverse c.inverse
+abbrev pub change_reported : Change → List Attr
+change_reported c =
+    foreground_reported c.fgcolor ++ background_reported c.bgcolor ++ intensity_reported c.intensity
+    ++ flag_reported a.Italic a.CancelItalic c.italic
+    ++ flag_reported a.Underline a.CancelUnderline c.underline ++ flag_reported a.Reverse a.CancelReverse c.inverse
 
 -- ---- modes, and the cursor's style
 
@@ -84,26 +84,26 @@ reset_call number = call.unset_private_mode (private_mode_of number)
 abbrev pub mode_calls : ℕ → ℕ → List Call
 mode_calls = mode_steps set_call reset_call
 
-abbrev pub style_told : CursorStyle → Option Drawn
-style_told style.Default = None
-style_told style.BlinkBlock = Some (record { shape = shape.Block; blinking = true })
-style_told style.SteadyBlock = Some (record { shape = shape.Block; blinking = false })
-style_told style.BlinkUnderline = Some (record { shape = shape.Underline; blinking = true })
-style_told style.SteadyUnderline = Some (record { shape = shape.Underline; blinking = false })
-style_told style.BlinkVerticalBar = Some (record { shape = shape.Beam; blinking = true })
-style_told style.SteadyVerticalBar = Some (record { shape = shape.Beam; blinking = false })
+abbrev pub style_reported : CursorStyle → Option Drawn
+style_reported style.Default = None
+style_reported style.BlinkBlock = Some (record { shape = shape.Block; blinking = true })
+style_reported style.SteadyBlock = Some (record { shape = shape.Block; blinking = false })
+style_reported style.BlinkUnderline = Some (record { shape = shape.Underline; blinking = true })
+style_reported style.SteadyUnderline = Some (record { shape = shape.Underline; blinking = false })
+style_reported style.BlinkVerticalBar = Some (record { shape = shape.Beam; blinking = true })
+style_reported style.SteadyVerticalBar = Some (record { shape = shape.Beam; blinking = false })
 
 -- ---- forms
 
 -- The number that a handler gets for a row or a column, counted from 0. It is sent counted from 1, and the parser keeps
 -- at most 65,535: so 65,535 comes back as 65,534.
-abbrev pub place_told : ℕ → ℕ
-place_told r = kept_number (r + 1) - 1
+abbrev pub place_reported : ℕ → ℕ
+place_reported r = kept_number (r + 1) - 1
 
 -- the calls that a processor makes for each form
 abbrev pub form_calls : Form → List Call
 form_calls (Text cs) = map call.input cs
-form_calls (MoveTo r c) = call.goto (pos (place_told r)) (place_told c) ∷ []
+form_calls (MoveTo r c) = call.goto (pos (place_reported r)) (place_reported c) ∷ []
 form_calls (MoveRight count) = if count == 0 then [] else call.move_forward (kept_number count) ∷ []
 form_calls (EraseChar count) = if count == 0 then [] else call.erase_chars (kept_number count) ∷ []
 form_calls ClearRowForward = call.clear_line line.Right ∷ []
@@ -124,9 +124,9 @@ form_calls (Paste true) = set_call 2004 ∷ []
 form_calls (Paste false) = reset_call 2004 ∷ []
 form_calls (Mouse to from) = mode_calls (mouse_number to) (mouse_number from)
 form_calls (Encoding to from) = mode_calls (encoding_number to) (encoding_number from)
-form_calls (Style to from) = if style_number to == style_number from then [] else call.set_cursor_style (style_told to)
+form_calls (Style to from) = if style_number to == style_number from then [] else call.set_cursor_style (style_reported to)
     ∷ []
-form_calls (Sgr change) = map call.terminal_attribute (change_told change)
+form_calls (Sgr change) = map call.terminal_attribute (change_reported change)
 
 -- the calls of a list of forms
 abbrev pub form_calls_all : List Form → List Call

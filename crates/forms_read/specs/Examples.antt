@@ -7,11 +7,11 @@ use Rattle.vt100_forms.specs.declared.modes.MouseProtocolMode.TheVariants as mou
 use Rattle.vt100_forms.specs.declared.modes.CursorStyle.TheVariants as style
 use Rattle.vt100_forms.specs.Form.{Form, Text, MoveTo, MoveRight, EraseChar, ClearRowForward, ClearScreen, ClearAttrs}
 use Rattle.vt100_forms.specs.Form.{Crlf, SaveCursor, RestoreCursor, HideCursor, Keypad, Mouse, Style, Sgr, no_change}
-use Rattle.vt100_forms.specs.Form.{spell}
+use Rattle.vt100_forms.specs.Form.{bytes_of}
 
 -- the events that a parser makes of the bytes of these forms
-abbrev pub told : List Form → List Event
-told fs = events 1024 (spell fs)
+abbrev pub reported : List Form → List Event
+reported fs = events 1024 (bytes_of fs)
 
 -- a red background and a foreground of three values
 abbrev pub colors : Form
@@ -19,20 +19,20 @@ colors = Sgr (record no_change { fgcolor = Some (Rgb 1 20 255); bgcolor = Some (
 
 -- the events of the bytes of some forms
 pub record EachExampleHolds : Type 0 where
-  pub moved : told (MoveTo 1 9 ∷ MoveTo 0 0 ∷ []) ≡ Csi ((2 ∷ []) ∷ (10 ∷ []) ∷ []) [] false 72
+  pub moved : reported (MoveTo 1 9 ∷ MoveTo 0 0 ∷ []) ≡ Csi ((2 ∷ []) ∷ (10 ∷ []) ∷ []) [] false 72
       ∷ Csi ((0 ∷ []) ∷ []) [] false 72 ∷ []
   -- the last row and column that there can be: a parser keeps 65,535 of 65,536
-  pub moved_far : told (MoveTo 65535 65534 ∷ []) ≡ Csi ((65535 ∷ []) ∷ (65535 ∷ []) ∷ []) [] false 72 ∷ []
-  pub counted : told (MoveRight 0 ∷ MoveRight 1 ∷ EraseChar 12 ∷ []) ≡ Csi ((0 ∷ []) ∷ []) [] false 67
+  pub moved_far : reported (MoveTo 65535 65534 ∷ []) ≡ Csi ((65535 ∷ []) ∷ (65535 ∷ []) ∷ []) [] false 72 ∷ []
+  pub counted : reported (MoveRight 0 ∷ MoveRight 1 ∷ EraseChar 12 ∷ []) ≡ Csi ((0 ∷ []) ∷ []) [] false 67
       ∷ Csi ((12 ∷ []) ∷ []) [] false 88 ∷ []
-  pub cleared : told (ClearScreen ∷ ClearRowForward ∷ ClearAttrs ∷ []) ≡ Csi ((0 ∷ []) ∷ []) [] false 72
+  pub cleared : reported (ClearScreen ∷ ClearRowForward ∷ ClearAttrs ∷ []) ≡ Csi ((0 ∷ []) ∷ []) [] false 72
       ∷ Csi ((0 ∷ []) ∷ []) [] false 74 ∷ Csi ((0 ∷ []) ∷ []) [] false 75 ∷ Csi ((0 ∷ []) ∷ []) [] false 109 ∷ []
-  pub written : told (Text (97 ∷ 0x301 ∷ []) ∷ Crlf ∷ []) ≡ Print 97 ∷ Print 0x301 ∷ Execute 13 ∷ Execute 10 ∷ []
-  pub saved : told (SaveCursor ∷ RestoreCursor ∷ Keypad true ∷ []) ≡ Esc [] false 55 ∷ Esc [] false 56
+  pub written : reported (Text (97 ∷ 0x301 ∷ []) ∷ Crlf ∷ []) ≡ Print 97 ∷ Print 0x301 ∷ Execute 13 ∷ Execute 10 ∷ []
+  pub saved : reported (SaveCursor ∷ RestoreCursor ∷ Keypad true ∷ []) ≡ Esc [] false 55 ∷ Esc [] false 56
       ∷ Esc [] false 61 ∷ []
-  pub modes : told (HideCursor true ∷ Mouse mouse.ButtonMotion mouse.None ∷ Mouse mouse.None mouse.Press ∷ [])
+  pub modes : reported (HideCursor true ∷ Mouse mouse.ButtonMotion mouse.None ∷ Mouse mouse.None mouse.Press ∷ [])
       ≡ Csi ((25 ∷ []) ∷ []) (63 ∷ []) false 108 ∷ Csi ((1002 ∷ []) ∷ []) (63 ∷ []) false 104
       ∷ Csi ((9 ∷ []) ∷ []) (63 ∷ []) false 108 ∷ []
-  pub styled : told (Style style.SteadyVerticalBar style.Default ∷ []) ≡ Csi ((6 ∷ []) ∷ []) (32 ∷ []) false 113 ∷ []
-  pub colored : told (colors ∷ []) ≡ Csi ((38 ∷ []) ∷ (2 ∷ []) ∷ (1 ∷ []) ∷ (20 ∷ []) ∷ (255 ∷ []) ∷ (41 ∷ []) ∷ [])
+  pub styled : reported (Style style.SteadyVerticalBar style.Default ∷ []) ≡ Csi ((6 ∷ []) ∷ []) (32 ∷ []) false 113 ∷ []
+  pub colored : reported (colors ∷ []) ≡ Csi ((38 ∷ []) ∷ (2 ∷ []) ∷ (1 ∷ []) ∷ (20 ∷ []) ∷ (255 ∷ []) ∷ (41 ∷ []) ∷ [])
       [] false 109 ∷ []

@@ -7,7 +7,7 @@ use Rattle.vte_core.specs.Event.{Event}
 use Rattle.vte_core.specs.Shapes.{events}
 use Rattle.vte_core.specs.Added.{added}
 use Rattle.vte_core.specs.Ground.{AtGround}
-use Rattle.vt100_forms.specs.Form.{Form, Text, HasText, spelling, spell}
+use Rattle.vt100_forms.specs.Form.{Form, Text, HasText, form_bytes, bytes_of}
 use Rattle.vt100_forms.specs.Length.{HasSmallNumbers}
 use Rattle.terminal_model.specs.FormText.{IsSentText, IsSentForm}
 use Rattle.forms_read.specs.Events.{events_of, events_of_all}
@@ -34,12 +34,12 @@ IsReadAs n bytes es = (events n bytes ≡ es) × AtGround n bytes
 
 -- the bytes of a form are read as the form's events
 abbrev pub EachFormIsRead : Type 0
-EachFormIsRead = (n : ℕ) (f : Form) → IsReadable f → IsReadAs n (spelling f) (events_of f)
+EachFormIsRead = (n : ℕ) (f : Form) → IsReadable f → IsReadAs n (form_bytes f) (events_of f)
 
 -- a list of forms is read after any past that leaves the parser at ground
 abbrev pub EachListIsRead : Type 0
 EachListIsRead = (n : ℕ) (past : List ℕ) (fs : List Form) → AtGround n past → AllByRecursion IsReadable fs
-    → (added n past (spell fs) ≡ events_of_all fs) × AtGround n (past ++ spell fs)
+    → (added n past (bytes_of fs) ≡ events_of_all fs) × AtGround n (past ++ bytes_of fs)
 
 -- the text of a cell that writers send is printed, also if it has U+FE0F
 abbrev pub EachSentTextIsPrinted : Type 0

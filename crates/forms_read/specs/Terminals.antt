@@ -20,11 +20,11 @@ use Rattle.vt100_forms.specs.declared.modes.MouseProtocolMode.{MouseProtocolMode
 use Rattle.vt100_forms.specs.declared.modes.MouseProtocolMode.TheVariants as mouse
 use Rattle.vt100_forms.specs.Attrs.{default_attrs, with_bold, with_dim, with_normal_intensity, with_italic, IsByteColor}
 use Rattle.vt100_forms.specs.Attrs.{with_underline, with_inverse}
-use Rattle.vt100_forms.specs.Form.{Form, ClearScreen, mouse_number, encoding_number, spell}
+use Rattle.vt100_forms.specs.Form.{Form, ClearScreen, mouse_number, encoding_number, bytes_of}
 use Rattle.terminal_model.specs.Term.{Size, Term, IsTerm}
 use Rattle.terminal_model.specs.Apply.{erase, input, down, switched, apply, run}
 use Rattle.terminal_model.specs.FormText.{IsSentForm}
-use Rattle.forms_read.specs.Calls.{color_told, style_told, set_call, reset_call, form_calls, form_calls_all}
+use Rattle.forms_read.specs.Calls.{color_reported, style_reported, set_call, reset_call, form_calls, form_calls_all}
 
 -- the terminal after some calls, one after another
 abbrev pub stepped : (Size → Call → Term → Term) → Size → List Call → Term → Term
@@ -44,9 +44,9 @@ pub record ReadsAttributes (attribute : Attr → Attrs → Attrs) : Type 0 where
   pub inverse : (x : Attrs) → attribute a.Reverse x ≡ with_inverse true x
   pub positive : (x : Attrs) → attribute a.CancelReverse x ≡ with_inverse false x
   pub foreground : (c : Color) (x : Attrs) → IsByteColor c
-      → attribute (a.Foreground (color_told n.Foreground c)) x ≡ record x { fgcolor = c }
+      → attribute (a.Foreground (color_reported n.Foreground c)) x ≡ record x { fgcolor = c }
   pub background : (c : Color) (x : Attrs) → IsByteColor c
-      → attribute (a.Background (color_told n.Background c)) x ≡ record x { bgcolor = c }
+      → attribute (a.Background (color_reported n.Background c)) x ≡ record x { bgcolor = c }
 
 -- the effect that each call of a form must have on a terminal of this size
 pub record ReadsCalls (step : Size → Call → Term → Term) (attribute : Attr → Attrs → Attrs) (z : Size) : Type 0 where
@@ -77,7 +77,7 @@ pub record ReadsCalls (step : Size → Call → Term → Term) (attribute : Attr
   pub attributes : (x : Attr) (t : Term) → step z (call.terminal_attribute x) t ≡ record t {
     attrs = attribute x t.attrs;
   }
-  pub style : (s : CursorStyle) (t : Term) → step z (call.set_cursor_style (style_told s)) t ≡ record t { style = s }
+  pub style : (s : CursorStyle) (t : Term) → step z (call.set_cursor_style (style_reported s)) t ≡ record t { style = s }
   pub keypad : (t : Term) → step z call.set_keypad_application_mode t ≡ record t {
     modes = record (t.modes) { keypad = true };
   }
@@ -120,8 +120,8 @@ EachListIsStepped = (step : Size → Call → Term → Term) (attribute : Attr �
     → AllByRecursion IsSentForm fs → stepped step z (form_calls_all fs) t ≡ run z fs t
 
 -- such a terminal gives the bytes of forms their effect, after any past that leaves the parser at ground
-abbrev pub EachSpellingIsStepped : Type 0
-EachSpellingIsStepped = (step : Size → Call → Term → Term) (attribute : Attr → Attrs → Attrs) (z : Size)
+abbrev pub EachWrittenFormIsStepped : Type 0
+EachWrittenFormIsStepped = (step : Size → Call → Term → Term) (attribute : Attr → Attrs → Attrs) (z : Size)
     → ReadsCalls step attribute z → ReadsAttributes attribute → IsSmall z → (k : ℕ) (past : List ℕ) (last : Option ℕ)
     (fs : List Form) (t : Term) → AtGround k past → IsTerm z t → AllByRecursion IsSentForm fs
-    → stepped step z (calls_of_all last (added k past (spell fs))) t ≡ run z fs t
+    → stepped step z (calls_of_all last (added k past (bytes_of fs))) t ≡ run z fs t

@@ -1,8 +1,8 @@
 //! Facts about forms, parsers and the calls of a handler. Each function does nothing: its contract is the fact.
 ghost use Rattle.forms_read.specs.Examples.{EachExampleHolds};
 ghost use Rattle.forms_read.specs.Laws.{EachFormIsRead, EachListIsRead, EachSentTextIsPrinted, EachSentFormIsReadable};
-ghost use Rattle.forms_read.specs.CallLaws.{EachFormCalls, EachListCalls, EachSpellingCalls};
-ghost use Rattle.forms_read.specs.Terminals.{EachFormIsStepped, EachListIsStepped, EachSpellingIsStepped};
+ghost use Rattle.forms_read.specs.CallLaws.{EachFormCalls, EachListCalls, EachWrittenFormCalls};
+ghost use Rattle.forms_read.specs.Terminals.{EachFormIsStepped, EachListIsStepped, EachWrittenFormIsStepped};
 
 /// A parser makes the form's events of the bytes of a form. After them it is at ground: outside of any character or
 /// escape sequence.
@@ -40,8 +40,8 @@ pub fn lists_call()
 
 /// For the bytes of a list of forms, a processor makes the calls that `form_calls` lists, one form after another. They
 /// may follow any bytes that leave the parser at ground.
-pub fn spellings_call()
-    ensures { EachSpellingCalls }
+pub fn written_forms_call()
+    ensures { EachWrittenFormCalls }
 {}
 
 /// A terminal that carries out each call as `ReadsCalls` says gives forms their effect: single forms, lists of forms,
@@ -49,5 +49,5 @@ pub fn spellings_call()
 pub fn terminals_read_forms()
     ensures forms { EachFormIsStepped }
     ensures lists { EachListIsStepped }
-    ensures spellings { EachSpellingIsStepped }
+    ensures written_forms { EachWrittenFormIsStepped }
 {}

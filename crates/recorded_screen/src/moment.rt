@@ -1,7 +1,7 @@
 //! The screen at a moment of a recording.
 
 ghost use Rattle.std.specs.Prelude.{◌≡◌, ◌++◌, ◌∷◌, [], ℕ, false, List, Err, IfOk, OnErr, OnOk};
-ghost use Rattle.vt100.specs.Parsing.{ParserStandsAt};
+ghost use Rattle.vt100.specs.Parsing.{ParserIsAfter};
 ghost use Rattle.screen_model.specs.Made.{Act};
 ghost use Rattle.vt100.specs.declared.error.ScreenError.TheVariants.{Memory};
 ghost use Rattle.recorded_screen.specs.Moment.{act_of, acts_until};
@@ -22,7 +22,7 @@ pub fn terminal_at(
     events: &[Event],
     moment: u64,
 ) -> Result<Parser<()>, ScreenError>
-    ensures shows { IfOk result (λ p. ParserStandsAt p size.rows.value size.cols.value capacity (acts_until moment events.now)) }
+    ensures shows { IfOk result (λ p. ParserIsAfter p size.rows.value size.cols.value capacity (acts_until moment events.now)) }
     ensures memory { OnErr result (result ≡ Err Memory) }
 {
     let mut parser = Parser::new(alloc, size.rows, size.cols, capacity)?;
@@ -35,8 +35,8 @@ fn play(parser: &mut Parser<()>, events: &[Event], moment: u64) -> Result<(), Sc
     requires live { parser.old.screen.failed ≡ false }
     ensures live { OnOk result (parser.new.screen.failed ≡ false) }
     ensures memory { OnErr result (result ≡ Err Memory) }
-    ensures shows { OnOk result ((rows cols capacity : ℕ) (acts : List Act) → ParserStandsAt parser.old rows cols capacity acts
-        → ParserStandsAt parser.new rows cols capacity (acts ++ acts_until moment events.now)) }
+    ensures shows { OnOk result ((rows cols capacity : ℕ) (acts : List Act) → ParserIsAfter parser.old rows cols capacity acts
+        → ParserIsAfter parser.new rows cols capacity (acts ++ acts_until moment events.now)) }
 {
     for event in events {
         step(parser, event, moment)?;
@@ -49,8 +49,8 @@ fn step(parser: &mut Parser<()>, event: &Event, moment: u64) -> Result<(), Scree
     requires live { parser.old.screen.failed ≡ false }
     ensures live { OnOk result (parser.new.screen.failed ≡ false) }
     ensures memory { OnErr result (result ≡ Err Memory) }
-    ensures shows { OnOk result ((rows cols capacity : ℕ) (acts : List Act) → ParserStandsAt parser.old rows cols capacity acts
-        → ParserStandsAt parser.new rows cols capacity (acts ++ acts_until moment (event.now ∷ []))) }
+    ensures shows { OnOk result ((rows cols capacity : ℕ) (acts : List Act) → ParserIsAfter parser.old rows cols capacity acts
+        → ParserIsAfter parser.new rows cols capacity (acts ++ acts_until moment (event.now ∷ []))) }
 {
     if event.time > moment {
         return Ok(());
@@ -63,8 +63,8 @@ fn act(parser: &mut Parser<()>, change: &Change) -> Result<(), ScreenError>
     requires live { parser.old.screen.failed ≡ false }
     ensures live { OnOk result (parser.new.screen.failed ≡ false) }
     ensures memory { OnErr result (result ≡ Err Memory) }
-    ensures shows { OnOk result ((rows cols capacity : ℕ) (acts : List Act) → ParserStandsAt parser.old rows cols capacity acts
-        → ParserStandsAt parser.new rows cols capacity (acts ++ act_of change.now ∷ [])) }
+    ensures shows { OnOk result ((rows cols capacity : ℕ) (acts : List Act) → ParserIsAfter parser.old rows cols capacity acts
+        → ParserIsAfter parser.new rows cols capacity (acts ++ act_of change.now ∷ [])) }
 {
     match change {
         Change::Output(bytes) => parser.process(bytes),

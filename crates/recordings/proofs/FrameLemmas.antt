@@ -6,7 +6,7 @@ use Rattle.std.proofs.Math.Seq.{take-suc}
 use Rattle.std.proofs.lemmas.Grind.{flat_map-append}
 use Rattle.std.proofs.lemmas.List.{append-nil, get_or-map, length-map, length-take-le, map-append, take-append-drop}
 use Rattle.std.proofs.lemmas.Nat.{le_bytes_4}
-use Rattle.recordings.specs.Recorded.{Row, StandsAt, writes}
+use Rattle.recordings.specs.Recorded.{Row, IsStateAfter, writes}
 use Rattle.recordings.specs.Ttyrec.{Piece, clock, piece_of, rows_after, stored, stored_one}
 use Rattle.recordings.specs.declared.timeline.Pace.TheVariants.{FromStart}
 use Rattle.recordings.specs.declared.timeline.Timeline.{Timeline}
@@ -19,10 +19,10 @@ small-take (suc n) (b ∷ bs) h zero = h 0
 small-take (suc n) (b ∷ bs) h (suc i) = small-take n bs (λ j. h (suc j)) i
 
 -- four bytes at the front are a number
-pub front_number : (bytes number after : List ℕ) (n : ℕ) → number ≡ take 4 bytes → after ≡ drop 4 bytes
+pub prefix_number : (bytes number after : List ℕ) (n : ℕ) → number ≡ take 4 bytes → after ≡ drop 4 bytes
     → length after + 4 ≡ length bytes → ((i : ℕ) → get_or bytes i 0 < 256) → n ≡ from_le_bytes w32 number
     → bytes ≡ to_le_bytes w32 n ++ after
-front_number bytes number after n is_number is_after lengths small e =
+prefix_number bytes number after n is_number is_after lengths small e =
     let four = ap length is_number ∙ length-take-le 4 bytes (omega (arith, lengths)) in
     let bytes_small : (i : ℕ) → get_or number i 0 < 256 =
     subst (λ bs. (i : ℕ) → get_or bs i 0 < 256) (sym is_number) (small-take 4 bytes small) in
@@ -43,13 +43,13 @@ next_stored bytes left after frames new f whole first push =
 -- one more frame is played
 pub next_played : (frames : List Frame) (i : ℕ) (d : Frame) (start time : ℕ) (text : List ℕ) (t : Timeline) → i < length frames
     → time ≡ clock (piece_of (get_or frames i d)) - start → text ≡ (piece_of (get_or frames i d)).text
-    → StandsAt FromStart (rows_after start (take i (map piece_of frames)) ++ (time, Some (writes text)) ∷ []) t
-    → StandsAt FromStart (rows_after start (take (i + 1) (map piece_of frames))) t
-next_played frames i d start time text t lt when what stands =
+    → IsStateAfter FromStart (rows_after start (take i (map piece_of frames)) ++ (time, Some (writes text)) ∷ []) t
+    → IsStateAfter FromStart (rows_after start (take (i + 1) (map piece_of frames))) t
+next_played frames i d start time text t lt when what state_after =
     let n = length-map frames piece_of in
     let row : Piece → Row = λ p. (clock p - start, Some (writes p.text)) in
     let taken = ap (λ k. take k (map piece_of frames)) (add-one i) ∙ (take-suc (map piece_of frames) i (piece_of d) (omega (arith, n))
     ∙ ap (λ x. take i (map piece_of frames) ++ x ∷ []) (get_or-map piece_of frames i d (piece_of d) lt)) in
     let rows = ap (rows_after start) taken ∙ map-append row (take i (map piece_of frames)) (piece_of (get_or frames i d) ∷ []) in
     let last = ap₂ (λ (k : ℕ) bs. rows_after start (take i (map piece_of frames)) ++ (k, Some (writes bs)) ∷ []) when what in
-    subst (λ (rs : List Row). StandsAt FromStart rs t) (last ∙ sym rows) stands
+    subst (λ (rs : List Row). IsStateAfter FromStart rs t) (last ∙ sym rows) state_after

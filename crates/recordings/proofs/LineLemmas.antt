@@ -12,7 +12,7 @@ use Rattle.std.proofs.lemmas.List.Splits.{length-slice_split}
 use Rattle.std.proofs.lemmas.Result.{IfOk-weaker}
 use Rattle.recordings.specs.Asciicast.{AreEvents, IsFaultIn, rows_in, rows_of}
 use Rattle.recordings.specs.Lines.{lines_in}
-use Rattle.recordings.specs.Recorded.{Row, StandsAt}
+use Rattle.recordings.specs.Recorded.{Row, IsStateAfter}
 use Rattle.recordings.specs.declared.error.RecordingError.{RecordingError}
 use Rattle.recordings.specs.declared.error.RecordingError.TheVariants.{Line, Memory}
 use Rattle.recordings.specs.declared.timeline.Pace.{Pace}
@@ -54,13 +54,13 @@ more_rows pace xs x =
 -- one more line
 pub next_line : (pace : Pace) (lines : List (Bor (List ℕ))) (i : ℕ) (d : Bor (List ℕ)) (t : Timeline) → i < length lines
     → AreEvents pace (take i (texts lines)) → is_some (rows_in pace (get_or lines i d).now) ≡ true
-    → StandsAt pace (rows_of pace (take i (texts lines)) ++ unwrap_or (rows_in pace (get_or lines i d).now) []) t
-    → AreEvents pace (take (i + 1) (texts lines)) × StandsAt pace (rows_of pace (take (i + 1) (texts lines))) t
-next_line pace lines i d t lt fine event stands = (
+    → IsStateAfter pace (rows_of pace (take i (texts lines)) ++ unwrap_or (rows_in pace (get_or lines i d).now) []) t
+    → AreEvents pace (take (i + 1) (texts lines)) × IsStateAfter pace (rows_of pace (take (i + 1) (texts lines))) t
+next_line pace lines i d t lt fine event state_after = (
   subst (AreEvents pace) (sym (taken_next lines i d lt))
       (All-push (λ line. is_some (rows_in pace line) ≡ true) (take i (texts lines)) (get_or lines i d).now fine event),
-  subst (λ (rows : List Row). StandsAt pace rows t)
-      (sym (ap (rows_of pace) (taken_next lines i d lt) ∙ more_rows pace (take i (texts lines)) (get_or lines i d).now)) stands,
+  subst (λ (rows : List Row). IsStateAfter pace rows t)
+      (sym (ap (rows_of pace) (taken_next lines i d lt) ∙ more_rows pace (take i (texts lines)) (get_or lines i d).now)) state_after,
 )
 
 parts_at : (lines : List (Bor (List ℕ))) (i : ℕ) (d : Bor (List ℕ)) → i < length lines

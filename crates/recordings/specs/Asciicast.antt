@@ -8,7 +8,7 @@ use Rattle.serde_json.specs.Data.{Data, Items, item, no_items}
 use Rattle.serde_json.specs.Find.{as_array, as_number, as_str, as_u64, get}
 use Rattle.command_line.specs.Numbers.{size_in}
 use Rattle.recordings.specs.Lines.{first_line, lines_in}
-use Rattle.recordings.specs.Recorded.{Deed, Row, deed_of, ended, marks, resizes, said, size_said, told, writes}
+use Rattle.recordings.specs.Recorded.{Deed, Row, deed_of, ended, marks, resizes, said, size_said, reported, writes}
 use Rattle.recordings.specs.Times.{json_in, time_of}
 use Rattle.recordings.specs.declared.asciicast.Entry.{Entry}
 use Rattle.recordings.specs.declared.asciicast.Entry.TheVariants as entry
@@ -98,7 +98,7 @@ AreEvents pace lines = All (λ line. is_some (rows_in pace line) ≡ true) lines
 pub record Says (header : Pace × (ℕ × ℕ)) (lines : List (List ℕ)) (r : Recording) : Type 0 where
   pub size : option_map size_said r.size ≡ Some header.1
   pub events : AreEvents header.0 lines
-  pub moments : said r.events.items ≡ told header.0 0 (rows_of header.0 lines)
+  pub moments : said r.events.items ≡ reported header.0 0 (rows_of header.0 lines)
   pub length : r.length ≡ ended header.0 0 (rows_of header.0 lines)
 
 abbrev pub IsAsciicast : List ℕ → Recording → Type 0

@@ -48,13 +48,13 @@ with_deed time None moments = moments
 with_deed time (Some deed) moments = (time, deed) ∷ moments
 
 -- what the rows say, after a time
-abbrev pub told : Pace → ℕ → List Row → List Moment
-told pace before [] = []
-told pace before (row ∷ rows) =
-    with_deed (reached pace before row.0) row.1 (told pace (reached pace before row.0) rows)
+abbrev pub reported : Pace → ℕ → List Row → List Moment
+reported pace before [] = []
+reported pace before (row ∷ rows) =
+    with_deed (reached pace before row.0) row.1 (reported pace (reached pace before row.0) rows)
 
 -- what was read of rows
-pub record StandsAt (pace : Pace) (rows : List Row) (t : Timeline) : Type 0 where
+pub record IsStateAfter (pace : Pace) (rows : List Row) (t : Timeline) : Type 0 where
   pub same_pace : t.pace ≡ pace
   pub last : t.time ≡ ended pace 0 rows
-  pub moments : said t.events.items ≡ told pace 0 rows
+  pub moments : said t.events.items ≡ reported pace 0 rows

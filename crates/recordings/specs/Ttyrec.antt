@@ -2,7 +2,7 @@
 use Rattle.std.specs.Prelude.{◌≡◌, ℕ, ◌+◌, ◌-◌, ◌*◌, ◌<◌, List, [], ◌∷◌, ◌++◌, map, take, drop, length, Some, ◌⊎◌}
 use Rattle.std.specs.Int.{to_le_bytes, from_le_bytes, w32}
 use Rattle.std.specs.List.{flat_map}
-use Rattle.recordings.specs.Recorded.{Row, ended, said, told, writes}
+use Rattle.recordings.specs.Recorded.{Row, ended, said, reported, writes}
 use Rattle.recordings.specs.declared.error.RecordingError.{RecordingError}
 use Rattle.recordings.specs.declared.error.RecordingError.TheVariants as error
 use Rattle.recordings.specs.declared.recording.Recording.{Recording}
@@ -41,7 +41,7 @@ rows_after start ps = map (λ p. (clock p - start, Some (writes p.text))) ps
 pub record IsTtyrec (bytes : List ℕ) (r : Recording) : Type 0 where
   pub pieces : List Piece
   pub whole : bytes ≡ stored pieces
-  pub moments : said r.events.items ≡ told FromStart 0 (rows_after (start_of pieces) pieces)
+  pub moments : said r.events.items ≡ reported FromStart 0 (rows_after (start_of pieces) pieces)
   pub length : r.length ≡ ended FromStart 0 (rows_after (start_of pieces) pieces)
 
 -- the header isn't whole, or what it says comes isn't there

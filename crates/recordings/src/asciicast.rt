@@ -3,7 +3,7 @@
 ghost use Rattle.std.specs.Prelude.{◌≡◌, ◌++◌, ◌+◌, ◌^◌, ◌<◌, ◌⊎◌, ◌==◌, [], List, map, drop, length, true, None, is_some, unwrap_or, slice_index, IfOk, IfErr, OnOk};
 ghost use Rattle.serde_json.specs.View.{view};
 ghost use Rattle.std.specs.Option.{option_map};
-ghost use Rattle.recordings.specs.Recorded.{Row, StandsAt, deed_of, size_said};
+ghost use Rattle.recordings.specs.Recorded.{Row, IsStateAfter, deed_of, size_said};
 ghost use Rattle.recordings.specs.Asciicast.{AreEvents, IsAsciicast, IsFault, IsFaultIn, comments, deed_in, entry_said, header_in, header_of as header_of_data, header_said, is_header, resize_in, row_in, rows_in, rows_of, side_in, sides_in};
 ghost use Rattle.recordings.specs.declared.error.RecordingError.TheVariants.{Line, Memory};
 
@@ -101,7 +101,7 @@ fn side(object: &Value, name: &str) -> Option<NonZeroU16>
 fn read_lines(alloc: Global, pace: Pace, lines: &[&[u8]]) -> Result<Timeline, RecordingError>
     requires { length lines.now + 1 < 2 ^ 64 }
     ensures events { IfOk result (λ t. AreEvents pace (map (λ x. x.now) lines.now)
-        × StandsAt pace (rows_of pace (map (λ x. x.now) lines.now)) t) }
+        × IsStateAfter pace (rows_of pace (map (λ x. x.now) lines.now)) t) }
     ensures fault { IfErr result (IsFaultIn pace (map (λ x. x.now) lines.now)) }
 {
     let mut timeline = Timeline::new(alloc, pace);
@@ -122,8 +122,8 @@ fn push_line(
     number: u64,
 ) -> Result<(), RecordingError>
     ensures event { OnOk result (is_some (rows_in pace line.now) ≡ true) }
-    ensures pushed { OnOk result ((rows : List Row) → StandsAt pace rows timeline.old
-        → StandsAt pace (rows ++ unwrap_or (rows_in pace line.now) []) timeline.new) }
+    ensures pushed { OnOk result ((rows : List Row) → IsStateAfter pace rows timeline.old
+        → IsStateAfter pace (rows ++ unwrap_or (rows_in pace line.now) []) timeline.new) }
     ensures fault { IfErr result (λ e. (e ≡ Memory) ⊎ ((e ≡ Line number) × (rows_in pace line.now ≡ None))) }
 {
     match parse_line(alloc, pace, line)? {

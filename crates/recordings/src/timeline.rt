@@ -2,7 +2,7 @@
 
 ghost use Rattle.std.specs.Prelude.{◌≡◌, ◌++◌, ◌∷◌, [], List, OnOk};
 ghost use Rattle.std.specs.Option.{option_map};
-ghost use Rattle.recordings.specs.Recorded.{Row, StandsAt, deed_of, reached};
+ghost use Rattle.recordings.specs.Recorded.{Row, IsStateAfter, deed_of, reached};
 
 use crate::recording::{Change, Event};
 use std::alloc::{AllocError, Global};
@@ -40,7 +40,7 @@ pub struct Timeline {
 impl Timeline {
     /// No events yet.
     pub(crate) fn new(alloc: Global, pace: Pace) -> Self
-        ensures { StandsAt pace [] result }
+        ensures { IsStateAfter pace [] result }
     {
         Timeline {
             pace,
@@ -51,8 +51,8 @@ impl Timeline {
 
     /// Appends an event, with what it does, if a screen or a reader has a part in that.
     pub(crate) fn push(&mut self, time: u64, change: Option<Change>) -> Result<(), AllocError>
-        ensures { OnOk result ((pace : Pace) (rows : List Row) → StandsAt pace rows self.old
-            → StandsAt pace (rows ++ (time, option_map deed_of change) ∷ []) self.new) }
+        ensures { OnOk result ((pace : Pace) (rows : List Row) → IsStateAfter pace rows self.old
+            → IsStateAfter pace (rows ++ (time, option_map deed_of change) ∷ []) self.new) }
     {
         self.time = self.pace.reach(self.time, time);
         match change {

@@ -17,7 +17,7 @@ use Rattle.relay_theorem.specs.History.{Entry, Story, size_of_story}
 use Rattle.relay_theorem.specs.Judge.{texts, last_frame, last_whole, judged, IsSure, IsShownRight}
 use Rattle.relay_theorem.specs.Laws.{IsSession}
 use Rattle.relay_theorem.specs.Headline.{last_read}
-use Rattle.relay_theorem.specs.Isolation.{is_starved}
+use Rattle.relay_theorem.specs.Isolation.{is_out_of_memory}
 use Rattle.relay_theorem.proofs.HeadlineLemmas.{last-shown, wholes-shown}
 use Rattle.relay_theorem.proofs.ServesLemmas.{logs-follow}
 use Rattle.relay_theorem.proofs.LoggedLemmas.{story-at}
@@ -34,10 +34,10 @@ none-logged (t ∷ ts) zero is = absurd (let no : Some t.session ≡ None = is i
 none-logged (t ∷ ts) (suc n) is = omega (arith, none-logged ts n is)
 
 module _ (rows cols : ℕ) (calls : List Call) (h g : HubState as_kept) (m : LogView) (new : IsNewHub rows cols h)
-    (ran : MadeAll h empty_log calls g m) (fed : list_any is_starved m.replies ≡ false) (n most : ℕ) (cuts : List ℕ)
+    (ran : MadeAll h empty_log calls g m) (fed : list_any is_out_of_memory m.replies ≡ false) (n most : ℕ) (cuts : List ℕ)
   where
-    fed-all : list_any is_starved ran.0 ≡ false
-    fed-all = ap (list_any is_starved) (sym ran.1) ∙ fed
+    fed-all : list_any is_out_of_memory ran.0 ≡ false
+    fed-all = ap (list_any is_out_of_memory) (sym ran.1) ∙ fed
 
     -- there is no such session
     pub none-found : slice_get m.sessions n ≡ None → IsFarView rows cols calls n most cuts None
@@ -77,7 +77,7 @@ module _ (rows cols : ℕ) (calls : List Call) (h g : HubState as_kept) (m : Log
 seen-so : (t : Story) (most : ℕ) (cuts : List ℕ) (v : View UntilCleared) → (r : HasReadFirst t.session most cuts v)
     → shown_of (shown_by v) ≡ shown_of (seen (size_of_story t) r.parsed)
 seen-so t most cuts v r =
-    ap (λ (x : Term). shown_of x) r.holds.stands.shows ∙ ap (λ (z : Size). shown_of (seen z r.parsed)) r.size
+    ap (λ (x : Term). shown_of x) r.holds.state_after.shows ∙ ap (λ (z : Size). shown_of (seen z r.parsed)) r.size
 
 pub far-shown : FarViewsShow
 far-shown rows cols calls replies n most cuts t v session r sure =
@@ -96,12 +96,12 @@ far-shown rows cols calls replies n most cuts t v session r sure =
 
 -- where the bytes given end with a frame
 whole-given : (rows cols : ℕ) (calls : List Call) (replies : List Reply) (n most : ℕ) (cuts : List ℕ) (t : Story)
-    (v : View UntilCleared) (front back : List Entry) → IsSession rows cols calls replies n t
-    → HasReadFirst t.session most cuts v → t.entries ≡ front ++ back → take most t.session.pumped ≡ texts front
-    → IsShownRight rows cols (shown_of (shown_by v)) (last_frame None front)
-whole-given rows cols calls replies n most cuts t v front back session r are given sure =
+    (v : View UntilCleared) (prefix back : List Entry) → IsSession rows cols calls replies n t
+    → HasReadFirst t.session most cuts v → t.entries ≡ prefix ++ back → take most t.session.pumped ≡ texts prefix
+    → IsShownRight rows cols (shown_of (shown_by v)) (last_frame None prefix)
+whole-given rows cols calls replies n most cuts t v prefix back session r are given sure =
     let bytes = take most t.session.pumped in
-    let shown = wholes-shown rows cols calls replies n t front r.parsed r.hold session (record {
+    let shown = wholes-shown rows cols calls replies n t prefix r.parsed r.hold session (record {
       back = back;
       parts = are;
       moves = map Gives (cut_by cuts bytes);
@@ -123,5 +123,5 @@ shows-judged rows cols calls n most cuts v height width f =
       fed = f.fed;
       size = f.is.2.size;
       shows = far-shown rows cols calls f.replies n most cuts t v session f.is.2;
-      whole = λ front back. whole-given rows cols calls f.replies n most cuts t v front back session f.is.2;
+      whole = λ prefix back. whole-given rows cols calls f.replies n most cuts t v prefix back session f.is.2;
     }

@@ -20,17 +20,17 @@ take_put piece buf len k n h fits =
     ∙ take-append-add (take len piece) (buf ++ post_of len k piece) n
     ∙ ap (λ zs. take len piece ++ zs) (take-append-le n buf (post_of len k piece) fits)
 
-pub front_put : (piece buf : List ℕ) (len k : ℕ)
+pub prefix_put : (piece buf : List ℕ) (len k : ℕ)
     → take (length (take len piece)) (put_mid len k piece buf) ≡ take len piece
-front_put piece buf len k = take-append_seam (take len piece) (buf ++ post_of len k piece)
+prefix_put piece buf len k = take-append_seam (take len piece) (buf ++ post_of len k piece)
 
-pub front_put-len : (piece buf : List ℕ) (len k : ℕ) → len ≤ length piece
+pub prefix_put-len : (piece buf : List ℕ) (len k : ℕ) → len ≤ length piece
     → take len (put_mid len k piece buf) ≡ take len piece
-front_put-len piece buf len k h = take-put_mid_below len k piece buf len (omega arith) h
+prefix_put-len piece buf len k h = take-put_mid_below len k piece buf len (omega arith) h
 
-pub front_is : (piece : List ℕ) (len : ℕ) → len ≤ length piece
+pub prefix_is : (piece : List ℕ) (len : ℕ) → len ≤ length piece
     → take (length (take len piece)) piece ≡ take len piece
-front_is piece len h = ap (λ m. take m piece) (length-take-le len piece h)
+prefix_is piece len h = ap (λ m. take m piece) (length-take-le len piece h)
 
 -- the part of a buffer from a place on
 pub window : (piece : List ℕ) (len : ℕ) → length (take (length piece - len) (drop len piece)) ≡ length piece - len
@@ -72,12 +72,12 @@ module _ {S : Type 0} {step : S → ℕ → Result (List ℕ) Error → S → Ty
       → (before ≤ max_reads → CountsTo end after) → (max_reads ≤ before → made + n ≡ 0)
       → answer ≡ end_answer end (length got)
       → Filled step old room before answer new piece after
-  filled {n} {end} before after piece answer f front counted most spent is = record {
+  filled {n} {end} before after piece answer f prefix counted most spent is = record {
     made = made + n;
     bytes = got;
     end = end;
     fills = rw append-nil at (g.further n [] end new f);
-    front = front;
+    prefix = prefix;
     counted = counted;
     most = most;
     spent = spent;

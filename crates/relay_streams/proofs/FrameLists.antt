@@ -75,9 +75,9 @@ none-more xs a h k =
     list_any-append is_overlong xs (a ∷ [])
     ∙ or_from (list_any is_overlong xs) (list_any is_overlong (a ∷ [])) h (or_from (is_overlong a) false k refl)
 
-pub one-there : (front more : List Answer) → list_any is_overlong ((front ++ TooLong ∷ []) ++ more) ≡ true
+pub one-there : (prefix more : List Answer) → list_any is_overlong ((prefix ++ TooLong ∷ []) ++ more) ≡ true
 one-there [] more = refl
-one-there (x ∷ front) more = ap (λ b. is_overlong x || b) (one-there front more) ∙ or-true (is_overlong x)
+one-there (x ∷ prefix) more = ap (λ b. is_overlong x || b) (one-there prefix more) ∙ or-true (is_overlong x)
 
 -- ---- pieces
 

@@ -12,10 +12,10 @@ use Rattle.std.specs.declared.io.Error.{Error}
 use Rattle.std.specs.declared.io.ErrorKind.TheVariants.{Interrupted}
 use Rattle.terminal_model.specs.Term.{Shown}
 use Rattle.screen_model.specs.Holds.{IsSide}
-use Rattle.takers.specs.Output.{TakesFront}
-use Rattle.takers.specs.Pump.{Writes}
-use Rattle.takers.proofs.AppendLemmas.{Appends-more, Appends-none, TakesFront-none, TakesPart-then}
-use Rattle.takers.proofs.SendLemmas.{text-pumped, text-failed, text-appends, text-part}
+use Rattle.byte_sinks.specs.Output.{TakesPrefix}
+use Rattle.byte_sinks.specs.Pump.{Writes}
+use Rattle.byte_sinks.proofs.AppendLemmas.{Appends-more, Appends-none, TakesPrefix-none, TakesPart-then}
+use Rattle.byte_sinks.proofs.SendLemmas.{text-pumped, text-failed, text-appends, text-part}
 use Rattle.termrelay.specs.Hub.{HubState, as_kept}
 use Rattle.relay_streams.specs.declared.error.RelayError.{RelayError}
 use Rattle.relay_streams.specs.declared.error.RelayError.TheVariants.{Read, Write, Memory, TooManyReads, FrameTooLong}
@@ -216,10 +216,10 @@ module _ (S W : Type 0) (gives : S → ℕ → Result (List ℕ) Error → S →
         (flushed k answer v flush)
     flushed-appends w v texts answer (live.broken m sends pumps) is = absurd (cc)
 
-    flushed-front : (w v : W) (texts : List (List ℕ)) (answer : Result (Unit {0}) Error)
-        → SendsFlushed takes flushes w texts answer v → TakesFront (contents w) (contents v) (concat texts)
-    flushed-front w v texts answer live.none = TakesFront-none (contents w) []
-    flushed-front w v texts answer (live.sent {text = text} {texts = before} {n = n} m k sends pumps flush) =
+    flushed-prefix : (w v : W) (texts : List (List ℕ)) (answer : Result (Unit {0}) Error)
+        → SendsFlushed takes flushes w texts answer v → TakesPrefix (contents w) (contents v) (concat texts)
+    flushed-prefix w v texts answer live.none = TakesPrefix-none (contents w) []
+    flushed-prefix w v texts answer (live.sent {text = text} {texts = before} {n = n} m k sends pumps flush) =
         let all : Appends (contents w) (contents k) (concat (before ++ text ∷ [])) =
         subst (Appends (contents w) (contents k)) (sym (concat-one before text))
         (Appends-more (contents w) (contents m) (contents k) (concat before) text
@@ -230,11 +230,11 @@ module _ (S W : Type 0) (gives : S → ℕ → Result (List ℕ) Error → S →
           rw (take-length text') (Appends-kept (contents w) (contents k) (contents v) text' all
               (flushed k answer v flush)),
         )
-    flushed-front w v texts answer (live.broken {text = text} {texts = before} {n = n} {e = e} m sends pumps) =
+    flushed-prefix w v texts answer (live.broken {text = text} {texts = before} {n = n} {e = e} m sends pumps) =
         let part = TakesPart-then (contents w) (contents m) (contents v) (concat before) text
         (flushed-appends w m before over sends refl)
         (text-part W takes contents took m v text (Err e) e (text-failed W takes m v text e n pumps) refl) in
-        subst (TakesFront (contents w) (contents v)) (sym (concat-one before text)) (part.0, part.2)
+        subst (TakesPrefix (contents w) (contents v)) (sym (concat-one before text)) (part.0, part.2)
 
     -- what was pumped to the client of these pieces
     pumped-is : (rows cols : ℕ) (pieces frames : List (List ℕ)) (are : AreRelayed rows cols pieces frames)
@@ -253,8 +253,8 @@ module _ (S W : Type 0) (gives : S → ℕ → Result (List ℕ) Error → S →
       key = are.key;
       story = are.story;
       is = are.is;
-      took = subst (TakesFront (contents w) (contents v)) (sym (pumped-is rows cols pieces frames are))
-          (flushed-front w v frames answer sends);
+      took = subst (TakesPrefix (contents w) (contents v)) (sym (pumped-is rows cols pieces frames are))
+          (flushed-prefix w v frames answer sends);
     }
 
     listened : (s : S) (n : ℕ) (pieces : List (List ℕ)) (t : S) (bytes : List ℕ) → Listens gives live_len s n pieces t
@@ -273,22 +273,22 @@ module _ (S W : Type 0) (gives : S → ℕ → Result (List ℕ) Error → S →
           all.1 ∙ ap (λ zs. zs ++ all.0) (concat-one pieces piece) ∙ append_assoc (concat pieces) piece all.0,
         )
 
-    pub streams-front : (rows cols : ℕ) (s : S) (w : W) (answer : Result (Unit {0}) RelayError) (t : S) (v : W)
+    pub streams-prefix : (rows cols : ℕ) (s : S) (w : W) (answer : Result (Unit {0}) RelayError) (t : S) (v : W)
         (bytes : List ℕ) → StreamsLive gives takes flushes rows cols s w answer t v → left s ≡ Some bytes
         → TakesLive rows cols bytes (contents w) (contents v)
-    streams-front rows cols s w answer t v bytes (live.unread {n = n} m pieces frames e listens tries are sends) is =
+    streams-prefix rows cols s w answer t v bytes (live.unread {n = n} m pieces frames e listens tries are sends) is =
         let cut = listened s n pieces m bytes listens is in
         takes-live rows cols w v pieces frames over bytes cut.0 are sends cut.1
-    streams-front rows cols s w answer t v bytes (live.unmade {n = n} pieces frames piece listens are sends) is =
+    streams-prefix rows cols s w answer t v bytes (live.unmade {n = n} pieces frames piece listens are sends) is =
         let cut = listened-past s n pieces piece t bytes listens is in
         takes-live rows cols w v pieces frames over bytes cut.0 are sends cut.1
-    streams-front rows cols s w answer t v bytes (live.overlong {n = n} pieces frames piece listens are ends sends) is =
+    streams-prefix rows cols s w answer t v bytes (live.overlong {n = n} pieces frames piece listens are ends sends) is =
         let cut = listened-past s n pieces piece t bytes listens is in
         takes-live rows cols w v pieces frames over bytes cut.0 are sends cut.1
-    streams-front rows cols s w answer t v bytes (live.stopped {n = n} pieces frames e listens are sends) is =
+    streams-prefix rows cols s w answer t v bytes (live.stopped {n = n} pieces frames e listens are sends) is =
         let cut = listened s n pieces t bytes listens is in
         takes-live rows cols w v pieces frames (Err e) bytes cut.0 are sends cut.1
-    streams-front rows cols s w answer t v bytes (live.ended {n = n} m pieces frames listens tries are sends) is =
+    streams-prefix rows cols s w answer t v bytes (live.ended {n = n} m pieces frames listens tries are sends) is =
         let cut = listened s n pieces m bytes listens is in
         takes-live rows cols w v pieces frames over bytes cut.0 are sends cut.1
 
@@ -317,22 +317,22 @@ module _ (S W : Type 0) (gives : S → ℕ → Result (List ℕ) Error → S →
     streams-whole rows cols s w answer t v bytes _ ok is = absurd (cc)
 
     -- all that the contract of `relay_live` says of what it leaves
-    pub live-told : (rows cols : ℕ) (s : S) (w : W) (answer : Result (Unit {0}) RelayError) (t : S) (v : W)
+    pub live-reported : (rows cols : ℕ) (s : S) (w : W) (answer : Result (Unit {0}) RelayError) (t : S) (v : W)
         → IsSide rows → IsSide cols → RelaysLive gives takes flushes rows cols s w answer t v
         → OnOk answer (IfSome (left s) (λ bytes. (text : List ℕ) × IsLiveText rows cols bytes text
         × Appends (contents w) (contents v) text))
         × IfSome (left s) (λ bytes. TakesLive rows cols bytes (contents w) (contents v))
-    live-told rows cols s w answer t v height width live.refused = (
+    live-reported rows cols s w answer t v height width live.refused = (
       tt,
       if_known (left s) _ (λ bytes is.
           takes-live rows cols w w [] (frames_of rows cols []) over bytes bytes
           (frames-are-relayed rows cols [] height width refl) live.none refl),
     )
-    live-told rows cols s w (Ok u) t v height width (live.streamed streams) = (
+    live-reported rows cols s w (Ok u) t v height width (live.streamed streams) = (
       if_known (left s) _ (λ bytes is. streams-whole rows cols s w (Ok u) t v bytes streams refl is),
-      if_known (left s) _ (λ bytes is. streams-front rows cols s w (Ok u) t v bytes streams is),
+      if_known (left s) _ (λ bytes is. streams-prefix rows cols s w (Ok u) t v bytes streams is),
     )
-    live-told rows cols s w (Err e) t v height width (live.streamed streams) = (
+    live-reported rows cols s w (Err e) t v height width (live.streamed streams) = (
       tt,
-      if_known (left s) _ (λ bytes is. streams-front rows cols s w (Err e) t v bytes streams is),
+      if_known (left s) _ (λ bytes is. streams-prefix rows cols s w (Err e) t v bytes streams is),
     )

@@ -13,21 +13,21 @@ use Rattle.relay_streams.specs.Frames.{is_overlong}
 use Rattle.termrelay.specs.declared.answer.Answer.{Answer}
 use Rattle.termrelay.specs.declared.answer.Answer.TheVariants.{TooLong}
 use Rattle.relay_theorem.specs.History.{Story}
-use Rattle.takers.specs.Output.{TakesFront}
+use Rattle.byte_sinks.specs.Output.{TakesPrefix}
 use Rattle.relay_streams.specs.Pieces.{pieces_of, piece_len, outcome_of, Drained}
 use Rattle.relay_streams.specs.Relayed as relayed
 use Rattle.relay_streams.specs.Relayed.{Streams, Relays}
 use Rattle.relay_streams.specs.Sessions.{IsRelayed, has_overlong, AreRelayed, EndsOverlong, IsRelayText}
-use Rattle.takers.specs.Sent.{Sends}
-use Rattle.takers.specs.Pump.{Writes}
+use Rattle.byte_sinks.specs.Sent.{Sends}
+use Rattle.byte_sinks.specs.Pump.{Writes}
 use Rattle.relay_streams.specs.Shown as shown
 use Rattle.relay_streams.specs.Shown.{IsTextShown, Prints, Shows}
-use Rattle.takers.proofs.AppendLemmas.{TakesFront-none, TakesFront-longer}
-use Rattle.relay_streams.proofs.PieceLemmas.{drained-pieces, drained-front, begun-front, begun-well}
+use Rattle.byte_sinks.proofs.AppendLemmas.{TakesPrefix-none, TakesPrefix-longer}
+use Rattle.relay_streams.proofs.PieceLemmas.{drained-pieces, drained-prefix, begun-prefix, begun-well}
 use Rattle.relay_streams.proofs.FrameLists.{frames_of, frames_from, answers_of, answers_from, base_of, relay_text}
 use Rattle.relay_streams.proofs.FrameLists.{frames-more, answers-more, one-there}
 use Rattle.relay_streams.proofs.SessionLemmas.{relayed-answers, frames-of, pumped-of, overlong-of, relayed-as}
-use Rattle.takers.proofs.SendLemmas.{sends-appends, sends-front, text-appends, text-front}
+use Rattle.byte_sinks.proofs.SendLemmas.{sends-appends, sends-prefix, text-appends, text-prefix}
 use Rattle.relay_streams.proofs.LawLemmas.{texts_are_one}
 
 pub if_known : (known : Option (List ℕ)) (P : List ℕ → Type 0) → ((bytes : List ℕ) → known ≡ Some bytes → P bytes)
@@ -41,8 +41,8 @@ Appends-kept (Some a) None c xs h k = absurd h
 Appends-kept (Some a) (Some b) None xs h k = absurd k
 Appends-kept (Some a) (Some b) (Some c) xs h k = k ∙ h
 
-Keeps-front : (a b c : Option (List ℕ)) (xs : List ℕ) → TakesFront a b xs → Keeps b c → TakesFront a c xs
-Keeps-front a b c xs (n, took) k = (n, Appends-kept a b c (take n xs) took k)
+Keeps-prefix : (a b c : Option (List ℕ)) (xs : List ℕ) → TakesPrefix a b xs → Keeps b c → TakesPrefix a c xs
+Keeps-prefix a b c xs (n, took) k = (n, Appends-kept a b c (take n xs) took k)
 
 abbrev stop : RelayError → Result (Unit {0}) RelayError
 stop e = Err e
@@ -65,37 +65,37 @@ module _ (S W : Type 0) (gives : S → ℕ → Result (List ℕ) Error → S →
     → Keeps (contents w) (contents v))
   where
     -- the frames of the first pieces are the first ones
-    front-of : (rows cols : ℕ) (w v : W) (pieces frames : List (List ℕ)) (answer : Result (Unit {0}) Error)
+    prefix-of : (rows cols : ℕ) (w v : W) (pieces frames : List (List ℕ)) (answer : Result (Unit {0}) Error)
         (bytes : List ℕ) → AreRelayed rows cols pieces frames → Sends takes w frames answer v
         → (more : List (List ℕ)) × (pieces_of bytes ≡ pieces ++ more)
-        → TakesFront (contents w) (contents v) (relay_text rows cols bytes)
-    front-of rows cols w v pieces frames answer bytes relayed sends (more, are) =
+        → TakesPrefix (contents w) (contents v) (relay_text rows cols bytes)
+    prefix-of rows cols w v pieces frames answer bytes relayed sends (more, are) =
         let rest = frames_from rows cols pieces (base_of rows cols pieces) more in
         let whole : concat (frames_of rows cols pieces) ++ concat rest ≡ relay_text rows cols bytes =
         sym (concat-append (frames_of rows cols pieces) rest) ∙ ap concat (sym (frames-more rows cols pieces more))
         ∙ ap (λ (ps : List (List ℕ)). concat (frames_of rows cols ps)) (sym are) in
-        subst (TakesFront (contents w) (contents v)) whole
-        (TakesFront-longer (contents w) (contents v) (concat (frames_of rows cols pieces)) (concat rest)
-        (sends-front W takes contents took w v (frames_of rows cols pieces) answer
+        subst (TakesPrefix (contents w) (contents v)) whole
+        (TakesPrefix-longer (contents w) (contents v) (concat (frames_of rows cols pieces)) (concat rest)
+        (sends-prefix W takes contents took w v (frames_of rows cols pieces) answer
         (subst (λ (fs : List (List ℕ)). Sends takes w fs answer v) (frames-of rows cols pieces frames relayed) sends)))
 
-    streams-front : (rows cols : ℕ) (s : S) (w : W) (answer : Result (Unit {0}) RelayError) (t : S) (v : W)
+    streams-prefix : (rows cols : ℕ) (s : S) (w : W) (answer : Result (Unit {0}) RelayError) (t : S) (v : W)
         (bytes : List ℕ) → Streams gives takes rows cols s w answer t v → left s ≡ Some bytes
-        → TakesFront (contents w) (contents v) (relay_text rows cols bytes)
-    streams-front rows cols s w answer t v bytes (relayed.unread pieces frames rest e d are sends) is =
-        front-of rows cols w v pieces frames (Ok tt) bytes are sends
-        (drained-front S gives left gave s pieces rest (Err e) t bytes d is)
-    streams-front rows cols s w answer t v bytes (relayed.unmade pieces frames piece b are sends) is =
-        front-of rows cols w v pieces frames (Ok tt) bytes are sends
-        (begun-front S gives left gave s pieces piece t bytes b is)
-    streams-front rows cols s w answer t v bytes (relayed.overlong pieces frames piece b are ends sends) is =
-        front-of rows cols w v pieces frames (Ok tt) bytes are sends
-        (begun-front S gives left gave s pieces piece t bytes b is)
-    streams-front rows cols s w answer t v bytes (relayed.stopped pieces frames e b are sends) is =
-        front-of rows cols w v pieces frames (Err e) bytes are sends
+        → TakesPrefix (contents w) (contents v) (relay_text rows cols bytes)
+    streams-prefix rows cols s w answer t v bytes (relayed.unread pieces frames rest e d are sends) is =
+        prefix-of rows cols w v pieces frames (Ok tt) bytes are sends
+        (drained-prefix S gives left gave s pieces rest (Err e) t bytes d is)
+    streams-prefix rows cols s w answer t v bytes (relayed.unmade pieces frames piece b are sends) is =
+        prefix-of rows cols w v pieces frames (Ok tt) bytes are sends
+        (begun-prefix S gives left gave s pieces piece t bytes b is)
+    streams-prefix rows cols s w answer t v bytes (relayed.overlong pieces frames piece b are ends sends) is =
+        prefix-of rows cols w v pieces frames (Ok tt) bytes are sends
+        (begun-prefix S gives left gave s pieces piece t bytes b is)
+    streams-prefix rows cols s w answer t v bytes (relayed.stopped pieces frames e b are sends) is =
+        prefix-of rows cols w v pieces frames (Err e) bytes are sends
         (begun-well S gives left gave s pieces t bytes b is)
-    streams-front rows cols s w answer t v bytes (relayed.sent pieces frames d are sends) is =
-        front-of rows cols w v pieces frames (Ok tt) bytes are sends
+    streams-prefix rows cols s w answer t v bytes (relayed.sent pieces frames d are sends) is =
+        prefix-of rows cols w v pieces frames (Ok tt) bytes are sends
         ([], sym (drained-pieces S gives left gave s pieces t bytes d is) ∙ sym (append-nil pieces))
 
     streams-whole : (rows cols : ℕ) (s : S) (w : W) (answer : Result (Unit {0}) RelayError) (t : S) (v : W)
@@ -123,42 +123,42 @@ module _ (S W : Type 0) (gives : S → ℕ → Result (List ℕ) Error → S →
     relays-text rows cols s w answer t v _ = tt
 
     -- what was written is a front of the one text
-    fronts : (rows cols key : ℕ) (w v : W) (bytes : List ℕ) (t : Story) → IsRelayed rows cols key (pieces_of bytes) t
-        → TakesFront (contents w) (contents v) (relay_text rows cols bytes)
-        → TakesFront (contents w) (contents v) t.session.pumped
-    fronts rows cols key w v bytes t is took =
-        subst (TakesFront (contents w) (contents v)) (sym (pumped-of rows cols key bytes t is)) took
+    prefixes : (rows cols key : ℕ) (w v : W) (bytes : List ℕ) (t : Story) → IsRelayed rows cols key (pieces_of bytes) t
+        → TakesPrefix (contents w) (contents v) (relay_text rows cols bytes)
+        → TakesPrefix (contents w) (contents v) t.session.pumped
+    prefixes rows cols key w v bytes t is took =
+        subst (TakesPrefix (contents w) (contents v)) (sym (pumped-of rows cols key bytes t is)) took
 
-    relays-front : (rows cols : ℕ) (s : S) (w : W) (answer : Result (Unit {0}) RelayError) (t : S) (v : W)
+    relays-prefix : (rows cols : ℕ) (s : S) (w : W) (answer : Result (Unit {0}) RelayError) (t : S) (v : W)
         → Relays gives takes flushes rows cols s w answer t v
         → IfSome (left s) (λ bytes. (key : ℕ) (u : Story) → IsRelayed rows cols key (pieces_of bytes) u
-        → TakesFront (contents w) (contents v) u.session.pumped)
-    relays-front rows cols s w answer t v relayed.refused =
-        if_known (left s) _ (λ bytes is key u so. TakesFront-none (contents w) u.session.pumped)
-    relays-front rows cols s w answer t v (relayed.broken e stream) =
-        if_known (left s) _ (λ bytes is key u so. fronts rows cols key w v bytes u so
-        (streams-front rows cols s w (Err e) t v bytes stream is))
-    relays-front rows cols s w answer t v (relayed.unflushed m e stream flush) =
-        if_known (left s) _ (λ bytes is key u so. fronts rows cols key w v bytes u so
-        (Keeps-front (contents w) (contents m) (contents v) (relay_text rows cols bytes)
-        (streams-front rows cols s w (Ok tt) t m bytes stream is) (flushed m (Err e) v flush)))
-    relays-front rows cols s w answer t v (relayed.written m stream flush) =
-        if_known (left s) _ (λ bytes is key u so. fronts rows cols key w v bytes u so
-        (Keeps-front (contents w) (contents m) (contents v) (relay_text rows cols bytes)
-        (streams-front rows cols s w (Ok tt) t m bytes stream is) (flushed m (Ok tt) v flush)))
+        → TakesPrefix (contents w) (contents v) u.session.pumped)
+    relays-prefix rows cols s w answer t v relayed.refused =
+        if_known (left s) _ (λ bytes is key u so. TakesPrefix-none (contents w) u.session.pumped)
+    relays-prefix rows cols s w answer t v (relayed.broken e stream) =
+        if_known (left s) _ (λ bytes is key u so. prefixes rows cols key w v bytes u so
+        (streams-prefix rows cols s w (Err e) t v bytes stream is))
+    relays-prefix rows cols s w answer t v (relayed.unflushed m e stream flush) =
+        if_known (left s) _ (λ bytes is key u so. prefixes rows cols key w v bytes u so
+        (Keeps-prefix (contents w) (contents m) (contents v) (relay_text rows cols bytes)
+        (streams-prefix rows cols s w (Ok tt) t m bytes stream is) (flushed m (Err e) v flush)))
+    relays-prefix rows cols s w answer t v (relayed.written m stream flush) =
+        if_known (left s) _ (λ bytes is key u so. prefixes rows cols key w v bytes u so
+        (Keeps-prefix (contents w) (contents m) (contents v) (relay_text rows cols bytes)
+        (streams-prefix rows cols s w (Ok tt) t m bytes stream is) (flushed m (Ok tt) v flush)))
 
     -- where the frame of one of the first pieces would be too long, one of the whole input's would be
-    long-front : (rows cols key : ℕ) (pieces more all : List (List ℕ)) (u : Story) → EndsOverlong rows cols pieces
+    long-prefix : (rows cols key : ℕ) (pieces more all : List (List ℕ)) (u : Story) → EndsOverlong rows cols pieces
         → all ≡ pieces ++ more → IsRelayed rows cols key all u → has_overlong u ≡ true
-    long-front rows cols key pieces more all u ends are is =
+    long-prefix rows cols key pieces more all u ends are is =
         let rest = answers_from rows cols pieces (base_of rows cols pieces) more in
-        let first : answers_of rows cols pieces ≡ ends.front ++ TooLong ∷ [] =
+        let first : answers_of rows cols pieces ≡ ends.prefix ++ TooLong ∷ [] =
         sym (relayed-answers rows cols ends.key pieces ends.story ends.is) ∙ ends.answers in
-        let whole : answers_of rows cols all ≡ (ends.front ++ TooLong ∷ []) ++ rest =
+        let whole : answers_of rows cols all ≡ (ends.prefix ++ TooLong ∷ []) ++ rest =
         ap (answers_of rows cols) are ∙ answers-more rows cols pieces more
         ∙ ap (λ (xs : List Answer). xs ++ rest) first in
         overlong-of rows cols key all u is ∙ ap (λ (xs : List Answer). list_any is_overlong xs) whole
-        ∙ one-there ends.front rest
+        ∙ one-there ends.prefix rest
 
     streams-long : (rows cols : ℕ) (s : S) (w : W) (answer : Result (Unit {0}) RelayError) (t : S) (v : W)
         (bytes : List ℕ) → Streams gives takes rows cols s w answer t v → answer ≡ Err FrameTooLong
@@ -168,7 +168,7 @@ module _ (S W : Type 0) (gives : S → ℕ → Result (List ℕ) Error → S →
         absurd (no-read d.end e d.answered long)
     streams-long rows cols s w answer t v bytes (relayed.overlong pieces frames piece b are ends sends) long is key u so =
         let more = begun-well S gives left gave s (pieces ++ piece ∷ []) t bytes b is in
-        long-front rows cols key (pieces ++ piece ∷ []) more.0 (pieces_of bytes) u ends more.1 so
+        long-prefix rows cols key (pieces ++ piece ∷ []) more.0 (pieces_of bytes) u ends more.1 so
     streams-long rows cols s w answer t v bytes _ long is key u so = absurd (cc)
 
     relays-long : (rows cols : ℕ) (s : S) (w : W) (answer : Result (Unit {0}) RelayError) (t : S) (v : W)
@@ -180,17 +180,17 @@ module _ (S W : Type 0) (gives : S → ℕ → Result (List ℕ) Error → S →
     relays-long rows cols s w answer t v _ long = absurd (cc)
 
     -- all that its contract says of what it leaves
-    pub relays-told : (rows cols : ℕ) (s : S) (w : W) (answer : Result (Unit {0}) RelayError) (t : S) (v : W)
+    pub relays-reported : (rows cols : ℕ) (s : S) (w : W) (answer : Result (Unit {0}) RelayError) (t : S) (v : W)
         → Relays gives takes flushes rows cols s w answer t v
         → OnOk answer (IfSome (left s) (λ bytes. (text : List ℕ) × IsRelayText rows cols bytes text
         × Appends (contents w) (contents v) text))
         × IfSome (left s) (λ bytes. (key : ℕ) (u : Story) → IsRelayed rows cols key (pieces_of bytes) u
-        → TakesFront (contents w) (contents v) u.session.pumped)
+        → TakesPrefix (contents w) (contents v) u.session.pumped)
         × (answer ≡ Err FrameTooLong → IfSome (left s) (λ bytes. (key : ℕ) (u : Story)
         → IsRelayed rows cols key (pieces_of bytes) u → has_overlong u ≡ true))
-    relays-told rows cols s w answer t v r = (
+    relays-reported rows cols s w answer t v r = (
       relays-text rows cols s w answer t v r,
-      relays-front rows cols s w answer t v r,
+      relays-prefix rows cols s w answer t v r,
       relays-long rows cols s w answer t v r,
     )
 
@@ -201,15 +201,15 @@ module _ (S W : Type 0) (gives : S → ℕ → Result (List ℕ) Error → S →
         (text-appends W takes contents took w m text (Ok tt) sends refl) (flushed m (Ok tt) v flush)
     prints-text w text answer v _ = tt
 
-    pub prints-front : (w : W) (text : List ℕ) (answer : Result (Unit {0}) RelayError) (v : W)
-        → Prints takes flushes w text answer v → TakesFront (contents w) (contents v) text
-    prints-front w text answer v (shown.stopped e sends) = text-front W takes contents took w v text (Err e) sends
-    prints-front w text answer v (shown.unflushed m e sends flush) =
-        Keeps-front (contents w) (contents m) (contents v) text
-        (text-front W takes contents took w m text (Ok tt) sends) (flushed m (Err e) v flush)
-    prints-front w text answer v (shown.printed m sends flush) =
-        Keeps-front (contents w) (contents m) (contents v) text
-        (text-front W takes contents took w m text (Ok tt) sends) (flushed m (Ok tt) v flush)
+    pub prints-prefix : (w : W) (text : List ℕ) (answer : Result (Unit {0}) RelayError) (v : W)
+        → Prints takes flushes w text answer v → TakesPrefix (contents w) (contents v) text
+    prints-prefix w text answer v (shown.stopped e sends) = text-prefix W takes contents took w v text (Err e) sends
+    prints-prefix w text answer v (shown.unflushed m e sends flush) =
+        Keeps-prefix (contents w) (contents m) (contents v) text
+        (text-prefix W takes contents took w m text (Ok tt) sends) (flushed m (Err e) v flush)
+    prints-prefix w text answer v (shown.printed m sends flush) =
+        Keeps-prefix (contents w) (contents m) (contents v) text
+        (text-prefix W takes contents took w m text (Ok tt) sends) (flushed m (Ok tt) v flush)
 
     -- the text of the pieces that were read is one of the whole input
     whole-shown : (z : Size) (s t : S) (pieces : List (List ℕ)) (text bytes : List ℕ)
@@ -232,13 +232,13 @@ module _ (S W : Type 0) (gives : S → ℕ → Result (List ℕ) Error → S →
         (λ bytes known took. (text, whole-shown z s t pieces text bytes d known is, took))
     shows-text z s w answer t v _ = tt
 
-    pub shows-front : (z : Size) (s : S) (w : W) (answer : Result (Unit {0}) RelayError) (t : S) (v : W)
+    pub shows-prefix : (z : Size) (s : S) (w : W) (answer : Result (Unit {0}) RelayError) (t : S) (v : W)
         → Shows gives takes flushes z s w answer t v
         → IfSome (left s) (λ bytes. (text : List ℕ) → IsTextShown z (pieces_of bytes) text
-        → TakesFront (contents w) (contents v) text)
-    shows-front z s w answer t v (shown.shown pieces text d is prints) =
+        → TakesPrefix (contents w) (contents v) text)
+    shows-prefix z s w answer t v (shown.shown pieces text d is prints) =
         if_known (left s) _ (λ bytes known other so.
-        subst (TakesFront (contents w) (contents v))
+        subst (TakesPrefix (contents w) (contents v))
         (texts_are_one z (pieces_of bytes) text other (whole-shown z s t pieces text bytes d known is) so)
-        (prints-front w text answer v prints))
-    shows-front z s w answer t v _ = if_known (left s) _ (λ bytes known text is. TakesFront-none (contents w) text)
+        (prints-prefix w text answer v prints))
+    shows-prefix z s w answer t v _ = if_known (left s) _ (λ bytes known text is. TakesPrefix-none (contents w) text)

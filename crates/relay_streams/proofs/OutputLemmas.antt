@@ -1,9 +1,9 @@
 -- Rows after one another.
 use Rattle.std.proofs.Common.{◌≡◌, ℕ, suc, List, ◌++◌, ◌+◌, ◌∙◌, ap, Ok, Err, Result}
 use Rattle.std.specs.declared.io.Error.{Error}
-use Rattle.takers.specs.Pump.{Pumps}
-use Rattle.takers.specs.Sent.{SendsText}
-use Rattle.takers.proofs.SendLemmas.{text-pumped, text-failed}
+use Rattle.byte_sinks.specs.Pump.{Pumps}
+use Rattle.byte_sinks.specs.Sent.{SendsText}
+use Rattle.byte_sinks.proofs.SendLemmas.{text-pumped, text-failed}
 use Rattle.vt100_cells.specs.Cell.{CellView}
 use Rattle.terminal_model.specs.Term.{Size}
 use Rattle.relay_streams.specs.Shown.{row_line, rows_text, screen_text}

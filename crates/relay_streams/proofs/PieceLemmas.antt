@@ -214,17 +214,17 @@ module _ (S : Type 0) (step : S → ℕ → Result (List ℕ) Error → S → Ty
         (subst (λ (e : FillEnd). Drains step piece_len s d.made pieces e t) end d.drains) is
 
     -- the pieces before the last one are the first ones of the input
-    drains-front : (s : S) (n : ℕ) (all : List (List ℕ)) (end : FillEnd) (t : S) (input : List ℕ)
+    drains-prefix : (s : S) (n : ℕ) (all : List (List ℕ)) (end : FillEnd) (t : S) (input : List ℕ)
         → Drains step piece_len s n all end t → left s ≡ Some input → (pieces : List (List ℕ)) (rest : List ℕ)
         → all ≡ pieces ++ rest ∷ [] → (more : List (List ℕ)) × (pieces_of input ≡ pieces ++ more)
-    drains-front s n all end t input d is [] rest e = (pieces_of input, refl)
-    drains-front s n all end t input (last {bytes = bytes} fills) is (p ∷ ps) rest e =
+    drains-prefix s n all end t input d is [] rest e = (pieces_of input, refl)
+    drains-prefix s n all end t input (last {bytes = bytes} fills) is (p ∷ ps) rest e =
         absurd (not-one bytes p ps rest e)
-    drains-front s n all end t input (next {bytes = bytes} {pieces = others} m fills drains) is (p ∷ ps) rest e =
+    drains-prefix s n all end t input (next {bytes = bytes} {pieces = others} m fills drains) is (p ∷ ps) rest e =
         let known = left-known (left s) (left m) input bytes is (fills-taken s piece_len _ bytes Full m fills) in
         let same : bytes ≡ p = cc in
         let tail : others ≡ ps ++ rest ∷ [] = cc in
-        let later = drains-front m _ others end t known.0 drains known.1 ps rest tail in (
+        let later = drains-prefix m _ others end t known.0 drains known.1 ps rest tail in (
           later.0,
           ap pieces_of known.2
               ∙ pieces-more bytes known.0 (fills-full s piece_len _ bytes Full m fills refl)
@@ -232,17 +232,17 @@ module _ (S : Type 0) (step : S → ℕ → Result (List ℕ) Error → S → Ty
               ∙ ap (λ (x : List ℕ). x ∷ (ps ++ later.0)) same,
         )
 
-    pub drained-front : (s : S) (pieces : List (List ℕ)) (rest : List ℕ) (answer : Result (Unit {0}) RelayError) (t : S)
+    pub drained-prefix : (s : S) (pieces : List (List ℕ)) (rest : List ℕ) (answer : Result (Unit {0}) RelayError) (t : S)
         (input : List ℕ) → Drained step piece_len s (pieces ++ rest ∷ []) answer t → left s ≡ Some input
         → (more : List (List ℕ)) × (pieces_of input ≡ pieces ++ more)
-    drained-front s pieces rest answer t input d is =
-        drains-front s d.made (pieces ++ rest ∷ []) d.end t input d.drains is pieces rest refl
+    drained-prefix s pieces rest answer t input d is =
+        drains-prefix s d.made (pieces ++ rest ∷ []) d.end t input d.drains is pieces rest refl
 
-    pub begun-front : (s : S) (pieces : List (List ℕ)) (piece : List ℕ) (t : S) (input : List ℕ)
+    pub begun-prefix : (s : S) (pieces : List (List ℕ)) (piece : List ℕ) (t : S) (input : List ℕ)
         → Begun step piece_len s (pieces ++ piece ∷ []) t → left s ≡ Some input
         → (more : List (List ℕ)) × (pieces_of input ≡ pieces ++ more)
-    begun-front s pieces piece t input b is =
-        drains-front s b.made (pieces ++ piece ∷ []) b.end t input b.drains is pieces piece refl
+    begun-prefix s pieces piece t input b is =
+        drains-prefix s b.made (pieces ++ piece ∷ []) b.end t input b.drains is pieces piece refl
 
     -- where no read failed, so is the last one
     last-well : (s : S) (n : ℕ) (bytes : List ℕ) (end : FillEnd) (t : S) (input : List ℕ)
@@ -370,7 +370,7 @@ module _ {S : Type 0} {step : S → ℕ → Result (List ℕ) Error → S → Ty
   filled_as n end is e =
       subst (λ (k : FillEnd). Fills step now piece_len filled.made (take n piece) k new) is
       (subst (λ (bytes : List ℕ). Fills step now piece_len filled.made bytes filled.end new)
-      (sym filled.front ∙ ap (λ (k : ℕ). take k piece) (sym e)) filled.fills)
+      (sym filled.prefix ∙ ap (λ (k : ℕ). take k piece) (sym e)) filled.fills)
 
   -- a full piece
   pub filled_on : {old : S} {past : List (List ℕ)} (n : ℕ) → answer ≡ Ok n → piece_len ≤ n

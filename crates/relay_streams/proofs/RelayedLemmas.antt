@@ -26,7 +26,7 @@ use Rattle.termrelay.specs.declared.call.Reply.TheVariants.{Attached}
 use Rattle.relay_theorem.specs.History.{Story, size_of_story}
 use Rattle.relay_theorem.specs.Judge.{state_at, last_frame, judged, IsSure}
 use Rattle.relay_theorem.specs.Laws.{AreAnswered}
-use Rattle.relay_theorem.proofs.HistoryLemmas.{sessions-told}
+use Rattle.relay_theorem.proofs.HistoryLemmas.{sessions-reported}
 use Rattle.relay_theorem.proofs.HeadlineLemmas.{IsDue, behind, held, overlong, unsure, full, difference, unchanged}
 use Rattle.relay_theorem.proofs.HeadlineLemmas.{answer-due, IsReady, last-judged, wholes-shown}
 use Rattle.relay_streams.specs.Sessions.{relay_calls, IsRelayed, has_overlong}
@@ -53,22 +53,22 @@ answered-ready rows cols bytes base ended fits =
     due-ready z s base (answer_for s (idle base)) (answer-due z s base [] refl) ended fits
 
 -- the last piece
-last-piece : (ns bytes : List ℕ) → (front : List (List ℕ)) × (p : List ℕ) × (cut_by ns bytes ≡ front ++ p ∷ [])
+last-piece : (ns bytes : List ℕ) → (prefix : List (List ℕ)) × (p : List ℕ) × (cut_by ns bytes ≡ prefix ++ p ∷ [])
 last-piece [] bytes = ([], bytes, refl)
 last-piece (n ∷ ns) bytes =
     let rest = last-piece ns (drop n bytes) in
     (take n bytes ∷ rest.0, rest.1, ap (λ (ps : List (List ℕ)). take n bytes ∷ ps) rest.2)
 
 -- the last one of some answers
-fits-last : (rows cols : ℕ) (front : List (List ℕ)) (p : List ℕ)
-    → list_any is_overlong (answers_of rows cols (front ++ p ∷ [])) ≡ false
-    → is_overlong (answered rows cols (concat (front ++ p ∷ [])) (base_of rows cols front)) ≡ false
-fits-last rows cols front p fits =
-    let last = answered rows cols (concat (front ++ p ∷ [])) (base_of rows cols front) in
-    let all = sym (list_any-append is_overlong (answers_of rows cols front) (last ∷ []))
-    ∙ ap (λ (xs : List Answer). list_any is_overlong xs) (sym (answers-more rows cols front (p ∷ []))) ∙ fits in
+fits-last : (rows cols : ℕ) (prefix : List (List ℕ)) (p : List ℕ)
+    → list_any is_overlong (answers_of rows cols (prefix ++ p ∷ [])) ≡ false
+    → is_overlong (answered rows cols (concat (prefix ++ p ∷ [])) (base_of rows cols prefix)) ≡ false
+fits-last rows cols prefix p fits =
+    let last = answered rows cols (concat (prefix ++ p ∷ [])) (base_of rows cols prefix) in
+    let all = sym (list_any-append is_overlong (answers_of rows cols prefix) (last ∷ []))
+    ∙ ap (λ (xs : List Answer). list_any is_overlong xs) (sym (answers-more rows cols prefix (p ∷ []))) ∙ fits in
     (or_parts (is_overlong last) false
-    (or_parts (list_any is_overlong (answers_of rows cols front)) (list_any is_overlong (last ∷ [])) all).1).0
+    (or_parts (list_any is_overlong (answers_of rows cols prefix)) (list_any is_overlong (last ∷ [])) all).1).0
 
 -- what is judged of all that is relayed is what the input makes
 relayed-judged : (rows cols key : ℕ) (input : List ℕ) (t : Story) → IsRelayed rows cols key (pieces_of input) t
@@ -78,24 +78,24 @@ relayed-judged : (rows cols key : ℕ) (input : List ℕ) (t : Story) → IsRela
     × (judged rows cols (last_frame None t.entries) ≡ shown_state (state_after rows cols input))
 relayed-judged rows cols key input t r fits sure ended =
     let by = relayed-by rows cols key (pieces_of input) t r in
-    let told = sessions-told rows cols (relay_calls key (pieces_of input)) (Attached key ∷ r.replies) 0 t r.session in
+    let reported = sessions-reported rows cols (relay_calls key (pieces_of input)) (Attached key ∷ r.replies) 0 t r.session in
     let cut = last-piece (replicate (length input / piece_len) piece_len) input in
-    let front = cut.0 in
-    let all = front ++ cut.1 ∷ [] in
-    let base = base_of rows cols front in
+    let prefix = cut.0 in
+    let all = prefix ++ cut.1 ∷ [] in
+    let base = base_of rows cols prefix in
     let e = entry_at rows cols all base in
     let whole : concat all ≡ input = ap concat (sym cut.2) ∙ concat-pieces input in
     let made : state_at rows cols e ≡ state_after rows cols input =
     pieces-make rows cols all ∙ ap (state_after rows cols) whole in
-    let entries : t.entries ≡ entries_after rows cols front ++ e ∷ [] =
-    by.entries ∙ ap (entries_after rows cols) cut.2 ∙ entries-more rows cols [] None front (cut.1 ∷ []) in
-    let last = fits-last rows cols front cut.1
+    let entries : t.entries ≡ entries_after rows cols prefix ++ e ∷ [] =
+    by.entries ∙ ap (entries_after rows cols) cut.2 ∙ entries-more rows cols [] None prefix (cut.1 ∷ []) in
+    let last = fits-last rows cols prefix cut.1
     (ap (λ (ps : List (List ℕ)). list_any is_overlong (answers_of rows cols ps)) (sym cut.2)
     ∙ sym (overlong-of rows cols key (pieces_of input) t r) ∙ fits) in
     let ready = answered-ready rows cols (concat all) base
     (ap (λ (xs : List ℕ). (state_after rows cols xs).updating) whole ∙ ended) last in
-    let now = last-judged rows cols (size_of_story t) told.height told.width (entries_after rows cols front) e
-    (subst (AreAnswered rows cols (size_of_story t) None) entries told.entries) ready
+    let now = last-judged rows cols (size_of_story t) reported.height reported.width (entries_after rows cols prefix) e
+    (subst (AreAnswered rows cols (size_of_story t) None) entries reported.entries) ready
     (ap (λ (s : State). is_unsure (size_of_story t) (shown_state s)) made
     ∙ ap (λ (z : Size). is_unsure z (shown_state (state_after rows cols input))) by.size ∙ sure) in
     subst (λ es. IsSure (last_frame None es)

@@ -12,8 +12,8 @@ use Rattle.screen_model.specs.State.{State}
 use Rattle.screen_model.specs.Made.{Act, Fed, made}
 use Rattle.screen_model.specs.Holds.{IsSide, IsAct}
 use Rattle.screen_model.proofs.MadeLemmas.{makes-last_size}
-use Rattle.takers.specs.Pump.{Pumps, all, some}
-use Rattle.takers.proofs.PumpLaws.{takes-all}
+use Rattle.byte_sinks.specs.Pump.{Pumps, all, some}
+use Rattle.byte_sinks.proofs.PumpLaws.{takes-all}
 use Rattle.termrelay.specs.Frame.{frame_text}
 use Rattle.termrelay.specs.Answers.{ClientState, answer_for, after_answer, is_frame}
 use Rattle.termrelay.specs.Hub.{HubState, screen_in, size_in, shown_in, is_failed, with_client, new_client, Feeds}
@@ -23,17 +23,17 @@ use Rattle.termrelay.specs.declared.call.Take.{Take}
 use Rattle.termrelay.specs.declared.call.Reply.{Reply}
 use Rattle.termrelay.specs.declared.call.Reply.TheVariants.{Done, Attached, Answered, Refused}
 use Rattle.termrelay.specs.declared.error.HubError.{HubError}
-use Rattle.termrelay.specs.Calls.{Feed, Attach, Frame, Pump, WritesAsTold, taken_by, done, replied, Serves}
+use Rattle.termrelay.specs.Calls.{Feed, Attach, Frame, Pump, WritesAsReported, taken_by, done, replied, Serves}
 use Rattle.termrelay.specs.Log.{change_last, begun, grown, bytes_taken}
 use Rattle.termrelay.proofs.ScriptLemmas.{pumped-left}
-use Rattle.relay_theorem.specs.History.{Past, as_told, fresh, Entry, Story, size_of_story, is_on, with_session}
-use Rattle.relay_theorem.specs.History.{with_entries, entries_of, stories_after, RunsTold}
+use Rattle.relay_theorem.specs.History.{Past, as_reported, fresh, Entry, Story, size_of_story, is_on, with_session}
+use Rattle.relay_theorem.specs.History.{with_entries, entries_of, stories_after, RunsReported}
 use Rattle.relay_theorem.specs.Judge.{texts, IsShownRight}
 use Rattle.relay_theorem.specs.Headline.{last_read}
 use Rattle.relay_theorem.proofs.HeadlineLemmas.{last-shown}
 use Rattle.relay_theorem.proofs.StoryLemmas.{at-key}
 use Rattle.termview.specs.Seen.{seen}
-use Rattle.relay_streams.specs.Laws.{RelayedFrontsAreShown}
+use Rattle.relay_streams.specs.Laws.{RelayedPrefixesAreShown}
 use Rattle.relay_streams.specs.Frames.{state_after, idle, answered, answer_on, asked, asked_on, is_overlong}
 use Rattle.relay_streams.specs.Pieces.{pieces_of}
 use Rattle.relay_streams.specs.Shown.{sized}
@@ -50,7 +50,7 @@ not-refused r e is h = let no : true ≡ false = ap is_refused (sym is) ∙ h in
 
 -- ---- the hub after some pieces
 
-abbrev put : HubState as_told → ℕ → Option ClientState → HubState as_told
+abbrev put : HubState as_reported → ℕ → Option ClientState → HubState as_reported
 put h key slot = record h { clients = with_client h.clients key slot }
 
 one-by : (f : Story → Story) (t : Story) (b : Bool) → b ≡ true → (if b then f t ∷ [] else t ∷ []) ≡ f t ∷ []
@@ -72,14 +72,14 @@ owed-text : (z : Size) (now : Shown) (base : Option Shown) (frame : Bool)
 owed-text z now base true = refl
 owed-text z now base false = refl
 
-pump-whole : (owed : List ℕ) → (n : ℕ) × Pumps WritesAsTold [] owed (Ok tt) n []
+pump-whole : (owed : List ℕ) → (n : ℕ) × Pumps WritesAsReported [] owed (Ok tt) n []
 pump-whole [] = (0, all)
 pump-whole (x ∷ xs) =
     let owed : List ℕ = x ∷ xs in
     let whole : drop (length owed) owed ≡ [] = drop_all (length owed) owed (omega arith) in (
       min (length owed) (length owed) + 0,
       some [] (length owed) 0 (λ no. absurd (cc)) (omega arith) (refl, refl)
-          (subst (λ ys. Pumps WritesAsTold [] ys (Ok tt) 0 []) (sym whole) all),
+          (subst (λ ys. Pumps WritesAsReported [] ys (Ok tt) 0 []) (sym whole) all),
     )
 
 module _ (rows cols key : ℕ) where
@@ -87,30 +87,30 @@ module _ (rows cols key : ℕ) where
   past_of past = record { rows = rows; cols = cols; acts = map Fed past; failed = false }
 
   -- these pieces have been fed, the client has this base and is owed nothing, and it has the only session
-  pub record IsAt (past : List (List ℕ)) (base : Option Shown) (h : HubState as_told) (t : Story) : Type 0 where
+  pub record IsAt (past : List (List ℕ)) (base : Option Shown) (h : HubState as_reported) (t : Story) : Type 0 where
     pub parser : h.parser ≡ past_of past
     pub client : h.clients key ≡ Some (idle base)
     pub on : is_on key t ≡ true
 
-  state-at : (past : List (List ℕ)) (h : HubState as_told) → h.parser ≡ past_of past
+  state-at : (past : List (List ℕ)) (h : HubState as_reported) → h.parser ≡ past_of past
       → (screen_in h).state ≡ state_after rows cols (concat past)
   state-at past h e =
       ap (λ (p : Past). made p.rows p.cols 0 p.acts) e ∙ pieces-make rows cols past
 
   -- a piece more is fed
-  fed-at : (past : List (List ℕ)) (p : List ℕ) (h g : HubState as_told) → h.parser ≡ past_of past
+  fed-at : (past : List (List ℕ)) (p : List ℕ) (h g : HubState as_reported) → h.parser ≡ past_of past
       → g.parser ≡ record (h.parser) { acts = h.parser.acts ++ Fed p ∷ [] } → g.parser ≡ past_of (past ++ p ∷ [])
   fed-at past p h g e f =
       f ∙ ap (λ (q : Past). record q { acts = q.acts ++ Fed p ∷ [] }) e
       ∙ ap (λ (acts : List Act). record (past_of past) { acts = acts }) (sym (map-append Fed past (p ∷ [])))
 
   -- the client once it has asked, and what it is answered
-  asked-at : (past : List (List ℕ)) (base : Option Shown) (g : HubState as_told) → g.parser ≡ past_of past
+  asked-at : (past : List (List ℕ)) (base : Option Shown) (g : HubState as_reported) → g.parser ≡ past_of past
       → asked_on (screen_in g).state base ≡ asked rows cols (concat past) base
   unfolding asked
   asked-at past base g e = ap (λ (s : State). asked_on s base) (state-at past g e)
 
-  answered-at : (past : List (List ℕ)) (base : Option Shown) (g : HubState as_told) → g.parser ≡ past_of past
+  answered-at : (past : List (List ℕ)) (base : Option Shown) (g : HubState as_reported) → g.parser ≡ past_of past
       → answer_on (screen_in g).state base ≡ answered rows cols (concat past) base
   unfolding answered
   answered-at past base g e = ap (λ (s : State). answer_on s base) (state-at past g e)
@@ -122,12 +122,12 @@ module _ (rows cols key : ℕ) where
   with_answer e t = with_session (grown e.text) (with_entries (e ∷ []) t)
 
   -- where a turn leads, with which all these have been fed
-  pub record Turns (got : List (List ℕ)) (base : Option Shown) (t : Story) (g : HubState as_told) (us : List Story)
+  pub record Turns (got : List (List ℕ)) (base : Option Shown) (t : Story) (g : HubState as_reported) (us : List Story)
       : Type 0 where
     pub are : us ≡ with_answer (entry_at rows cols got base) t ∷ []
     pub at : IsAt got (base_at rows cols got base) g (with_answer (entry_at rows cols got base) t)
 
-  module _ (got : List (List ℕ)) (base : Option Shown) (t : Story) (on : is_on key t ≡ true) (g k l : HubState as_told)
+  module _ (got : List (List ℕ)) (base : Option Shown) (t : Story) (on : is_on key t ≡ true) (g k l : HubState as_reported)
       (fed : g.parser ≡ past_of got) (client : g.clients key ≡ Some (idle base)) (answer : Answer)
       (is : answer ≡ answer_for (screen_in g).state (idle base))
       (put : Puts g key (Some (after_answer (size_in g) (shown_in g) (idle base) answer)) k) (reply : Reply)
@@ -150,9 +150,9 @@ module _ (rows cols key : ℕ) where
     unfolding c e
     text = owed-text (size_in g) (shown_in g) base (is_frame answer)
 
-    told : e ≡ entry_at rows cols got base
+    reported : e ≡ entry_at rows cols got base
     unfolding e
-    told =
+    reported =
         let moment = ap (λ (q : Past). q.acts) fed in
         let answers = is ∙ answered-at got base g fed in
         let texts = text ∙ ap (λ (d : ClientState). d.owed) after in
@@ -171,8 +171,8 @@ module _ (rows cols key : ℕ) where
         ∙ ap (λ (xs : List ℕ). Some (record c { owed = xs })) (drop_all (length c.owed) c.owed (omega arith))
 
     pump-parser : (o : Option ClientState) (result : Result (Unit {0}) HubError) (rest : List Take)
-        → PumpsFrom WritesAsTold k key o [] result rest l → l.parser ≡ k.parser
-    pump-parser None result rest f = ap (λ (x : HubState as_told). x.parser) f.2
+        → PumpsFrom WritesAsReported k key o [] result rest l → l.parser ≡ k.parser
+    pump-parser None result rest f = ap (λ (x : HubState as_reported). x.parser) f.2
     pump-parser (Some d) result rest (end, n, took, so, puts) = puts.0
 
     framed : stories_after g (Frame key) (Answered answer) (t ∷ []) ≡ with_entries (e ∷ []) t ∷ []
@@ -194,7 +194,7 @@ module _ (rows cols key : ℕ) where
         → Turns got base t l (stories_after k (Pump key []) reply (stories_after g (Frame key) (Answered answer) ts))
     turns ts are = record {
       are = ap (λ xs. stories_after k (Pump key []) reply (stories_after g (Frame key) (Answered answer) xs)) are
-          ∙ ap (stories_after k (Pump key []) reply) framed ∙ pumped ∙ ap (λ (x : Entry). with_answer x t ∷ []) told;
+          ∙ ap (stories_after k (Pump key []) reply) framed ∙ pumped ∙ ap (λ (x : Entry). with_answer x t ∷ []) reported;
       at = record {
         parser = pump-parser (k.clients key) pumps.0 pumps.1 pumps.2 ∙ put.0 ∙ fed;
         client = at-pump ∙ ap (λ (d : ClientState). Some (idle d.base)) after;
@@ -203,14 +203,14 @@ module _ (rows cols key : ℕ) where
     }
 
   -- whatever a turn's calls are answered, where none is refused
-  fed-by : (past : List (List ℕ)) (p : List ℕ) (h g : HubState as_told) (result : Result (Unit {0}) HubError)
+  fed-by : (past : List (List ℕ)) (p : List ℕ) (h g : HubState as_reported) (result : Result (Unit {0}) HubError)
       (reply : Reply) → h.parser ≡ past_of past → Feeds h p result g → reply ≡ done result → is_refused reply ≡ false
       → (g.parser ≡ past_of (past ++ p ∷ [])) × (g.clients ≡ h.clients)
   fed-by past p h g (Ok u) reply at f e ok = (fed-at past p h g at f.3, f.2)
   fed-by past p h g (Err x) reply at f e ok = absurd (not-refused reply x e ok)
 
   asked-by : (got : List (List ℕ)) (base : Option Shown) (t : Story) (on : is_on key t ≡ true)
-      (g k l : HubState as_told) → g.parser ≡ past_of got → g.clients key ≡ Some (idle base)
+      (g k l : HubState as_reported) → g.parser ≡ past_of got → g.clients key ≡ Some (idle base)
       → (result : Result Answer HubError) → CanFrame (screen_in g) (Some (idle base)) result
       → Framed g key (Some (idle base)) result k → (reply last : Reply) → reply ≡ replied Answered result
       → is_refused reply ≡ false → Serves k (Pump key []) last l → (ts : List Story) → ts ≡ t ∷ []
@@ -221,7 +221,7 @@ module _ (rows cols key : ℕ) where
   asked-by got base t on g k l fed client (Err x) can puts reply last e ok pumps ts are =
       absurd (not-refused reply x e ok)
 
-  turn-by : (past : List (List ℕ)) (p : List ℕ) (base : Option Shown) (t : Story) (h g k l : HubState as_told)
+  turn-by : (past : List (List ℕ)) (p : List ℕ) (base : Option Shown) (t : Story) (h g k l : HubState as_reported)
       (first reply last : Reply) (ts : List Story) → IsAt past base h t → ts ≡ t ∷ [] → is_refused first ≡ false
       → is_refused reply ≡ false → Serves h (Feed p) first g → Serves g (Frame key) reply k
       → Serves k (Pump key []) last l
@@ -271,9 +271,9 @@ module _ (rows cols key : ℕ) where
       story-pumped got next ps (with_answer e t)
       ∙ append_assoc t.session.pumped e.text (concat (frames_from rows cols got next ps))
 
-  ran-by : (past : List (List ℕ)) (base : Option Shown) (t : Story) (pieces : List (List ℕ)) (h k : HubState as_told)
+  ran-by : (past : List (List ℕ)) (base : Option Shown) (t : Story) (pieces : List (List ℕ)) (h k : HubState as_reported)
       (ts us : List Story) (replies : List Reply) → IsAt past base h t → ts ≡ t ∷ []
-      → list_any is_refused replies ≡ false → RunsTold h ts (turn_calls key pieces) replies k us
+      → list_any is_refused replies ≡ false → RunsReported h ts (turn_calls key pieces) replies k us
       → us ≡ story_from past base pieces t ∷ []
   ran-by past base t [] h k ts us [] at are ok run = run.1 ∙ are
   ran-by past base t [] h k ts us (r ∷ rs) at are ok run = absurd run
@@ -294,7 +294,7 @@ module _ (rows cols key : ℕ) where
   abbrev first : Story
   first = record { session = begun (fresh rows cols) key; entries = [] }
 
-  first-at : (result : Result ℕ HubError) (g : HubState as_told) → Attaches (fresh rows cols) result g
+  first-at : (result : Result ℕ HubError) (g : HubState as_reported) → Attaches (fresh rows cols) result g
       → Attached key ≡ replied Attached result → IsAt [] None g first
   first-at (Ok other) g f e =
       let same : other ≡ key = cc in
@@ -318,25 +318,25 @@ module _ (rows cols key : ℕ) where
   abbrev relayed : List (List ℕ) → Story
   relayed pieces = story_from [] None pieces first
 
-  told-by : (pieces : List (List ℕ)) (t : Story) (replies : List Reply) (h : HubState as_told) (ts : List Story)
+  reported-by : (pieces : List (List ℕ)) (t : Story) (replies : List Reply) (h : HubState as_reported) (ts : List Story)
       → list_any is_refused replies ≡ false
-      → RunsTold (fresh rows cols) [] (relay_calls key pieces) (Attached key ∷ replies) h ts → slice_get ts 0 ≡ Some t
+      → RunsReported (fresh rows cols) [] (relay_calls key pieces) (Attached key ∷ replies) h ts → slice_get ts 0 ≡ Some t
       → t ≡ relayed pieces
-  told-by pieces t replies h ts ok (g, is, (result, f, e), run) at =
+  reported-by pieces t replies h ts ok (g, is, (result, f, e), run) at =
       let are = ran-by [] None first pieces g h (first ∷ []) ts replies (first-at result g f e) refl ok run in
       let same : Some t ≡ Some (relayed pieces) = sym at ∙ ap (λ xs. slice_get xs 0) are in cc
 
   -- ---- there is one
 
   -- a run of these pieces that no call refuses
-  pub record CanRelay (pieces : List (List ℕ)) (h : HubState as_told) (ts : List Story) : Type 0 where
+  pub record CanRelay (pieces : List (List ℕ)) (h : HubState as_reported) (ts : List Story) : Type 0 where
     pub replies : List Reply
-    pub hub : HubState as_told
+    pub hub : HubState as_reported
     pub stories : List Story
     pub ok : list_any is_refused replies ≡ false
-    pub run : RunsTold h ts (turn_calls key pieces) replies hub stories
+    pub run : RunsReported h ts (turn_calls key pieces) replies hub stories
 
-  relays-by : (past : List (List ℕ)) (base : Option Shown) (pieces : List (List ℕ)) (h : HubState as_told)
+  relays-by : (past : List (List ℕ)) (base : Option Shown) (pieces : List (List ℕ)) (h : HubState as_reported)
       (ts : List Story) → h.parser ≡ past_of past → h.clients key ≡ Some (idle base) → CanRelay pieces h ts
   relays-by past base [] h ts at client = record {
     replies = [];
@@ -347,7 +347,7 @@ module _ (rows cols key : ℕ) where
   }
   relays-by past base (p ∷ pieces) h ts at client =
       let live : is_failed h ≡ false = ap (λ (q : Past). q.failed) at in
-      let g : HubState as_told = record h { parser = record (h.parser) { acts = h.parser.acts ++ Fed p ∷ [] } } in
+      let g : HubState as_reported = record h { parser = record (h.parser) { acts = h.parser.acts ++ Fed p ∷ [] } } in
       let answer = answer_for (screen_in g).state (idle base) in
       let c = after_answer (size_in g) (shown_in g) (idle base) answer in
       let k = put g key (Some c) in
@@ -363,11 +363,11 @@ module _ (rows cols key : ℕ) where
       let pumps : Serves k (Pump key []) Done l = (
         Ok tt,
         [],
-        subst (λ (o : Option ClientState). PumpsFrom WritesAsTold k key o [] (Ok tt) [] l)
+        subst (λ (o : Option ClientState). PumpsFrom WritesAsReported k key o [] (Ok tt) [] l)
             (sym (at-key g.clients key (Some c))) (Ok tt, w.0, w.1, refl, (refl, refl)),
         refl,
       ) in
-      let none : drop w.0 c.owed ≡ [] = takes-all (List Take) WritesAsTold [] [] c.owed w.0 w.1 in
+      let none : drop w.0 c.owed ≡ [] = takes-all (List Take) WritesAsReported [] [] c.owed w.0 w.1 in
       let after : l.clients key ≡ Some (idle c.base) =
       at-key k.clients key (Some (record c { owed = drop w.0 c.owed }))
       ∙ ap (λ (xs : List ℕ). Some (record c { owed = xs })) none in
@@ -409,17 +409,17 @@ pub relays-are-sessions : EachRelayIsASession
 relays-are-sessions rows cols key pieces height width = one-relayed rows cols key pieces height width
 
 -- whichever it is, it has this
-pub record IsTold (rows cols : ℕ) (pieces : List (List ℕ)) (t : Story) : Type 0 where
+pub record IsReported (rows cols : ℕ) (pieces : List (List ℕ)) (t : Story) : Type 0 where
   pub size : size_of_story t ≡ sized rows cols
   pub entries : t.entries ≡ entries_after rows cols pieces
   pub pumped : t.session.pumped ≡ concat (frames_of rows cols pieces)
 
 pub relayed-by : (rows cols key : ℕ) (pieces : List (List ℕ)) (t : Story) → IsRelayed rows cols key pieces t
-    → IsTold rows cols pieces t
+    → IsReported rows cols pieces t
 relayed-by rows cols key pieces t r =
     let s = r.session in
     let one = first rows cols key in
-    let is = told-by rows cols key pieces t r.replies s.hub s.stories r.served s.ran s.is in
+    let is = reported-by rows cols key pieces t r.replies s.hub s.stories r.served s.ran s.is in
     record {
       size = ap (λ (u : Story). size_of_story u) is ∙ story-size rows cols key [] None pieces one
           ∙ first-size rows cols key s.height s.width;
@@ -496,7 +496,7 @@ ends-overlong rows cols pieces piece height width long =
       key = 0;
       story = one.0;
       is = one.1;
-      front = answers_of rows cols pieces;
+      prefix = answers_of rows cols pieces;
       answers = relayed-answers rows cols 0 got one.0 one.1 ∙ answers-more rows cols pieces (piece ∷ [])
           ∙ ap (λ (a : Answer). answers_of rows cols pieces ++ a ∷ [])
           (overlong-is (answered rows cols (concat got) (base_of rows cols pieces)) long);
@@ -539,8 +539,8 @@ relay-texts-are-one rows cols input a b r s = text-of rows cols input a r ∙ sy
 
 -- ---- any front of it
 
-pub fronts-shown : RelayedFrontsAreShown
-fronts-shown rows cols key parsed cut pieces t r reads =
+pub prefixes-shown : RelayedPrefixesAreShown
+prefixes-shown rows cols key parsed cut pieces t r reads =
     subst (λ (z : Size). IsShownRight rows cols (shown_of (seen z parsed)) (last_read t pieces))
     (relayed-by rows cols key cut t r).size
     (last-shown rows cols (relay_calls key cut) (Attached key ∷ r.replies) 0 t pieces parsed r.session reads)

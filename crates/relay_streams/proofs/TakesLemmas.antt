@@ -4,7 +4,7 @@ use Rattle.std.proofs.Common.{drop, refl, sym, ap, ◌∙◌, subst, inl, inr, a
 use Rattle.std.proofs.lemmas.Bool.{cases_lt}
 use Rattle.vte_types.specs.Call.{Call}
 use Rattle.vte.specs.Timeout.{Tick}
-use Rattle.vte.specs.Marks.{start_mark, end_mark, stands_at, NoneFrom, IsLast, IsFirstFrom}
+use Rattle.vte.specs.Marks.{start_mark, end_mark, is_found_at, NoneFrom, IsLast, IsFirstFrom}
 use Rattle.vte.specs.Stretch.{opens_in, OpensAt}
 use Rattle.vte.specs.Hold.{held_of, IsCut, Closes, Settles, keeps, replays, closes, Takes, parses, begins, settles}
 use Rattle.vte.specs.Hold.{overflows}
@@ -24,27 +24,27 @@ one_place i j a b =
     ]
 
 not_later : (mark text : List ℕ) (i j : ℕ) → IsLast mark text i → IsLast mark text j → i < j → ⊥
-not_later mark text i j a b lt = false_true (stands_at mark text j) (a.2 j (omega (arith, lt)) b.0) b.1
+not_later mark text i j a b lt = false_true (is_found_at mark text j) (a.2 j (omega (arith, lt)) b.0) b.1
 
 one_last : (mark text : List ℕ) (i j : ℕ) → IsLast mark text i → IsLast mark text j → i ≡ j
 one_last mark text i j a b = one_place i j (not_later mark text i j a b) (not_later mark text j i b a)
 
 not_sooner : (mark text : List ℕ) (from i j : ℕ) → IsFirstFrom mark text from i → IsFirstFrom mark text from j → i < j
     → ⊥
-not_sooner mark text from i j a b lt = false_true (stands_at mark text i) (b.3 i a.0 lt) a.2
+not_sooner mark text from i j a b lt = false_true (is_found_at mark text i) (b.3 i a.0 lt) a.2
 
 one_first : (mark text : List ℕ) (from i j : ℕ) → IsFirstFrom mark text from i → IsFirstFrom mark text from j → i ≡ j
 one_first mark text from i j a b =
     one_place i j (not_sooner mark text from i j a b) (not_sooner mark text from j i b a)
 
 none_last : (text : List ℕ) (e : ℕ) → NoneFrom end_mark text 0 → IsLast end_mark text e → ⊥
-none_last text e none last = false_true (stands_at end_mark text e) (none e (omega arith) last.0) last.1
+none_last text e none last = false_true (is_found_at end_mark text e) (none e (omega arith) last.0) last.1
 
 -- a text that is cut at a start mark isn't closed
 cut_open : (text : List ℕ) (n : ℕ) → IsCut text n → Closes text → ⊥
 cut_open text n (e, last, first) (e', last', none) =
     let same : e ≡ e' = one_last end_mark text e e' last last' in
-    false_true (stands_at start_mark text n) (none n (omega (arith, same, first.0)) first.1) first.2
+    false_true (is_found_at start_mark text n) (none n (omega (arith, same, first.0)) first.1) first.2
 
 one_cut : (text : List ℕ) (n m : ℕ) → IsCut text n → IsCut text m → n ≡ m
 one_cut text n m (e, last, first) (e', last', first') =

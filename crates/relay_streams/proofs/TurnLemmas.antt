@@ -10,15 +10,15 @@ use Rattle.screen_model.specs.State.{State}
 use Rattle.screen_model.specs.Call.{ScreenView}
 use Rattle.screen_model.specs.Made.{Act, Fed}
 use Rattle.screen_model.specs.Holds.{IsSide}
-use Rattle.vt100.specs.Parsing.{ParserStandsAt}
+use Rattle.vt100.specs.Parsing.{ParserIsAfter}
 use Rattle.termrelay.specs.Answers.{ClientState, after_answer}
-use Rattle.takers.specs.Pump.{Pumps}
+use Rattle.byte_sinks.specs.Pump.{Pumps}
 use Rattle.termrelay.specs.Hub.{HubState, as_kept, clients_in, new_client, size_in, shown_in, Puts, IsNewHub}
 use Rattle.termrelay.specs.Hub.{Attaches, Feeds, CanFrame, Framed, Frames, pump_answer, PumpsFrom, PumpsClient}
 use Rattle.termrelay.specs.declared.answer.Answer.{Answer}
 use Rattle.termrelay.specs.declared.error.HubError.{HubError}
 use Rattle.termrelay.specs.declared.error.HubError.TheVariants as hub
-use Rattle.takers.proofs.PumpLaws.{takes-all}
+use Rattle.byte_sinks.proofs.PumpLaws.{takes-all}
 use Rattle.relay_streams.specs.Frames.{idle, answered, answer_on, asked, asked_on, is_overlong, state_after}
 use Rattle.relay_streams.specs.Turns.{Relaying, fault_of, Turned}
 use Rattle.relay_streams.proofs.FrameLists.{pieces-make}
@@ -37,7 +37,7 @@ pub first-attached : (rows cols key : ℕ) (h g : HubState as_kept) → IsSide r
 first-attached rows cols key h g height width new at = record {
   height = height;
   width = width;
-  parser = subst (λ p. ParserStandsAt p rows cols 0 []) (sym at.2.0) new.parser;
+  parser = subst (λ p. ParserIsAfter p rows cols 0 []) (sym at.2.0) new.parser;
   client = at-key h g key (Some new_client) at.2;
 }
 
@@ -48,7 +48,7 @@ piece-fed : (rows cols : ℕ) (pieces : List (List ℕ)) (piece : List ℕ) (bas
 piece-fed rows cols pieces piece base h g key r f = record {
   height = r.height;
   width = r.width;
-  parser = subst (λ (acts : List Act). ParserStandsAt g.parser rows cols 0 acts) (sym (map-append Fed pieces (piece ∷ [])))
+  parser = subst (λ (acts : List Act). ParserIsAfter g.parser rows cols 0 acts) (sym (map-append Fed pieces (piece ∷ [])))
       (f.3 rows cols 0 (map Fed pieces) r.parser);
   client = ap (λ (c : ℕ → Option ClientState). c key) f.2 ∙ r.client;
 }
@@ -141,7 +141,7 @@ module _ (W : Type 0) (takes : W → List ℕ → Result ℕ Error → W → Typ
         record {
           height = a.fed.height;
           width = a.fed.width;
-          parser = subst (λ p. ParserStandsAt p rows cols 0 (map Fed all)) (sym (end.1 ∙ a.asked.0)) a.fed.parser;
+          parser = subst (λ p. ParserIsAfter p rows cols 0 (map Fed all)) (sym (end.1 ∙ a.asked.0)) a.fed.parser;
           client = end.2;
         },
       )

@@ -56,7 +56,7 @@ led_on old now new pieces piece led take =
             hold' = p.hold';
             leads = gives piece [] parsed hold p.parsed' p.hold' p.calls p.ticks p.parsed' p.hold' p.takes
                 (ends p.parsed' p.hold');
-            holds = t.stands;
+            holds = t.state_after;
             size = t.size;
           };
     })
@@ -68,7 +68,7 @@ shown_so fresh now z pieces at is led =
     let l = led.goes [] None at in
     let text : screen_text (view_size now) (shown_by now).cell
     ≡ screen_text (view_size now) (seen (view_size now) l.parsed').cell =
-    ap (λ (t : Term). screen_text (view_size now) t.cell) l.holds.stands.shows in
+    ap (λ (t : Term). screen_text (view_size now) t.cell) l.holds.state_after.shows in
     let sized_so : view_size now ≡ z = l.size ∙ is in
     record {
       parsed = l.parsed';

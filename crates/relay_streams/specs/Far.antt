@@ -11,10 +11,10 @@ use Rattle.termview.specs.declared.until_cleared.UntilCleared.{UntilCleared}
 use Rattle.termrelay.specs.Hub.{HubState}
 use Rattle.termrelay.specs.Log.{SessionView}
 use Rattle.termrelay.specs.declared.call.Reply.{Reply}
-use Rattle.relay_theorem.specs.History.{as_told, Entry, Story, size_of_session, size_of_story, fresh, RunsTold}
+use Rattle.relay_theorem.specs.History.{as_reported, Entry, Story, size_of_session, size_of_story, fresh, RunsReported}
 use Rattle.relay_theorem.specs.Judge.{texts, last_frame, last_whole, IsShownRight}
 use Rattle.relay_theorem.specs.Laws.{IsSession}
-use Rattle.relay_theorem.specs.Isolation.{is_starved}
+use Rattle.relay_theorem.specs.Isolation.{is_out_of_memory}
 use Rattle.termview.specs.Timeout.{until_cleared}
 use Rattle.relay_streams.specs.Pieces.{cut_by}
 
@@ -40,10 +40,10 @@ FoundIn ts n most cuts (Some v) = (t : Story) × (slice_get ts n ≡ Some t) × 
 pub record IsFarView (rows cols : ℕ) (calls : List Call) (n most : ℕ) (cuts : List ℕ)
     (found : Option (View UntilCleared)) : Type 0 where
   pub replies : List Reply
-  pub hub : HubState as_told
+  pub hub : HubState as_reported
   pub stories : List Story
-  pub ran : RunsTold (fresh rows cols) [] calls replies hub stories
-  pub fed : list_any is_starved replies ≡ false
+  pub ran : RunsReported (fresh rows cols) [] calls replies hub stories
+  pub fed : list_any is_out_of_memory replies ≡ false
   pub is : FoundIn stories n most cuts found
 
 -- the last frame that lies wholly in the bytes that are given
@@ -57,11 +57,11 @@ pub record ShowsJudged (rows cols : ℕ) (calls : List Call) (n most : ℕ) (v :
   pub replies : List Reply
   pub story : Story
   pub session : IsSession rows cols calls replies n story
-  pub fed : list_any is_starved replies ≡ false
+  pub fed : list_any is_out_of_memory replies ≡ false
   pub size : view_size v ≡ size_of_story story
   pub shows : IsShownRight rows cols (shown_of (shown_by v)) (last_given story most)
-  pub whole : (front back : List Entry) → story.entries ≡ front ++ back → take most story.session.pumped ≡ texts front
-      → IsShownRight rows cols (shown_of (shown_by v)) (last_frame None front)
+  pub whole : (prefix back : List Entry) → story.entries ≡ prefix ++ back → take most story.session.pumped ≡ texts prefix
+      → IsShownRight rows cols (shown_of (shown_by v)) (last_frame None prefix)
 
 -- such a view shows what the judge says of the last frame that lies wholly in the bytes that it was given, unless that
 -- one wasn't sure

@@ -65,7 +65,7 @@ pub record Filled {S : Type 0} (step : S → ℕ → Result (List ℕ) Error →
   pub bytes : List ℕ
   pub end : FillEnd
   pub fills : Fills step old room made bytes end new
-  pub front : take (length bytes) piece ≡ bytes
+  pub prefix : take (length bytes) piece ≡ bytes
   pub counted : after ≡ before + made
   pub most : before ≤ max_reads → CountsTo end after
   pub spent : max_reads ≤ before → made ≡ 0

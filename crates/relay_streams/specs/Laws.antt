@@ -8,7 +8,7 @@ use Rattle.termrelay.specs.Frame.{is_unsure}
 use Rattle.termview.specs.Seen.{seen}
 use Rattle.relay_theorem.specs.History.{Story}
 use Rattle.relay_theorem.specs.Judge.{IsShownRight}
-use Rattle.relay_theorem.specs.Headline.{ReadsFront, last_read}
+use Rattle.relay_theorem.specs.Headline.{ReadsPrefix, last_read}
 use Rattle.relay_streams.specs.Frames.{state_after}
 use Rattle.relay_streams.specs.Pieces.{pieces_of}
 use Rattle.relay_streams.specs.Sessions.{IsRelayed, IsRelayText}
@@ -26,9 +26,9 @@ WholeFramesArePrinted = (z : Size) (frames : List (List ℕ)) (text : List ℕ)
 
 -- Any prefix of what is relayed of some pieces, in whatever pieces it comes: a new view of the size, which has parsed so
 -- much of it, shows what the judge says of the last frame that lies wholly in it, unless that one wasn't sure.
-abbrev pub RelayedFrontsAreShown : Type 0
-RelayedFrontsAreShown = (rows cols key : ℕ) (parsed : List ℕ) (fed pieces : List (List ℕ)) (t : Story)
-    → IsRelayed rows cols key fed t → ReadsFront t.session.pumped pieces parsed
+abbrev pub RelayedPrefixesAreShown : Type 0
+RelayedPrefixesAreShown = (rows cols key : ℕ) (parsed : List ℕ) (fed pieces : List (List ℕ)) (t : Story)
+    → IsRelayed rows cols key fed t → ReadsPrefix t.session.pumped pieces parsed
     → IsShownRight rows cols (shown_of (seen (sized rows cols) parsed)) (last_read t pieces)
 
 -- what is relayed is printed, in whatever pieces it comes, as the text of the screen that the whole input makes, unless

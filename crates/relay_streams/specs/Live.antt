@@ -5,8 +5,8 @@ use Rattle.std.specs.List.{concat}
 use Rattle.std.specs.IoError.{error_kind}
 use Rattle.std.specs.declared.io.Error.{Error}
 use Rattle.std.specs.declared.io.ErrorKind.TheVariants.{Interrupted}
-use Rattle.takers.specs.Output.{TakesFront}
-use Rattle.takers.specs.Pump.{Pumps}
+use Rattle.byte_sinks.specs.Output.{TakesPrefix}
+use Rattle.byte_sinks.specs.Pump.{Pumps}
 use Rattle.relay_theorem.specs.History.{Story}
 use Rattle.relay_streams.specs.declared.error.RelayError.{RelayError}
 use Rattle.relay_streams.specs.declared.error.RelayError.TheVariants.{Read, Write, Memory, TooManyReads, FrameTooLong}
@@ -127,4 +127,4 @@ pub record TakesLive (rows cols : ℕ) (input : List ℕ) (before after : Option
   pub key : ℕ
   pub story : Story
   pub is : IsRelayed rows cols key pieces story
-  pub took : TakesFront before after story.session.pumped
+  pub took : TakesPrefix before after story.session.pumped

@@ -67,8 +67,8 @@ pub record EndsOverlong (rows cols : ℕ) (pieces : List (List ℕ)) : Type 0 wh
   pub key : ℕ
   pub story : Story
   pub is : IsRelayed rows cols key pieces story
-  pub front : List Answer
-  pub answers : answers_in story ≡ front ++ TooLong ∷ []
+  pub prefix : List Answer
+  pub answers : answers_in story ≡ prefix ++ TooLong ∷ []
 
 -- ---- laws
 

@@ -5,9 +5,9 @@ use Rattle.std.specs.declared.io.Error.{Error}
 use Rattle.screen_model.specs.Made.{Fed}
 use Rattle.screen_model.specs.Holds.{IsSide}
 use Rattle.terminal_model.specs.Term.{Shown}
-use Rattle.vt100.specs.Parsing.{ParserStandsAt}
+use Rattle.vt100.specs.Parsing.{ParserIsAfter}
 use Rattle.termrelay.specs.Hub.{HubState, as_kept, clients_in}
-use Rattle.takers.specs.Pump.{Pumps}
+use Rattle.byte_sinks.specs.Pump.{Pumps}
 use Rattle.termrelay.specs.declared.error.HubError.{HubError}
 use Rattle.termrelay.specs.declared.error.HubError.TheVariants as hub
 use Rattle.relay_streams.specs.declared.error.RelayError.{RelayError}
@@ -20,7 +20,7 @@ pub record Relaying (rows cols : ℕ) (pieces : List (List ℕ)) (base : Option 
     : Type 0 where
   pub height : IsSide rows
   pub width : IsSide cols
-  pub parser : ParserStandsAt h.parser rows cols 0 (map Fed pieces)
+  pub parser : ParserIsAfter h.parser rows cols 0 (map Fed pieces)
   pub client : clients_in h key ≡ Some (idle base)
 
 -- a hub's refusal, as a fault of the program: all but those of a writer are for want of memory

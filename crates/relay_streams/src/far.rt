@@ -3,7 +3,7 @@
 ghost use Rattle.std.specs.Prelude.{◌≡◌, Err, map, IfOk, IfSome, OnErr};
 ghost use Rattle.std.specs.List.{list_any};
 ghost use Rattle.termrelay.specs.Calls.{call_of};
-ghost use Rattle.relay_theorem.specs.Isolation.{is_starved as starved};
+ghost use Rattle.relay_theorem.specs.Isolation.{is_out_of_memory as out_of_memory};
 ghost use Rattle.relay_streams.specs.Far.{HasRead, HasReadFirst, IsFarView, ShowsJudged};
 ghost use Rattle.relay_streams.specs.Led.{Led};
 ghost use Rattle.relay_streams.specs.Pieces.{cut_by};
@@ -44,7 +44,7 @@ pub fn far_view(
     let mut hub = Hub::new(alloc, rows, cols)?;
     let mut log = Log::new(alloc);
     run(&mut hub, calls, &mut log)?;
-    if has_starved(log.replies()) {
+    if ran_out_of_memory(log.replies()) {
         return Err(RelayError::Memory);
     }
     match log.sessions().get(session) {
@@ -69,19 +69,19 @@ fn view_session(
 }
 
 // Whether there was no memory for one of the calls.
-fn has_starved(replies: &[Reply]) -> bool
-    ensures { result ≡ list_any starved replies.now }
+fn ran_out_of_memory(replies: &[Reply]) -> bool
+    ensures { result ≡ list_any out_of_memory replies.now }
 {
     for reply in replies {
-        if is_starved(reply) {
+        if is_out_of_memory(reply) {
             return true;
         }
     }
     false
 }
 
-fn is_starved(reply: &Reply) -> bool
-    ensures { result ≡ starved reply.now }
+fn is_out_of_memory(reply: &Reply) -> bool
+    ensures { result ≡ out_of_memory reply.now }
 {
     match reply {
         Reply::Refused(HubError::Memory) => true,

@@ -1,6 +1,6 @@
 //! Laws of what is shown, each as the contract of a function that does nothing.
 ghost use Rattle.relay_streams.specs.Far.{FarViewsShow};
-ghost use Rattle.relay_streams.specs.Laws.{RelayedFrontsAreShown, RelayedIsShown, TextsAreOne, WholeFramesArePrinted};
+ghost use Rattle.relay_streams.specs.Laws.{RelayedPrefixesAreShown, RelayedIsShown, TextsAreOne, WholeFramesArePrinted};
 ghost use Rattle.relay_streams.specs.Sessions.{EachRelayIsASession, EachRelayIsPumped, RelayedAreOne, RelayTextsAreOne};
 
 /// What `show` writes is a function of the size and of what it reads.
@@ -22,8 +22,8 @@ pub fn relayed_is_shown()
 /// Of any prefix of what `relay` or `relay_live` writes, in whatever pieces it comes, a view shows what the input's first
 /// pieces had made when the last frame was taken that lies wholly in it, or a blank screen: so where that screen showed no
 /// U+FE0F. So also where the relay ended since a frame would be too long.
-pub fn relayed_fronts_are_shown()
-    ensures { RelayedFrontsAreShown }
+pub fn relayed_prefixes_are_shown()
+    ensures { RelayedPrefixesAreShown }
 {}
 
 /// What a view of `far_view` shows is what the judge says of the calls and their replies: what the program's bytes and

@@ -13,12 +13,12 @@ mod relaying;
 mod showing;
 mod source;
 
+pub use byte_sinks::{ByteSink, FlushSink};
 pub use error::RelayError;
 pub use far::{far_view, view_of};
 pub use live::{LIVE_LEN, relay_live};
 pub use relaying::{is_overlong, relay};
 pub use showing::{print_view, show, write_view};
 pub use source::{PIECE_LEN, Source, fill};
-pub use takers::{Sink, Taker};
 pub use termrelay::{Call, Client, Take};
 pub use termview::{UntilCleared, View};

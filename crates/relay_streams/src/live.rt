@@ -9,10 +9,10 @@ ghost use Rattle.relay_streams.specs.Turns.{Relaying};
 use crate::error::RelayError;
 use crate::relaying::turn;
 use crate::source::{MAX_READS, Source};
+use byte_sinks::FlushSink;
 use std::alloc::Global;
 use std::io::ErrorKind;
 use std::num::NonZeroU16;
-use takers::Sink;
 use termrelay::{Client, Hub};
 
 /// Bytes that one read of a live input is given room for.
@@ -28,7 +28,7 @@ pub const LIVE_LEN: usize = 65_536;
 ///
 /// At most 2^40 reads are made; an interrupted one is tried again and counted. A fault ends it. What was written by then
 /// stays written.
-pub fn relay_live<S: Source, W: Sink>(
+pub fn relay_live<S: Source, W: FlushSink>(
     alloc: Global,
     rows: NonZeroU16,
     cols: NonZeroU16,
@@ -39,7 +39,7 @@ pub fn relay_live<S: Source, W: Sink>(
         output.new }
     ensures text { OnOk result (IfSome (S.left input.old) (λ bytes. (text : List ℕ)
         × IsLiveText rows.value cols.value bytes text × Appends (W.contents output.old) (W.contents output.new) text)) }
-    ensures front { IfSome (S.left input.old) (λ bytes.
+    ensures prefix { IfSome (S.left input.old) (λ bytes.
         TakesLive rows.value cols.value bytes (W.contents output.old) (W.contents output.new)) }
 {
     let mut hub = Hub::new(alloc, rows, cols)?;
@@ -48,7 +48,7 @@ pub fn relay_live<S: Source, W: Sink>(
 }
 
 // Reads the whole input, and has a turn with what each read gives.
-fn relay_reads<S: Source, W: Sink>(
+fn relay_reads<S: Source, W: FlushSink>(
     hub: &mut Hub,
     client: Client,
     input: &mut S,

@@ -3,7 +3,7 @@
 ghost use Rattle.std.specs.Prelude.{◌≡◌, ℕ, ◌++◌, ◌∷◌, [], List, true, Err, None, OnOk, Option, IfSome};
 ghost use Rattle.std.specs.Io.KnownBytes.{Appends};
 ghost use Rattle.terminal_model.specs.Term.{Shown};
-ghost use Rattle.takers.specs.Output.{TakesFront};
+ghost use Rattle.byte_sinks.specs.Output.{TakesPrefix};
 ghost use Rattle.relay_theorem.specs.History.{Story};
 ghost use Rattle.relay_streams.specs.Frames.{is_overlong as overlong};
 ghost use Rattle.relay_streams.specs.Pieces.{pieces_of};
@@ -14,9 +14,9 @@ ghost use Rattle.relay_streams.specs.declared.error.RelayError.TheVariants.{Fram
 
 use crate::error::RelayError;
 use crate::source::{PIECE_LEN, Source, fill};
+use byte_sinks::FlushSink;
 use std::alloc::Global;
 use std::num::NonZeroU16;
-use takers::Sink;
 use termrelay::{Answer, Client, Hub};
 
 /// Reads a program's output to its end, and writes frames of the screen of this size that it makes: after each full
@@ -29,7 +29,7 @@ use termrelay::{Answer, Client, Hub};
 ///
 /// Pieces are full however the reader cuts, and are read by at most 2^40 reads; an interrupted read is tried again and
 /// counted. A fault ends it. What was written by then stays written.
-pub fn relay<S: Source, W: Sink>(
+pub fn relay<S: Source, W: FlushSink>(
     alloc: Global,
     rows: NonZeroU16,
     cols: NonZeroU16,
@@ -40,9 +40,9 @@ pub fn relay<S: Source, W: Sink>(
         output.new }
     ensures text { OnOk result (IfSome (S.left input.old) (λ bytes. (text : List ℕ)
         × IsRelayText rows.value cols.value bytes text × Appends (W.contents output.old) (W.contents output.new) text)) }
-    ensures front { IfSome (S.left input.old) (λ bytes. (key : ℕ) (t : Story)
+    ensures prefix { IfSome (S.left input.old) (λ bytes. (key : ℕ) (t : Story)
         → IsRelayed rows.value cols.value key (pieces_of bytes) t
-        → TakesFront (W.contents output.old) (W.contents output.new) t.session.pumped) }
+        → TakesPrefix (W.contents output.old) (W.contents output.new) t.session.pumped) }
     ensures too_long { result ≡ Err FrameTooLong → IfSome (S.left input.old) (λ bytes. (key : ℕ) (t : Story)
         → IsRelayed rows.value cols.value key (pieces_of bytes) t → has_overlong t ≡ true) }
 {
@@ -56,7 +56,7 @@ pub fn relay<S: Source, W: Sink>(
 }
 
 // Reads the whole input in full pieces, and has a turn with each.
-fn relay_pieces<S: Source, W: Sink>(
+fn relay_pieces<S: Source, W: FlushSink>(
     hub: &mut Hub,
     client: Client,
     input: &mut S,
@@ -77,7 +77,7 @@ fn relay_pieces<S: Source, W: Sink>(
 }
 
 // Feeds a piece, and sends the frame that is then due.
-pub(crate) fn turn<W: Sink>(
+pub(crate) fn turn<W: FlushSink>(
     hub: &mut Hub,
     client: Client,
     piece: &[u8],

@@ -2,8 +2,8 @@
 
 ghost use Rattle.std.specs.Prelude.{◌≡◌, ℕ, List, OnOk, IfSome};
 ghost use Rattle.std.specs.Io.KnownBytes.{Appends};
-ghost use Rattle.takers.specs.Output.{TakesFront};
-ghost use Rattle.takers.specs.Sent.{SendsText};
+ghost use Rattle.byte_sinks.specs.Output.{TakesPrefix};
+ghost use Rattle.byte_sinks.specs.Sent.{SendsText};
 ghost use Rattle.termview.specs.Standing.{shown_by, view_size};
 ghost use Rattle.relay_streams.specs.Led.{Led};
 ghost use Rattle.relay_streams.specs.Pieces.{Drained, piece_len, pieces_of};
@@ -11,10 +11,10 @@ ghost use Rattle.relay_streams.specs.Shown.{IsTextShown, Prints, Shows, row_line
 
 use crate::error::RelayError;
 use crate::source::{PIECE_LEN, Source, fill};
+use byte_sinks::{ByteSink, FlushSink, pump};
 use std::alloc::Global;
 use std::io;
 use std::num::NonZeroU16;
-use takers::{Sink, Taker, pump};
 use termview::laws::until_cleared_is_exact;
 use termview::{UntilCleared, View};
 
@@ -24,7 +24,7 @@ use termview::{UntilCleared, View};
 ///
 /// The input is read in full pieces of 4,096 bytes, by at most 2^40 reads; an interrupted read is tried again and
 /// counted. A fault ends it. What was written by then stays written, and nothing is written before the input has ended.
-pub fn show<S: Source, W: Sink>(
+pub fn show<S: Source, W: FlushSink>(
     alloc: Global,
     rows: NonZeroU16,
     cols: NonZeroU16,
@@ -36,9 +36,9 @@ pub fn show<S: Source, W: Sink>(
     ensures text { OnOk result (IfSome (S.left input.old) (λ bytes. (text : List ℕ)
         × IsTextShown (sized rows.value cols.value) (pieces_of bytes) text
         × Appends (W.contents output.old) (W.contents output.new) text)) }
-    ensures front { IfSome (S.left input.old) (λ bytes. (text : List ℕ)
+    ensures prefix { IfSome (S.left input.old) (λ bytes. (text : List ℕ)
         → IsTextShown (sized rows.value cols.value) (pieces_of bytes) text
-        → TakesFront (W.contents output.old) (W.contents output.new) text) }
+        → TakesPrefix (W.contents output.old) (W.contents output.new) text) }
 {
     let mut view = View::new(alloc, rows, cols, UntilCleared::new())?;
     read_view(&mut view, input)?;
@@ -64,7 +64,7 @@ fn read_view<S: Source>(view: &mut View<UntilCleared>, input: &mut S) -> Result<
 
 /// Writes the text of each row of what the view shows, with a newline each, and flushes the output. A write that fails
 /// or takes nothing ends it, and what was taken by then stays written.
-pub fn print_view<W: Sink>(view: &View<UntilCleared>, output: &mut W) -> Result<(), RelayError>
+pub fn print_view<W: FlushSink>(view: &View<UntilCleared>, output: &mut W) -> Result<(), RelayError>
     ensures { Prints W.takes W.flushes output.old (screen_text (view_size view.now) (shown_by view.now).cell) result
         output.new }
 {
@@ -80,7 +80,7 @@ pub fn print_view<W: Sink>(view: &View<UntilCleared>, output: &mut W) -> Result<
 
 /// Writes the text of each row of what the view shows, and a newline after it. Any fault of a write ends it, and so does
 /// a write that takes nothing; what was taken by then stays written.
-pub fn write_view<T: Taker>(view: &View<UntilCleared>, output: &mut T) -> io::Result<()>
+pub fn write_view<T: ByteSink>(view: &View<UntilCleared>, output: &mut T) -> io::Result<()>
     ensures { SendsText T.takes output.old (screen_text (view_size view.now) (shown_by view.now).cell) result
         output.new }
 {
@@ -92,7 +92,7 @@ pub fn write_view<T: Taker>(view: &View<UntilCleared>, output: &mut T) -> io::Re
 }
 
 // Writes the text of a row and a newline.
-fn write_row<T: Taker>(view: &View<UntilCleared>, row: u16, output: &mut T) -> io::Result<()>
+fn write_row<T: ByteSink>(view: &View<UntilCleared>, row: u16, output: &mut T) -> io::Result<()>
     ensures { SendsText T.takes output.old (row_line (view_size view.now) (shown_by view.now).cell row) result
         output.new }
 {

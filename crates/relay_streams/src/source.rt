@@ -38,7 +38,7 @@ impl<R: Read> Source for R {
 
     ghost gives = { IsReadBy R.remaining };
 
-    ghost tells = { λ s room answer t told. told };
+    ghost tells = { λ s room answer t reported. reported };
 
     fn give(&mut self, room: &mut [u8]) -> io::Result<usize> {
         self.read(room)

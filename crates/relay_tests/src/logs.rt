@@ -21,7 +21,7 @@ fn attach_and_fail(rt: &impl Abort, hub: &mut Hub, log: &mut Log) -> Result<(), 
 
 /// The log tells so.
 fn check_log(rt: &impl Abort, log: &Log) {
-    let is_told = matches!(
+    let is_reported = matches!(
         log.replies(),
         [
             Reply::Attached(_),
@@ -30,7 +30,7 @@ fn check_log(rt: &impl Abort, log: &Log) {
             Reply::Done
         ]
     );
-    same_for(rt, &"replies", &is_told, &true);
+    same_for(rt, &"replies", &is_reported, &true);
     for session in log.sessions() {
         let size = (session.rows().get(), session.cols().get());
         let found = (size, session.pumped(), session.ended());

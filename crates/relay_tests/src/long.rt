@@ -89,9 +89,9 @@ fn check_shown(
 }
 
 /// Gives a view all but the last byte, which is answered.
-fn read_front<'a>(view: &mut View<UntilCleared>, frames: &'a [u8]) -> &'a [u8] {
-    let (front, last) = frames.split_at(frames.len().saturating_sub(1));
-    view.advance(front);
+fn read_prefix<'a>(view: &mut View<UntilCleared>, frames: &'a [u8]) -> &'a [u8] {
+    let (prefix, last) = frames.split_at(frames.len().saturating_sub(1));
+    view.advance(prefix);
     last
 }
 
@@ -101,7 +101,7 @@ fn check_longest(
     view: &mut View<UntilCleared>,
     frame: &[u8],
 ) -> Result<(), Fail> {
-    let last = read_front(view, frame);
+    let last = read_prefix(view, frame);
     check_shown(rt, view, (2_097_141, 0))?;
     view.advance(last);
     check_shown(rt, view, (0, CELLS))?;
@@ -249,9 +249,9 @@ fn many_lines(rt: &impl AllocGlobal, frames: &mut Vec<u8>) -> Result<(), Fail> {
 }
 
 /// Adds what a view shows of these bytes but the last one.
-fn show_front(rt: &impl AllocGlobal, frames: &[u8], text: &mut Vec<u8>) -> Result<(), Fail> {
+fn show_prefix(rt: &impl AllocGlobal, frames: &[u8], text: &mut Vec<u8>) -> Result<(), Fail> {
     with(new_view(rt.alloc(), (24, 80)), |view| {
-        read_front(view, frames);
+        read_prefix(view, frames);
         write_view(view, text)?;
         Ok(())
     })
@@ -269,7 +269,7 @@ fn check_rows(rt: &(impl Abort + AllocGlobal), text: &[u8], first: u16) -> Resul
 fn check_many(rt: &(impl Abort + AllocGlobal), frames: &[u8]) -> Result<(), Fail> {
     same_for(rt, &frames.len(), &(frames.len() > 3_800_000), &true);
     lend(Vec::new(rt.alloc()), |text| {
-        show_front(rt, frames, text)?;
+        show_prefix(rt, frames, text)?;
         check_rows(rt, text, 1_975)
     })
 }

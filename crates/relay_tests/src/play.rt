@@ -4,7 +4,7 @@ use crate::owners::new_hub;
 use crate::refusals::again::{again, new_hub as new_hub_again};
 use crate::same::same_for;
 use crate::seen::{Size, count, fault_of};
-use crate::sinks::Sink;
+use crate::sinks::FlushSink;
 use std::alloc::{AllocError, Global};
 use std::io::ErrorKind;
 use std::process::Abort;
@@ -66,7 +66,7 @@ struct Stage {
 
 /// What a call was answered.
 #[derive(Clone, Copy, Debug, Eq, PartialEq)]
-enum Told {
+enum Reported {
     Done,
     Attached(Client),
     Answered(Answer),
@@ -75,49 +75,49 @@ enum Told {
     Refused,
 }
 
-fn told_of(reply: &Reply) -> Told {
+fn reported_of(reply: &Reply) -> Reported {
     match reply {
-        Reply::Done => Told::Done,
-        Reply::Attached(client) => Told::Attached(*client),
-        Reply::Answered(answer) => Told::Answered(*answer),
-        Reply::Refused(HubError::Write(error)) => Told::Fault(error.kind()),
-        Reply::Refused(_) => Told::Refused,
+        Reply::Done => Reported::Done,
+        Reply::Attached(client) => Reported::Attached(*client),
+        Reply::Answered(answer) => Reported::Answered(*answer),
+        Reply::Refused(HubError::Write(error)) => Reported::Fault(error.kind()),
+        Reply::Refused(_) => Reported::Refused,
     }
 }
 
-fn told_done(answer: Result<(), HubError>) -> Told {
+fn reported_done(answer: Result<(), HubError>) -> Reported {
     match answer {
-        Ok(()) => Told::Done,
-        Err(_) => Told::Refused,
+        Ok(()) => Reported::Done,
+        Err(_) => Reported::Refused,
     }
 }
 
 /// Makes a call on a hub that isn't a pump.
-fn told_by(hub: &mut Hub, call: &Call<'_>) -> Told {
+fn reported_by(hub: &mut Hub, call: &Call<'_>) -> Reported {
     match call {
-        Call::Feed(bytes) => told_done(hub.feed(bytes)),
-        Call::Resize(rows, cols) => told_done(hub.resize(*rows, *cols)),
+        Call::Feed(bytes) => reported_done(hub.feed(bytes)),
+        Call::Resize(rows, cols) => reported_done(hub.resize(*rows, *cols)),
         Call::Attach => match hub.attach() {
-            Ok(client) => Told::Attached(client),
-            Err(_) => Told::Refused,
+            Ok(client) => Reported::Attached(client),
+            Err(_) => Reported::Refused,
         },
-        Call::Detach(client) => told_done(hub.detach(*client)),
+        Call::Detach(client) => reported_done(hub.detach(*client)),
         Call::Frame(client) => match hub.frame(*client) {
-            Ok(answer) => Told::Answered(answer),
-            Err(_) => Told::Refused,
+            Ok(answer) => Reported::Answered(answer),
+            Err(_) => Reported::Refused,
         },
-        Call::Pump(..) => Told::Refused,
+        Call::Pump(..) => Reported::Refused,
     }
 }
 
 /// Makes a call by a run. Where the log has no room nothing is done.
-fn told_by_run(hub: &mut Hub, log: &mut Log, call: &Call<'_>) -> Told {
+fn reported_by_run(hub: &mut Hub, log: &mut Log, call: &Call<'_>) -> Reported {
     match run(hub, slice::from_ref(call), log) {
         Ok(()) => match log.replies().last() {
-            Some(reply) => told_of(reply),
-            None => Told::Refused,
+            Some(reply) => reported_of(reply),
+            None => Reported::Refused,
         },
-        Err(_) => Told::Refused,
+        Err(_) => Reported::Refused,
     }
 }
 
@@ -172,28 +172,28 @@ impl Stage {
         }
     }
 
-    fn ask_once(&mut self, call: &Call<'_>) -> Told {
+    fn ask_once(&mut self, call: &Call<'_>) -> Reported {
         match self.way {
-            Way::Once | Way::Again => told_by(&mut self.hub, call),
-            Way::Logged => told_by_run(&mut self.hub, &mut self.log, call),
+            Way::Once | Way::Again => reported_by(&mut self.hub, call),
+            Way::Logged => reported_by_run(&mut self.hub, &mut self.log, call),
         }
     }
 
     /// Makes a call. Where it is refused, all clients are owed what they were before.
-    fn ask(&mut self, rt: &impl Abort, steps: &[Step], call: &Call<'_>) -> Told {
-        let told = self.ask_once(call);
-        if told != Told::Refused {
-            return told;
+    fn ask(&mut self, rt: &impl Abort, steps: &[Step], call: &Call<'_>) -> Reported {
+        let reported = self.ask_once(call);
+        if reported != Reported::Refused {
+            return reported;
         }
         self.check(rt, steps);
         if self.way == Way::Once {
-            return told;
+            return reported;
         }
         self.ask_once(call)
     }
 
     fn attach(&mut self, rt: &impl Abort, steps: &[Step], step: usize) -> Result<(), Fail> {
-        let Told::Attached(client) = self.ask(rt, steps, &Call::Attach) else {
+        let Reported::Attached(client) = self.ask(rt, steps, &Call::Attach) else {
             return Err("no client".into());
         };
         self.places.push(Place {
@@ -206,8 +206,8 @@ impl Stage {
     }
 
     fn resize(&mut self, rt: &impl Abort, steps: &[Step], rows: u16, cols: u16) {
-        let told = self.ask(rt, steps, &Call::Resize(count(rows), count(cols)));
-        same_for(rt, &(rows, cols), &told, &Told::Done);
+        let reported = self.ask(rt, steps, &Call::Resize(count(rows), count(cols)));
+        same_for(rt, &(rows, cols), &reported, &Reported::Done);
         for place in self.places.iter_mut() {
             place.has_ended = true;
         }
@@ -215,8 +215,8 @@ impl Stage {
 
     fn detach(&mut self, rt: &impl Abort, steps: &[Step], index: usize) {
         let place = self.place(index);
-        let told = self.ask(rt, steps, &Call::Detach(place.client()));
-        same_for(rt, &index, &told, &Told::Done);
+        let reported = self.ask(rt, steps, &Call::Detach(place.client()));
+        same_for(rt, &index, &reported, &Reported::Done);
         self.put(
             index,
             Place {
@@ -229,13 +229,13 @@ impl Stage {
     /// A client asks for a frame and gets this answer.
     fn frame(&mut self, rt: &impl Abort, steps: &[Step], index: usize, answer: Answer) {
         let call = Call::Frame(self.place(index).client());
-        let told = self.ask(rt, steps, &call);
-        same_for(rt, &index, &told, &Told::Answered(answer));
+        let reported = self.ask(rt, steps, &call);
+        same_for(rt, &index, &reported, &Reported::Answered(answer));
     }
 
     /// A client is pumped to a writer of such room, and these bytes are wanted.
     fn pump_to(&mut self, rt: &impl Abort, client: Client, wanted: &'static [u8], room: usize) {
-        let mut sink = Sink { wanted, room };
+        let mut sink = FlushSink { wanted, room };
         let fault = fault_of(&self.hub.pump(client, &mut sink));
         let rest = wanted.get(room..).unwrap_or(b"");
         let wanted_fault = if rest.is_empty() {
@@ -250,21 +250,21 @@ impl Stage {
     fn pump_in_run(&mut self, rt: &impl Abort, index: usize, wanted: &'static [u8], room: usize) {
         let takes = [Take::Bytes(room), Take::Fault];
         let call = Call::Pump(self.place(index).client(), &takes);
-        let mut told = self.ask_once(&call);
-        if told == Told::Refused {
-            told = self.ask_once(&call);
+        let mut reported = self.ask_once(&call);
+        if reported == Reported::Refused {
+            reported = self.ask_once(&call);
         }
-        let wanted_told = if room < wanted.len() {
-            Told::Fault(ErrorKind::Other)
+        let wanted_reported = if room < wanted.len() {
+            Reported::Fault(ErrorKind::Other)
         } else {
-            Told::Done
+            Reported::Done
         };
         let taken = wanted.get(..room).unwrap_or(wanted);
         let is_logged = match self.log.sessions().get(index) {
             Some(session) => session.pumped().ends_with(taken),
             None => false,
         };
-        same_for(rt, &index, &(told, is_logged), &(wanted_told, true));
+        same_for(rt, &index, &(reported, is_logged), &(wanted_reported, true));
     }
 
     fn pump(&mut self, rt: &impl Abort, steps: &[Step], index: usize, room: usize) {
@@ -281,7 +281,7 @@ impl Stage {
 
     /// No call knows the client.
     fn check_unknown(&mut self, rt: &impl Abort, client: Client) {
-        let mut sink = Sink {
+        let mut sink = FlushSink {
             wanted: b"",
             room: 0,
         };
@@ -307,13 +307,13 @@ impl Stage {
 
     /// Feeds the hub. Where that is refused the hub has failed.
     fn feed(&mut self, rt: &impl Abort, steps: &[Step], bytes: &[u8]) {
-        let told = self.ask(rt, steps, &Call::Feed(bytes));
+        let reported = self.ask(rt, steps, &Call::Feed(bytes));
         let wanted = if self.hub.screen().failed() && self.way != Way::Once {
-            Told::Refused
+            Reported::Refused
         } else {
-            Told::Done
+            Reported::Done
         };
-        same_for(rt, &bytes, &told, &wanted);
+        same_for(rt, &bytes, &reported, &wanted);
     }
 
     fn take_all(&mut self, rt: &impl Abort, steps: &[Step]) -> Result<(), Fail> {

@@ -6,12 +6,12 @@ use std::io::{ErrorKind, Write};
 /// A writer that knows what it has to get. It takes at most 7 bytes a write, and so many in all; then it fails. It fails
 /// otherwise where it gets what isn't wanted next.
 #[derive(Drop)]
-pub struct Sink {
+pub struct FlushSink {
     pub wanted: &'static [u8],
     pub room: usize,
 }
 
-impl Write for Sink {
+impl Write for FlushSink {
     fn write(&mut self, buf: &[u8]) -> io::Result<usize> {
         let count = buf.len().min(self.room).min(7);
         if count == 0 {

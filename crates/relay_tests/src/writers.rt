@@ -34,12 +34,12 @@ fn check_pump(
     let client = hub.attach()?;
     hub.frame(client)?;
     let found = fault_of(&hub.pump(client, slow));
-    let (front, rest) = BLANK.split_at(taken.min(BLANK.len()));
+    let (prefix, rest) = BLANK.split_at(taken.min(BLANK.len()));
     same_for(
         rt,
         &limit,
         &(found, slow.writes, slow.kept.as_slice()),
-        &(fault, writes, front),
+        &(fault, writes, prefix),
     );
     same_for(rt, &limit, &hub.owed(client).ok(), &Some(rest));
     Ok(())

@@ -11,12 +11,12 @@ use Rattle.termrelay.specs.declared.call.Reply.{Reply}
 use Rattle.termrelay.specs.declared.call.Reply.TheVariants.{Done, Attached, Answered}
 use Rattle.termrelay.specs.Hub.{HubState, screen_in, with_client, new_client, no_clients, CanFrame, Framed}
 use Rattle.termrelay.specs.Hub.{DetachesFrom, PumpsFrom, pump_answer}
-use Rattle.termrelay.specs.Calls.{Feed, Resize, Attach, Detach, Frame, Pump, IsCall, WritesAsTold, done, Serves}
+use Rattle.termrelay.specs.Calls.{Feed, Resize, Attach, Detach, Frame, Pump, IsCall, WritesAsReported, done, Serves}
 use Rattle.termrelay.specs.Log.{begun}
-use Rattle.termrelay.proofs.ScriptLemmas.{taken-as-told}
-use Rattle.relay_theorem.specs.History.{as_told, Story, stories_after, RunsTold}
-use Rattle.relay_theorem.specs.Isolation.{is_starved, Own, Acts, Comes, Asks, Pumped, Leaves, own_then, own_of}
-use Rattle.relay_theorem.specs.Isolation.{own_calls, alone, EachSessionStandsAlone}
+use Rattle.termrelay.proofs.ScriptLemmas.{taken-as-reported}
+use Rattle.relay_theorem.specs.History.{as_reported, Story, stories_after, RunsReported}
+use Rattle.relay_theorem.specs.Isolation.{is_out_of_memory, Own, Acts, Comes, Asks, Pumped, Leaves, own_then, own_of}
+use Rattle.relay_theorem.specs.Isolation.{own_calls, alone, EachSessionIsIsolated}
 use Rattle.relay_theorem.proofs.StoryLemmas.{at-key}
 use Rattle.relay_theorem.proofs.CallLemmas.{left_in}
 use Rattle.relay_theorem.proofs.HistoryLemmas.{IsKept, fed-kept, resized-kept, attached-kept, fresh-kept, run-went}
@@ -25,35 +25,35 @@ use Rattle.relay_theorem.proofs.OwnLemmas.{CanCome, Lives}
 use Rattle.relay_theorem.proofs.OwnRunLemmas.{EndsAs, lives-run, session-found}
 
 -- a pump with any result didn't fail for want of memory
-pump-fed : (end : Result (Unit {0}) Error) → is_starved (done (pump_answer end)) ≡ false
+pump-fed : (end : Result (Unit {0}) Error) → is_out_of_memory (done (pump_answer end)) ≡ false
 pump-fed (Ok u) = refl
 pump-fed (Err e) = refl
 
 module _ (rows cols key : ℕ) where
-  abbrev hub_at : List Act → (ℕ → Option ClientState) → HubState as_told
+  abbrev hub_at : List Act → (ℕ → Option ClientState) → HubState as_reported
   hub_at acts clients = record { parser = past rows cols acts; clients = clients }
 
   -- ---- from its coming on
 
   -- these can be made at the key, and are then the session's own
-  pub record CanGoOn (h : HubState as_told) (ts : List Story) (owns : List Own) : Type 0 where
+  pub record CanGoOn (h : HubState as_reported) (ts : List Story) (owns : List Own) : Type 0 where
     pub replies : List Reply
-    pub hub : HubState as_told
+    pub hub : HubState as_reported
     pub stories : List Story
-    pub fed : list_any is_starved replies ≡ false
-    pub run : RunsTold h ts (map (alone key) owns) replies hub stories
+    pub fed : list_any is_out_of_memory replies ≡ false
+    pub run : RunsReported h ts (map (alone key) owns) replies hub stories
     pub same : own_of key (map (alone key) owns) replies ≡ owns
 
   own-first : (own : Own) (later : List Own)
       → own_then (if key == key then Some own else None) later ≡ own_then (Some own) later
   own-first own later = ap (λ b. own_then (if b then Some own else None) later) (eq-eqb key key refl)
 
-  none-more : (h : HubState as_told) (ts : List Story) → CanGoOn h ts []
+  none-more : (h : HubState as_reported) (ts : List Story) → CanGoOn h ts []
   none-more h ts = record { replies = []; hub = h; stories = ts; fed = refl; run = (refl, refl); same = refl }
 
   -- one of them first
-  one-more : (h g : HubState as_told) (ts : List Story) (own : Own) (owns : List Own) (reply : Reply)
-      → IsCall (alone key own) → Serves h (alone key own) reply g → is_starved reply ≡ false
+  one-more : (h g : HubState as_reported) (ts : List Story) (own : Own) (owns : List Own) (reply : Reply)
+      → IsCall (alone key own) → Serves h (alone key own) reply g → is_out_of_memory reply ≡ false
       → (r : CanGoOn g (stories_after h (alone key own) reply ts) owns)
       → own_of key (map (alone key) (own ∷ owns)) (reply ∷ r.replies)
       ≡ own ∷ own_of key (map (alone key) owns) r.replies
@@ -62,7 +62,7 @@ module _ (rows cols key : ℕ) where
     replies = reply ∷ r.replies;
     hub = r.hub;
     stories = r.stories;
-    fed = ap (λ b. b || list_any is_starved r.replies) well ∙ r.fed;
+    fed = ap (λ b. b || list_any is_out_of_memory r.replies) well ∙ r.fed;
     run = (g, is, serves, r.run);
     same = same ∙ ap (λ xs. own ∷ xs) r.same;
   }
@@ -107,13 +107,13 @@ module _ (rows cols key : ℕ) where
       let serves : Serves h (Pump key takes) reply g = (
         pump_answer end,
         rest,
-        subst (λ (o : Option ClientState). PumpsFrom WritesAsTold h key o takes (pump_answer end) rest g) (sym at)
+        subst (λ (o : Option ClientState). PumpsFrom WritesAsReported h key o takes (pump_answer end) rest g) (sym at)
             (end, m, pumps, refl, (refl, refl)),
         refl,
       ) in
       let after : now key ≡ Some (left_in takes l.client) =
       at-key clients key (Some (left m))
-      ∙ ap (λ i. Some (left i)) (taken-as-told takes rest l.client.owed end m pumps) in
+      ∙ ap (λ i. Some (left i)) (taken-as-reported takes rest l.client.owed end m pumps) in
       let r = goes-on (lives rows cols l (Pumped takes)) owns now (stories_after h (Pump key takes) reply ts) can after in
       one-more h g ts (Pumped takes) owns reply tt serves (pump-fed end) r
       (own-first (Pumped takes) (own_of key (map (alone key) owns) r.replies))
@@ -132,13 +132,13 @@ module _ (rows cols key : ℕ) where
   -- ---- from the first act on
 
   -- these can be made where no session has come, and are then those of the first
-  pub record CanStart (h : HubState as_told) (owns : List Own) : Type 0 where
+  pub record CanStart (h : HubState as_reported) (owns : List Own) : Type 0 where
     pub replies : List Reply
-    pub hub : HubState as_told
+    pub hub : HubState as_reported
     pub stories : List Story
     pub story : Story
-    pub fed : list_any is_starved replies ≡ false
-    pub run : RunsTold h [] (map (alone key) owns) replies hub stories
+    pub fed : list_any is_out_of_memory replies ≡ false
+    pub run : RunsReported h [] (map (alone key) owns) replies hub stories
     pub is : slice_get stories 0 ≡ Some story
     pub same : own_calls 0 (map (alone key) owns) replies ≡ owns
 
@@ -201,7 +201,7 @@ module _ (rows cols key : ℕ) where
       }
   starts acts _ kept can = absurd can
 
-pub sessions-alone : EachSessionStandsAlone
+pub sessions-alone : EachSessionIsIsolated
 sessions-alone rows cols calls replies n t key s fed =
     let f = session-found rows cols calls replies n t s fed in
     let b = starts rows cols key [] (own_calls n calls replies) (fresh-kept rows cols s.height s.width) f.can in

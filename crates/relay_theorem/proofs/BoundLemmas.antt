@@ -8,9 +8,9 @@ use Rattle.termrelay.specs.Frame.{IsShortFrame}
 use Rattle.termrelay.specs.Answers.{ClientState, is_frame}
 use Rattle.termrelay.specs.Hub.{clients_in}
 use Rattle.relay_theorem.specs.History.{Entry, Story, size_of_story}
-use Rattle.relay_theorem.specs.Laws.{last_text, IsTold}
+use Rattle.relay_theorem.specs.Laws.{last_text, IsReported}
 use Rattle.relay_theorem.specs.Bounds.{EachSessionIsBounded, EachFrameFitsTheHold, NoSmallFrameIsTooLong}
-use Rattle.relay_theorem.proofs.HistoryLemmas.{sessions-told}
+use Rattle.relay_theorem.proofs.HistoryLemmas.{sessions-reported}
 use Rattle.relay_theorem.proofs.HeadlineLemmas.{entries-short, entries-fit, entries-made}
 
 -- the bytes owed are a suffix of the last frame's text
@@ -29,7 +29,7 @@ owed-short : (z : Size) (read owed last : List ℕ) → read ++ owed ≡ last �
 owed-short z read owed last is h = omega (arith, length-append read owed, ap length is, h)
 
 -- the bytes that a session's client is owed
-client-short : (rows cols : ℕ) (clients : ℕ → Option ClientState) (t : Story) → IsTold rows cols clients t
+client-short : (rows cols : ℕ) (clients : ℕ → Option ClientState) (t : Story) → IsReported rows cols clients t
     → AllByRecursion (λ e. IsShortFrame (size_of_story t) e.text) t.entries → t.session.ended ≡ false
     → IfSome (clients t.session.client) (λ c. IsShortFrame (size_of_story t) c.owed)
 client-short rows cols clients t h short live =
@@ -42,7 +42,7 @@ client-short rows cols clients t h short live =
 
 pub sessions-bounded : EachSessionIsBounded
 sessions-bounded rows cols calls replies n t s =
-    let h = sessions-told rows cols calls replies n t s in
+    let h = sessions-reported rows cols calls replies n t s in
     let short = entries-short rows cols (size_of_story t) h.height h.width t.entries h.entries in
     (short, client-short rows cols (clients_in s.hub) t h short)
 
@@ -50,10 +50,10 @@ sessions-bounded rows cols calls replies n t s =
 
 pub frames-fit : EachFrameFitsTheHold
 frames-fit rows cols calls replies n t s =
-    let h = sessions-told rows cols calls replies n t s in
+    let h = sessions-reported rows cols calls replies n t s in
     entries-fit rows cols (size_of_story t) h.height h.width t.entries h.entries
 
 pub small-made : NoSmallFrameIsTooLong
 small-made rows cols calls replies n t s few =
-    let h = sessions-told rows cols calls replies n t s in
+    let h = sessions-reported rows cols calls replies n t s in
     entries-made rows cols (size_of_story t) h.height h.width few t.entries h.entries

@@ -3,7 +3,7 @@ use Rattle.std.proofs.Common.{◌≡◌, ◌∙◌, ℕ, true, List, [], ◌∷�
 use Rattle.std.proofs.Common.{Err, refl, sym, ap, subst}
 use Rattle.std.specs.declared.io.Error.{Error}
 use Rattle.screen_model.specs.Made.{Act, Fed, Resized}
-use Rattle.takers.specs.Pump.{Pumps}
+use Rattle.byte_sinks.specs.Pump.{Pumps}
 use Rattle.termrelay.specs.Answers.{ClientState, answer_for, after_answer}
 use Rattle.termrelay.specs.Hub.{HubState, screen_in, size_in, shown_in, with_client, new_client, no_clients, Feeds}
 use Rattle.termrelay.specs.Hub.{Resizes, Attaches, DetachesFrom, CanFrame, Framed, PumpsFrom}
@@ -13,26 +13,26 @@ use Rattle.termrelay.specs.declared.call.Reply.{Reply}
 use Rattle.termrelay.specs.declared.call.Reply.TheVariants.{Done, Attached, Answered, Refused}
 use Rattle.termrelay.specs.declared.error.HubError.{HubError}
 use Rattle.termrelay.specs.declared.error.HubError.TheVariants as hub
-use Rattle.termrelay.specs.Calls.{Call, Feed, Resize, Attach, Detach, Frame, Pump, WritesAsTold, taken_by, done}
+use Rattle.termrelay.specs.Calls.{Call, Feed, Resize, Attach, Detach, Frame, Pump, WritesAsReported, taken_by, done}
 use Rattle.termrelay.specs.Calls.{replied, Serves}
-use Rattle.termrelay.proofs.ScriptLemmas.{taken-as-told}
-use Rattle.relay_theorem.specs.History.{as_told}
+use Rattle.termrelay.proofs.ScriptLemmas.{taken-as-reported}
+use Rattle.relay_theorem.specs.History.{as_reported}
 use Rattle.relay_theorem.proofs.StoryLemmas.{put}
 
 -- ---- what is done
 
 -- the program's screen goes on by an act, and the clients are these
-abbrev pub acted : HubState as_told → Act → (ℕ → Option ClientState) → HubState as_told
+abbrev pub acted : HubState as_reported → Act → (ℕ → Option ClientState) → HubState as_reported
 acted h act clients = record { parser = record (h.parser) { acts = h.parser.acts ++ act ∷ [] }; clients = clients }
 
 -- the hub has failed
-abbrev pub broken : HubState as_told → HubState as_told
+abbrev pub broken : HubState as_reported → HubState as_reported
 broken h = record h { parser = record (h.parser) { failed = true } }
 
 -- a writer that is told of so can end a pump of these bytes
 abbrev pub CanPump : List Take → List ℕ → Type 0
 CanPump takes owed =
-    (end : Result (Unit {0}) Error) × (n : ℕ) × (rest : List Take) × Pumps WritesAsTold takes owed end n rest
+    (end : Result (Unit {0}) Error) × (n : ℕ) × (rest : List Take) × Pumps WritesAsReported takes owed end n rest
 
 -- and leaves a client this
 abbrev pub left_in : List Take → ClientState → ClientState
@@ -46,7 +46,7 @@ IsIdle (Pump key takes) e = ⊥
 IsIdle call e = Unit {0}
 
 -- a hub h gets this call, gives this reply, and is this one then
-pub data Does (h : HubState as_told) : Call → Reply → HubState as_told → Type 0 where
+pub data Does (h : HubState as_reported) : Call → Reply → HubState as_reported → Type 0 where
   refuses : (call : Call) (e : HubError) → IsIdle call e → Does h call (Refused e) h
   feeds : (bytes : List ℕ) → Does h (Feed bytes) Done (acted h (Fed bytes) h.clients)
   fails : (bytes : List ℕ) → Does h (Feed bytes) (Refused hub.Memory) (broken h)
@@ -62,11 +62,11 @@ pub data Does (h : HubState as_told) : Call → Reply → HubState as_told → T
       → CanPump takes c.owed → Does h (Pump key takes) reply (put h key (Some (left_in takes c)))
   misses : (key : ℕ) (takes : List Take) (reply : Reply) → h.clients key ≡ None → Does h (Pump key takes) reply h
 
-module _ (h g : HubState as_told) where
-  same-hub : (k : HubState as_told) → g.parser ≡ k.parser → g.clients ≡ k.clients → g ≡ k
+module _ (h g : HubState as_reported) where
+  same-hub : (k : HubState as_reported) → g.parser ≡ k.parser → g.clients ≡ k.clients → g ≡ k
   same-hub k p c = λ i. record { parser = p i; clients = c i }
 
-  becomes : (call : Call) (reply : Reply) (k : HubState as_told) → Does h call reply k → g.parser ≡ k.parser
+  becomes : (call : Call) (reply : Reply) (k : HubState as_reported) → Does h call reply k → g.parser ≡ k.parser
       → g.clients ≡ k.clients → Does h call reply g
   becomes call reply k does p c = subst (Does h call reply) (sym (same-hub k p c)) does
 
@@ -122,12 +122,12 @@ module _ (h g : HubState as_told) where
       (declines key e (subst (λ o. CanFrame (screen_in h) o (Err e)) (sym at) can)) f
 
   pump-does : (key : ℕ) (takes rest : List Take) (o : Option ClientState) (result : Result (Unit {0}) HubError)
-      (reply : Reply) → h.clients key ≡ o → PumpsFrom WritesAsTold h key o takes result rest g
+      (reply : Reply) → h.clients key ≡ o → PumpsFrom WritesAsReported h key o takes result rest g
       → Does h (Pump key takes) reply g
   pump-does key takes rest None result reply at f = stays (Pump key takes) reply (misses key takes reply at) f.2
   pump-does key takes rest (Some c) result reply at (end, n, took, is, puts) =
       let left : Some (record c { owed = drop n c.owed }) ≡ Some (left_in takes c) =
-      ap (λ m. Some (record c { owed = drop m c.owed })) (taken-as-told takes rest c.owed end n took) in
+      ap (λ m. Some (record c { owed = drop m c.owed })) (taken-as-reported takes rest c.owed end n took) in
       becomes (Pump key takes) reply (put h key (Some (left_in takes c)))
       (pumps key takes reply c at (end, n, rest, took)) puts.0
       (puts.1 ∙ ap (λ slot. with_client h.clients key slot) left)
@@ -146,16 +146,16 @@ module _ (h g : HubState as_told) where
       pump-does key takes rest (h.clients key) result reply refl f
 
 -- the hub after it, by the call and the reply
-module _ (h : HubState as_told) where
-  abbrev pub answered_by : ℕ → Answer → Option ClientState → HubState as_told
+module _ (h : HubState as_reported) where
+  abbrev pub answered_by : ℕ → Answer → Option ClientState → HubState as_reported
   answered_by key answer None = h
   answered_by key answer (Some c) = put h key (Some (after_answer (size_in h) (shown_in h) c answer))
 
-  abbrev pub pumped_by : ℕ → List Take → Option ClientState → HubState as_told
+  abbrev pub pumped_by : ℕ → List Take → Option ClientState → HubState as_reported
   pumped_by key takes None = h
   pumped_by key takes (Some c) = put h key (Some (left_in takes c))
 
-  abbrev pub hub_after : Call → Reply → HubState as_told
+  abbrev pub hub_after : Call → Reply → HubState as_reported
   hub_after (Feed bytes) Done = acted h (Fed bytes) h.clients
   hub_after (Feed bytes) (Refused hub.Memory) = broken h
   hub_after (Resize rows cols) Done = acted h (Resized rows cols) no_clients
@@ -165,7 +165,7 @@ module _ (h : HubState as_told) where
   hub_after (Pump key takes) reply = pumped_by key takes (h.clients key)
   hub_after call reply = h
 
-  pub does-after : (call : Call) (reply : Reply) (g : HubState as_told) → Does h call reply g → g ≡ hub_after call reply
+  pub does-after : (call : Call) (reply : Reply) (g : HubState as_reported) → Does h call reply g → g ≡ hub_after call reply
   does-after call reply g (refuses (Feed bytes) hub.Memory never) = absurd never
   does-after call reply g (refuses (Frame key) e never) = absurd never
   does-after call reply g (refuses (Pump key takes) e never) = absurd never

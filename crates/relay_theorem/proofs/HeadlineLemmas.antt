@@ -32,12 +32,12 @@ use Rattle.termrelay.specs.declared.call.Reply.{Reply}
 use Rattle.relay_theorem.specs.History.{Entry, Story, size_of_story}
 use Rattle.relay_theorem.specs.Judge.{state_at, size_at, shown_at, texts, frame_or, last_frame, whole_in, judged}
 use Rattle.relay_theorem.specs.Judge.{IsSure, IsShownRight}
-use Rattle.relay_theorem.specs.Laws.{base_then, IsAnswered, AreAnswered, IsTold, IsSession}
+use Rattle.relay_theorem.specs.Laws.{base_then, IsAnswered, AreAnswered, IsReported, IsSession}
 use Rattle.termrelay.specs.Hub.{clients_in}
 use Rattle.relay_theorem.specs.Headline.{EachTextIsAFrame, WholeSessionsAreShown, LastWholeFrameIsShown}
-use Rattle.relay_theorem.specs.Headline.{NoSessionIsTorn, ReadsFrames, ReadsFront, last_read, whole_read}
+use Rattle.relay_theorem.specs.Headline.{NoSessionIsTorn, ReadsFrames, ReadsPrefix, last_read, whole_read}
 use Rattle.relay_theorem.specs.Headline.{OneMomentShowsTheSame, OneMomentShowsTheSameWhole}
-use Rattle.relay_theorem.proofs.HistoryLemmas.{sessions-told}
+use Rattle.relay_theorem.proofs.HistoryLemmas.{sessions-reported}
 use Rattle.relay_theorem.proofs.MomentLemmas.{FedBefore, these-before, those-before, one-made, all-whole, all-first}
 use Rattle.relay_theorem.proofs.ScreenLemmas.{IsShot, shot-made, IsShotBase}
 use Rattle.relay_theorem.proofs.FrameSteps.{byte-base, text-frame, frame-read, frame-ends}
@@ -491,11 +491,11 @@ module _ (rows cols : ℕ) (z : Size) (height : IsSide z.rows) (width : IsSide z
       (out.1, λ sure. ap shown_of (out.0 ∙ ap (seen z) joined) ∙ seen-judged es k sure)
 
   -- the view shows just these entries' texts
-  pub front-seen : (es : List Entry) (pieces : List (List ℕ)) (beyond parsed : List ℕ) (hold : Option (List ℕ))
+  pub prefix-seen : (es : List Entry) (pieces : List (List ℕ)) (beyond parsed : List ℕ) (hold : Option (List ℕ))
       → AreAnswered rows cols z None es → concat pieces ++ beyond ≡ texts es
       → Drives (map Gives pieces) [] None parsed hold
       → seen z parsed ≡ seen z (texts (whole_in es (length (concat pieces))))
-  front-seen es pieces beyond parsed hold k e leads =
+  prefix-seen es pieces beyond parsed hold k e leads =
       let joined = frames-joined None es k in
       let all-short = frames-all (λ text. length text < limit) es
       (all-each (λ e. length e.text < limit) (λ e. is_frame e.answer ≡ true → length e.text < limit) (λ e h _. h) es
@@ -503,76 +503,76 @@ module _ (rows cols : ℕ) (z : Size) (height : IsSide z.rows) (width : IsSide z
       let out = none_torn z (frame_texts es) pieces beyond [] parsed hold (ground-nothing 1024)
       (All-from_recursion IsFrame (frame_texts es) (frames-are es k))
       (All-from_recursion (λ text. length text < limit) (frame_texts es) all-short) (e ∙ sym joined) leads in
-      let f = out.front in
+      let f = out.prefix in
       out.shows
       ∙ ap (seen z) (sym (covers es None f.whole f.rest f.part k f.frames_are f.is_part))
       ∙ ap (λ bytes. seen z (texts (whole_in es (length bytes)))) (sym f.bytes_are)
 
 -- ---- sessions
 
-answered-front : (rows cols : ℕ) (z : Size) (base : Option Shown) (front back : List Entry)
-    → AreAnswered rows cols z base (front ++ back) → AreAnswered rows cols z base front
-answered-front rows cols z base [] back h = tt
-answered-front rows cols z base (e ∷ front) back h =
-    (h.0, answered-front rows cols z (base_then rows cols base e) front back h.1)
+answered-prefix : (rows cols : ℕ) (z : Size) (base : Option Shown) (prefix back : List Entry)
+    → AreAnswered rows cols z base (prefix ++ back) → AreAnswered rows cols z base prefix
+answered-prefix rows cols z base [] back h = tt
+answered-prefix rows cols z base (e ∷ prefix) back h =
+    (h.0, answered-prefix rows cols z (base_then rows cols base e) prefix back h.1)
 
-front-by : (here : Bool) (rows cols : ℕ) (z : Size) (base : Option Shown) (e : Entry) (es : List Entry)
+prefix-by : (here : Bool) (rows cols : ℕ) (z : Size) (base : Option Shown) (e : Entry) (es : List Entry)
     → AreAnswered rows cols z base (e ∷ es) → AreAnswered rows cols z base (if here then e ∷ es else [])
-front-by true rows cols z base e es h = h
-front-by false rows cols z base e es h = tt
+prefix-by true rows cols z base e es h = h
+prefix-by false rows cols z base e es h = tt
 
 answered-whole : (rows cols : ℕ) (z : Size) (base : Option Shown) (es : List Entry) (n : ℕ)
     → AreAnswered rows cols z base es → AreAnswered rows cols z base (whole_in es n)
 answered-whole rows cols z base [] n h = tt
 answered-whole rows cols z base (e ∷ es) n h =
     let left = n - length e.text in
-    front-by (nat_le (length e.text) n) rows cols z base e (whole_in es left)
+    prefix-by (nat_le (length e.text) n) rows cols z base e (whole_in es left)
     (h.0, answered-whole rows cols z (base_then rows cols base e) es left h.1)
 
 pub texts-frames : EachTextIsAFrame
 texts-frames rows cols calls replies n t s =
-    let h = sessions-told rows cols calls replies n t s in
+    let h = sessions-reported rows cols calls replies n t s in
     entries-frames rows cols (size_of_story t) h.height h.width t.entries h.entries
 
 -- what is told of a session, and of the entries whose frames come whole
 module _ (rows cols : ℕ) (calls : List Call) (replies : List Reply) (n : ℕ) (t : Story)
     (s : IsSession rows cols calls replies n t) where
-  abbrev told : IsTold rows cols (clients_in s.hub) t
-  told = sessions-told rows cols calls replies n t s
+  abbrev reported : IsReported rows cols (clients_in s.hub) t
+  reported = sessions-reported rows cols calls replies n t s
 
-  answered-first : (front : List Entry) (parsed : List ℕ) (hold : Option (List ℕ)) → ReadsFrames t front parsed hold
-      → AreAnswered rows cols (size_of_story t) None front
-  answered-first front parsed hold r =
-      answered-front rows cols (size_of_story t) None front r.back
-      (subst (AreAnswered rows cols (size_of_story t) None) r.parts told.entries)
+  answered-first : (prefix : List Entry) (parsed : List ℕ) (hold : Option (List ℕ)) → ReadsFrames t prefix parsed hold
+      → AreAnswered rows cols (size_of_story t) None prefix
+  answered-first prefix parsed hold r =
+      answered-prefix rows cols (size_of_story t) None prefix r.back
+      (subst (AreAnswered rows cols (size_of_story t) None) r.parts reported.entries)
 
   answered-read : (pieces : List (List ℕ)) → AreAnswered rows cols (size_of_story t) None (whole_read t pieces)
   answered-read pieces =
-      answered-whole rows cols (size_of_story t) None t.entries (length (concat pieces)) told.entries
+      answered-whole rows cols (size_of_story t) None t.entries (length (concat pieces)) reported.entries
 
   size-of : (es : List Entry) (e : Entry) → AreAnswered rows cols (size_of_story t) None es
       → last_frame None es ≡ Some e → size_at rows cols e ≡ size_of_story t
-  size-of es e are is = last-size rows cols (size_of_story t) told.height told.width es e are is
+  size-of es e are is = last-size rows cols (size_of_story t) reported.height reported.width es e are is
 
 pub wholes-shown : WholeSessionsAreShown
-wholes-shown rows cols calls replies n t front parsed hold s r =
-    let h = told rows cols calls replies n t s in
-    whole-shown rows cols (size_of_story t) h.height h.width front r.moves parsed hold
-    (answered-first rows cols calls replies n t s front parsed hold r) r.given r.leads
+wholes-shown rows cols calls replies n t prefix parsed hold s r =
+    let h = reported rows cols calls replies n t s in
+    whole-shown rows cols (size_of_story t) h.height h.width prefix r.moves parsed hold
+    (answered-first rows cols calls replies n t s prefix parsed hold r) r.given r.leads
 
 seen-then : (rows cols : ℕ) (calls : List Call) (replies : List Reply) (n : ℕ) (t : Story) (pieces : List (List ℕ))
-    (parsed : List ℕ) → IsSession rows cols calls replies n t → ReadsFront t.session.pumped pieces parsed
+    (parsed : List ℕ) → IsSession rows cols calls replies n t → ReadsPrefix t.session.pumped pieces parsed
     → seen (size_of_story t) parsed ≡ seen (size_of_story t) (texts (whole_read t pieces))
 seen-then rows cols calls replies n t pieces parsed s r =
-    let h = told rows cols calls replies n t s in
+    let h = reported rows cols calls replies n t s in
     let all : concat pieces ++ (r.beyond ++ h.left) ≡ texts t.entries =
-    sym (append_assoc (concat pieces) r.beyond h.left) ∙ ap (λ xs. xs ++ h.left) r.joined ∙ h.front in
-    front-seen rows cols (size_of_story t) h.height h.width t.entries pieces (r.beyond ++ h.left) parsed r.hold h.entries all
+    sym (append_assoc (concat pieces) r.beyond h.left) ∙ ap (λ xs. xs ++ h.left) r.joined ∙ h.prefix in
+    prefix-seen rows cols (size_of_story t) h.height h.width t.entries pieces (r.beyond ++ h.left) parsed r.hold h.entries all
     r.leads
 
 pub last-shown : LastWholeFrameIsShown
 last-shown rows cols calls replies n t pieces parsed s r sure =
-    let h = told rows cols calls replies n t s in
+    let h = reported rows cols calls replies n t s in
     ap shown_of (seen-then rows cols calls replies n t pieces parsed s r)
     ∙ seen-judged rows cols (size_of_story t) h.height h.width (whole_read t pieces)
     (answered-read rows cols calls replies n t s pieces) sure
@@ -614,16 +614,16 @@ moments-same rows cols calls replies n m t u pieces others parsed parsed' e f s 
     (all-whole _ u.entries (length (concat others)) (those-before rows cols calls replies n m t u s z)) is are same)
 
 pub moments-whole : OneMomentShowsTheSameWhole
-moments-whole rows cols calls replies n m t u front others parsed parsed' hold hold' e f s z r q is are same sure k =
+moments-whole rows cols calls replies n m t u prefix others parsed parsed' hold hold' e f s z r q is are same sure k =
     let Before = FedBefore rows cols calls replies n m t u s z in
-    let first = answered-first rows cols calls replies n t s front parsed hold r in
+    let first = answered-first rows cols calls replies n t s prefix parsed hold r in
     let other = answered-first rows cols calls replies m u z others parsed' hold' q in
     same-moment rows cols e f (size_of_story t) (size_of_story u) (shown_of (seen (size_of_story t) parsed))
-    (shown_of (seen (size_of_story u) parsed')) (size-of rows cols calls replies n t s front e first is)
+    (shown_of (seen (size_of_story u) parsed')) (size-of rows cols calls replies n t s prefix e first is)
     (size-of rows cols calls replies m u z others f other are)
-    (shown-right rows cols _ _ e is sure (wholes-shown rows cols calls replies n t front parsed hold s r).1)
+    (shown-right rows cols _ _ e is sure (wholes-shown rows cols calls replies n t prefix parsed hold s r).1)
     (shown-right rows cols _ _ f are k (wholes-shown rows cols calls replies m u others parsed' hold' z q).1)
-    (one-made rows cols calls replies n m t u s z front others e f (all-first Before front r.back
+    (one-made rows cols calls replies n m t u s z prefix others e f (all-first Before prefix r.back
     (subst (AllByRecursion Before) r.parts (these-before rows cols calls replies n m t u s z)))
     (all-first Before others q.back
     (subst (AllByRecursion Before) q.parts (those-before rows cols calls replies n m t u s z))) is are same)

@@ -23,11 +23,11 @@ use Rattle.termrelay.specs.Hub.{HubState, screen_in, size_in, shown_in, with_cli
 use Rattle.termrelay.specs.Calls.{Call, Frame, Pump, IsCall, taken_by}
 use Rattle.termrelay.specs.Log.{change_last, begun, ended, grown, bytes_taken}
 use Rattle.termrelay.proofs.LogLemmas.{none-changed}
-use Rattle.relay_theorem.specs.History.{as_told, fresh, Entry, Story, size_of_story, is_on, with_session}
-use Rattle.relay_theorem.specs.History.{with_entries, entries_of, stories_after, RunsTold}
+use Rattle.relay_theorem.specs.History.{as_reported, fresh, Entry, Story, size_of_story, is_on, with_session}
+use Rattle.relay_theorem.specs.History.{with_entries, entries_of, stories_after, RunsReported}
 use Rattle.relay_theorem.specs.Judge.{texts}
-use Rattle.relay_theorem.specs.Laws.{base_then, base_after, last_text, IsAnswered, AreAnswered, IsServed, IsTold}
-use Rattle.relay_theorem.specs.Laws.{EachSessionIsTold, AtMostOne, EachClientHasASession}
+use Rattle.relay_theorem.specs.Laws.{base_then, base_after, last_text, IsAnswered, AreAnswered, IsServed, IsReported}
+use Rattle.relay_theorem.specs.Laws.{EachSessionIsReported, AtMostOne, EachClientHasASession}
 use Rattle.relay_theorem.proofs.StoryLemmas.{all-map, all-push, all-at, any-mapped, one-mapped, none-mapped}
 use Rattle.relay_theorem.proofs.StoryLemmas.{no-one-mapped, any-pushed, one-pushed, pick, only-changed, on-live}
 use Rattle.relay_theorem.proofs.StoryLemmas.{on-key, off-key, other-key, picked-on, ends-on, ends-other, put, at-key}
@@ -166,15 +166,15 @@ served-as rows cols clients key t c is at (d, found, s) =
     subst (λ k. IsServed rows cols t k) one s
 
 -- it is told, and while it hasn't ended the screen has its size
-pub record IsIn (h : HubState as_told) (t : Story) : Type 0 where
-  pub told : IsTold h.parser.rows h.parser.cols h.clients t
+pub record IsIn (h : HubState as_reported) (t : Story) : Type 0 where
+  pub reported : IsReported h.parser.rows h.parser.cols h.clients t
   pub size : t.session.ended ≡ false → size_of_story t ≡ size_in h
 
-put-at : (h : HubState as_told) (key : ℕ) (slot : Option ClientState) (t : Story) → t.session.client ≡ key
+put-at : (h : HubState as_reported) (key : ℕ) (slot : Option ClientState) (t : Story) → t.session.client ≡ key
     → (put h key slot).clients t.session.client ≡ slot
 put-at h key slot t is = ap (λ k. with_client h.clients key slot k) is ∙ at-key h.clients key slot
 
-answered-in : (h : HubState as_told) (key : ℕ) (c : ClientState) (answer : Answer) (t : Story)
+answered-in : (h : HubState as_reported) (key : ℕ) (c : ClientState) (answer : Answer) (t : Story)
     → AreActs h.parser.rows h.parser.cols 0 h.parser.acts → h.clients key ≡ Some c
     → answer ≡ answer_for (screen_in h).state c → IsIn h t → is_on key t ≡ true
     → IsIn (put h key (Some (after_answer (size_in h) (shown_in h) c answer)))
@@ -185,7 +185,7 @@ answered-in h key c answer t acts at is k on =
     let z = size_in h in
     let now = shown_in h in
     let live = on-live key t on in
-    let s = served-as rows cols h.clients key t c (on-key key t on) at (k.told.served live) in
+    let s = served-as rows cols h.clients key t c (on-key key t on) at (k.reported.served live) in
     let same = k.size live in
     let frame = is_frame answer in
     let e : Entry = record { moment = h.parser.acts; answer = answer; text = text_by z now c frame } in
@@ -199,10 +199,10 @@ answered-in h key c answer t acts at is k on =
     let owed = served-owed z now c s.read (last_text [] t.entries) frame s.owed
     (λ f. none-owed (screen_in h).state c.base c.owed (ap is_frame (sym is) ∙ f)) in
     record {
-      told = record {
-        height = k.told.height;
-        width = k.told.width;
-        entries = more-answered rows cols (size_of_story t) None t.entries e k.told.entries entry;
+      reported = record {
+        height = k.reported.height;
+        width = k.reported.width;
+        entries = more-answered rows cols (size_of_story t) None t.entries e k.reported.entries entry;
         served = λ _. (
           after_answer z now c answer,
           put-at h key (Some (after_answer z now c answer)) t (on-key key t on),
@@ -214,26 +214,26 @@ answered-in h key c answer t acts at is k on =
           },
         );
         left = (kept_by z now c frame).owed;
-        front = bytes;
+        prefix = bytes;
       };
       size = λ _. same;
     }
 
-pumped-in : (h : HubState as_told) (key : ℕ) (c : ClientState) (n : ℕ) (t : Story) → h.clients key ≡ Some c
+pumped-in : (h : HubState as_reported) (key : ℕ) (c : ClientState) (n : ℕ) (t : Story) → h.clients key ≡ Some c
     → IsIn h t → is_on key t ≡ true
     → IsIn (put h key (Some (record c { owed = drop n c.owed }))) (with_session (grown (take n c.owed)) t)
 pumped-in h key c n t at k on =
     let rows = h.parser.rows in
     let cols = h.parser.cols in
     let live = on-live key t on in
-    let s = served-as rows cols h.clients key t c (on-key key t on) at (k.told.served live) in
+    let s = served-as rows cols h.clients key t c (on-key key t on) at (k.reported.served live) in
     let split : (xs : List ℕ) → (xs ++ take n c.owed) ++ drop n c.owed ≡ xs ++ c.owed =
     λ xs. append_assoc xs (take n c.owed) (drop n c.owed) ∙ ap (λ ys. xs ++ ys) (take-append-drop n c.owed) in
     record {
-      told = record {
-        height = k.told.height;
-        width = k.told.width;
-        entries = k.told.entries;
+      reported = record {
+        height = k.reported.height;
+        width = k.reported.width;
+        entries = k.reported.entries;
         served = λ _. (
           record c { owed = drop n c.owed },
           put-at h key (Some (record c { owed = drop n c.owed })) t (on-key key t on),
@@ -245,59 +245,59 @@ pumped-in h key c n t at k on =
           },
         );
         left = drop n c.owed;
-        front = split t.session.pumped ∙ s.bytes;
+        prefix = split t.session.pumped ∙ s.bytes;
       };
       size = k.size;
     }
 
 -- a session that has ended, whatever else changes
-ended-in : (h g : HubState as_told) (t : Story) → g.parser.rows ≡ h.parser.rows → g.parser.cols ≡ h.parser.cols
+ended-in : (h g : HubState as_reported) (t : Story) → g.parser.rows ≡ h.parser.rows → g.parser.cols ≡ h.parser.cols
     → IsIn h t → IsIn g (with_session ended t)
 ended-in h g t er ec k =
     let entries : AreAnswered g.parser.rows g.parser.cols (size_of_story t) None t.entries =
     subst (λ r. AreAnswered r g.parser.cols (size_of_story t) None t.entries) (sym er)
-    (subst (λ c. AreAnswered h.parser.rows c (size_of_story t) None t.entries) (sym ec) k.told.entries) in
+    (subst (λ c. AreAnswered h.parser.rows c (size_of_story t) None t.entries) (sym ec) k.reported.entries) in
     record {
-      told = record {
-        height = k.told.height;
-        width = k.told.width;
+      reported = record {
+        height = k.reported.height;
+        width = k.reported.width;
         entries = entries;
         served = λ e. absurd (let no : true ≡ false = e in cc);
-        left = k.told.left;
-        front = k.told.front;
+        left = k.reported.left;
+        prefix = k.reported.prefix;
       };
       size = λ e. absurd (let no : true ≡ false = e in cc);
     }
 
 -- one whose client stays, where something else is put at another key
-still-in : (h : HubState as_told) (key : ℕ) (slot : Option ClientState) (t : Story)
+still-in : (h : HubState as_reported) (key : ℕ) (slot : Option ClientState) (t : Story)
     → ((c : ClientState) → t.session.ended ≡ false → h.clients t.session.client ≡ Some c
     → with_client h.clients key slot t.session.client ≡ Some c)
     → IsIn h t → IsIn (put h key slot) t
 still-in h key slot t stays k = record {
-  told = record {
-    height = k.told.height;
-    width = k.told.width;
-    entries = k.told.entries;
+  reported = record {
+    height = k.reported.height;
+    width = k.reported.width;
+    entries = k.reported.entries;
     served = λ live.
-        let s = k.told.served live in
+        let s = k.reported.served live in
         (s.0, stays s.0 live s.1, s.2);
-    left = k.told.left;
-    front = k.told.front;
+    left = k.reported.left;
+    prefix = k.reported.prefix;
   };
   size = k.size;
 }
 
-off-in : (h : HubState as_told) (key : ℕ) (slot : Option ClientState) (t : Story) → is_on key t ≡ false → IsIn h t
+off-in : (h : HubState as_reported) (key : ℕ) (slot : Option ClientState) (t : Story) → is_on key t ≡ false → IsIn h t
     → IsIn (put h key slot) t
 off-in h key slot t off k =
     still-in h key slot t
     (λ c live at. at-other h.clients key slot t.session.client (off-key key t off live) ∙ at) k
 
-begun-in : (h : HubState as_told) (key : ℕ) → AreActs h.parser.rows h.parser.cols 0 h.parser.acts
+begun-in : (h : HubState as_reported) (key : ℕ) → AreActs h.parser.rows h.parser.cols 0 h.parser.acts
     → IsIn (put h key (Some new_client)) (record { session = begun h key; entries = [] })
 begun-in h key acts = record {
-  told = record {
+  reported = record {
     height = height-now h.parser.rows h.parser.cols h.parser.acts acts;
     width = width-now h.parser.rows h.parser.cols h.parser.acts acts;
     entries = tt;
@@ -307,7 +307,7 @@ begun-in h key acts = record {
       record { bytes = refl; read = []; owed = refl; base = refl },
     );
     left = [];
-    front = refl;
+    prefix = refl;
   };
   size = λ _. refl;
 }
@@ -316,7 +316,7 @@ begun-in h key acts = record {
 
 -- each is told; where a session of a key hasn't ended there is a client, and only there; and there is one such session
 -- at most
-pub record IsKept (h : HubState as_told) (ts : List Story) : Type 0 where
+pub record IsKept (h : HubState as_reported) (ts : List Story) : Type 0 where
   pub acts : AreActs h.parser.rows h.parser.cols 0 h.parser.acts
   pub each : AllByRecursion (IsIn h) ts
   pub keys : (key : ℕ) → is_some (h.clients key) ≡ list_any (is_on key) ts
@@ -331,28 +331,28 @@ by-key clients key slot other false c e same others =
     ap (λ b. is_some (if b then slot else clients other)) e ∙ others refl
 
 -- the parser goes on, and the screen keeps its size
-parser-kept : (h : HubState as_told) (acts : List Act) (failed : Bool) (ts : List Story)
+parser-kept : (h : HubState as_reported) (acts : List Act) (failed : Bool) (ts : List Story)
     → AreActs h.parser.rows h.parser.cols 0 acts
     → grid_size (made h.parser.rows h.parser.cols 0 acts).shown ≡ size_in h → IsKept h ts
     → IsKept (record h { parser = record (h.parser) { acts = acts; failed = failed } }) ts
 parser-kept h acts failed ts are size k =
-    let g : HubState as_told = record h { parser = record (h.parser) { acts = acts; failed = failed } } in
+    let g : HubState as_reported = record h { parser = record (h.parser) { acts = acts; failed = failed } } in
     record {
       acts = are;
       each = all-each (IsIn h) (IsIn g)
-          (λ t i. record { told = i.told; size = λ live. i.size live ∙ sym size }) ts k.each;
+          (λ t i. record { reported = i.reported; size = λ live. i.size live ∙ sym size }) ts k.each;
       keys = k.keys;
       one = k.one;
     }
 
-pub fed-kept : (h : HubState as_told) (bytes : List ℕ) (ts : List Story) → IsKept h ts
+pub fed-kept : (h : HubState as_reported) (bytes : List ℕ) (ts : List Story) → IsKept h ts
     → IsKept (acted h (Fed bytes) h.clients) ts
 fed-kept h bytes ts k =
     let p = h.parser in
     parser-kept h (p.acts ++ Fed bytes ∷ []) p.failed ts (acts-more p.rows p.cols p.acts k.acts (Fed bytes) tt)
     (size-fed p.rows p.cols p.acts bytes k.acts) k
 
-pub resized-kept : (h : HubState as_told) (rows cols : ℕ) (ts : List Story) → IsSide rows × IsSide cols → IsKept h ts
+pub resized-kept : (h : HubState as_reported) (rows cols : ℕ) (ts : List Story) → IsSide rows × IsSide cols → IsKept h ts
     → IsKept (acted h (Resized rows cols) no_clients) (map (with_session ended) ts)
 resized-kept h rows cols ts s k =
     let p = h.parser in
@@ -376,7 +376,7 @@ there-on : (key other : ℕ) (ts : List Story) → (other == key) ≡ false
 there-on key other ts e =
     ap (λ b. list_any (is_on other) ts || b) (other-key key other e) ∙ or-false (list_any (is_on other) ts)
 
-pub attached-kept : (h : HubState as_told) (key : ℕ) (ts : List Story) → h.clients key ≡ None → IsKept h ts
+pub attached-kept : (h : HubState as_reported) (key : ℕ) (ts : List Story) → h.clients key ≡ None → IsKept h ts
     → IsKept (put h key (Some new_client)) (ts ++ record { session = begun h key; entries = [] } ∷ [])
 attached-kept h key ts free k =
     let g = put h key (Some new_client) in
@@ -397,7 +397,7 @@ attached-kept h key ts free k =
     }
 
 -- the session of a known client changes, and stays on its key
-module _ (h : HubState as_told) (key : ℕ) (c new : ClientState) (f : Story → Story) (at : h.clients key ≡ Some c)
+module _ (h : HubState as_reported) (key : ℕ) (c new : ClientState) (f : Story → Story) (at : h.clients key ≡ Some c)
     (same : (k : ℕ) (t : Story) → is_on k (f t) ≡ is_on k t)
     (goes : (t : Story) → IsIn h t → is_on key t ≡ true → IsIn (put h key (Some new)) (f t)) where
   picked-in : (b : Bool) (t : Story) → is_on key t ≡ b → IsIn h t → IsIn (put h key (Some new)) (if b then f t else t)
@@ -420,7 +420,7 @@ module _ (h : HubState as_told) (key : ℕ) (c new : ClientState) (f : Story →
       })
 
 -- the session of a key ends
-module _ (h : HubState as_told) (key : ℕ) where
+module _ (h : HubState as_reported) (key : ℕ) where
   gone-in : (b : Bool) (t : Story) → is_on key t ≡ b → IsIn h t
       → IsIn (put h key None) (if b then with_session ended t else t)
   gone-in true t e i = ended-in h (put h key None) t refl refl i
@@ -458,8 +458,8 @@ module _ (h : HubState as_told) (key : ℕ) where
 
 -- ---- calls
 
-module _ (h : HubState as_told) (ts : List Story) (k : IsKept h ts) where
-  pub does-kept : (call : Call) (reply : Reply) (g : HubState as_told) → IsCall call → Does h call reply g
+module _ (h : HubState as_reported) (ts : List Story) (k : IsKept h ts) where
+  pub does-kept : (call : Call) (reply : Reply) (g : HubState as_reported) → IsCall call → Does h call reply g
       → IsKept g (stories_after h call reply ts)
   does-kept call reply g is (refuses (Frame key) e never) = absurd never
   does-kept call reply g is (refuses (Pump key takes) e never) = absurd never
@@ -490,14 +490,14 @@ module _ (h : HubState as_told) (ts : List Story) (k : IsKept h ts) where
 -- ---- runs
 
 -- a run, call by call, with what is kept before each
-pub data Went : HubState as_told → List Story → List Call → List Reply → HubState as_told → List Story → Type 0 where
-  over : {h : HubState as_told} {ts : List Story} → IsKept h ts → Went h ts [] [] h ts
-  called : {h k : HubState as_told} {ts us : List Story} {call : Call} {reply : Reply} {calls : List Call}
-      {replies : List Reply} (g : HubState as_told) → IsKept h ts → Does h call reply g → IsCall call
+pub data Went : HubState as_reported → List Story → List Call → List Reply → HubState as_reported → List Story → Type 0 where
+  over : {h : HubState as_reported} {ts : List Story} → IsKept h ts → Went h ts [] [] h ts
+  called : {h k : HubState as_reported} {ts us : List Story} {call : Call} {reply : Reply} {calls : List Call}
+      {replies : List Reply} (g : HubState as_reported) → IsKept h ts → Does h call reply g → IsCall call
       → Went g (stories_after h call reply ts) calls replies k us → Went h ts (call ∷ calls) (reply ∷ replies) k us
 
-pub run-went : (h k : HubState as_told) (ts us : List Story) (calls : List Call) (replies : List Reply)
-    → IsKept h ts → RunsTold h ts calls replies k us → Went h ts calls replies k us
+pub run-went : (h k : HubState as_reported) (ts us : List Story) (calls : List Call) (replies : List Reply)
+    → IsKept h ts → RunsReported h ts calls replies k us → Went h ts calls replies k us
 run-went h k ts us [] [] kept run =
     subst (λ vs. Went h ts [] [] k vs) (sym run.1)
     (subst (λ x. Went h ts [] [] x ts) (sym run.0) (over kept))
@@ -508,7 +508,7 @@ run-went h k ts us (call ∷ calls) (reply ∷ replies) kept (g, is, serves, lat
     called g kept does is (run-went g k (stories_after h call reply ts) us calls replies
     (does-kept h ts kept call reply g is does) later)
 
-does-first : (h : HubState as_told) (call : Call) (reply : Reply) (g : HubState as_told) → Does h call reply g
+does-first : (h : HubState as_reported) (call : Call) (reply : Reply) (g : HubState as_reported) → Does h call reply g
     → (g.parser.rows ≡ h.parser.rows) × (g.parser.cols ≡ h.parser.cols)
 does-first h call reply g (refuses c e idle) = (refl, refl)
 does-first h call reply g (feeds bytes) = (refl, refl)
@@ -522,7 +522,7 @@ does-first h call reply g (pumps key takes r c at can) = (refl, refl)
 does-first h call reply g (misses key takes r free) = (refl, refl)
 
 -- what is kept after it, and the first size stays
-went-kept : (h k : HubState as_told) (ts us : List Story) (calls : List Call) (replies : List Reply)
+went-kept : (h k : HubState as_reported) (ts us : List Story) (calls : List Call) (replies : List Reply)
     → Went h ts calls replies k us
     → IsKept k us × (k.parser.rows ≡ h.parser.rows) × (k.parser.cols ≡ h.parser.cols)
 went-kept h k ts us calls replies (over kept) = (kept, refl, refl)
@@ -540,19 +540,19 @@ fresh-kept rows cols height width = record {
 }
 
 -- a run of a new hub
-pub fresh-went : (rows cols : ℕ) (hub : HubState as_told) (stories : List Story) (calls : List Call)
-    (replies : List Reply) → IsSide rows → IsSide cols → RunsTold (fresh rows cols) [] calls replies hub stories
+pub fresh-went : (rows cols : ℕ) (hub : HubState as_reported) (stories : List Story) (calls : List Call)
+    (replies : List Reply) → IsSide rows → IsSide cols → RunsReported (fresh rows cols) [] calls replies hub stories
     → Went (fresh rows cols) [] calls replies hub stories
 fresh-went rows cols hub stories calls replies height width ran =
     run-went (fresh rows cols) hub [] stories calls replies (fresh-kept rows cols height width) ran
 
-pub sessions-told : EachSessionIsTold
-sessions-told rows cols calls replies n t s =
+pub sessions-reported : EachSessionIsReported
+sessions-reported rows cols calls replies n t s =
     let run = went-kept (fresh rows cols) s.hub [] s.stories calls replies
     (fresh-went rows cols s.hub s.stories calls replies s.height s.width s.ran) in
-    let told = (all-at (IsIn s.hub) s.stories n t run.0.each s.is).told in
-    subst (λ c. IsTold rows c s.hub.clients t) run.2
-    (subst (λ r. IsTold r s.hub.parser.cols s.hub.clients t) run.1 told)
+    let reported = (all-at (IsIn s.hub) s.stories n t run.0.each s.is).reported in
+    subst (λ c. IsReported rows c s.hub.clients t) run.2
+    (subst (λ r. IsReported r s.hub.parser.cols s.hub.clients t) run.1 reported)
 
 pub clients-have-sessions : EachClientHasASession
 clients-have-sessions rows cols calls replies hub stories key height width ran =

@@ -1,7 +1,7 @@
 -- Sessions of two runs, or of two logs, with the same own calls.
 use Rattle.std.proofs.Common.{◌≡◌, ◌∙◌, ℕ, Bool, false, List, [], Some, refl, sym, ap, subst}
 use Rattle.termrelay.specs.Hub.{HubState, clients_in}
-use Rattle.relay_theorem.specs.History.{as_told, Story}
+use Rattle.relay_theorem.specs.History.{as_reported, Story}
 use Rattle.relay_theorem.specs.Isolation.{Own, own_calls, AreAlike, SessionsAreIsolated, LoggedSessionsAreIsolated}
 use Rattle.relay_theorem.proofs.LoggedLemmas.{logged-story}
 use Rattle.relay_theorem.proofs.OwnLemmas.{Life, story_of}
@@ -9,7 +9,7 @@ use Rattle.relay_theorem.proofs.OwnRunLemmas.{Found, session-found}
 
 -- ---- two runs
 
-module _ (rows cols : ℕ) (t u : Story) (h k : HubState as_told) (owns : List Own) (a : Found rows cols [] owns h t)
+module _ (rows cols : ℕ) (t u : Story) (h k : HubState as_reported) (owns : List Own) (a : Found rows cols [] owns h t)
     (b : Found rows cols [] owns k u) where
   abbrev these : Life × Bool
   these = (a.life, a.gone)
@@ -18,7 +18,7 @@ module _ (rows cols : ℕ) (t u : Story) (h k : HubState as_told) (owns : List O
   those = (b.life, b.gone)
 
   same-lives : these ≡ those
-  same-lives = let both : Some these ≡ Some those = sym a.told ∙ b.told in cc
+  same-lives = let both : Some these ≡ Some those = sym a.reported ∙ b.reported in cc
 
   same-by : {A : Type 0} (f : Story → A) (part : Life × Bool → A)
       → ((key : ℕ) (l : Life × Bool) → f (story_of rows cols key l.1 l.0) ≡ part l) → f t ≡ f u

@@ -8,10 +8,10 @@ use Rattle.termrelay.specs.Calls.{Call}
 use Rattle.termrelay.specs.Answers.{ClientState}
 use Rattle.termrelay.specs.Hub.{HubState, as_kept, clients_in}
 use Rattle.termrelay.specs.Log.{SessionView, LogView}
-use Rattle.relay_theorem.specs.History.{as_told, Story, fresh, size_of_session, RunsTold}
+use Rattle.relay_theorem.specs.History.{as_reported, Story, fresh, size_of_session, RunsReported}
 use Rattle.relay_theorem.specs.Laws.{IsSession}
 use Rattle.relay_theorem.specs.Judge.{last_frame, IsShownRight}
-use Rattle.relay_theorem.specs.Headline.{ReadsFront, last_read}
+use Rattle.relay_theorem.specs.Headline.{ReadsPrefix, last_read}
 use Rattle.relay_theorem.specs.Serves.{Matches}
 use Rattle.relay_theorem.specs.Logged.{IsLogged, HasStory, EachLoggedReadIsARead, LoggedFramesAreShown}
 use Rattle.relay_theorem.specs.Logged.{WholeLoggedFramesAreShown}
@@ -39,7 +39,7 @@ story-at ss ts n s are e = found-at ts n s (ap (λ xs. slice_get xs n) are ∙ e
 -- the log's sessions are those of a history of its replies
 abbrev IsHistory : ℕ → ℕ → List Call → List Reply → HubState as_kept → List SessionView → Type 0
 IsHistory rows cols calls replies g ss =
-    (u : HubState as_told) × (ts : List Story) × RunsTold (fresh rows cols) [] calls replies u ts × Matches g u
+    (u : HubState as_reported) × (ts : List Story) × RunsReported (fresh rows cols) [] calls replies u ts × Matches g u
     × (map (λ t. t.session) ts ≡ ss)
 
 -- a log's session, and its story
@@ -65,45 +65,45 @@ logged-story rows cols calls l n s a =
       kept = all.3.clients;
     }
 
-abbrev IsTold : ℕ → ℕ → List Call → LogView → ℕ → SessionView → Type 0
-IsTold rows cols calls l n s = (t : Story) × HasStory rows cols calls l n s t
+abbrev IsReported : ℕ → ℕ → List Call → LogView → ℕ → SessionView → Type 0
+IsReported rows cols calls l n s = (t : Story) × HasStory rows cols calls l n s t
 
 story-of : (rows cols : ℕ) (calls : List Call) (l : LogView) (n : ℕ) (s : SessionView) → IsLogged rows cols calls l n s
-    → IsTold rows cols calls l n s
+    → IsReported rows cols calls l n s
 story-of rows cols calls l n s r =
     let x = logged-story rows cols calls l n s r in (x.story, record { session = x.session; logged = x.logged })
 
 -- what is read of a log's session is read of its story
 read-of : (rows cols : ℕ) (calls : List Call) (l : LogView) (n : ℕ) (s : SessionView) (t : Story)
-    (pieces : List (List ℕ)) (parsed : List ℕ) → HasStory rows cols calls l n s t → ReadsFront s.pumped pieces parsed
-    → ReadsFront t.session.pumped pieces parsed
+    (pieces : List (List ℕ)) (parsed : List ℕ) → HasStory rows cols calls l n s t → ReadsPrefix s.pumped pieces parsed
+    → ReadsPrefix t.session.pumped pieces parsed
 read-of rows cols calls l n s t pieces parsed h r =
-    subst (λ (x : SessionView). ReadsFront x.pumped pieces parsed) (sym h.logged) r
+    subst (λ (x : SessionView). ReadsPrefix x.pumped pieces parsed) (sym h.logged) r
 
 pub logged-reads : EachLoggedReadIsARead
 logged-reads rows cols calls l n s pieces parsed a r =
-    let told : IsTold rows cols calls l n s = story-of rows cols calls l n s a in
-    (told.0, told.1, read-of rows cols calls l n s told.0 pieces parsed told.1 r)
+    let reported : IsReported rows cols calls l n s = story-of rows cols calls l n s a in
+    (reported.0, reported.1, read-of rows cols calls l n s reported.0 pieces parsed reported.1 r)
 
 pub logged-whole : WholeLoggedFramesAreShown
 logged-whole rows cols calls l n s a =
-    let told : IsTold rows cols calls l n s = story-of rows cols calls l n s a in (
-      told.0,
-      told.1,
-      λ front parsed hold r.
+    let reported : IsReported rows cols calls l n s = story-of rows cols calls l n s a in (
+      reported.0,
+      reported.1,
+      λ prefix parsed hold r.
           subst (λ (x : SessionView). (hold ≡ None)
-          × IsShownRight rows cols (shown_of (seen (size_of_session x) parsed)) (last_frame None front)) told.1.logged
-          (wholes-shown rows cols calls l.replies n told.0 front parsed hold told.1.session r),
+          × IsShownRight rows cols (shown_of (seen (size_of_session x) parsed)) (last_frame None prefix)) reported.1.logged
+          (wholes-shown rows cols calls l.replies n reported.0 prefix parsed hold reported.1.session r),
     )
 
 pub logged-shown : LoggedFramesAreShown
 logged-shown rows cols calls l n s pieces parsed a r =
-    let told : IsTold rows cols calls l n s = story-of rows cols calls l n s a in
-    let t = told.0 in (
+    let reported : IsReported rows cols calls l n s = story-of rows cols calls l n s a in
+    let t = reported.0 in (
       t,
-      told.1,
+      reported.1,
       subst (λ (x : SessionView).
-          IsShownRight rows cols (shown_of (seen (size_of_session x) parsed)) (last_read t pieces)) told.1.logged
-          (last-shown rows cols calls l.replies n t pieces parsed told.1.session
-          (read-of rows cols calls l n s t pieces parsed told.1 r)),
+          IsShownRight rows cols (shown_of (seen (size_of_session x) parsed)) (last_read t pieces)) reported.1.logged
+          (last-shown rows cols calls l.replies n t pieces parsed reported.1.session
+          (read-of rows cols calls l n s t pieces parsed reported.1 r)),
     )

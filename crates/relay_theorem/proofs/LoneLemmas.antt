@@ -11,8 +11,8 @@ use Rattle.termrelay.specs.declared.error.HubError.TheVariants as hub
 use Rattle.termrelay.specs.Hub.{HubState, new_client, no_clients, DetachesFrom}
 use Rattle.termrelay.specs.Calls.{Call, Feed, Resize, Attach, Detach, done, Serves}
 use Rattle.termrelay.specs.Log.{SessionView, begun}
-use Rattle.relay_theorem.specs.History.{Past, as_told, Story, stories_after, RunsTold}
-use Rattle.relay_theorem.specs.Isolation.{is_starved, Own, Acts, Comes, Asks, Pumped, Leaves, own_at, own_then, own_of}
+use Rattle.relay_theorem.specs.History.{Past, as_reported, Story, stories_after, RunsReported}
+use Rattle.relay_theorem.specs.Isolation.{is_out_of_memory, Own, Acts, Comes, Asks, Pumped, Leaves, own_at, own_then, own_of}
 use Rattle.relay_theorem.specs.Isolation.{own_calls, alone, EachLoneSessionIsAlike, EachLoggedLoneSessionIsAlike}
 use Rattle.relay_theorem.proofs.StoryLemmas.{put, at-key}
 use Rattle.relay_theorem.proofs.CallLemmas.{serves-does, hub_after, does-after}
@@ -27,14 +27,14 @@ use Rattle.relay_theorem.proofs.IsolationLemmas.{sessions-isolated, logged-isola
 module _ (rows cols : ℕ) where
   -- ---- replies, where no call is refused for want of memory
 
-  module _ (h g : HubState as_told) (acts : List Act) (reply : Reply) (is : h.parser ≡ past rows cols acts)
-      (fed : is_starved reply ≡ false) where
+  module _ (h g : HubState as_reported) (acts : List Act) (reply : Reply) (is : h.parser ≡ past rows cols acts)
+      (fed : is_out_of_memory reply ≡ false) where
     live : h.parser.failed ≡ false
     live = ap (λ (p : Past). p.failed) is
 
     feed-done : (bytes : List ℕ) → Serves h (Feed bytes) reply g → reply ≡ Done
     feed-done bytes (Ok u, f, e) = e
-    feed-done bytes (Err hub.Memory, f, e) = absurd (let no : true ≡ false = sym (ap is_starved e) ∙ fed in cc)
+    feed-done bytes (Err hub.Memory, f, e) = absurd (let no : true ≡ false = sym (ap is_out_of_memory e) ∙ fed in cc)
     feed-done bytes (Err hub.Failed, f, e) = absurd (let no : false ≡ true = sym live ∙ f.0 in cc)
     feed-done bytes (Err hub.UnknownClient, f, e) = absurd f
     feed-done bytes (Err (hub.Write x), f, e) = absurd f
@@ -42,19 +42,19 @@ module _ (rows cols : ℕ) where
     resize-done : (height width : ℕ) → Serves h (Resize height width) reply g → reply ≡ Done
     resize-done height width (Ok u, f, e) = e
     resize-done height width (Err hub.Memory, f, e) =
-        absurd (let no : true ≡ false = sym (ap is_starved e) ∙ fed in cc)
+        absurd (let no : true ≡ false = sym (ap is_out_of_memory e) ∙ fed in cc)
     resize-done height width (Err hub.Failed, f, e) = absurd (let no : false ≡ true = sym live ∙ f.0 in cc)
     resize-done height width (Err hub.UnknownClient, f, e) = absurd f
     resize-done height width (Err (hub.Write x), f, e) = absurd f
 
     attach-done : Serves h Attach reply g → (key : ℕ) × (reply ≡ Attached key)
     attach-done (Ok key, f, e) = (key, e)
-    attach-done (Err hub.Memory, f, e) = absurd (let no : true ≡ false = sym (ap is_starved e) ∙ fed in cc)
+    attach-done (Err hub.Memory, f, e) = absurd (let no : true ≡ false = sym (ap is_out_of_memory e) ∙ fed in cc)
     attach-done (Err hub.Failed, f, e) = absurd (let no : false ≡ true = sym live ∙ f.0 in cc)
     attach-done (Err hub.UnknownClient, f, e) = absurd f
     attach-done (Err (hub.Write x), f, e) = absurd f
 
-  detach-done : (key : ℕ) (l : Life) (h g : HubState as_told) (reply : Reply) → h.clients key ≡ Some l.client
+  detach-done : (key : ℕ) (l : Life) (h g : HubState as_reported) (reply : Reply) → h.clients key ≡ Some l.client
       → Serves h (Detach key) reply g → reply ≡ Done
   detach-done key l h g reply at (result, d, e) =
       e ∙ ap done (subst (λ o. DetachesFrom h key o result g) at d).0
@@ -66,8 +66,8 @@ module _ (rows cols : ℕ) where
     here : (own : Own) → (if key == key then Some own else None) ≡ Some own
     here own = ap (λ b. if b then Some own else None) (eq-eqb key key refl)
 
-    own-now : (n : ℕ) (l : Life) (h g : HubState as_told) (ts : List Story) (own : Own) (owns : List Own)
-        (reply : Reply) → CanLive rows cols l (own ∷ owns) → Lives rows cols key n h ts l → is_starved reply ≡ false
+    own-now : (n : ℕ) (l : Life) (h g : HubState as_reported) (ts : List Story) (own : Own) (owns : List Own)
+        (reply : Reply) → CanLive rows cols l (own ∷ owns) → Lives rows cols key n h ts l → is_out_of_memory reply ≡ false
         → Serves h (alone key own) reply g → own_at key (alone key own) reply ≡ Some own
     own-now n l h g ts (Acts (Fed bytes)) owns reply can s fed serves =
         ap (own_at key (Feed bytes)) (feed-done h g l.acts reply s.parser fed bytes serves)
@@ -80,7 +80,7 @@ module _ (rows cols : ℕ) where
         ap (own_at key (Detach key)) (detach-done key l h g reply s.client serves) ∙ here Leaves
 
     -- one more of its own, by what is said of those after it
-    own-more : (n : ℕ) (l : Life) (g : HubState as_told) (us : List Story) (own : Own) (owns later : List Own)
+    own-more : (n : ℕ) (l : Life) (g : HubState as_reported) (us : List Story) (own : Own) (owns later : List Own)
         → CanLive rows cols l (own ∷ owns) → Goes rows cols key n g us l (Some own)
         → ((m : Life) → CanLive rows cols m owns → Lives rows cols key n g us m → later ≡ owns)
         → own_then (Some own) later ≡ own ∷ owns
@@ -95,15 +95,15 @@ module _ (rows cols : ℕ) where
         ap (λ xs. Pumped takes ∷ xs) (more (lives rows cols l (Pumped takes)) can.1 goes.1)
     own-more n l g us Leaves owns later can goes more = ap (λ xs. Leaves ∷ xs) (sym can)
 
-    lone-on : (n : ℕ) (l : Life) (owns : List Own) (h k : HubState as_told) (ts us : List Story) (answers : List Reply)
-        → CanLive rows cols l owns → IsKept h ts → Lives rows cols key n h ts l → list_any is_starved answers ≡ false
-        → RunsTold h ts (map (alone key) owns) answers k us → own_of key (map (alone key) owns) answers ≡ owns
+    lone-on : (n : ℕ) (l : Life) (owns : List Own) (h k : HubState as_reported) (ts us : List Story) (answers : List Reply)
+        → CanLive rows cols l owns → IsKept h ts → Lives rows cols key n h ts l → list_any is_out_of_memory answers ≡ false
+        → RunsReported h ts (map (alone key) owns) answers k us → own_of key (map (alone key) owns) answers ≡ owns
     lone-on n l [] h k ts us [] can kept s fed run = refl
     lone-on n l [] h k ts us (reply ∷ answers) can kept s fed run = absurd run
     lone-on n l (own ∷ owns) h k ts us [] can kept s fed run = absurd run
     lone-on n l (own ∷ owns) h k ts us (reply ∷ answers) can kept s fed (g, is, serves, later) =
         let call = alone key own in
-        let each = or_parts (is_starved reply) (list_any is_starved answers) fed in
+        let each = or_parts (is_out_of_memory reply) (list_any is_out_of_memory answers) fed in
         let does = serves-does h g call reply serves in
         let after = stories_after h call reply ts in
         let now = own-now n l h g ts own owns reply can s each.0 serves in
@@ -116,34 +116,34 @@ module _ (rows cols : ℕ) where
   -- ---- from the first act on
 
   -- no client has come
-  abbrev hub_at : List Act → HubState as_told
+  abbrev hub_at : List Act → HubState as_reported
   hub_at acts = record { parser = past rows cols acts; clients = no_clients }
 
   -- and then the first one, at a key
-  abbrev first_at : List Act → ℕ → HubState as_told
+  abbrev first_at : List Act → ℕ → HubState as_reported
   first_at acts key = put (hub_at acts) key (Some new_client)
 
   abbrev stories_at : List Act → ℕ → List Story
   stories_at acts key = record { session = begun (hub_at acts) key; entries = [] } ∷ []
 
-  goes-to : (acts : List Act) (call : Call) (reply other : Reply) (g k : HubState as_told) (us : List Story)
+  goes-to : (acts : List Act) (call : Call) (reply other : Reply) (g k : HubState as_reported) (us : List Story)
       (calls : List Call) (answers : List Reply) → Serves (hub_at acts) call reply g → reply ≡ other
-      → RunsTold g (stories_after (hub_at acts) call reply []) calls answers k us
-      → RunsTold (hub_after (hub_at acts) call other) (stories_after (hub_at acts) call other []) calls answers k us
+      → RunsReported g (stories_after (hub_at acts) call reply []) calls answers k us
+      → RunsReported (hub_after (hub_at acts) call other) (stories_after (hub_at acts) call other []) calls answers k us
   goes-to acts call reply other g k us calls answers serves is later =
       let h = hub_at acts in
       let same = does-after h call reply g (serves-does h g call reply serves) ∙ ap (hub_after h call) is in
-      subst (λ x. RunsTold x (stories_after h call other []) calls answers k us) same
-      (subst (λ r. RunsTold g (stories_after h call r []) calls answers k us) is later)
+      subst (λ x. RunsReported x (stories_after h call other []) calls answers k us) same
+      (subst (λ r. RunsReported g (stories_after h call r []) calls answers k us) is later)
 
   born-lives : (acts : List Act) (key : ℕ)
       → Lives rows cols key 0 (first_at acts key) (stories_at acts key) (born rows cols acts)
   born-lives acts key = record { parser = refl; client = at-key no_clients key (Some new_client); story = refl }
 
   -- the first session has the key that its attach got
-  key-of : (acts : List Act) (key : ℕ) (k : HubState as_told) (us : List Story) (calls : List Call)
-      (answers : List Reply) (u : Story) → IsKept (hub_at acts) [] → list_any is_starved answers ≡ false
-      → RunsTold (first_at acts key) (stories_at acts key) calls answers k us → slice_get us 0 ≡ Some u
+  key-of : (acts : List Act) (key : ℕ) (k : HubState as_reported) (us : List Story) (calls : List Call)
+      (answers : List Reply) (u : Story) → IsKept (hub_at acts) [] → list_any is_out_of_memory answers ≡ false
+      → RunsReported (first_at acts key) (stories_at acts key) calls answers k us → slice_get us 0 ≡ Some u
       → key ≡ u.session.client
   key-of acts key k us calls answers u kept fed run is =
       let l = tell_on rows cols (born rows cols acts) (own_of key calls answers) in
@@ -155,15 +155,15 @@ module _ (rows cols : ℕ) where
       let one : story_of rows cols key l.1 l.0 ≡ u = cc in
       ap (λ (x : Story). x.session.client) one
 
-  lone-start : (acts : List Act) (owns : List Own) (key : ℕ) (k : HubState as_told) (us : List Story)
+  lone-start : (acts : List Act) (owns : List Own) (key : ℕ) (k : HubState as_reported) (us : List Story)
       (answers : List Reply) (u : Story) → CanCome rows cols acts owns → IsKept (hub_at acts) []
-      → list_any is_starved answers ≡ false → RunsTold (hub_at acts) [] (map (alone key) owns) answers k us
+      → list_any is_out_of_memory answers ≡ false → RunsReported (hub_at acts) [] (map (alone key) owns) answers k us
       → slice_get us 0 ≡ Some u → u.session.client ≡ key → own_calls 0 (map (alone key) owns) answers ≡ owns
   lone-start acts (Acts (Fed bytes) ∷ owns) key k us [] u can kept fed run is at = absurd run
   lone-start acts (Acts (Fed bytes) ∷ owns) key k us (reply ∷ answers) u can kept fed (g, ok, serves, later) is at =
       let h = hub_at acts in
       let calls = map (alone key) owns in
-      let each = or_parts (is_starved reply) (list_any is_starved answers) fed in
+      let each = or_parts (is_out_of_memory reply) (list_any is_out_of_memory answers) fed in
       let r = feed-done h g acts reply refl each.0 bytes serves in
       let run = goes-to acts (Feed bytes) reply Done g k us calls answers serves r later in
       ap (λ y. own_calls 0 (Feed bytes ∷ calls) (y ∷ answers)) r
@@ -174,7 +174,7 @@ module _ (rows cols : ℕ) where
       is at =
       let h = hub_at acts in
       let calls = map (alone key) owns in
-      let each = or_parts (is_starved reply) (list_any is_starved answers) fed in
+      let each = or_parts (is_out_of_memory reply) (list_any is_out_of_memory answers) fed in
       let r = resize-done h g acts reply refl each.0 height width serves in
       let run = goes-to acts (Resize height width) reply Done g k us calls answers serves r later in
       ap (λ y. own_calls 0 (Resize height width ∷ calls) (y ∷ answers)) r
@@ -184,11 +184,11 @@ module _ (rows cols : ℕ) where
   lone-start acts (Comes ∷ owns) key k us (reply ∷ answers) u can kept fed (g, ok, serves, later) is at =
       let h = hub_at acts in
       let calls = map (alone key) owns in
-      let each = or_parts (is_starved reply) (list_any is_starved answers) fed in
+      let each = or_parts (is_out_of_memory reply) (list_any is_out_of_memory answers) fed in
       let got = attach-done h g acts reply refl each.0 serves in
       let run = goes-to acts Attach reply (Attached got.0) g k us calls answers serves got.1 later in
       let who : got.0 ≡ key = key-of acts got.0 k us calls answers u kept each.1 run is ∙ at in
-      let here = subst (λ o. RunsTold (first_at acts o) (stories_at acts o) calls answers k us) who run in
+      let here = subst (λ o. RunsReported (first_at acts o) (stories_at acts o) calls answers k us) who run in
       ap (λ y. own_calls 0 (Attach ∷ calls) (y ∷ answers)) (got.1 ∙ ap Attached who)
       ∙ ap (λ xs. Comes ∷ xs) (lone-on key 0 (born rows cols acts) owns (first_at acts key) k (stories_at acts key) us
       answers can (attached-kept h key [] refl kept) (born-lives acts key) each.1 here)

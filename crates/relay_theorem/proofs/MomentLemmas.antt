@@ -14,8 +14,8 @@ use Rattle.termrelay.specs.declared.call.Reply.{Reply}
 use Rattle.termrelay.specs.Hub.{HubState, clients_in}
 use Rattle.termrelay.specs.Calls.{Call, Frame, Pump}
 use Rattle.termrelay.specs.Log.{change_last, begun, ended, grown, bytes_taken}
-use Rattle.relay_theorem.specs.History.{as_told, fresh, Entry, Story, is_on, with_session, with_entries, entries_of}
-use Rattle.relay_theorem.specs.History.{stories_after, RunsTold}
+use Rattle.relay_theorem.specs.History.{as_reported, fresh, Entry, Story, is_on, with_session, with_entries, entries_of}
+use Rattle.relay_theorem.specs.History.{stories_after, RunsReported}
 use Rattle.relay_theorem.specs.Judge.{frame_or, last_frame, whole_in}
 use Rattle.relay_theorem.specs.Laws.{IsSession}
 use Rattle.relay_theorem.specs.Headline.{resizes_made, AreAtOneMoment}
@@ -60,28 +60,28 @@ same-made past s (Fed xs ∷ p) (Resized rows cols ∷ q) m n e b r =
 same-made past s (Resized height width ∷ p) (Fed ys ∷ q) m n e b r =
     absurd (let no : Resized height width ∷ (p ++ m) ≡ Fed ys ∷ (q ++ n) = e in cc)
 
-abbrev IsFront : List Act → List Act → Type 0
-IsFront acts p = (more : List Act) × (p ++ more ≡ acts)
+abbrev IsPrefix : List Act → List Act → Type 0
+IsPrefix acts p = (more : List Act) × (p ++ more ≡ acts)
 
-all-here : (acts : List Act) → IsFront acts acts
+all-here : (acts : List Act) → IsPrefix acts acts
 all-here acts = ([], append-nil acts)
 
-grown-front : (acts p : List Act) (act : Act) → IsFront acts p → IsFront (acts ++ act ∷ []) p
-grown-front acts p act h =
+grown-prefix : (acts p : List Act) (act : Act) → IsPrefix acts p → IsPrefix (acts ++ act ∷ []) p
+grown-prefix acts p act h =
     (h.0 ++ act ∷ [], sym (append_assoc p h.0 (act ∷ [])) ∙ ap (λ xs. xs ++ act ∷ []) h.1)
 
 -- ---- the moments of a run are such fronts
 
-abbrev HasFronts : List Act → Story → Type 0
-HasFronts acts t = AllByRecursion (λ e. IsFront acts e.moment) t.entries
+abbrev HasPrefixes : List Act → Story → Type 0
+HasPrefixes acts t = AllByRecursion (λ e. IsPrefix acts e.moment) t.entries
 
-abbrev AllHaveFronts : HubState as_told → List Story → Type 0
-AllHaveFronts h ts = AllByRecursion (HasFronts h.parser.acts) ts
+abbrev AllHavePrefixes : HubState as_reported → List Story → Type 0
+AllHavePrefixes h ts = AllByRecursion (HasPrefixes h.parser.acts) ts
 
-grown-fronts : (acts : List Act) (act : Act) (t : Story) → HasFronts acts t → HasFronts (acts ++ act ∷ []) t
-grown-fronts acts act t h =
-    all-each (λ e. IsFront acts e.moment) (λ e. IsFront (acts ++ act ∷ []) e.moment)
-    (λ e f. grown-front acts e.moment act f) t.entries h
+grown-prefixes : (acts : List Act) (act : Act) (t : Story) → HasPrefixes acts t → HasPrefixes (acts ++ act ∷ []) t
+grown-prefixes acts act t h =
+    all-each (λ e. IsPrefix acts e.moment) (λ e. IsPrefix (acts ++ act ∷ []) e.moment)
+    (λ e f. grown-prefix acts e.moment act f) t.entries h
 
 changed-by : {X : Type 0} (P : X → Type 0) (test : X → Bool) (f : X → X) (later here : Bool) (x : X) (xs : List X)
     → P x → P (f x) → AllByRecursion P xs → AllByRecursion P (change_last test f xs)
@@ -101,51 +101,51 @@ all-joined : {X : Type 0} (P : X → Type 0) (xs ys : List X) → AllByRecursion
 all-joined P [] ys h k = k
 all-joined P (x ∷ xs) ys h k = (h.0, all-joined P xs ys h.1 k)
 
-entry-front : (h : HubState as_told) (o : Option ClientState) (answer : Answer)
-    → AllByRecursion (λ e. IsFront h.parser.acts e.moment) (entries_of h o answer)
-entry-front h None answer = tt
-entry-front h (Some c) answer = (all-here h.parser.acts, tt)
+entry-prefix : (h : HubState as_reported) (o : Option ClientState) (answer : Answer)
+    → AllByRecursion (λ e. IsPrefix h.parser.acts e.moment) (entries_of h o answer)
+entry-prefix h None answer = tt
+entry-prefix h (Some c) answer = (all-here h.parser.acts, tt)
 
-module _ (h : HubState as_told) (ts : List Story) (k : AllHaveFronts h ts) where
-  does-fronts : (call : Call) (reply : Reply) (g : HubState as_told) → Does h call reply g
-      → AllHaveFronts g (stories_after h call reply ts)
-  does-fronts call reply g (refuses (Frame key) e never) = absurd never
-  does-fronts call reply g (refuses (Pump key takes) e never) = absurd never
-  does-fronts call reply g (refuses _ e idle) = k
-  does-fronts call reply g (feeds bytes) =
+module _ (h : HubState as_reported) (ts : List Story) (k : AllHavePrefixes h ts) where
+  does-prefixes : (call : Call) (reply : Reply) (g : HubState as_reported) → Does h call reply g
+      → AllHavePrefixes g (stories_after h call reply ts)
+  does-prefixes call reply g (refuses (Frame key) e never) = absurd never
+  does-prefixes call reply g (refuses (Pump key takes) e never) = absurd never
+  does-prefixes call reply g (refuses _ e idle) = k
+  does-prefixes call reply g (feeds bytes) =
       let acts = h.parser.acts in
-      all-each (HasFronts acts) (HasFronts (acts ++ Fed bytes ∷ [])) (grown-fronts acts (Fed bytes)) ts k
-  does-fronts call reply g (fails bytes) = k
-  does-fronts call reply g (resizes rows cols) =
+      all-each (HasPrefixes acts) (HasPrefixes (acts ++ Fed bytes ∷ [])) (grown-prefixes acts (Fed bytes)) ts k
+  does-prefixes call reply g (fails bytes) = k
+  does-prefixes call reply g (resizes rows cols) =
       let acts = h.parser.acts in
-      all-map (HasFronts acts) (HasFronts (acts ++ Resized rows cols ∷ [])) (with_session ended)
-      (grown-fronts acts (Resized rows cols)) ts k
-  does-fronts call reply g (attaches key free) =
-      all-push (HasFronts h.parser.acts) ts (record { session = begun h key; entries = [] }) k tt
-  does-fronts call reply g (detaches key c at) =
-      all-changed (HasFronts h.parser.acts) (is_on key) (with_session ended) (λ t i. i) ts k
-  does-fronts call reply g (answers key c answer at due) =
+      all-map (HasPrefixes acts) (HasPrefixes (acts ++ Resized rows cols ∷ [])) (with_session ended)
+      (grown-prefixes acts (Resized rows cols)) ts k
+  does-prefixes call reply g (attaches key free) =
+      all-push (HasPrefixes h.parser.acts) ts (record { session = begun h key; entries = [] }) k tt
+  does-prefixes call reply g (detaches key c at) =
+      all-changed (HasPrefixes h.parser.acts) (is_on key) (with_session ended) (λ t i. i) ts k
+  does-prefixes call reply g (answers key c answer at due) =
       let new = entries_of h (clients_in h key) answer in
-      all-changed (HasFronts h.parser.acts) (is_on key) (with_entries new)
-      (λ t i. all-joined (λ e. IsFront h.parser.acts e.moment) t.entries new i
-      (entry-front h (clients_in h key) answer)) ts k
-  does-fronts call reply g (declines key e can) = k
-  does-fronts call reply g (pumps key takes reply' c at can) =
-      all-changed (HasFronts h.parser.acts) (is_on key) (with_session (grown (bytes_taken takes (clients_in h key))))
+      all-changed (HasPrefixes h.parser.acts) (is_on key) (with_entries new)
+      (λ t i. all-joined (λ e. IsPrefix h.parser.acts e.moment) t.entries new i
+      (entry-prefix h (clients_in h key) answer)) ts k
+  does-prefixes call reply g (declines key e can) = k
+  does-prefixes call reply g (pumps key takes reply' c at can) =
+      all-changed (HasPrefixes h.parser.acts) (is_on key) (with_session (grown (bytes_taken takes (clients_in h key))))
       (λ t i. i) ts k
-  does-fronts call reply g (misses key takes reply' free) =
-      all-changed (HasFronts h.parser.acts) (is_on key) (with_session (grown (bytes_taken takes (clients_in h key))))
+  does-prefixes call reply g (misses key takes reply' free) =
+      all-changed (HasPrefixes h.parser.acts) (is_on key) (with_session (grown (bytes_taken takes (clients_in h key))))
       (λ t i. i) ts k
 
-run-fronts : (h k : HubState as_told) (ts us : List Story) (calls : List Call) (replies : List Reply)
-    → AllHaveFronts h ts → RunsTold h ts calls replies k us → AllHaveFronts k us
-run-fronts h k ts us [] [] a run =
-    subst (AllHaveFronts k) (sym run.1) (subst (λ x. AllHaveFronts x ts) (sym run.0) a)
-run-fronts h k ts us [] (reply ∷ replies) a run = absurd run
-run-fronts h k ts us (call ∷ calls) [] a run = absurd run
-run-fronts h k ts us (call ∷ calls) (reply ∷ replies) a (g, is, serves, later) =
-    run-fronts g k (stories_after h call reply ts) us calls replies
-    (does-fronts h ts a call reply g (serves-does h g call reply serves)) later
+run-prefixes : (h k : HubState as_reported) (ts us : List Story) (calls : List Call) (replies : List Reply)
+    → AllHavePrefixes h ts → RunsReported h ts calls replies k us → AllHavePrefixes k us
+run-prefixes h k ts us [] [] a run =
+    subst (AllHavePrefixes k) (sym run.1) (subst (λ x. AllHavePrefixes x ts) (sym run.0) a)
+run-prefixes h k ts us [] (reply ∷ replies) a run = absurd run
+run-prefixes h k ts us (call ∷ calls) [] a run = absurd run
+run-prefixes h k ts us (call ∷ calls) (reply ∷ replies) a (g, is, serves, later) =
+    run-prefixes g k (stories_after h call reply ts) us calls replies
+    (does-prefixes h ts a call reply g (serves-does h g call reply serves)) later
 
 -- ---- the last frame among some entries
 
@@ -171,29 +171,29 @@ all-whole P (e ∷ es) n h =
     let left = n - length e.text in
     whole-by P (nat_le (length e.text) n) e (whole_in es left) h.0 (all-whole P es left h.1)
 
-pub all-first : (P : Entry → Type 0) (front back : List Entry) → AllByRecursion P (front ++ back)
-    → AllByRecursion P front
+pub all-first : (P : Entry → Type 0) (prefix back : List Entry) → AllByRecursion P (prefix ++ back)
+    → AllByRecursion P prefix
 all-first P [] back h = tt
-all-first P (e ∷ front) back h = (h.0, all-first P front back h.1)
+all-first P (e ∷ prefix) back h = (h.0, all-first P prefix back h.1)
 
 -- ---- two sessions of one run
 
 module _ (rows cols : ℕ) (calls : List Call) (replies : List Reply) (n m : ℕ) (t u : Story)
     (s : IsSession rows cols calls replies n t) (z : IsSession rows cols calls replies m u) where
   abbrev pub FedBefore : Entry → Type 0
-  FedBefore e = IsFront s.hub.parser.acts e.moment
+  FedBefore e = IsPrefix s.hub.parser.acts e.moment
 
   pub these-before : AllByRecursion FedBefore t.entries
   these-before =
-      all-at (HasFronts s.hub.parser.acts) s.stories n t
-      (run-fronts (fresh rows cols) s.hub [] s.stories calls replies tt s.ran) s.is
+      all-at (HasPrefixes s.hub.parser.acts) s.stories n t
+      (run-prefixes (fresh rows cols) s.hub [] s.stories calls replies tt s.ran) s.is
 
   pub those-before : AllByRecursion FedBefore u.entries
   those-before =
       let same = history-is-one (fresh rows cols) s.hub z.hub [] s.stories z.stories calls replies s.ran z.ran in
-      subst (λ (h : HubState as_told). HasFronts h.parser.acts u) (sym same.0)
-      (all-at (HasFronts z.hub.parser.acts) z.stories m u
-      (run-fronts (fresh rows cols) z.hub [] z.stories calls replies tt z.ran) z.is)
+      subst (λ (h : HubState as_reported). HasPrefixes h.parser.acts u) (sym same.0)
+      (all-at (HasPrefixes z.hub.parser.acts) z.stories m u
+      (run-prefixes (fresh rows cols) z.hub [] z.stories calls replies tt z.ran) z.is)
 
   -- what was made at the last frames of these entries, where they are of one moment
   pub one-made : (es fs : List Entry) (e f : Entry) → AllByRecursion FedBefore es → AllByRecursion FedBefore fs

@@ -19,10 +19,10 @@ use Rattle.termrelay.specs.declared.error.HubError.TheVariants as hub
 use Rattle.termrelay.specs.Hub.{HubState, screen_in, size_in, shown_in, new_client, CanFrame}
 use Rattle.termrelay.specs.Calls.{Call, Frame, Pump, IsCall, done}
 use Rattle.termrelay.specs.Log.{change_last, begun, ended, grown, bytes_taken}
-use Rattle.relay_theorem.specs.History.{Past, as_told, Entry, Story, is_on, with_session, with_entries, entries_of}
+use Rattle.relay_theorem.specs.History.{Past, as_reported, Entry, Story, is_on, with_session, with_entries, entries_of}
 use Rattle.relay_theorem.specs.History.{stories_after}
 use Rattle.relay_theorem.specs.Laws.{AtMostOne}
-use Rattle.relay_theorem.specs.Isolation.{is_starved, Own, Acts, Comes, Asks, Pumped, Leaves, own_at, ends}
+use Rattle.relay_theorem.specs.Isolation.{is_out_of_memory, Own, Acts, Comes, Asks, Pumped, Leaves, own_at, ends}
 use Rattle.relay_theorem.proofs.StoryLemmas.{pick, only-changed, other-key, put, at-key, at-other, at-known}
 use Rattle.relay_theorem.proofs.CallLemmas.{CanPump, left_in, Does, refuses, feeds, fails, resizes, attaches}
 use Rattle.relay_theorem.proofs.CallLemmas.{detaches, answers, declines, pumps, misses}
@@ -34,11 +34,11 @@ pub got-mapped : {X Y : Type 0} (f : X → Y) (xs : List X) (n : ℕ) (x : X) �
     → slice_get (map f xs) n ≡ Some (f x)
 got-mapped f xs n x e = slice_get-map f xs n ∙ ap (option_map f) e
 
-pub got-front : {X : Type 0} (xs ys : List X) (n : ℕ) (x : X) → slice_get xs n ≡ Some x
+pub got-prefix : {X : Type 0} (xs ys : List X) (n : ℕ) (x : X) → slice_get xs n ≡ Some x
     → slice_get (xs ++ ys) n ≡ Some x
-got-front [] ys n x e = absurd (let no : None ≡ Some x = e in cc)
-got-front (y ∷ xs) ys zero x e = e
-got-front (y ∷ xs) ys (suc n) x e = got-front xs ys n x e
+got-prefix [] ys n x e = absurd (let no : None ≡ Some x = e in cc)
+got-prefix (y ∷ xs) ys zero x e = e
+got-prefix (y ∷ xs) ys (suc n) x e = got-prefix xs ys n x e
 
 pub got-last : {X : Type 0} (xs : List X) (x : X) → slice_get (xs ++ x ∷ []) (length xs) ≡ Some x
 got-last [] x = refl
@@ -138,13 +138,13 @@ module _ (rows cols : ℕ) where
   -- ---- while it lives
 
   -- on this hub the n-th session lives at the key, and has this
-  pub record Lives (key n : ℕ) (h : HubState as_told) (ts : List Story) (l : Life) : Type 0 where
+  pub record Lives (key n : ℕ) (h : HubState as_reported) (ts : List Story) (l : Life) : Type 0 where
     pub parser : h.parser ≡ past l.acts
     pub client : h.clients key ≡ Some l.client
     pub story : slice_get ts n ≡ Some (story_of key false l)
 
   -- and so after a call that is its own, or isn't
-  abbrev pub Goes : ℕ → ℕ → HubState as_told → List Story → Life → Option Own → Type 0
+  abbrev pub Goes : ℕ → ℕ → HubState as_reported → List Story → Life → Option Own → Type 0
   Goes key n g us l None = Lives key n g us l
   Goes key n g us l (Some (Acts (Fed bytes))) = Lives key n g us (lives l (Acts (Fed bytes)))
   Goes key n g us l (Some (Acts (Resized height width))) =
@@ -157,7 +157,7 @@ module _ (rows cols : ℕ) where
   module _ (key n : ℕ) (l : Life) (clients : ℕ → Option ClientState) (ts : List Story)
       (one : (k : ℕ) → AtMostOne (is_on k) ts) (client : clients key ≡ Some l.client)
       (story : slice_get ts n ≡ Some (story_of key false l)) where
-    abbrev now : HubState as_told
+    abbrev now : HubState as_reported
     now = record { parser = past l.acts; clients = clients }
 
     own-changed : (f : Story → Story) → slice_get (change_last (is_on key) f ts) n ≡ Some (f (story_of key false l))
@@ -212,14 +212,14 @@ module _ (rows cols : ℕ) where
 
     -- no frame where no client is
     declined : (o : Option ClientState) (e : HubError) → CanFrame (screen_in now) o (Err e)
-        → is_starved (Refused e) ≡ false → o ≡ None
+        → is_out_of_memory (Refused e) ≡ false → o ≡ None
     declined None e can fed = refl
     declined (Some c) hub.Memory can fed = absurd (let no : true ≡ false = fed in cc)
     declined (Some c) hub.Failed can fed = absurd (let no : false ≡ true = can in cc)
     declined (Some c) _ can fed = absurd can
 
-    does-goes : (call : Call) (reply : Reply) (g : HubState as_told) → IsCall call → Does now call reply g
-        → is_starved reply ≡ false → Goes key n g (stories_after now call reply ts) l (own_at key call reply)
+    does-goes : (call : Call) (reply : Reply) (g : HubState as_reported) → IsCall call → Does now call reply g
+        → is_out_of_memory reply ≡ false → Goes key n g (stories_after now call reply ts) l (own_at key call reply)
     does-goes call reply g is (refuses (Frame other) e never) fed = absurd never
     does-goes call reply g is (refuses (Pump other takes) e never) fed = absurd never
     does-goes call reply g is (refuses _ e idle) fed = stays ts story
@@ -230,7 +230,7 @@ module _ (rows cols : ℕ) where
     does-goes call reply g is (attaches other free) fed = record {
       parser = refl;
       client = at-known clients other (Some new_client) key l.client free client;
-      story = got-front ts (record { session = begun now other; entries = [] } ∷ []) n (story_of key false l) story;
+      story = got-prefix ts (record { session = begun now other; entries = [] } ∷ []) n (story_of key false l) story;
     }
     does-goes call reply g is (detaches other c at) fed =
         put-goes (other == key) other None (with_session ended) Leaves refl (λ e. own-changed (with_session ended))
@@ -239,16 +239,16 @@ module _ (rows cols : ℕ) where
         put-goes (other == key) other (Some (after_answer (size_in now) (shown_in now) c answer)) change Asks refl
         (λ e.
         let same : c ≡ l.client = let both = its-own other (Some c) e at in cc in
-        let told : answer ≡ answer_now l = due ∙ ap (answer_for (made rows cols 0 l.acts)) same in
+        let reported : answer ≡ answer_now l = due ∙ ap (answer_for (made rows cols 0 l.acts)) same in
         record {
           parser = refl;
           client = at-key clients key (Some (after_answer (size_in now) (shown_in now) c answer))
               ∙ ap (λ d. Some (after_answer (size_in now) (shown_in now) d answer)) same
-              ∙ ap (λ a. Some (client_by l a)) told;
+              ∙ ap (λ a. Some (client_by l a)) reported;
           story = own-changed change
               ∙ ap (λ o. Some (with_entries (entries_of now o answer) (story_of key false l)))
               (at ∙ its-own other (Some c) e at)
-              ∙ ap (λ a. Some (with_entries (entry_by l a ∷ []) (story_of key false l))) told;
+              ∙ ap (λ a. Some (with_entries (entry_by l a ∷ []) (story_of key false l))) reported;
         })
     does-goes call reply g is (declines other e can) fed =
         free-goes other Asks ts (declined (clients other) e can fed) (λ apart. story)
@@ -270,8 +270,8 @@ module _ (rows cols : ℕ) where
         let change = with_session (grown (bytes_taken takes (clients other))) in
         free-goes other (Pumped takes) (change_last (is_on other) change ts) free (other-changed other change)
 
-  pub call-goes-on : (key n : ℕ) (l : Life) (h g : HubState as_told) (ts : List Story) (call : Call) (reply : Reply)
-      → IsKept h ts → Lives key n h ts l → IsCall call → Does h call reply g → is_starved reply ≡ false
+  pub call-goes-on : (key n : ℕ) (l : Life) (h g : HubState as_reported) (ts : List Story) (call : Call) (reply : Reply)
+      → IsKept h ts → Lives key n h ts l → IsCall call → Does h call reply g → is_out_of_memory reply ≡ false
       → Goes key n g (stories_after h call reply ts) l (own_at key call reply)
   call-goes-on key n l h g ts call reply kept s is does fed =
       let same : h ≡ now key n l h.clients ts kept.one s.client s.story =

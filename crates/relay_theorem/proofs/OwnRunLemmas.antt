@@ -16,16 +16,16 @@ use Rattle.termrelay.specs.declared.error.HubError.TheVariants as hub
 use Rattle.termrelay.specs.Hub.{HubState, new_client}
 use Rattle.termrelay.specs.Calls.{Call, Feed, Resize, Attach, Detach, Frame, Pump, IsCall, done}
 use Rattle.termrelay.specs.Log.{change_last, begun, ended, grown, bytes_taken}
-use Rattle.relay_theorem.specs.History.{Past, as_told, fresh, Story, is_on, with_session, with_entries, entries_of}
+use Rattle.relay_theorem.specs.History.{Past, as_reported, fresh, Story, is_on, with_session, with_entries, entries_of}
 use Rattle.relay_theorem.specs.History.{stories_after}
 use Rattle.relay_theorem.specs.Laws.{AtMostOne, IsSession}
-use Rattle.relay_theorem.specs.Isolation.{is_starved, Own, Acts, Comes, Asks, Pumped, Leaves, acts_of, own_at}
+use Rattle.relay_theorem.specs.Isolation.{is_out_of_memory, Own, Acts, Comes, Asks, Pumped, Leaves, acts_of, own_at}
 use Rattle.relay_theorem.specs.Isolation.{own_then, own_of, own_calls}
 use Rattle.relay_theorem.proofs.StoryLemmas.{pick, only-changed, put, at-key}
 use Rattle.relay_theorem.proofs.CallLemmas.{Does, refuses, feeds, fails, resizes, attaches, detaches, answers}
 use Rattle.relay_theorem.proofs.CallLemmas.{declines, pumps, misses}
 use Rattle.relay_theorem.proofs.HistoryLemmas.{IsKept, Went, over, called, fresh-went}
-use Rattle.relay_theorem.proofs.OwnLemmas.{got-mapped, got-front, got-last, none-past, Life, past, story_of, born}
+use Rattle.relay_theorem.proofs.OwnLemmas.{got-mapped, got-prefix, got-last, none-past, Life, past, story_of, born}
 use Rattle.relay_theorem.proofs.OwnLemmas.{lives, tell_on, tell, CanLive, CanCome, Lives, Goes, call-goes-on}
 
 -- on a hub that was first of this size
@@ -39,7 +39,7 @@ module _ (rows cols : ℕ) where
       ap (λ xs. slice_get xs n) (only-changed (is_on other) f ts one)
       ∙ got-mapped (pick (is_on other) f) ts n (story_of rows cols key true l) at
 
-  module _ (key n : ℕ) (l : Life) (h : HubState as_told) (ts : List Story) (one : (k : ℕ) → AtMostOne (is_on k) ts)
+  module _ (key n : ℕ) (l : Life) (h : HubState as_reported) (ts : List Story) (one : (k : ℕ) → AtMostOne (is_on k) ts)
       (at : slice_get ts n ≡ Some (story_of rows cols key true l)) where
     abbrev Stays : Call → Reply → Type 0
     Stays call reply = slice_get (stories_after h call reply ts) n ≡ Some (story_of rows cols key true l)
@@ -47,7 +47,7 @@ module _ (rows cols : ℕ) where
     gone-stays : (call : Call) (reply : Reply) → Stays call reply
     gone-stays (Resize height width) Done = got-mapped (with_session ended) ts n (story_of rows cols key true l) at
     gone-stays Attach (Attached other) =
-        got-front ts (record { session = begun h other; entries = [] } ∷ []) n (story_of rows cols key true l) at
+        got-prefix ts (record { session = begun h other; entries = [] } ∷ []) n (story_of rows cols key true l) at
     gone-stays (Detach other) Done = gone-changed key other n l (with_session ended) ts (one other) at
     gone-stays (Frame other) (Answered answer) =
         gone-changed key other n l (with_entries (entries_of h (h.clients other) answer)) ts (one other) at
@@ -55,7 +55,7 @@ module _ (rows cols : ℕ) where
         gone-changed key other n l (with_session (grown (bytes_taken takes (h.clients other)))) ts (one other) at
     gone-stays _ _ = at
 
-  gone-run : (key n : ℕ) (l : Life) (h k : HubState as_told) (ts us : List Story) (calls : List Call)
+  gone-run : (key n : ℕ) (l : Life) (h k : HubState as_reported) (ts us : List Story) (calls : List Call)
       (replies : List Reply) → slice_get ts n ≡ Some (story_of rows cols key true l) → Went h ts calls replies k us
       → slice_get us n ≡ Some (story_of rows cols key true l)
   gone-run key n l h k ts us calls replies at (over kept) = at
@@ -66,13 +66,13 @@ module _ (rows cols : ℕ) where
   -- ---- from its coming on
 
   -- where its own calls lead
-  pub record EndsAs (key n : ℕ) (k : HubState as_told) (us : List Story) (l : Life) (owns : List Own) : Type 0 where
+  pub record EndsAs (key n : ℕ) (k : HubState as_reported) (us : List Story) (l : Life) (owns : List Own) : Type 0 where
     pub story : slice_get us n ≡ Some (story_of rows cols key (tell_on rows cols l owns).1 (tell_on rows cols l owns).0)
     pub client : (tell_on rows cols l owns).1 ≡ false → k.clients key ≡ Some (tell_on rows cols l owns).0.client
     pub can : CanLive rows cols l owns
 
   -- one call more, by where those after it lead
-  module _ (key n : ℕ) (g k : HubState as_told) (ts us : List Story) (owns : List Own)
+  module _ (key n : ℕ) (g k : HubState as_reported) (ts us : List Story) (owns : List Own)
       (more : (l : Life) → Lives rows cols key n g ts l → EndsAs key n k us l owns)
       (gone : (l : Life) → slice_get ts n ≡ Some (story_of rows cols key true l)
       → slice_get us n ≡ Some (story_of rows cols key true l))
@@ -100,14 +100,14 @@ module _ (rows cols : ℕ) where
       can = refl;
     }
 
-  pub lives-run : (key n : ℕ) (l : Life) (h k : HubState as_told) (ts us : List Story) (calls : List Call)
-      (replies : List Reply) → Lives rows cols key n h ts l → list_any is_starved replies ≡ false
+  pub lives-run : (key n : ℕ) (l : Life) (h k : HubState as_reported) (ts us : List Story) (calls : List Call)
+      (replies : List Reply) → Lives rows cols key n h ts l → list_any is_out_of_memory replies ≡ false
       → Went h ts calls replies k us → EndsAs key n k us l (own_of key calls replies)
   lives-run key n l h k ts us calls replies s fed (over kept) =
       record { story = s.story; client = λ _. s.client; can = tt }
   lives-run key n l h k ts us (call ∷ calls) (reply ∷ replies) s fed (called g kept does is later) =
       let after = stories_after h call reply ts in
-      let each = or_parts (is_starved reply) (list_any is_starved replies) fed in
+      let each = or_parts (is_out_of_memory reply) (list_any is_out_of_memory replies) fed in
       lives-then key n g k after us (own_of key calls replies)
       (λ m t. lives-run key n m g k after us calls replies t each.1 later)
       (λ m at. gone-run key n m g k after us calls replies at later) l (own_at key call reply)
@@ -116,11 +116,11 @@ module _ (rows cols : ℕ) where
   -- ---- before it comes
 
   -- a session that its own calls tell, on the hub after them
-  pub record Found (acts : List Act) (owns : List Own) (k : HubState as_told) (t : Story) : Type 0 where
+  pub record Found (acts : List Act) (owns : List Own) (k : HubState as_reported) (t : Story) : Type 0 where
     pub key : ℕ
     pub life : Life
     pub gone : Bool
-    pub told : tell rows cols acts owns ≡ Some (life, gone)
+    pub reported : tell rows cols acts owns ≡ Some (life, gone)
     pub is : t ≡ story_of rows cols key gone life
     pub client : gone ≡ false → k.clients key ≡ Some life.client
     pub can : CanCome rows cols acts owns
@@ -131,7 +131,7 @@ module _ (rows cols : ℕ) where
   IsQuiet call reply = Unit {0}
 
   -- the screen goes on by the call's acts
-  pub record Passes (acts : List Act) (g : HubState as_told) (ts us : List Story) (done : List Act) : Type 0 where
+  pub record Passes (acts : List Act) (g : HubState as_reported) (ts us : List Story) (done : List Act) : Type 0 where
     pub parser : g.parser ≡ past rows cols (acts ++ done)
     pub count : length us ≡ length ts
     pub sides : (owns : List Own) → CanCome rows cols (acts ++ done) owns
@@ -139,10 +139,10 @@ module _ (rows cols : ℕ) where
 
   module _ (acts : List Act) (clients : ℕ → Option ClientState) (ts : List Story)
       (one : (k : ℕ) → AtMostOne (is_on k) ts) where
-    abbrev before : HubState as_told
+    abbrev before : HubState as_reported
     before = record { parser = past rows cols acts; clients = clients }
 
-    idle-passes : (g : HubState as_told) (us : List Story) → g.parser ≡ past rows cols acts → length us ≡ length ts
+    idle-passes : (g : HubState as_reported) (us : List Story) → g.parser ≡ past rows cols acts → length us ≡ length ts
         → Passes acts g ts us []
     idle-passes g us same count = record {
       parser = same ∙ ap (past rows cols) (sym (append-nil acts));
@@ -155,8 +155,8 @@ module _ (rows cols : ℕ) where
         ap (λ (xs : List Story). length xs) (only-changed (is_on key) f ts (one key))
         ∙ length-map ts (pick (is_on key) f)
 
-    does-pass : (call : Call) (reply : Reply) (g : HubState as_told) → IsQuiet call reply → IsCall call
-        → Does before call reply g → is_starved reply ≡ false
+    does-pass : (call : Call) (reply : Reply) (g : HubState as_reported) → IsQuiet call reply → IsCall call
+        → Does before call reply g → is_out_of_memory reply ≡ false
         → Passes acts g ts (stories_after before call reply ts) (acts_of call reply)
     does-pass call reply g quiet is (refuses (Frame key) e never) fed = absurd never
     does-pass call reply g quiet is (refuses (Pump key takes) e never) fed = absurd never
@@ -191,11 +191,11 @@ module _ (rows cols : ℕ) where
       tell-more (acts ++ act ∷ []) more owns ∙ ap (λ all. tell rows cols all owns) (append_assoc acts (act ∷ []) more)
 
   -- a call by which no session comes, and what is found after it
-  quiet-then : (acts : List Act) (h g k : HubState as_told) (ts us : List Story) (call : Call) (reply : Reply)
+  quiet-then : (acts : List Act) (h g k : HubState as_reported) (ts us : List Story) (call : Call) (reply : Reply)
       (owns : List Own) (n : ℕ) (t : Story) → IsKept h ts → h.parser ≡ past rows cols acts
       → ((all : List Act) → g.parser ≡ past rows cols all
       → slice_get us (length (stories_after h call reply ts) + n) ≡ Some t → Found all owns k t)
-      → IsQuiet call reply → IsCall call → Does h call reply g → is_starved reply ≡ false
+      → IsQuiet call reply → IsCall call → Does h call reply g → is_out_of_memory reply ≡ false
       → slice_get us (length ts + n) ≡ Some t → Found acts (map Acts (acts_of call reply) ++ owns) k t
   quiet-then acts h g k ts us call reply owns n t kept parser more quiet is does fed at =
       let same : h ≡ before acts h.clients ts kept.one = λ i. record { parser = parser i; clients = h.clients } in
@@ -207,18 +207,18 @@ module _ (rows cols : ℕ) where
         key = f.key;
         life = f.life;
         gone = f.gone;
-        told = tell-more acts (acts_of call reply) owns ∙ f.told;
+        reported = tell-more acts (acts_of call reply) owns ∙ f.reported;
         is = f.is;
         client = f.client;
         can = p.sides owns f.can;
       }
 
   -- one comes, and is the one or another
-  new-story : HubState as_told → ℕ → Story
+  new-story : HubState as_reported → ℕ → Story
   new-story h key = record { session = begun h key; entries = [] }
 
-  module _ (acts : List Act) (h k : HubState as_told) (ts us : List Story) (calls : List Call) (replies : List Reply)
-      (n : ℕ) (t : Story) (parser : h.parser ≡ past rows cols acts) (fed : list_any is_starved replies ≡ false)
+  module _ (acts : List Act) (h k : HubState as_reported) (ts us : List Story) (calls : List Call) (replies : List Reply)
+      (n : ℕ) (t : Story) (parser : h.parser ≡ past rows cols acts) (fed : list_any is_out_of_memory replies ≡ false)
       (at : slice_get us (length ts + n) ≡ Some t) (key : ℕ) where
     same-born : new-story h key ≡ story_of rows cols key false (born rows cols acts)
     unfolding new-story
@@ -257,7 +257,7 @@ module _ (rows cols : ℕ) where
           key = key;
           life = l.0;
           gone = l.1;
-          told = refl;
+          reported = refl;
           is = cc;
           client = r.client;
           can = r.can;
@@ -269,23 +269,23 @@ module _ (rows cols : ℕ) where
         more (n - 1) (ap (λ i. slice_get us i) place ∙ at)
 
   -- one call more, whichever it is, by where the session is found after it
-  module _ (acts : List Act) (h k : HubState as_told) (ts us : List Story) (calls : List Call) (replies : List Reply)
+  module _ (acts : List Act) (h k : HubState as_reported) (ts us : List Story) (calls : List Call) (replies : List Reply)
       (n : ℕ) (t : Story) (kept : IsKept h ts) (parser : h.parser ≡ past rows cols acts)
-      (rest : list_any is_starved replies ≡ false) (at : slice_get us (length ts + n) ≡ Some t) where
-    abbrev Later : HubState as_told → Call → Reply → Type 0
+      (rest : list_any is_out_of_memory replies ≡ false) (at : slice_get us (length ts + n) ≡ Some t) where
+    abbrev Later : HubState as_reported → Call → Reply → Type 0
     Later g call reply =
         (all : List Act) (m : ℕ) → g.parser ≡ past rows cols all
         → slice_get us (length (stories_after h call reply ts) + m) ≡ Some t → Found all (own_calls m calls replies) k t
 
-    quiet-now : (call : Call) (reply : Reply) (g : HubState as_told) → IsQuiet call reply → IsCall call
-        → Does h call reply g → is_starved reply ≡ false → Later g call reply
+    quiet-now : (call : Call) (reply : Reply) (g : HubState as_reported) → IsQuiet call reply → IsCall call
+        → Does h call reply g → is_out_of_memory reply ≡ false → Later g call reply
         → Found acts (map Acts (acts_of call reply) ++ own_calls n calls replies) k t
     quiet-now call reply g quiet is does first more =
         quiet-then acts h g k ts us call reply (own_calls n calls replies) n t kept parser (λ all p i. more all n p i)
         quiet is does first at
 
-    call-now : (call : Call) (reply : Reply) (g : HubState as_told) → IsCall call → Does h call reply g
-        → is_starved reply ≡ false → Went g (stories_after h call reply ts) calls replies k us → Later g call reply
+    call-now : (call : Call) (reply : Reply) (g : HubState as_reported) → IsCall call → Does h call reply g
+        → is_out_of_memory reply ≡ false → Went g (stories_after h call reply ts) calls replies k us → Later g call reply
         → Found acts (own_calls n (call ∷ calls) (reply ∷ replies)) k t
     unfolding new-story
     call-now Attach reply g is (attaches key free) first later more =
@@ -300,19 +300,19 @@ module _ (rows cols : ℕ) where
     call-now (Pump key takes) reply g is does first later more =
         quiet-now (Pump key takes) reply g tt is does first more
 
-  come-run : (acts : List Act) (h k : HubState as_told) (ts us : List Story) (calls : List Call)
+  come-run : (acts : List Act) (h k : HubState as_reported) (ts us : List Story) (calls : List Call)
       (replies : List Reply) (n : ℕ) (t : Story) → h.parser ≡ past rows cols acts
-      → list_any is_starved replies ≡ false → slice_get us (length ts + n) ≡ Some t → Went h ts calls replies k us
+      → list_any is_out_of_memory replies ≡ false → slice_get us (length ts + n) ≡ Some t → Went h ts calls replies k us
       → Found acts (own_calls n calls replies) k t
   come-run acts h k ts us calls replies n t parser fed at (over kept) = absurd (none-past ts n t at)
   come-run acts h k ts us (call ∷ calls) (reply ∷ replies) n t parser fed at (called g kept does is later) =
-      let each = or_parts (is_starved reply) (list_any is_starved replies) fed in
+      let each = or_parts (is_out_of_memory reply) (list_any is_out_of_memory replies) fed in
       call-now acts h k ts us calls replies n t kept parser each.1 at call reply g is does each.0 later
       (λ all m p i. come-run all g k (stories_after h call reply ts) us calls replies m t p each.1 i later)
 
   -- the session of a run
   pub session-found : (calls : List Call) (replies : List Reply) (n : ℕ) (t : Story)
-      → (s : IsSession rows cols calls replies n t) → list_any is_starved replies ≡ false
+      → (s : IsSession rows cols calls replies n t) → list_any is_out_of_memory replies ≡ false
       → Found [] (own_calls n calls replies) s.hub t
   session-found calls replies n t s fed =
       let place : 0 + n ≡ n = omega arith in

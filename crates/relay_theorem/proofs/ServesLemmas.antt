@@ -10,8 +10,8 @@ use Rattle.screen_model.specs.Call.{ScreenView}
 use Rattle.screen_model.specs.Shown.{shown_state}
 use Rattle.screen_model.specs.Made.{Fed, Resized, bytes_fed, events_added, made}
 use Rattle.vt100.specs.Memory.{some_may_take}
-use Rattle.vt100.specs.Parsing.{ParserView, HasRead, ParserStandsAt}
-use Rattle.takers.specs.Pump.{Pumps, all, nothing, fault, some}
+use Rattle.vt100.specs.Parsing.{ParserView, HasRead, ParserIsAfter}
+use Rattle.byte_sinks.specs.Pump.{Pumps, all, nothing, fault, some}
 use Rattle.termrelay.specs.Answers.{ClientState, answer_for, after_answer, may_take_memory}
 use Rattle.termrelay.specs.Hub.{Telling, HubState, as_kept, is_failed, screen_in, clients_in, with_client, new_client}
 use Rattle.termrelay.specs.Hub.{no_clients, Puts, IsNewHub, Feeds, Resizes, Attaches, DetachesFrom, CanFrame, Framed}
@@ -23,28 +23,28 @@ use Rattle.termrelay.specs.declared.call.Take.{Take}
 use Rattle.termrelay.specs.declared.call.Take.TheVariants.{Bytes, Fault}
 use Rattle.termrelay.specs.declared.call.Reply.{Reply}
 use Rattle.termrelay.specs.declared.call.Reply.TheVariants.{Done, Attached, Answered, Refused}
-use Rattle.termrelay.specs.Calls.{Call, Feed, Resize, Attach, Detach, Frame, Pump, taken_by, WritesAsTold, Serves}
+use Rattle.termrelay.specs.Calls.{Call, Feed, Resize, Attach, Detach, Frame, Pump, taken_by, WritesAsReported, Serves}
 use Rattle.termrelay.specs.Calls.{Runs, done, replied}
 use Rattle.termrelay.specs.Log.{SessionView, is_of, change_last, begun, ended, grown, bytes_taken, sessions_after}
 use Rattle.termrelay.specs.Log.{RunsLogged}
 use Rattle.std.proofs.lemmas.List.{drop_min}
 use Rattle.termrelay.proofs.ScriptLemmas.{takes-nothing, some-owed, first-none, first-fault, first-some, ok-number}
 use Rattle.termrelay.proofs.ScriptLemmas.{pumped-left}
-use Rattle.relay_theorem.specs.History.{as_told, fresh, Story, is_on, with_session, with_entries, entries_of}
-use Rattle.relay_theorem.specs.History.{stories_after, RunsTold}
-use Rattle.relay_theorem.specs.Serves.{IsPumpReply, EachPumpTakesAsTold, EachPumpIsServed, Matches}
+use Rattle.relay_theorem.specs.History.{as_reported, fresh, Story, is_on, with_session, with_entries, entries_of}
+use Rattle.relay_theorem.specs.History.{stories_after, RunsReported}
+use Rattle.relay_theorem.specs.Serves.{IsPumpReply, EachPumpTakesAsReported, EachPumpIsServed, Matches}
 use Rattle.relay_theorem.specs.Serves.{EachRunHasAHistory, EachLogHasAHistory}
 use Rattle.relay_theorem.proofs.StoryLemmas.{put, shown-changed, unchanged}
 
 -- ---- a call on a hub, and on what is told of it
 
 -- what is told after a call on a hub that is then g
-pub record Follows (u : HubState as_told) (call : Call) (reply : Reply) (g : HubState as_kept) : Type 0 where
-  pub after : HubState as_told
+pub record Follows (u : HubState as_reported) (call : Call) (reply : Reply) (g : HubState as_kept) : Type 0 where
+  pub after : HubState as_reported
   pub serves : Serves u call reply after
   pub matches : Matches g after
 
-module _ (h : HubState as_kept) (u : HubState as_told) (m : Matches h u) where
+module _ (h : HubState as_kept) (u : HubState as_reported) (m : Matches h u) where
   live : is_failed h ≡ false → is_failed u ≡ false
   live e = sym m.failed ∙ e
 
@@ -58,7 +58,7 @@ module _ (h : HubState as_kept) (u : HubState as_told) (m : Matches h u) where
       → Matches g (put u key slot)
   put-matches key slot g puts = record {
     failed = ap (λ (p : ParserView (Unit {0})). p.screen.failed) puts.0 ∙ m.failed;
-    parser = λ e. subst (λ p. ParserStandsAt p u.parser.rows u.parser.cols 0 u.parser.acts) (sym puts.0) (m.parser e);
+    parser = λ e. subst (λ p. ParserIsAfter p u.parser.rows u.parser.cols 0 u.parser.acts) (sym puts.0) (m.parser e);
     clients = puts.1 ∙ ap (λ clients. with_client clients key slot) m.clients;
   }
 
@@ -79,7 +79,7 @@ module _ (h : HubState as_kept) (u : HubState as_told) (m : Matches h u) where
       ap (λ (v : ScreenView). some_may_take (events_added past bytes) v.state) (sym at.screen) ∙ may past at.has_read
 
   feed-follows : (bytes : List ℕ) (result : Result (Unit {0}) HubError) (g : HubState as_kept) → Feeds h bytes result g
-      → (v : HubState as_told) × Feeds u bytes result v × Matches g v
+      → (v : HubState as_reported) × Feeds u bytes result v × Matches g v
   feed-follows bytes (Ok x) g f =
       let p = u.parser in
       let on = live f.0 in (
@@ -104,7 +104,7 @@ module _ (h : HubState as_kept) (u : HubState as_told) (m : Matches h u) where
   feed-follows bytes _ g f = absurd f
 
   resize-follows : (rows cols : ℕ) (result : Result (Unit {0}) HubError) (g : HubState as_kept)
-      → Resizes h rows cols result g → (v : HubState as_told) × Resizes u rows cols result v × Matches g v
+      → Resizes h rows cols result g → (v : HubState as_reported) × Resizes u rows cols result v × Matches g v
   resize-follows rows cols (Ok x) g f =
       let p = u.parser in
       let on = live f.0 in (
@@ -121,7 +121,7 @@ module _ (h : HubState as_kept) (u : HubState as_told) (m : Matches h u) where
   resize-follows rows cols _ g f = absurd f
 
   attach-follows : (result : Result ℕ HubError) (g : HubState as_kept) → Attaches h result g
-      → (v : HubState as_told) × Attaches u result v × Matches g v
+      → (v : HubState as_reported) × Attaches u result v × Matches g v
   attach-follows (Ok key) g f = (
     put u key (Some new_client),
     (live f.0, ap (λ clients. clients key) (sym m.clients) ∙ f.1, (refl, refl)),
@@ -132,13 +132,13 @@ module _ (h : HubState as_kept) (u : HubState as_told) (m : Matches h u) where
   attach-follows _ g f = absurd f
 
   detach-follows : (key : ℕ) (o : Option ClientState) (result : Result (Unit {0}) HubError) (g : HubState as_kept)
-      → DetachesFrom h key o result g → (v : HubState as_told) × DetachesFrom u key o result v × Matches g v
+      → DetachesFrom h key o result g → (v : HubState as_reported) × DetachesFrom u key o result v × Matches g v
   detach-follows key None result g f = (u, (f.0, refl), unchanged-matches g f.1)
   detach-follows key (Some c) result g f = (put u key None, (f.0, (refl, refl)), put-matches key None g f.1)
 
   frame-follows : (key : ℕ) (o : Option ClientState) (result : Result Answer HubError) (g : HubState as_kept)
       → CanFrame (screen_in h) o result → Framed h key o result g
-      → (v : HubState as_told) × (CanFrame (screen_in u) o result × Framed u key o result v) × Matches g v
+      → (v : HubState as_reported) × (CanFrame (screen_in u) o result × Framed u key o result v) × Matches g v
   frame-follows key None result g can f = (u, (can, refl), unchanged-matches g f)
   frame-follows key (Some c) (Ok answer) g can f =
       let on = live can.0 in
@@ -157,8 +157,8 @@ module _ (h : HubState as_kept) (u : HubState as_told) (m : Matches h u) where
   frame-follows key (Some c) _ g can f = absurd can
 
   pump-follows : (key : ℕ) (takes rest : List Take) (o : Option ClientState) (result : Result (Unit {0}) HubError)
-      (g : HubState as_kept) → PumpsFrom WritesAsTold h key o takes result rest g
-      → (v : HubState as_told) × PumpsFrom WritesAsTold u key o takes result rest v × Matches g v
+      (g : HubState as_kept) → PumpsFrom WritesAsReported h key o takes result rest g
+      → (v : HubState as_reported) × PumpsFrom WritesAsReported u key o takes result rest v × Matches g v
   pump-follows key takes rest None result g f = (u, (f.0, f.1, refl), unchanged-matches g f.2)
   pump-follows key takes rest (Some c) result g (end, n, pumps, is, puts) = (
     put u key (Some (record c { owed = drop n c.owed })),
@@ -188,7 +188,7 @@ module _ (h : HubState as_kept) (u : HubState as_told) (m : Matches h u) where
       record { after = x.0; serves = (result, x.1, e); matches = x.2 }
   call-follows (Pump key takes) reply g (result, rest, f, e) =
       let x = pump-follows key takes rest (clients_in u key) result g
-      (subst (λ o. PumpsFrom WritesAsTold h key o takes result rest g) (client-now key) f) in
+      (subst (λ o. PumpsFrom WritesAsReported h key o takes result rest g) (client-now key) f) in
       record { after = x.0; serves = (result, rest, x.1, e); matches = x.2 }
 
   -- ---- sessions
@@ -241,8 +241,8 @@ module _ (h : HubState as_kept) (u : HubState as_told) (m : Matches h u) where
 
 -- ---- runs
 
-run-follows : (h g : HubState as_kept) (u : HubState as_told) (calls : List Call) (replies : List Reply)
-    → Matches h u → Runs h calls replies g → (v : HubState as_told) × Runs u calls replies v × Matches g v
+run-follows : (h g : HubState as_kept) (u : HubState as_reported) (calls : List Call) (replies : List Reply)
+    → Matches h u → Runs h calls replies g → (v : HubState as_reported) × Runs u calls replies v × Matches g v
 run-follows h g u [] [] m run = (u, refl, subst (λ x. Matches x u) (sym run) m)
 run-follows h g u [] (reply ∷ replies) m run = absurd run
 run-follows h g u (call ∷ calls) [] m run = absurd run
@@ -252,10 +252,10 @@ run-follows h g u (call ∷ calls) (reply ∷ replies) m (k, is, serves, later) 
     (rest.0, (first.after, is, first.serves, rest.1), rest.2)
 
 -- and what a log keeps of them
-log-follows : (h g : HubState as_kept) (u : HubState as_told) (calls : List Call) (replies : List Reply)
+log-follows : (h g : HubState as_kept) (u : HubState as_reported) (calls : List Call) (replies : List Reply)
     (ts : List Story) (ss ss' : List SessionView) → Matches h u → map (λ t. t.session) ts ≡ ss
     → RunsLogged h ss calls replies g ss'
-    → (v : HubState as_told) × (us : List Story) × RunsTold u ts calls replies v us × Matches g v
+    → (v : HubState as_reported) × (us : List Story) × RunsReported u ts calls replies v us × Matches g v
     × (map (λ t. t.session) us ≡ ss')
 log-follows h g u [] [] ts ss ss' m logged run =
     (u, ts, (refl, refl), subst (λ x. Matches x u) (sym run.0) m, logged ∙ sym run.1)
@@ -306,15 +306,15 @@ ends-later first k n end h later =
 
 -- the reply to a pump to a scripted writer, by its script
 pump-ends : (takes rest : List Take) (owed : List ℕ) (end : Result (Unit {0}) Error) (n : ℕ)
-    → Pumps WritesAsTold takes owed end n rest → Ends (taken_by takes (length owed)) (length owed) end
+    → Pumps WritesAsReported takes owed end n rest → Ends (taken_by takes (length owed)) (length owed) end
 pump-ends takes rest owed end n all = ends-all (taken_by takes 0) 0 (takes-nothing takes) refl
-pump-ends takes rest owed end n (nothing owes told kind) =
-    ends-none (taken_by takes (length owed)) (length owed) _ (first-none takes rest owed owes told)
+pump-ends takes rest owed end n (nothing owes reported kind) =
+    ends-none (taken_by takes (length owed)) (length owed) _ (first-none takes rest owed owes reported)
     (some-owed owed owes)
-pump-ends takes rest owed end n (fault {e = e} owes told) =
-    ends-none (taken_by takes (length owed)) (length owed) e (first-fault takes rest owed e told) (some-owed owed owes)
-pump-ends takes rest owed end n (some middle first k more pos told later) =
-    let h = first-some takes middle owed first pos told in
+pump-ends takes rest owed end n (fault {e = e} owes reported) =
+    ends-none (taken_by takes (length owed)) (length owed) e (first-fault takes rest owed e reported) (some-owed owed owes)
+pump-ends takes rest owed end n (some middle first k more pos reported later) =
+    let h = first-some takes middle owed first pos reported in
     let further = pump-ends middle rest (drop first owed) end k later in
     let left = length-drop first owed in
     let after : Ends (taken_by middle (length owed - first)) (length owed - first) end =
@@ -324,53 +324,53 @@ pump-ends takes rest owed end n (some middle first k more pos told later) =
 
 module _ (way : Telling) where
   pumps-take-by : (h g : HubState way) (key : ℕ) (takes rest : List Take) (reply : Reply) (c : ClientState)
-      (result : Result (Unit {0}) HubError) → PumpsFrom WritesAsTold h key (Some c) takes result rest g
+      (result : Result (Unit {0}) HubError) → PumpsFrom WritesAsReported h key (Some c) takes result rest g
       → reply ≡ done result → IsPumpReply (taken_by takes (length c.owed) == length c.owed) reply
   pumps-take-by h g key takes rest reply c result (end, n, pumps, is, puts) e =
       subst (λ r. IsPumpReply (taken_by takes (length c.owed) == length c.owed) r) (sym (e ∙ ap done is))
       (pump-ends takes rest c.owed end n pumps)
 
-  pub pumps-take : EachPumpTakesAsTold way
+  pub pumps-take : EachPumpTakesAsReported way
   pumps-take h g key takes reply c at (result, rest, f, e) = (
     pumps-take-by h g key takes rest reply c result
-        (subst (λ o. PumpsFrom WritesAsTold h key o takes result rest g) at f) e,
+        (subst (λ o. PumpsFrom WritesAsReported h key o takes result rest g) at f) e,
     pumped-left h g key takes reply c at (result, rest, f, e),
   )
 
 -- ---- any writer, told of
 
 module _ (S : Type 0) (step : S → List ℕ → Result ℕ Error → S → Type 0) where
-  abbrev Told : List ℕ → Result (Unit {0}) Error → ℕ → Type 0
-  Told owed end n = (takes : List Take) × Pumps WritesAsTold takes owed end n []
+  abbrev Reported : List ℕ → Result (Unit {0}) Error → ℕ → Type 0
+  Reported owed end n = (takes : List Take) × Pumps WritesAsReported takes owed end n []
 
-  told-of : (s t : S) (owed : List ℕ) (end : Result (Unit {0}) Error) (n : ℕ) → Pumps step s owed end n t
-      → Told owed end n
-  told-of s t owed end n all = ([], all)
-  told-of s t owed end n (nothing owes takes kind) =
+  reported-of : (s t : S) (owed : List ℕ) (end : Result (Unit {0}) Error) (n : ℕ) → Pumps step s owed end n t
+      → Reported owed end n
+  reported-of s t owed end n all = ([], all)
+  reported-of s t owed end n (nothing owes takes kind) =
       let none : 0 ≡ min 0 (length owed) = omega arith in
       (Bytes 0 ∷ [], nothing owes (ok-number 0 (min 0 (length owed)) none, refl) kind)
-  told-of s t owed end n (fault {e = e} owes takes) = (Fault ∷ [], fault owes ((e, refl), refl))
-  told-of s t owed end n (some m first k owes pos takes rest) =
-      let later = told-of m t (drop first owed) end k rest in
+  reported-of s t owed end n (fault {e = e} owes takes) = (Fault ∷ [], fault owes ((e, refl), refl))
+  reported-of s t owed end n (some m first k owes pos takes rest) =
+      let later = reported-of m t (drop first owed) end k rest in
       let j = min first (length owed) in
-      let after : Pumps WritesAsTold later.0 (drop j owed) end k [] =
-      subst (λ bytes. Pumps WritesAsTold later.0 bytes end k []) (sym (drop_min first owed)) later.1 in
+      let after : Pumps WritesAsReported later.0 (drop j owed) end k [] =
+      subst (λ bytes. Pumps WritesAsReported later.0 bytes end k []) (sym (drop_min first owed)) later.1 in
       let more : 0 < j = omega (arith, some-owed owed owes) in
       let same : min j (length owed) ≡ j = omega arith in (
         Bytes first ∷ later.0,
-        subst (λ c. Pumps WritesAsTold (Bytes first ∷ later.0) owed end (c + k) []) same
+        subst (λ c. Pumps WritesAsReported (Bytes first ∷ later.0) owed end (c + k) []) same
             (some later.0 j k owes more (refl, refl) after),
       )
 
-  told-from : (h g : HubState as_kept) (key : ℕ) (o : Option ClientState) (s t : S) (result : Result (Unit {0}) HubError)
+  reported-from : (h g : HubState as_kept) (key : ℕ) (o : Option ClientState) (s t : S) (result : Result (Unit {0}) HubError)
       → PumpsFrom step h key o s result t g
-      → (takes : List Take) × PumpsFrom WritesAsTold h key o takes result [] g
-  told-from h g key None s t result f = ([], (f.0, refl, f.2))
-  told-from h g key (Some c) s t result (end, n, pumps, is, after) =
-      let told = told-of s t c.owed end n pumps in
-      (told.0, (end, n, told.1, is, after))
+      → (takes : List Take) × PumpsFrom WritesAsReported h key o takes result [] g
+  reported-from h g key None s t result f = ([], (f.0, refl, f.2))
+  reported-from h g key (Some c) s t result (end, n, pumps, is, after) =
+      let reported = reported-of s t c.owed end n pumps in
+      (reported.0, (end, n, reported.1, is, after))
 
   pub pumps-served : EachPumpIsServed step
   pumps-served h g key s t result f =
-      let told = told-from h g key (clients_in h key) s t result f in
-      (told.0, (result, [], told.1, refl))
+      let reported = reported-from h g key (clients_in h key) s t result f in
+      (reported.0, (result, [], reported.1, refl))

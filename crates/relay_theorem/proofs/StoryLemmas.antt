@@ -11,7 +11,7 @@ use Rattle.termrelay.specs.Answers.{ClientState}
 use Rattle.termrelay.specs.Hub.{HubState, with_client}
 use Rattle.termrelay.specs.Log.{change_last, ended}
 use Rattle.termrelay.proofs.LogLemmas.{of-key}
-use Rattle.relay_theorem.specs.History.{as_told, Story, is_on, with_session}
+use Rattle.relay_theorem.specs.History.{as_reported, Story, is_on, with_session}
 use Rattle.relay_theorem.specs.Laws.{AtMostOne}
 
 -- ---- tests
@@ -198,7 +198,7 @@ ends-other key other apart t = ends-other-by (is_on key t) key other t apart ref
 -- ---- clients
 
 -- this is at the key
-abbrev pub put : HubState as_told → ℕ → Option ClientState → HubState as_told
+abbrev pub put : HubState as_reported → ℕ → Option ClientState → HubState as_reported
 put h key slot = record h { clients = with_client h.clients key slot }
 
 module _ (clients : ℕ → Option ClientState) (key : ℕ) (slot : Option ClientState) where

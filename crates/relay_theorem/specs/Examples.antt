@@ -10,7 +10,7 @@ use Rattle.termrelay.specs.declared.call.Reply.TheVariants.{Done, Attached, Answ
 use Rattle.termrelay.specs.declared.error.HubError.TheVariants.{UnknownClient, Write}
 use Rattle.termrelay.specs.Calls.{Call, Feed, Resize, Attach, Frame, Pump}
 use Rattle.termrelay.specs.Hub.{HubState}
-use Rattle.relay_theorem.specs.History.{as_told, Entry, Story, fresh, RunsTold}
+use Rattle.relay_theorem.specs.History.{as_reported, Entry, Story, fresh, RunsReported}
 use Rattle.relay_theorem.specs.Judge.{last_whole}
 
 -- On one row of two columns a client is owed a frame of an `a`. Its writer takes 10 bytes and fails, and later takes
@@ -39,10 +39,10 @@ answer_in None = []
 answer_in (Some e) = e.answer ∷ []
 
 -- the history, if the writer fails with this error
-pub record ExampleIsTold (e : Error) : Type 0 where
-  pub hub : HubState as_told
+pub record ExampleIsReported (e : Error) : Type 0 where
+  pub hub : HubState as_reported
   pub stories : List Story
-  pub runs : RunsTold (fresh 1 2) [] calls (replies e) hub stories
+  pub runs : RunsReported (fresh 1 2) [] calls (replies e) hub stories
   pub acts : hub.parser.acts ≡ Fed (codes "a") ∷ Resized 1 2 ∷ []
   pub answers : map (λ x. x.answer) (entries_of_all stories) ≡ Full ∷ Behind ∷ Unchanged ∷ []
   pub pumped : length (pumped_of_all stories) ≡ 47
@@ -51,5 +51,5 @@ pub record ExampleIsTold (e : Error) : Type 0 where
   pub whole : answer_in (last_whole None (entries_of_all stories) 47) ≡ Full ∷ []
 
 -- the history is so for any error of the writer
-abbrev pub EachExampleIsTold : Type 0
-EachExampleIsTold = (e : Error) → ExampleIsTold e
+abbrev pub EachExampleIsReported : Type 0
+EachExampleIsReported = (e : Error) → ExampleIsReported e

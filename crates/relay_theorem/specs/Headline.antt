@@ -20,25 +20,25 @@ EachTextIsAFrame = (rows cols : ℕ) (calls : List Call) (replies : List Reply) 
     → IsSession rows cols calls replies n t
     → AllByRecursion (λ e. is_frame e.answer ≡ true → IsFrame e.text) t.entries
 
--- A new view has read the texts of a story's first entries `front`, in any pieces and wherever `stop_sync` was called.
+-- A new view has read the texts of a story's first entries `prefix`, in any pieces and wherever `stop_sync` was called.
 -- It has parsed `parsed` and buffered `hold`.
-pub record ReadsFrames (t : Story) (front : List Entry) (parsed : List ℕ) (hold : Option (List ℕ)) : Type 0 where
+pub record ReadsFrames (t : Story) (prefix : List Entry) (parsed : List ℕ) (hold : Option (List ℕ)) : Type 0 where
   pub back : List Entry
-  pub parts : t.entries ≡ front ++ back
+  pub parts : t.entries ≡ prefix ++ back
   pub moves : List Move
-  pub given : given moves ≡ texts front
+  pub given : given moves ≡ texts prefix
   pub leads : Drives moves [] None parsed hold
 
 -- A view of the session's size shows the screen at the last frame's moment, unless that screen had U+FE0F. It has
 -- buffered nothing.
 abbrev pub WholeSessionsAreShown : Type 0
 WholeSessionsAreShown = (rows cols : ℕ) (calls : List Call) (replies : List Reply) (n : ℕ) (t : Story)
-    (front : List Entry) (parsed : List ℕ) (hold : Option (List ℕ)) → IsSession rows cols calls replies n t
-    → ReadsFrames t front parsed hold
-    → (hold ≡ None) × IsShownRight rows cols (shown_of (seen (size_of_story t) parsed)) (last_frame None front)
+    (prefix : List Entry) (parsed : List ℕ) (hold : Option (List ℕ)) → IsSession rows cols calls replies n t
+    → ReadsFrames t prefix parsed hold
+    → (hold ≡ None) × IsShownRight rows cols (shown_of (seen (size_of_story t) parsed)) (last_frame None prefix)
 
 -- A new view has read these pieces, which are a prefix of `bytes`, and has parsed `parsed`.
-pub record ReadsFront (bytes : List ℕ) (pieces : List (List ℕ)) (parsed : List ℕ) : Type 0 where
+pub record ReadsPrefix (bytes : List ℕ) (pieces : List (List ℕ)) (parsed : List ℕ) : Type 0 where
   pub beyond : List ℕ
   pub joined : concat pieces ++ beyond ≡ bytes
   pub hold : Option (List ℕ)
@@ -53,7 +53,7 @@ last_read t pieces = last_whole None t.entries (length (concat pieces))
 abbrev pub LastWholeFrameIsShown : Type 0
 LastWholeFrameIsShown = (rows cols : ℕ) (calls : List Call) (replies : List Reply) (n : ℕ) (t : Story)
     (pieces : List (List ℕ)) (parsed : List ℕ) → IsSession rows cols calls replies n t
-    → ReadsFront t.session.pumped pieces parsed
+    → ReadsPrefix t.session.pumped pieces parsed
     → IsShownRight rows cols (shown_of (seen (size_of_story t) parsed)) (last_read t pieces)
 
 -- the entries that lie wholly in the pieces
@@ -65,7 +65,7 @@ whole_read t pieces = whole_in t.entries (length (concat pieces))
 abbrev pub NoSessionIsTorn : Type 0
 NoSessionIsTorn = (rows cols : ℕ) (calls : List Call) (replies : List Reply) (n : ℕ) (t : Story)
     (pieces more : List (List ℕ)) (parsed parsed' : List ℕ) → IsSession rows cols calls replies n t
-    → ReadsFront t.session.pumped pieces parsed → ReadsFront t.session.pumped (pieces ++ more) parsed'
+    → ReadsPrefix t.session.pumped pieces parsed → ReadsPrefix t.session.pumped (pieces ++ more) parsed'
     → whole_read t (pieces ++ more) ≡ whole_read t pieces
     → shown_of (seen (size_of_story t) parsed') ≡ shown_of (seen (size_of_story t) parsed)
 
@@ -86,7 +86,7 @@ abbrev pub OneMomentShowsTheSame : Type 0
 OneMomentShowsTheSame = (rows cols : ℕ) (calls : List Call) (replies : List Reply) (n m : ℕ) (t u : Story)
     (pieces others : List (List ℕ)) (parsed parsed' : List ℕ) (e f : Entry)
     → IsSession rows cols calls replies n t → IsSession rows cols calls replies m u
-    → ReadsFront t.session.pumped pieces parsed → ReadsFront u.session.pumped others parsed'
+    → ReadsPrefix t.session.pumped pieces parsed → ReadsPrefix u.session.pumped others parsed'
     → last_read t pieces ≡ Some e → last_read u others ≡ Some f → AreAtOneMoment e f
     → (e.answer ≡ Unsure → ⊥) → (f.answer ≡ Unsure → ⊥)
     → (size_of_story t ≡ size_of_story u)
@@ -95,10 +95,10 @@ OneMomentShowsTheSame = (rows cols : ℕ) (calls : List Call) (replies : List Re
 -- The same holds for views that have read only whole frames, wherever `stop_sync` was called.
 abbrev pub OneMomentShowsTheSameWhole : Type 0
 OneMomentShowsTheSameWhole = (rows cols : ℕ) (calls : List Call) (replies : List Reply) (n m : ℕ) (t u : Story)
-    (front others : List Entry) (parsed parsed' : List ℕ) (hold hold' : Option (List ℕ)) (e f : Entry)
+    (prefix others : List Entry) (parsed parsed' : List ℕ) (hold hold' : Option (List ℕ)) (e f : Entry)
     → IsSession rows cols calls replies n t → IsSession rows cols calls replies m u
-    → ReadsFrames t front parsed hold → ReadsFrames u others parsed' hold'
-    → last_frame None front ≡ Some e → last_frame None others ≡ Some f → AreAtOneMoment e f
+    → ReadsFrames t prefix parsed hold → ReadsFrames u others parsed' hold'
+    → last_frame None prefix ≡ Some e → last_frame None others ≡ Some f → AreAtOneMoment e f
     → (e.answer ≡ Unsure → ⊥) → (f.answer ≡ Unsure → ⊥)
     → (size_of_story t ≡ size_of_story u)
     × (shown_of (seen (size_of_story t) parsed) ≡ shown_of (seen (size_of_story u) parsed'))

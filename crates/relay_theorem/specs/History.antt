@@ -22,8 +22,8 @@ pub record Past : Type 0 where
   pub failed : Bool
 
 -- a hub described by its history: its past, and the client at each key
-abbrev pub as_told : Telling
-as_told = record {
+abbrev pub as_reported : Telling
+as_reported = record {
   Parser = Past;
   screen = λ p. record { state = made p.rows p.cols 0 p.acts; failed = p.failed };
   goes = λ p act q. q ≡ record p { acts = p.acts ++ act ∷ [] };
@@ -35,7 +35,7 @@ as_told = record {
 }
 
 -- a new hub of this size
-abbrev pub fresh : ℕ → ℕ → HubState as_told
+abbrev pub fresh : ℕ → ℕ → HubState as_reported
 fresh rows cols = record {
   parser = record { rows = rows; cols = cols; acts = []; failed = false };
   clients = no_clients;
@@ -73,7 +73,7 @@ abbrev pub with_entries : List Entry → Story → Story
 with_entries es t = record t { entries = t.entries ++ es }
 
 -- the entry for an answer to the client at a key, if there is one
-abbrev pub entries_of : HubState as_told → Option ClientState → Answer → List Entry
+abbrev pub entries_of : HubState as_reported → Option ClientState → Answer → List Entry
 entries_of h None answer = []
 entries_of h (Some c) answer = record {
   moment = h.parser.acts;
@@ -83,7 +83,7 @@ entries_of h (Some c) answer = record {
 
 -- The stories after a call on a hub h that gets this reply. Their sessions change as those of a log. An answer is added
 -- to the last story of its key whose session hasn't ended.
-abbrev pub stories_after : HubState as_told → Call → Reply → List Story → List Story
+abbrev pub stories_after : HubState as_reported → Call → Reply → List Story → List Story
 stories_after h (Resize rows cols) Done ts = map (with_session ended) ts
 stories_after h Attach (Attached key) ts = ts ++ record { session = begun h key; entries = [] } ∷ []
 stories_after h (Detach key) Done ts = change_last (is_on key) (with_session ended) ts
@@ -97,5 +97,5 @@ stories_after h call reply ts = ts
 
 -- Calls, one after another, take a hub h and its stories to another hub and its stories. All their numbers fit the
 -- code's types.
-abbrev pub RunsTold : HubState as_told → List Story → List Call → List Reply → HubState as_told → List Story → Type 0
-RunsTold = RunsBeside stories_after
+abbrev pub RunsReported : HubState as_reported → List Story → List Call → List Reply → HubState as_reported → List Story → Type 0
+RunsReported = RunsBeside stories_after

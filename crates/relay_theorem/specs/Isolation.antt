@@ -16,9 +16,9 @@ use Rattle.relay_theorem.specs.Laws.{IsSession}
 use Rattle.relay_theorem.specs.Logged.{IsLogged}
 
 -- whether the call failed for want of memory
-abbrev pub is_starved : Reply → Bool
-is_starved (Refused Memory) = true
-is_starved reply = false
+abbrev pub is_out_of_memory : Reply → Bool
+is_out_of_memory (Refused Memory) = true
+is_out_of_memory reply = false
 
 -- ---- a session's own calls
 
@@ -94,23 +94,23 @@ pub record AreAlike (s z : SessionView) (these those : ℕ → Option ClientStat
 abbrev pub SessionsAreIsolated : Type 0
 SessionsAreIsolated = (rows cols : ℕ) (calls others : List Call) (replies answers : List Reply) (n m : ℕ) (t u : Story)
     → (s : IsSession rows cols calls replies n t) → (z : IsSession rows cols others answers m u)
-    → list_any is_starved replies ≡ false → list_any is_starved answers ≡ false
+    → list_any is_out_of_memory replies ≡ false → list_any is_out_of_memory answers ≡ false
     → own_calls n calls replies ≡ own_calls m others answers
     → AreAlike t.session u.session (clients_in s.hub) (clients_in z.hub) × (t.entries ≡ u.entries)
 
 -- A session of a new hub that gets only these own calls.
-pub record StandsAlone (rows cols key : ℕ) (own : List Own) : Type 0 where
+pub record IsIsolated (rows cols key : ℕ) (own : List Own) : Type 0 where
   pub replies : List Reply
   pub story : Story
   pub session : IsSession rows cols (map (alone key) own) replies 0 story
-  pub fed : list_any is_starved replies ≡ false
+  pub fed : list_any is_out_of_memory replies ≡ false
   pub same : own_calls 0 (map (alone key) own) replies ≡ own
 
 -- each session's own calls can be made on a new hub without the others, at any key
-abbrev pub EachSessionStandsAlone : Type 0
-EachSessionStandsAlone = (rows cols : ℕ) (calls : List Call) (replies : List Reply) (n : ℕ) (t : Story) (key : ℕ)
-    → IsSession rows cols calls replies n t → list_any is_starved replies ≡ false
-    → StandsAlone rows cols key (own_calls n calls replies)
+abbrev pub EachSessionIsIsolated : Type 0
+EachSessionIsIsolated = (rows cols : ℕ) (calls : List Call) (replies : List Reply) (n : ℕ) (t : Story) (key : ℕ)
+    → IsSession rows cols calls replies n t → list_any is_out_of_memory replies ≡ false
+    → IsIsolated rows cols key (own_calls n calls replies)
 
 -- The own calls are made alone, and get any replies. If the attach gets the key and no call fails for want of memory,
 -- the one session is like the first, gets the same answers, and has these own calls.
@@ -118,7 +118,7 @@ abbrev pub EachLoneSessionIsAlike : Type 0
 EachLoneSessionIsAlike = (rows cols : ℕ) (calls : List Call) (replies answers : List Reply) (n : ℕ) (t u : Story)
     (key : ℕ) → (s : IsSession rows cols calls replies n t)
     → (z : IsSession rows cols (map (alone key) (own_calls n calls replies)) answers 0 u)
-    → list_any is_starved replies ≡ false → list_any is_starved answers ≡ false → u.session.client ≡ key
+    → list_any is_out_of_memory replies ≡ false → list_any is_out_of_memory answers ≡ false → u.session.client ≡ key
     → AreAlike t.session u.session (clients_in s.hub) (clients_in z.hub) × (t.entries ≡ u.entries)
     × (own_calls 0 (map (alone key) (own_calls n calls replies)) answers ≡ own_calls n calls replies)
 
@@ -126,7 +126,7 @@ EachLoneSessionIsAlike = (rows cols : ℕ) (calls : List Call) (replies answers 
 abbrev pub LoggedSessionsAreIsolated : Type 0
 LoggedSessionsAreIsolated = (rows cols : ℕ) (calls others : List Call) (l k : LogView) (n m : ℕ) (s z : SessionView)
     → (a : IsLogged rows cols calls l n s) → (b : IsLogged rows cols others k m z)
-    → list_any is_starved l.replies ≡ false → list_any is_starved k.replies ≡ false
+    → list_any is_out_of_memory l.replies ≡ false → list_any is_out_of_memory k.replies ≡ false
     → own_calls n calls l.replies ≡ own_calls m others k.replies
     → AreAlike s z (clients_in a.after) (clients_in b.after)
 
@@ -135,5 +135,5 @@ abbrev pub EachLoggedLoneSessionIsAlike : Type 0
 EachLoggedLoneSessionIsAlike = (rows cols : ℕ) (calls : List Call) (l k : LogView) (n : ℕ) (s z : SessionView) (key : ℕ)
     → (a : IsLogged rows cols calls l n s)
     → (b : IsLogged rows cols (map (alone key) (own_calls n calls l.replies)) k 0 z)
-    → list_any is_starved l.replies ≡ false → list_any is_starved k.replies ≡ false → z.client ≡ key
+    → list_any is_out_of_memory l.replies ≡ false → list_any is_out_of_memory k.replies ≡ false → z.client ≡ key
     → AreAlike s z (clients_in a.after) (clients_in b.after)

@@ -9,7 +9,7 @@ use Rattle.termrelay.specs.Answers.{ClientState, is_frame, answer_for}
 use Rattle.termrelay.specs.Hub.{HubState, clients_in}
 use Rattle.termrelay.specs.Calls.{Call}
 use Rattle.termrelay.specs.declared.call.Reply.{Reply}
-use Rattle.relay_theorem.specs.History.{Entry, Story, as_told, fresh, size_of_story, is_on, RunsTold}
+use Rattle.relay_theorem.specs.History.{Entry, Story, as_reported, fresh, size_of_story, is_on, RunsReported}
 use Rattle.relay_theorem.specs.Judge.{state_at, size_at, shown_at, texts}
 
 -- what was shown at the last frame, if there was one, and the text of that frame
@@ -51,7 +51,7 @@ pub record IsServed (rows cols : ℕ) (t : Story) (c : ClientState) : Type 0 whe
   pub base : c.base ≡ base_after rows cols None t.entries
 
 -- facts about a session, for these clients at each key
-pub record IsTold (rows cols : ℕ) (clients : ℕ → Option ClientState) (t : Story) : Type 0 where
+pub record IsReported (rows cols : ℕ) (clients : ℕ → Option ClientState) (t : Story) : Type 0 where
   pub height : IsSide t.session.rows
   pub width : IsSide t.session.cols
   pub entries : AreAnswered rows cols (size_of_story t) None t.entries
@@ -60,21 +60,21 @@ pub record IsTold (rows cols : ℕ) (clients : ℕ → Option ClientState) (t : 
       → (c : ClientState) × (clients t.session.client ≡ Some c) × IsServed rows cols t c
   -- always, the bytes pumped are a prefix of the frames' texts
   pub left : List ℕ
-  pub front : t.session.pumped ++ left ≡ texts t.entries
+  pub prefix : t.session.pumped ++ left ≡ texts t.entries
 
 -- the n-th session of a hub whose first size was rows and cols, after these calls with these replies
 pub record IsSession (rows cols : ℕ) (calls : List Call) (replies : List Reply) (n : ℕ) (t : Story) : Type 0 where
   pub height : IsSide rows
   pub width : IsSide cols
-  pub hub : HubState as_told
+  pub hub : HubState as_reported
   pub stories : List Story
-  pub ran : RunsTold (fresh rows cols) [] calls replies hub stories
+  pub ran : RunsReported (fresh rows cols) [] calls replies hub stories
   pub is : slice_get stories n ≡ Some t
 
 -- these facts hold for each session, after any calls with any replies
-abbrev pub EachSessionIsTold : Type 0
-EachSessionIsTold = (rows cols : ℕ) (calls : List Call) (replies : List Reply) (n : ℕ) (t : Story)
-    → (s : IsSession rows cols calls replies n t) → IsTold rows cols (clients_in s.hub) t
+abbrev pub EachSessionIsReported : Type 0
+EachSessionIsReported = (rows cols : ℕ) (calls : List Call) (replies : List Reply) (n : ℕ) (t : Story)
+    → (s : IsSession rows cols calls replies n t) → IsReported rows cols (clients_in s.hub) t
 
 -- at most one item of the list passes the test
 abbrev pub AtMostOne : {A : Type 0} → (A → Bool) → List A → Type 0
@@ -85,6 +85,6 @@ AtMostOne test (x ∷ xs) = (test x ≡ true → list_any test xs ≡ false) × 
 -- have the same key.
 abbrev pub EachClientHasASession : Type 0
 EachClientHasASession = (rows cols : ℕ) (calls : List Call) (replies : List Reply)
-    (hub : HubState as_told) (stories : List Story) (key : ℕ) → IsSide rows → IsSide cols
-    → RunsTold (fresh rows cols) [] calls replies hub stories
+    (hub : HubState as_reported) (stories : List Story) (key : ℕ) → IsSide rows → IsSide cols
+    → RunsReported (fresh rows cols) [] calls replies hub stories
     → (is_some (clients_in hub key) ≡ list_any (is_on key) stories) × AtMostOne (is_on key) stories

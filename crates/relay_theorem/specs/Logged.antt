@@ -9,7 +9,7 @@ use Rattle.termview.specs.Seen.{seen}
 use Rattle.relay_theorem.specs.History.{Entry, Story, size_of_session}
 use Rattle.relay_theorem.specs.Judge.{last_frame, IsShownRight}
 use Rattle.relay_theorem.specs.Laws.{IsSession}
-use Rattle.relay_theorem.specs.Headline.{ReadsFrames, ReadsFront, last_read}
+use Rattle.relay_theorem.specs.Headline.{ReadsFrames, ReadsPrefix, last_read}
 
 -- a run of these calls on a new hub with an empty log has left the log l, whose n-th session is s
 pub record IsLogged (rows cols : ℕ) (calls : List Call) (l : LogView) (n : ℕ) (s : SessionView) : Type 0 where
@@ -30,14 +30,14 @@ pub record HasStory (rows cols : ℕ) (calls : List Call) (l : LogView) (n : ℕ
 -- A view that reads a prefix of the session's bytes reads the same prefix of the bytes of its story.
 abbrev pub EachLoggedReadIsARead : Type 0
 EachLoggedReadIsARead = (rows cols : ℕ) (calls : List Call) (l : LogView) (n : ℕ) (s : SessionView)
-    (pieces : List (List ℕ)) (parsed : List ℕ) → IsLogged rows cols calls l n s → ReadsFront s.pumped pieces parsed
-    → (t : Story) × HasStory rows cols calls l n s t × ReadsFront t.session.pumped pieces parsed
+    (pieces : List (List ℕ)) (parsed : List ℕ) → IsLogged rows cols calls l n s → ReadsPrefix s.pumped pieces parsed
+    → (t : Story) × HasStory rows cols calls l n s t × ReadsPrefix t.session.pumped pieces parsed
 
 -- A view of the session's size shows the screen at the moment of the last frame that lies wholly in the pieces, unless
 -- that screen had U+FE0F.
 abbrev pub LoggedFramesAreShown : Type 0
 LoggedFramesAreShown = (rows cols : ℕ) (calls : List Call) (l : LogView) (n : ℕ) (s : SessionView)
-    (pieces : List (List ℕ)) (parsed : List ℕ) → IsLogged rows cols calls l n s → ReadsFront s.pumped pieces parsed
+    (pieces : List (List ℕ)) (parsed : List ℕ) → IsLogged rows cols calls l n s → ReadsPrefix s.pumped pieces parsed
     → (t : Story) × HasStory rows cols calls l n s t
     × IsShownRight rows cols (shown_of (seen (size_of_session s) parsed)) (last_read t pieces)
 
@@ -46,5 +46,5 @@ LoggedFramesAreShown = (rows cols : ℕ) (calls : List Call) (l : LogView) (n : 
 abbrev pub WholeLoggedFramesAreShown : Type 0
 WholeLoggedFramesAreShown = (rows cols : ℕ) (calls : List Call) (l : LogView) (n : ℕ) (s : SessionView)
     → IsLogged rows cols calls l n s → (t : Story) × HasStory rows cols calls l n s t
-    × ((front : List Entry) (parsed : List ℕ) (hold : Option (List ℕ)) → ReadsFrames t front parsed hold
-    → (hold ≡ None) × IsShownRight rows cols (shown_of (seen (size_of_session s) parsed)) (last_frame None front))
+    × ((prefix : List Entry) (parsed : List ℕ) (hold : Option (List ℕ)) → ReadsFrames t prefix parsed hold
+    → (hold ≡ None) × IsShownRight rows cols (shown_of (seen (size_of_session s) parsed)) (last_frame None prefix))

@@ -1,7 +1,7 @@
 -- The calls on a hub and the logs of runs, as histories.
 use Rattle.std.specs.Prelude.{◌≡◌, ℕ, ◌==◌, Bool, true, false, List, [], map, length, drop, Some, Result}
 use Rattle.std.specs.declared.io.Error.{Error}
-use Rattle.vt100.specs.Parsing.{ParserStandsAt}
+use Rattle.vt100.specs.Parsing.{ParserIsAfter}
 use Rattle.termrelay.specs.Answers.{ClientState}
 use Rattle.termrelay.specs.Hub.{Telling, HubState, as_kept, is_failed, clients_in, IsNewHub, PumpsClient}
 use Rattle.termrelay.specs.Calls.{Call, Pump, taken_by, done, Serves, Runs}
@@ -11,7 +11,7 @@ use Rattle.termrelay.specs.declared.call.Reply.{Reply}
 use Rattle.termrelay.specs.declared.call.Reply.TheVariants.{Done, Refused}
 use Rattle.termrelay.specs.declared.error.HubError.{HubError}
 use Rattle.termrelay.specs.declared.error.HubError.TheVariants.{Write}
-use Rattle.relay_theorem.specs.History.{Story, as_told, fresh, RunsTold}
+use Rattle.relay_theorem.specs.History.{Story, as_reported, fresh, RunsReported}
 
 -- ---- pumps
 
@@ -22,8 +22,8 @@ IsPumpReply false reply = (e : Error) × (reply ≡ Refused (Write e))
 
 -- A pump to a scripted writer takes the bytes that the script says, and the others stay owed. Its reply says whether
 -- all were taken. This holds in any way to describe a hub.
-abbrev pub EachPumpTakesAsTold : Telling → Type 0
-EachPumpTakesAsTold way = (h g : HubState way) (key : ℕ) (takes : List Take) (reply : Reply) (c : ClientState)
+abbrev pub EachPumpTakesAsReported : Telling → Type 0
+EachPumpTakesAsReported way = (h g : HubState way) (key : ℕ) (takes : List Take) (reply : Reply) (c : ClientState)
     → clients_in h key ≡ Some c → Serves h (Pump key takes) reply g
     → IsPumpReply (taken_by takes (length c.owed) == length c.owed) reply
     × (clients_in g key ≡ Some (record c { owed = drop (taken_by takes (length c.owed)) c.owed }))
@@ -37,25 +37,25 @@ EachPumpIsServed {S} step = (h g : HubState as_kept) (key : ℕ) (s t : S) (resu
 
 -- A hub h is as its history u says. Both have failed, or the parser of h is in the state after all feeds and resizes.
 -- The same client is at each key.
-pub record Matches (h : HubState as_kept) (u : HubState as_told) : Type 0 where
+pub record Matches (h : HubState as_kept) (u : HubState as_reported) : Type 0 where
   pub failed : is_failed h ≡ is_failed u
-  pub parser : is_failed u ≡ false → ParserStandsAt h.parser u.parser.rows u.parser.cols 0 u.parser.acts
+  pub parser : is_failed u ≡ false → ParserIsAfter h.parser u.parser.rows u.parser.cols 0 u.parser.acts
   pub clients : clients_in h ≡ clients_in u
 
 -- any calls on a new hub are a history with the same replies
 abbrev pub EachRunHasAHistory : Type 0
 EachRunHasAHistory = (rows cols : ℕ) (calls : List Call) (replies : List Reply) (h g : HubState as_kept)
     → IsNewHub rows cols h → Runs h calls replies g
-    → (u : HubState as_told) × Runs (fresh rows cols) calls replies u × Matches g u
+    → (u : HubState as_reported) × Runs (fresh rows cols) calls replies u × Matches g u
 
 -- the calls and their replies determine the history: the hub after them, and the list of stories
 abbrev pub EachHistoryIsOne : Type 0
-EachHistoryIsOne = (h g k : HubState as_told) (ts us vs : List Story) (calls : List Call) (replies : List Reply)
-    → RunsTold h ts calls replies g us → RunsTold h ts calls replies k vs → (g ≡ k) × (us ≡ vs)
+EachHistoryIsOne = (h g k : HubState as_reported) (ts us vs : List Story) (calls : List Call) (replies : List Reply)
+    → RunsReported h ts calls replies g us → RunsReported h ts calls replies k vs → (g ≡ k) × (us ≡ vs)
 
 -- The calls of a run on a new hub with an empty log are a history. The log's sessions are those of its stories.
 abbrev pub EachLogHasAHistory : Type 0
 EachLogHasAHistory = (rows cols : ℕ) (calls : List Call) (replies : List Reply) (h g : HubState as_kept)
     (ss : List SessionView) → IsNewHub rows cols h → RunsLogged h [] calls replies g ss
-    → (u : HubState as_told) × (ts : List Story) × RunsTold (fresh rows cols) [] calls replies u ts
+    → (u : HubState as_reported) × (ts : List Story) × RunsReported (fresh rows cols) [] calls replies u ts
     × Matches g u × (map (λ t. t.session) ts ≡ ss)

@@ -2,18 +2,18 @@
 //! of calls on a new hub, with the reply to each. A session is what happens to one client, from its attach to its end.
 ghost use Rattle.termrelay.specs.Hub.{as_kept};
 ghost use Rattle.relay_theorem.specs.Bounds.{EachSessionIsBounded, EachFrameFitsTheHold, NoSmallFrameIsTooLong};
-ghost use Rattle.relay_theorem.specs.Examples.{EachExampleIsTold};
-ghost use Rattle.relay_theorem.specs.History.{as_told};
-ghost use Rattle.relay_theorem.specs.Laws.{EachSessionIsTold, EachClientHasASession};
+ghost use Rattle.relay_theorem.specs.Examples.{EachExampleIsReported};
+ghost use Rattle.relay_theorem.specs.History.{as_reported};
+ghost use Rattle.relay_theorem.specs.Laws.{EachSessionIsReported, EachClientHasASession};
 ghost use Rattle.relay_theorem.specs.Headline.{EachTextIsAFrame, WholeSessionsAreShown, LastWholeFrameIsShown, NoSessionIsTorn};
 ghost use Rattle.relay_theorem.specs.Headline.{OneMomentShowsTheSame, OneMomentShowsTheSameWhole};
-ghost use Rattle.relay_theorem.specs.Serves.{EachPumpTakesAsTold, EachPumpIsServed, EachRunHasAHistory, EachLogHasAHistory};
+ghost use Rattle.relay_theorem.specs.Serves.{EachPumpTakesAsReported, EachPumpIsServed, EachRunHasAHistory, EachLogHasAHistory};
 ghost use Rattle.relay_theorem.specs.Serves.{EachHistoryIsOne};
 ghost use Rattle.relay_theorem.specs.Logged.{EachLoggedReadIsARead, LoggedFramesAreShown, WholeLoggedFramesAreShown};
-ghost use Rattle.relay_theorem.specs.Isolation.{SessionsAreIsolated, LoggedSessionsAreIsolated, EachSessionStandsAlone};
+ghost use Rattle.relay_theorem.specs.Isolation.{SessionsAreIsolated, LoggedSessionsAreIsolated, EachSessionIsIsolated};
 ghost use Rattle.relay_theorem.specs.Isolation.{EachLoneSessionIsAlike, EachLoggedLoneSessionIsAlike};
 
-use termrelay::Taker;
+use termrelay::ByteSink;
 
 /// Facts about each session of a new hub, after any calls with any replies.
 ///
@@ -21,8 +21,8 @@ use termrelay::Taker;
 /// is owed, and the hub keeps what was shown at the last one. After the session has ended, the bytes pumped are a
 /// prefix of its frames. Each frame is made from what was shown at the frame before it and what was shown at its own
 /// request. Both screens have the session's size.
-pub fn sessions_are_told()
-    ensures { EachSessionIsTold }
+pub fn sessions_are_reported()
+    ensures { EachSessionIsReported }
 {}
 
 /// A terminal that reads a frame's bytes reads one frame: they have an end mark only at their end, and the body opens
@@ -62,8 +62,8 @@ pub fn one_moment_shows_the_same()
 
 /// An example: a short history with one frame, for any error of its writer. The frame counts as whole from its last
 /// byte on.
-pub fn example_is_told()
-    ensures { EachExampleIsTold }
+pub fn example_is_reported()
+    ensures { EachExampleIsReported }
 {}
 
 /// After any calls on a new hub, it has a client at a key exactly when a session of that key hasn't ended. No two such
@@ -74,10 +74,10 @@ pub fn clients_have_sessions()
 
 /// A pump to a scripted writer takes the bytes that the script says, and the others stay owed. Its reply says whether
 /// it took all of them. This holds for a hub described by the code's fields (`kept`), and for one described by its
-/// history (`told`).
-pub fn pumps_take_as_told()
-    ensures kept { EachPumpTakesAsTold as_kept }
-    ensures told { EachPumpTakesAsTold as_told }
+/// history (`reported`).
+pub fn pumps_take_as_reported()
+    ensures kept { EachPumpTakesAsReported as_kept }
+    ensures reported { EachPumpTakesAsReported as_reported }
 {}
 
 /// Any calls on a new hub are a history with the same replies. The hub has at each key the client that the history
@@ -92,9 +92,9 @@ pub fn histories_are_one()
     ensures { EachHistoryIsOne }
 {}
 
-/// Each pump of a hub, to any [`Taker`](takers::Taker), has the same effect as a pump to some scripted writer. So it
+/// Each pump of a hub, to any [`ByteSink`](byte_sinks::ByteSink), has the same effect as a pump to some scripted writer. So it
 /// can be a call of a history.
-pub fn pumps_are_served<T: Taker>()
+pub fn pumps_are_served<T: ByteSink>()
     ensures { EachPumpIsServed T.takes }
 {}
 
@@ -124,10 +124,10 @@ pub fn logged_frames_are_shown()
 /// If two sessions have the same own calls, the same bytes are pumped to them, and they get the same answers at the
 /// same moments. They have the same size, and have both ended or both not. While they haven't ended, their clients are
 /// owed the same bytes, and the screens at their last frames show the same. This holds whatever the other calls and the
-/// keys were, if no call of the two runs failed for want of memory. It holds for two histories (`told`), and for the
+/// keys were, if no call of the two runs failed for want of memory. It holds for two histories (`reported`), and for the
 /// sessions of two logs (`logged`).
 pub fn sessions_are_isolated()
-    ensures told { SessionsAreIsolated }
+    ensures reported { SessionsAreIsolated }
     ensures logged { LoggedSessionsAreIsolated }
 {}
 
@@ -137,7 +137,7 @@ pub fn sessions_are_isolated()
 /// session (`made`). If the attach gets that key and no call fails for want of memory, that session is like the first
 /// one (`alike`): in all that [`sessions_are_isolated`] says. The same holds for the session of a log (`logged`).
 pub fn sessions_stand_alone()
-    ensures made { EachSessionStandsAlone }
+    ensures made { EachSessionIsIsolated }
     ensures alike { EachLoneSessionIsAlike }
     ensures logged { EachLoggedLoneSessionIsAlike }
 {}

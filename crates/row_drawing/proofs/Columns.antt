@@ -396,11 +396,11 @@ module _ (s : Scene) (h : IsScene s) (C : ℕ → Type 0) (S : ℕ → ℕ → T
             (let whole = past-whole j n single in
             let l = subst (λ m. Line j.old j.new (edge p.erase m) now.line) whole now.lines in
             let st = subst (λ m. Standing s now.flags p (edge p.erase m)) whole now.standing in
-            subst (λ (x : Term). After S s (n + 1) (column j n) p x) (sym now.stands)
+            subst (λ (x : Term). After S s (n + 1) (column j n) p x) (sym now.state_after)
             (ends-as (column-is_whole j n p (ap (λ b. b && not (n == j.start)) single))
             (column-at now.flags now.line p.pos.row p.pos.col p.attrs p.erase p.lost n now.proper inside single l
             now.opens st)))
-        | inl half ↦ subst (λ (x : Term). After S s (n + 1) (column j n) p x) (sym now.stands)
+        | inl half ↦ subst (λ (x : Term). After S s (n + 1) (column j n) p x) (sym now.state_after)
             (column-half_at now.flags now.line p.pos.row p.pos.col p.attrs p.erase p.lost n now.proper half now.lines
             now.opens now.standing)
       ]

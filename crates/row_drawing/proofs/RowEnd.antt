@@ -31,7 +31,7 @@ use Rattle.row_drawing.proofs.Columns.{finish-is_none, finish-is_some, empty-is,
 pub record IsFilled (s : Scene) (p : Pen) (t : Term) : Type 0 where
   pub flags : ℕ → Bool
   pub kept : Flags flags (flags_above s) s.job.row p.lost
-  pub stands : t ≡ with_row s s.job.new flags p.pos.row p.pos.col p.attrs
+  pub state_after : t ≡ with_row s s.job.new flags p.pos.row p.pos.col p.attrs
   pub closed : p.erase ≡ None
   pub proper : IsProper p.attrs
 
@@ -45,7 +45,7 @@ module _ (s : Scene) (h : IsScene s) (C : ℕ → Type 0) (S : ℕ → ℕ → T
       ends (reads-as (finish-is_none j _ refl) reads-skip) (record {
         flags = F;
         kept = (elim standing [ inl kept ↦ kept | inr due ↦ absurd (omega (arith, due.none, h.some_col)) ]);
-        stands = ap (λ g. with_row s g F r k a) (line-whole j.old j.new j.cols f l h.old.beyond h.new.beyond);
+        state_after = ap (λ g. with_row s g F r k a) (line-whole j.old j.new j.cols f l h.old.beyond h.new.beyond);
         closed = refl;
         proper = ha;
       })
@@ -55,7 +55,7 @@ module _ (s : Scene) (h : IsScene s) (C : ℕ → Type 0) (S : ℕ → ℕ → T
       ends (reads-as (finish-is_some j _ e refl) done.reads) (record {
         flags = done.flags;
         kept = done.kept;
-        stands = ap (λ g. with_row s g done.flags j.row e.from e.attrs)
+        state_after = ap (λ g. with_row s g done.flags j.row e.from e.attrs)
             (line-whole j.old j.new j.cols done.line done.lines h.old.beyond h.new.beyond);
         closed = refl;
         proper = opens.1;
@@ -69,7 +69,7 @@ module _ (s : Scene) (h : IsScene s) (C : ℕ → Type 0) (S : ℕ → ℕ → T
       (h.new.beyond j.cols le) in
       let l = subst (λ m. Line j.old j.new (edge p.erase m) now.line) whole now.lines in
       let st = subst (λ m. Standing s now.flags p (edge p.erase m)) whole now.standing in
-      subst (λ (x : Term). Ends S s (IsFilled s) (finish j) p x) (sym now.stands)
+      subst (λ (x : Term). Ends S s (IsFilled s) (finish j) p x) (sym now.state_after)
       (finish-at now.flags now.line p.pos.row p.pos.col p.attrs p.erase p.lost now.proper l now.opens st)
 
 -- ---- the last cell
@@ -302,7 +302,7 @@ drawn-ended : {r k : ℕ} {a : Attrs} {lost : Bool} {t : Term} (s : Scene) (F : 
     → t ≡ with_row s s.job.new F r k a → IsDrawn s (pen r k a None lost) t
 drawn-ended s F ha on off is = record {
   flags = F;
-  stands = is;
+  state_after = is;
   proper = ha;
   closed = refl;
   flagged = inl on;
@@ -370,7 +370,7 @@ module _ (s : Scene) (h : IsScene s) (S : ℕ → ℕ → Type 0) (room : IsEndR
         | inl wraps ↦ ends (reads-as (mend-wraps j x _ wraps) (last-printed F j.new a lost ha (new-over s h)
             (last-text s h (h.new.filled wraps)) (line-reprinted j.new c x.attrs h.new.paired last.whole))) (record {
               flags = F;
-              stands = refl;
+              state_after = refl;
               proper = h.proper c;
               closed = refl;
               flagged = inr (wraps, refl, refl, flags-off F (flags_above s) j.row lost true kept);
@@ -411,7 +411,7 @@ module _ (s : Scene) (h : IsScene s) (C : ℕ → Type 0) (S : ℕ → ℕ → T
             let on = flags-kept s F lost h none.0 none.1 kept in
             ends (reads-as (closing-none j p fine) reads-skip) (record {
               flags = F;
-              stands = refl;
+              state_after = refl;
               proper = ha;
               closed = refl;
               flagged = inl on;
@@ -430,5 +430,5 @@ module _ (s : Scene) (h : IsScene s) (C : ℕ → Type 0) (S : ℕ → ℕ → T
       let j = s.job in
       let P : Option Erase → Term → Type 0 = λ e x.
       Ends S s (IsDrawn s) (closing j) (pen p.pos.row p.pos.col p.attrs e p.lost) x in
-      subst (λ e. P e t) (sym now.closed) (subst (P None) (sym now.stands)
+      subst (λ e. P e t) (sym now.closed) (subst (P None) (sym now.state_after)
       (closing-at now.flags p.pos.row p.pos.col p.attrs p.lost now.proper now.kept owed))

@@ -60,7 +60,7 @@ Standing s F p m = Flags F (flags_above s) s.job.row p.lost ⊎ IsDue s F p.pos 
 pub record At (s : Scene) (n : ℕ) (p : Pen) (t : Term) : Type 0 where
   pub line : ℕ → CellView
   pub flags : ℕ → Bool
-  pub stands : t ≡ with_row s line flags p.pos.row p.pos.col p.attrs
+  pub state_after : t ≡ with_row s line flags p.pos.row p.pos.col p.attrs
   pub lines : Line s.job.old s.job.new (edge p.erase (past s.job n)) line
   pub opens : Opens s.job n p.erase
   pub proper : IsProper p.attrs
@@ -72,7 +72,7 @@ pub at-row : {s : Scene} {n r k : ℕ} {a : Attrs} {e : Option Erase} {lost : Bo
 at-row F f ha l opens standing = record {
   line = f;
   flags = F;
-  stands = refl;
+  state_after = refl;
   lines = l;
   opens = opens;
   proper = ha;

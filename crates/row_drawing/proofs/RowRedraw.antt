@@ -120,7 +120,7 @@ redraw-leads s p h ready blank unflagged =
     let all = (redraw-filled s h _ _ (any-room s) p ready (λ _. tt)).there in
     record {
       flags = all.flags;
-      stands = all.stands;
+      state_after = all.state_after;
       proper = all.proper;
       closed = all.closed;
       flagged = (elim (cases_Bool j.wrapped) [

@@ -7,7 +7,7 @@ use Rattle.std.proofs.lemmas.Bool.Decides.{nat_tests}
 use Rattle.std.proofs.lemmas.Bool.{and_parts, cases_Bool, cond_both, false≢true, ne_eqb}
 use Rattle.vt100_forms.specs.declared.attrs.Attrs.{Attrs}
 use Rattle.vt100_forms.specs.declared.position.Pos.{Pos}
-use Rattle.vt100_forms.specs.Form.{spell}
+use Rattle.vt100_forms.specs.Form.{bytes_of}
 use Rattle.vt100_cells.proofs.CellLemmas.{or-false}
 use Rattle.vt100_cells.specs.Cell.{CellView, has_text}
 use Rattle.vt100_cells.specs.CellEq.{attrs_eq-true}

@@ -4,7 +4,7 @@ use Rattle.std.proofs.Common.{◌∷◌, ◌++◌, refl, sym, ap, ◌∙◌, inl
 use Rattle.std.specs.Prelude.{encode_utf8_all, is_ok, length, String, string_bytes, string_len, string_capacity}
 use Rattle.std.specs.Result.{IsErr}
 use Rattle.vt100_forms.specs.declared.attrs.Attrs.{Attrs}
-use Rattle.vt100_forms.specs.Form.{Form, EraseChar, Backspace, spell, spelling, moves, change}
+use Rattle.vt100_forms.specs.Form.{Form, EraseChar, Backspace, bytes_of, form_bytes, moves, change}
 use Rattle.vt100_cells.specs.Cell.{CellView}
 use Rattle.vt100_cells.specs.CellEq.{attrs_eq-refl}
 use Rattle.vt100_forms.specs.declared.position.Pos.{Pos}
@@ -15,10 +15,10 @@ use Rattle.row_drawing.specs.Writer.{Drawn, Writer, ◌>>◌, skip, goto, color,
 use Rattle.row_drawing.specs.RowWriter.{Job, column, columns}
 use Rattle.row_drawing.specs.Writes.{IsBegun, Wrote, Appended, Refused, Writes}
 
-pub spell-joined : (fs gs : List Form) → spell (fs ++ gs) ≡ spell fs ++ spell gs
-spell-joined [] gs = refl
-spell-joined (f ∷ fs) gs = ap (λ bs. spelling f ++ bs) (spell-joined fs gs)
-    ∙ sym (append_assoc (spelling f) (spell fs) (spell gs))
+pub bytes_of-joined : (fs gs : List Form) → bytes_of (fs ++ gs) ≡ bytes_of fs ++ bytes_of gs
+bytes_of-joined [] gs = refl
+bytes_of-joined (f ∷ fs) gs = ap (λ bs. form_bytes f ++ bs) (bytes_of-joined fs gs)
+    ∙ sym (append_assoc (form_bytes f) (bytes_of fs) (bytes_of gs))
 
 pub begun-more : (s a b t : List ℕ) → IsBegun s a t → IsBegun s (a ++ b) t
 begun-more s a b t h = (
@@ -47,31 +47,31 @@ pub wrote_then : (f g : Writer) (p : Pen) (s : List ℕ) (q : Pen) (t : List ℕ
 unfolding ◌>>◌
 wrote_then f g p s q t r u a b = record {
   pen_is = ap (λ x. (g x).pen) a.pen_is ∙ b.pen_is;
-  text_is = b.text_is ∙ ap (λ bs. bs ++ spell (g q).forms) a.text_is ∙ append_assoc s (spell (f p).forms) (spell
-      (g q).forms) ∙ ap (λ x. s ++ (spell (f p).forms ++ spell (g x).forms)) (sym a.pen_is)
-      ∙ ap (λ bs. s ++ bs) (sym (spell-joined (f p).forms (g (f p).pen).forms));
+  text_is = b.text_is ∙ ap (λ bs. bs ++ bytes_of (g q).forms) a.text_is ∙ append_assoc s (bytes_of (f p).forms) (bytes_of
+      (g q).forms) ∙ ap (λ x. s ++ (bytes_of (f p).forms ++ bytes_of (g x).forms)) (sym a.pen_is)
+      ∙ ap (λ bs. s ++ bs) (sym (bytes_of-joined (f p).forms (g (f p).pen).forms));
 }
 
 -- the first is refused
-pub begun_first : (f g : Writer) (p : Pen) (s t : List ℕ) → IsBegun s (spell (f p).forms) t
-    → IsBegun s (spell ((f >> g) p).forms) t
+pub begun_first : (f g : Writer) (p : Pen) (s t : List ℕ) → IsBegun s (bytes_of (f p).forms) t
+    → IsBegun s (bytes_of ((f >> g) p).forms) t
 unfolding ◌>>◌
-begun_first f g p s t h = subst (λ bs. IsBegun s bs t) (sym (spell-joined (f p).forms (g (f p).pen).forms))
-    (begun-more s (spell (f p).forms) (spell (g (f p).pen).forms) t h)
+begun_first f g p s t h = subst (λ bs. IsBegun s bs t) (sym (bytes_of-joined (f p).forms (g (f p).pen).forms))
+    (begun-more s (bytes_of (f p).forms) (bytes_of (g (f p).pen).forms) t h)
 
 -- the second is
 pub begun_then : (f g : Writer) (p : Pen) (s : List ℕ) (q : Pen) (t u : List ℕ) → Wrote f p s q t
-    → IsBegun t (spell (g q).forms) u → IsBegun s (spell ((f >> g) p).forms) u
+    → IsBegun t (bytes_of (g q).forms) u → IsBegun s (bytes_of ((f >> g) p).forms) u
 unfolding ◌>>◌
-begun_then f g p s q t u a h = subst (λ bs. IsBegun s bs u) (sym (spell-joined (f p).forms (g (f p).pen).forms))
-    (begun-later s (spell (f p).forms) (spell (g (f p).pen).forms) t u a.text_is
-    (subst (λ x. IsBegun t (spell (g x).forms) u) (sym a.pen_is) h))
+begun_then f g p s q t u a h = subst (λ bs. IsBegun s bs u) (sym (bytes_of-joined (f p).forms (g (f p).pen).forms))
+    (begun-later s (bytes_of (f p).forms) (bytes_of (g (f p).pen).forms) t u a.text_is
+    (subst (λ x. IsBegun t (bytes_of (g x).forms) u) (sym a.pen_is) h))
 
 pub wrote_as : (f g : Writer) (p : Pen) (s : List ℕ) (q : Pen) (t : List ℕ) → g p ≡ f p → Wrote f p s q t
     → Wrote g p s q t
 wrote_as f g p s q t e a = record {
   pen_is = ap (λ (d : Drawn). d.pen) e ∙ a.pen_is;
-  text_is = a.text_is ∙ ap (λ (d : Drawn). s ++ spell d.forms) (sym e);
+  text_is = a.text_is ∙ ap (λ (d : Drawn). s ++ bytes_of d.forms) (sym e);
 }
 
 -- where the writers and the places are inferred
@@ -85,15 +85,15 @@ wrote_by e a = wrote_as _ _ _ _ _ _ e a
 
 -- of what a call appends, this is a front
 pub record Began (f : Writer) (p : Pen) (s t : List ℕ) : Type 0 where
-  pub is : IsBegun s (spell (f p).forms) t
+  pub is : IsBegun s (bytes_of (f p).forms) t
 
 -- none of it
 pub began_none : (f : Writer) (p : Pen) (s : List ℕ) → Began f p s s
-began_none f p s = record { is = ([], spell (f p).forms, refl, sym (append-nil s)) }
+began_none f p s = record { is = ([], bytes_of (f p).forms, refl, sym (append-nil s)) }
 
 -- all of it
 pub began_all : {f : Writer} {p : Pen} {s : List ℕ} {q : Pen} {t : List ℕ} → Wrote f p s q t → Began f p s t
-began_all {f = f} {p = p} h = record { is = (spell (f p).forms, [], sym (append-nil _), h.text_is) }
+began_all {f = f} {p = p} h = record { is = (bytes_of (f p).forms, [], sym (append-nil _), h.text_is) }
 
 pub began_first : {f : Writer} (g : Writer) {p : Pen} {s t : List ℕ} → Began f p s t → Began (f >> g) p s t
 began_first {f = f} g {p = p} {s = s} {t = t} h = record { is = begun_first f g p s t h.is }
@@ -105,16 +105,16 @@ wrote_skip p s = record { pen_is = refl; text_is = sym (append-nil s) }
 -- ---- calls that append to a string
 
 -- how many bytes two writers append
-bytes_of_both : (f g : Writer) (p : Pen) → length (spell ((f >> g) p).forms)
-    ≡ length (spell (f p).forms) + length (spell (g (f p).pen).forms)
+bytes_of_both : (f g : Writer) (p : Pen) → length (bytes_of ((f >> g) p).forms)
+    ≡ length (bytes_of (f p).forms) + length (bytes_of (g (f p).pen).forms)
 unfolding ◌>>◌
-bytes_of_both f g p = ap length (spell-joined (f p).forms (g (f p).pen).forms)
-    ∙ length-append (spell (f p).forms) (spell (g (f p).pen).forms)
+bytes_of_both f g p = ap length (bytes_of-joined (f p).forms (g (f p).pen).forms)
+    ∙ length-append (bytes_of (f p).forms) (bytes_of (g (f p).pen).forms)
 
 -- how many one has appended
 bytes_of_wrote : {f : Writer} {p : Pen} {s : List ℕ} {q : Pen} {t : List ℕ} → Wrote f p s q t
-    → length t ≡ length s + length (spell (f p).forms)
-bytes_of_wrote {f = f} {p = p} {s = s} h = ap length h.text_is ∙ length-append s (spell (f p).forms)
+    → length t ≡ length s + length (bytes_of (f p).forms)
+bytes_of_wrote {f = f} {p = p} {s = s} h = ap length h.text_is ∙ length-append s (bytes_of (f p).forms)
 
 module _ {Z : Type 0} where
   len_is : (s : String Z) → string_len s ≡ length (string_bytes s)
@@ -154,7 +154,7 @@ module _ {Z : Type 0} where
   refused_then {f = f} {g = g} {p = p} {s = s} {q = q} {t = t} {u = u} a h =
       let both = bytes_of_both f g p in
       let first = bytes_of_wrote a.wrote in
-      let second = ap (λ x. length (spell (g x).forms)) a.wrote.pen_is in
+      let second = ap (λ x. length (bytes_of (g x).forms)) a.wrote.pen_is in
       record {
         begun = begun_then f g p (string_bytes s) q (string_bytes t) (string_bytes u) a.wrote h.begun;
         full = omega (arith, both, first, second, a.capacity, h.full, len_is s, len_is t);
@@ -162,8 +162,8 @@ module _ {Z : Type 0} where
 
   pub refused_by : {f g : Writer} {p : Pen} {s t : String Z} → g p ≡ f p → Refused f p s t → Refused g p s t
   refused_by {p = p} {s = s} {t = t} e h = record {
-    begun = subst (λ (d : Drawn). IsBegun (string_bytes s) (spell d.forms) (string_bytes t)) (sym e) h.begun;
-    full = subst (λ (d : Drawn). string_capacity s < string_len s + length (spell d.forms)) (sym e) h.full;
+    begun = subst (λ (d : Drawn). IsBegun (string_bytes s) (bytes_of d.forms) (string_bytes t)) (sym e) h.begun;
+    full = subst (λ (d : Drawn). string_capacity s < string_len s + length (bytes_of d.forms)) (sym e) h.full;
   }
 
   -- then the ones after it aren't made
@@ -174,11 +174,11 @@ module _ {Z : Type 0} where
 
   -- of a single call that is refused, nothing is appended
   pub refused_whole : {X E : Type 0} (r : Result X E) (h : Writer) (p : Pen) (s : String Z) (q : Pen) (t : String Z)
-      (text : List ℕ) → IsErr r → text ≡ spell (h p).forms → string_bytes t ≡ string_bytes s
+      (text : List ℕ) → IsErr r → text ≡ bytes_of (h p).forms → string_bytes t ≡ string_bytes s
       → string_capacity s < string_len s + length text → Writes h p s (is_ok r) q t
   refused_whole (Ok x) h p s q t text failed e same full = absurd (false≢true failed)
   refused_whole (Err x) h p s q t text failed e same full = record {
-    begun = ([], spell (h p).forms, refl, same ∙ sym (append-nil (string_bytes s)));
+    begun = ([], bytes_of (h p).forms, refl, same ∙ sym (append-nil (string_bytes s)));
     full = subst (λ bs. string_capacity s < string_len s + length bs) e full;
   }
 
@@ -267,7 +267,7 @@ began_columns_moved {p = p} {s = s} j n m r le h begun moved =
 -- ---- single forms
 
 pub wrote_goto : (row col : ℕ) (p : Pen) (s t : List ℕ)
-    → t ≡ s ++ spell (moves p.pos (record { row = row; col = col }))
+    → t ≡ s ++ bytes_of (moves p.pos (record { row = row; col = col }))
     → Wrote (goto row col) p s (record p { pos = record { row = row; col = col } }) t
 unfolding goto
 wrote_goto row col p s t h = record { pen_is = refl; text_is = h }
@@ -283,7 +283,7 @@ pub goto_here : (p : Pen) (pos : Pos) (s : List ℕ) → p.pos ≡ pos → Wrote
 unfolding goto
 goto_here p pos s e = record {
   pen_is = λ i. record p { pos = sym e i };
-  text_is = sym (append-nil s) ∙ ap (λ fs. s ++ spell fs) (sym (stays p.pos) ∙ ap (moves p.pos) e);
+  text_is = sym (append-nil s) ∙ ap (λ fs. s ++ bytes_of fs) (sym (stays p.pos) ∙ ap (moves p.pos) e);
 }
 
 pub wrote_goto_here : (p : Pen) (pos : Pos) (s : List ℕ) → ((p.pos.row == pos.row) && (p.pos.col == pos.col)) ≡ true
@@ -294,7 +294,7 @@ wrote_goto_here p pos s h =
     let cols = eqb-true p.pos.col pos.col both.1 in
     goto_here p pos s (λ i. record { row = rows i; col = cols i })
 
-pub wrote_color : (a : Attrs) (p : Pen) (s t : List ℕ) → t ≡ s ++ spell (change p.attrs a)
+pub wrote_color : (a : Attrs) (p : Pen) (s t : List ℕ) → t ≡ s ++ bytes_of (change p.attrs a)
     → Wrote (color a) p s (record p { attrs = a }) t
 unfolding color
 wrote_color a p s t h = record { pen_is = refl; text_is = h }
@@ -304,7 +304,7 @@ pub color_same : (p : Pen) (a : Attrs) (s : List ℕ) → p.attrs ≡ a → Wrot
 unfolding color
 color_same p a s e = record {
   pen_is = λ i. record p { attrs = sym e i };
-  text_is = sym (append-nil s) ∙ ap (λ fs. s ++ spell fs) (sym (unchanged p.attrs) ∙ ap (change p.attrs) e);
+  text_is = sym (append-nil s) ∙ ap (λ fs. s ++ bytes_of fs) (sym (unchanged p.attrs) ∙ ap (change p.attrs) e);
 }
 
 pub wrote_print : (x : CellView) (loses : Bool) (p : Pen) (s t : List ℕ) (col : ℕ) (lost : Bool)
@@ -316,7 +316,7 @@ wrote_print x loses p s t col lost h e g = record {
   text_is = h ∙ ap (λ bs. s ++ bs) (sym (append-nil (encode_utf8_all x.text)));
 }
 
-pub wrote_back : (p : Pen) (s t : List ℕ) (col : ℕ) → t ≡ s ++ spell (Backspace ∷ []) → col ≡ p.pos.col - 1
+pub wrote_back : (p : Pen) (s t : List ℕ) (col : ℕ) → t ≡ s ++ bytes_of (Backspace ∷ []) → col ≡ p.pos.col - 1
     → Wrote back p s (record p { pos = record (p.pos) { col = col } }) t
 unfolding back
 wrote_back p s t col h e = record {
@@ -324,7 +324,7 @@ wrote_back p s t col h e = record {
   text_is = h;
 }
 
-pub wrote_erase : (n : ℕ) (loses : Bool) (p : Pen) (s t : List ℕ) (lost : Bool) → t ≡ s ++ spell (EraseChar n ∷ [])
+pub wrote_erase : (n : ℕ) (loses : Bool) (p : Pen) (s t : List ℕ) (lost : Bool) → t ≡ s ++ bytes_of (EraseChar n ∷ [])
     → lost ≡ (p.lost || loses) → Wrote (erasing n loses) p s (record p { erase = None; lost = lost }) t
 unfolding erasing
 wrote_erase n loses p s t lost h g = record {

@@ -64,7 +64,7 @@ pub record IsReady (s : Scene) (p : Pen) : Type 0 where
 -- its last column, so that the next row sets the flag. `keeps_flag` says which, and the next row relies on it.
 pub record IsDrawn (s : Scene) (p : Pen) (t : Term) : Type 0 where
   pub flags : ℕ → Bool
-  pub stands : t ≡ with_row s s.job.new flags p.pos.row p.pos.col p.attrs
+  pub state_after : t ≡ with_row s s.job.new flags p.pos.row p.pos.col p.attrs
   pub proper : IsProper p.attrs
   pub closed : p.erase ≡ None
   pub flagged : (flags ≡ update (flags_above s) s.job.row s.job.wrapped)

@@ -7,10 +7,10 @@ use lib.Utf8.{encode}
 use Rattle.vt100_forms.specs.declared.attrs.Attrs.{Attrs}
 use Rattle.vt100_forms.specs.declared.position.Pos.{Pos}
 use Rattle.vt100_forms.specs.Form.{Form, Text, MoveTo, MoveRight, EraseChar, ClearRowForward, Crlf, Backspace}
-use Rattle.vt100_forms.specs.Form.{moves, change, spelling, spell}
+use Rattle.vt100_forms.specs.Form.{moves, change, form_bytes, bytes_of}
 use Rattle.vt100_forms.specs.Attrs.{HasByteColors}
 use Rattle.vt100_forms.specs.Length.{HasSmallNumbers, longest}
-use Rattle.vt100_forms.proofs.Lengths.{length-spelling, length-change}
+use Rattle.vt100_forms.proofs.Lengths.{length-form_bytes, length-change}
 use Rattle.vt100_cells.specs.Cell.{CellView, IsCell, has_text}
 use Rattle.vt100_cells.specs.Line.{span_of}
 use Rattle.vt100_cells.proofs.CellTexts.{text-short}
@@ -26,17 +26,17 @@ use Rattle.row_drawing.specs.RowWriter.{row_difference}
 use Rattle.row_drawing.proofs.RowForms.{moves-cases}
 use Rattle.row_drawing.proofs.SmallRows.{change-small}
 use Rattle.row_drawing.proofs.Texts.{all-join}
-use Rattle.row_drawing.proofs.WritesLemmas.{spell-joined}
+use Rattle.row_drawing.proofs.WritesLemmas.{bytes_of-joined}
 use Rattle.screen_drawing.proofs.Lists.{IsMeasure, IsWritten, Writes, then}
 
 -- ---- lists of forms
 
-pub join-length : (fs gs : List Form) → length (spell (fs ++ gs)) ≡ length (spell fs) + length (spell gs)
-join-length fs gs = ap length (spell-joined fs gs) ∙ length-append (spell fs) (spell gs)
+pub join-length : (fs gs : List Form) → length (bytes_of (fs ++ gs)) ≡ length (bytes_of fs) + length (bytes_of gs)
+join-length fs gs = ap length (bytes_of-joined fs gs) ∙ length-append (bytes_of fs) (bytes_of gs)
 
 -- small numbers, and at most n bytes
 abbrev pub IsSmallList : ℕ → List Form → Type 0
-IsSmallList n fs = AreSmall fs × (length (spell fs) ≤ n)
+IsSmallList n fs = AreSmall fs × (length (bytes_of fs) ≤ n)
 
 pub small-measure : IsMeasure IsSmallList
 small-measure = record {
@@ -48,7 +48,7 @@ small-measure = record {
 }
 
 pub form-small : (f : Form) (n : ℕ) → HasSmallNumbers f → longest f ≤ n → IsSmallList n (f ∷ [])
-form-small f n h l = ((h, tt), omega (arith, length-append (spelling f) (spell []), length-spelling f h))
+form-small f n h l = ((h, tt), omega (arith, length-append (form_bytes f) (bytes_of []), length-form_bytes f h))
 
 pub moves-small : (p q : Pos) → q.row < 2 ^ 16 → q.col < 2 ^ 16 → IsSmallList 14 (moves p q)
 moves-small p q hr hc =

@@ -1,7 +1,7 @@
 -- How many bytes redraws and differences of screens can have.
 use Rattle.std.proofs.Common.{ℕ, zero, suc, ◌*◌, ◌<◌, ◌≤◌, length, arith}
 use Rattle.std.proofs.Math.Nat.{mul-suc}
-use Rattle.vt100_forms.specs.Form.{spell}
+use Rattle.vt100_forms.specs.Form.{bytes_of}
 use Rattle.terminal_model.specs.Term.{Shown}
 use Rattle.screen_drawing.specs.Modes.{input_mode_formatted, input_mode_diff}
 use Rattle.screen_drawing.specs.Length.{EachIsShort}
@@ -13,10 +13,10 @@ pub le-times : (n m : ℕ) → 0 < m → n ≤ n * m
 le-times n zero h = absurd (omega (arith, h))
 le-times n (suc k) h = omega (arith, mul-suc n k)
 
-pub modes-length : (s : Shown) → length (spell (input_mode_formatted s)) ≤ 36
+pub modes-length : (s : Shown) → length (bytes_of (input_mode_formatted s)) ≤ 36
 modes-length s = (modes-set IsSmallList small-measure small-modes s).1
 
-pub modes_diff-length : (old new : Shown) → length (spell (input_mode_diff old new)) ≤ 36
+pub modes_diff-length : (old new : Shown) → length (bytes_of (input_mode_diff old new)) ≤ 36
 modes_diff-length old new = (modes-changed IsSmallList small-measure small-modes old new).1
 
 pub each-short : EachIsShort

@@ -50,7 +50,7 @@ grid-within z t old new ho ha hn =
     within-joined S z d.forms goes (showing t old p)
     (within-more (IsLocal z old new) S z d.forms (showing t old p) (λ r k l. inl l)
     (rows-local z t old new p ho hn ha refl))
-    (subst (Within S z goes) (sym done.stands)
+    (subst (Within S z goes) (sym done.state_after)
     (cursor-within S z t new (Some q.pos) q.attrs q.pos.row q.pos.col hn done.proper
     (known-some q.pos.row q.pos.col) (end-room z old new)))
 

@@ -25,13 +25,13 @@ use Rattle.screen_drawing.specs.Laws.{EachModeIsSet, EachModeIsChanged, EachAttr
 -- each value is determined by its number
 same-number : {X : Type 0} (number : X → ℕ) (of : ℕ → X) → ((a : X) → of (number a) ≡ a) → (to from : X)
     → (number to == number from) ≡ true → from ≡ to
-same-number number of told to from e =
-    sym (told from) ∙ sym (ap of (eqb-true (number to) (number from) e)) ∙ told to
+same-number number of reported to from e =
+    sym (reported from) ∙ sym (ap of (eqb-true (number to) (number from) e)) ∙ reported to
 
 switched-to : {X : Type 0} (number : X → ℕ) (of : ℕ → X) → ((a : X) → of (number a) ≡ a) → (to from : X)
     → switched number to from from ≡ to
-switched-to number of told to from =
-    cond_both (number to == number from) from _ (λ x. x ≡ to) (same-number number of told to from)
+switched-to number of reported to from =
+    cond_both (number to == number from) from _ (λ x. x ≡ to) (same-number number of reported to from)
     (λ _. cond_both ((number to == 0) && not (number from == number from)) from to (λ x. x ≡ to)
     (λ h. absurd (grind (arith, nat_tests, h))) (λ _. refl))
 

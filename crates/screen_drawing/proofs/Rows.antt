@@ -38,7 +38,7 @@ continued-is W (suc i) h = let back : i ≡ suc i - 1 = omega arith in ap W back
 -- wraps; then the cursor is behind its last column.
 pub record Between (z : Size) (t : Term) (old new : Shown) (i : ℕ) (p : Pen) (u : Term) : Type 0 where
   pub flags : ℕ → Bool
-  pub stands : u ≡ at t (splice old.cell 0 i new.cell) flags p.pos.row p.pos.col p.attrs
+  pub state_after : u ≡ at t (splice old.cell 0 i new.cell) flags p.pos.row p.pos.col p.attrs
   pub proper : IsProper p.attrs
   pub closed : p.erase ≡ None
   pub flagged : cond (is_continued new.wrapped i) (update flags (i - 1) true) flags ≡ splice old.wrapped 0 i new.wrapped
@@ -51,7 +51,7 @@ begun : (z : Size) (t : Term) (old new : Shown) (p : Pen) → IsProper p.attrs �
     → Between z t old new 0 p (showing t old p)
 begun z t old new p ha closed = record {
   flags = old.wrapped;
-  stands = ap (λ C. at t C old.wrapped p.pos.row p.pos.col p.attrs) (sym (splice-none old.cell 0 new.cell));
+  state_after = ap (λ C. at t C old.wrapped p.pos.row p.pos.col p.attrs) (sym (splice-none old.cell 0 new.cell));
   proper = ha;
   closed = closed;
   flagged = sym (splice-none old.wrapped 0 new.wrapped);
@@ -72,7 +72,7 @@ pub line-of : (z : Size) (s : Shown) (r : ℕ) → IsShown z s → IsLine z.cols
 line-of z s r h = record { paired = h.paired r; beyond = h.beyond r; filled = h.filled r }
 
 module _ (z : Size) (t : Term) (old new : Shown) (i : ℕ) (flagged : Bool) (p : Pen) (u : Term)
-    (b : Between z t old new i p u) (told : flagged ≡ (is_continued old.wrapped i && not p.lost)) where
+    (b : Between z t old new i p u) (reported : flagged ≡ (is_continued old.wrapped i && not p.lost)) where
   -- the flag of row i is that of the old screen
   own-flag : b.flags i ≡ old.wrapped i
   own-flag =
@@ -105,19 +105,19 @@ module _ (z : Size) (t : Term) (old new : Shown) (i : ℕ) (flagged : Bool) (p :
         ap (λ (f : ℕ → CellView). is_filled (f (z.cols - 1)))
         (splice-in old.cell 0 i new.cell (i - 1) (omega arith) (omega (arith, later)))
         ∙ hn.shown.filled (i - 1) (sym (continued-is new.wrapped i later) ∙ on);
-    above_flag = λ on k. b.keeps on (sym told ∙ k);
+    above_flag = λ on k. b.keeps on (sym reported ∙ k);
   }
 
   pub ready-is : IsReady (scene_of z t old new i flagged b.flags) (afresh p)
   ready-is =
-      record { closed = b.closed; kept = refl; proper = b.proper; waits = λ on k. b.waits on (sym told ∙ k) }
+      record { closed = b.closed; kept = refl; proper = b.proper; waits = λ on k. b.waits on (sym reported ∙ k) }
 
   -- the terminal before row i, as the row's laws see it
   pub here-is : u
       ≡ with_row (scene_of z t old new i flagged b.flags) (old.cell i) b.flags p.pos.row p.pos.col p.attrs
   here-is =
       let le : i ≤ i = omega arith in
-      b.stands ∙ ap (λ C. at t C b.flags p.pos.row p.pos.col p.attrs)
+      b.state_after ∙ ap (λ C. at t C b.flags p.pos.row p.pos.col p.attrs)
       (sym (update-kept (splice old.cell 0 i new.cell) i (old.cell i)
       (sym (splice-past old.cell 0 i new.cell i le))))
 
@@ -142,7 +142,7 @@ module _ (z : Size) (t : Term) (old new : Shown) (i : ℕ) (flagged : Bool) (p :
       ∙ ap (λ n. splice old.wrapped 0 n new.wrapped) next in
       record {
         flags = F;
-        stands = d.stands ∙ ap (λ C. at t C F q.pos.row q.pos.col q.attrs)
+        state_after = d.state_after ∙ ap (λ C. at t C F q.pos.row q.pos.col q.attrs)
             (splice-update old.cell 0 i new.cell (new.cell i) le refl
             ∙ ap (λ n. splice old.cell 0 n new.cell) next);
         proper = d.proper;
@@ -164,7 +164,7 @@ module _ (z : Size) (t : Term) (old new : Shown) (i : ℕ) (flagged : Bool) (p :
 -- ---- the last row is drawn
 
 pub record IsDone (t : Term) (s : Shown) (p : Pen) (u : Term) : Type 0 where
-  pub stands : u ≡ showing t s p
+  pub state_after : u ≡ showing t s p
   pub proper : IsProper p.attrs
 
 ended : (z : Size) (t : Term) (old new : Shown) (p : Pen) (u : Term) → IsShown z old → IsShown z new
@@ -178,7 +178,7 @@ ended z t old new p u ho hn b =
     let own : b.flags ≡ new.wrapped =
     ap (λ c. cond c (update b.flags (z.rows - 1) true) b.flags) (sym off) ∙ b.flagged ∙ flags in
     record {
-      stands = b.stands ∙ (λ i. at t (cells i) (own i) p.pos.row p.pos.col p.attrs);
+      state_after = b.state_after ∙ (λ i. at t (cells i) (own i) p.pos.row p.pos.col p.attrs);
       proper = b.proper;
     }
 
@@ -201,7 +201,7 @@ DrawEach z t old new rows = (i : ℕ) (flagged : Bool) (F : ℕ → Bool) (p : P
     (with_row (scene_of z t old new i flagged F) (old.cell i) F p.pos.row p.pos.col p.attrs))
 
 module _ (z : Size) (t : Term) (old new : Shown) (ho : IsShown z old) (hn : IsDrawable z new) (had : ℕ → Bool)
-    (told : (i : ℕ) (b : Bool) → (had i && b) ≡ (is_continued old.wrapped i && b)) (rows : RowWriters)
+    (reported : (i : ℕ) (b : Bool) → (had i && b) ≡ (is_continued old.wrapped i && b)) (rows : RowWriters)
     (draw : DrawEach z t old new rows) (p : Pen) (ha : IsProper p.attrs) (closed : p.erase ≡ None) where
   between : (n : ℕ) → n ≤ z.rows
       → Between z t old new n (in_turn had rows n p).pen (run z (in_turn had rows n p).forms (showing t old p))
@@ -213,7 +213,7 @@ module _ (z : Size) (t : Term) (old new : Shown) (ho : IsShown z old) (hn : IsDr
       let u = run z fs (showing t old p) in
       let b = between n (omega arith) in
       let flagged = had n && not q.lost in
-      let same = told n (not q.lost) in
+      let same = reported n (not q.lost) in
       let d = rows n flagged (afresh q) in
       subst (Between z t old new (suc n) d.pen) (sym (run-joined z fs d.forms (showing t old p)))
       (between-next z t old new n flagged q u b same d
@@ -282,7 +282,7 @@ redraw-done z t s p h ha closed =
     (redraws_of z s) (redraw-draws z t s) p ha closed
 
 pub rows-redraw_lead : EachRowsRedrawLeads
-rows-redraw_lead z t s p h ha closed = (redraw-done z t s p h ha closed).stands
+rows-redraw_lead z t s p h ha closed = (redraw-done z t s p h ha closed).state_after
 
 pub rows-difference_lead : EachRowsDifferenceLeads
-rows-difference_lead z t old new p ho hn ha closed = (difference-done z t old new p ho hn ha closed).stands
+rows-difference_lead z t old new p ho hn ha closed = (difference-done z t old new p ho hn ha closed).state_after

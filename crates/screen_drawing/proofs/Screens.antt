@@ -71,7 +71,7 @@ placed-after : (z : Size) (t : Term) (s : Shown) (q : Pen) (fs : List Form) (u :
     → IsGridDone z t s q.attrs (fs ++ cursor_position_formatted z s (Some q.pos) q.attrs) u
 placed-after z t s q fs u h done = record {
   leads = ap shown_of (run-joined z fs (cursor_position_formatted z s (Some q.pos) q.attrs) u
-      ∙ ap (run z (cursor_position_formatted z s (Some q.pos) q.attrs)) done.stands)
+      ∙ ap (run z (cursor_position_formatted z s (Some q.pos) q.attrs)) done.state_after)
       ∙ cursor-run z t s (Some q.pos) q.attrs q.pos.row q.pos.col h done.proper (known-some q.pos.row q.pos.col);
   proper = done.proper;
 }

@@ -8,7 +8,7 @@ use Rattle.vt100_forms.specs.declared.modes.CursorStyle.TheVariants as style
 use Rattle.vt100_forms.specs.Attrs.{default_attrs}
 use Rattle.vt100_forms.specs.Form.{Form, Text, MoveTo, MoveRight, EraseChar, ClearRowForward, ClearScreen, ClearAttrs}
 use Rattle.vt100_forms.specs.Form.{Lf, Backspace, SaveCursor, RestoreCursor, HideCursor, Keypad, CursorKeys, Paste}
-use Rattle.vt100_forms.specs.Form.{Mouse, Encoding, Style, Sgr, no_change, spell}
+use Rattle.vt100_forms.specs.Form.{Mouse, Encoding, Style, Sgr, no_change, bytes_of}
 use Rattle.vt100_cells.specs.Cell.{CellView, default_cell, continuation_cell, cell_of}
 use Rattle.vt100_cells.specs.Cells.{cell_at}
 use Rattle.terminal_model.specs.Term.{Size, Shown, blank_shown, default_modes}
@@ -124,9 +124,9 @@ pub record EachExampleIsWritten : Type 0 where
   pub blank_redrawn : state_formatted (size 2 4) blank_shown ≡ start ++ Keypad false ∷ CursorKeys false ∷ Paste false
       ∷ Mouse mouse.None mouse.None ∷ Encoding encoding.Default encoding.Default ∷ Style style.Default style.Default
       ∷ []
-  pub blank_bytes : spell (state_formatted (size 2 4) blank_shown) ≡ 27 ∷ codes "[?25h" ++ 27 ∷ codes "[m"
+  pub blank_bytes : bytes_of (state_formatted (size 2 4) blank_shown) ≡ 27 ∷ codes "[?25h" ++ 27 ∷ codes "[m"
       ++ 27 ∷ codes "[H" ++ 27 ∷ codes "[J" ++ 27 ∷ codes ">" ++ 27 ∷ codes "[?1l" ++ 27 ∷ codes "[?2004l"
-  pub blank_changed : spell (state_diff (size 2 4) blank_shown blank_shown) ≡ []
+  pub blank_changed : bytes_of (state_diff (size 2 4) blank_shown blank_shown) ≡ []
   -- colours
   pub green_redrawn : contents_formatted (size 2 15) green_word ≡ start ++ text (codes "text is ")
       ++ dyed 2 ∷ text (codes "GREEN")
@@ -134,7 +134,7 @@ pub record EachExampleIsWritten : Type 0 where
   pub green_attributes : attributes_formatted green_word ≡ ClearAttrs ∷ dyed 2 ∷ []
   pub green_cursor : cursor_state_formatted (size 2 15) green_word ≡ HideCursor false ∷ MoveTo 0 13 ∷ []
   -- modes
-  pub modes_changed : spell (input_mode_diff blank_shown with_cursor_keys) ≡ 27 ∷ codes "[?1h"
+  pub modes_changed : bytes_of (input_mode_diff blank_shown with_cursor_keys) ≡ 27 ∷ codes "[?1h"
   pub modes_all : state_formatted (size 1 3) moded ≡ start ++ dyed 9 ∷ text (codes "A") ++ Keypad true ∷ CursorKeys true
       ∷ Paste false ∷ Mouse mouse.PressRelease mouse.None ∷ Encoding encoding.Sgr encoding.Default
       ∷ Style style.SteadyUnderline style.Default ∷ []

@@ -1,6 +1,6 @@
 -- How many bytes redraws and differences of screens can have.
 use Rattle.std.specs.Prelude.{ℕ, ◌+◌, ◌*◌, ◌^◌, ◌<◌, ◌≤◌, List, length}
-use Rattle.vt100_forms.specs.Form.{Form, spell}
+use Rattle.vt100_forms.specs.Form.{Form, bytes_of}
 use Rattle.vt100_forms.specs.Attrs.{HasByteColors}
 use Rattle.vt100_cells.specs.Cell.{IsCell}
 use Rattle.terminal_model.specs.Term.{Size, Shown, IsShown}
@@ -19,7 +19,7 @@ pub record IsSmallScreen (z : Size) (s : Shown) : Type 0 where
 
 -- at most 1,024 bytes for each cell, and `more` bytes
 abbrev pub IsWithin : Size → ℕ → List Form → Type 0
-IsWithin z more fs = length (spell fs) ≤ 1024 * (z.rows * z.cols) + more
+IsWithin z more fs = length (bytes_of fs) ≤ 1024 * (z.rows * z.cols) + more
 
 pub record AreShort (z : Size) (old new : Shown) : Type 0 where
   pub grid_formatted : IsWithin z 256 (grid_contents_formatted z new)
@@ -28,8 +28,8 @@ pub record AreShort (z : Size) (old new : Shown) : Type 0 where
   pub contents_diff : IsWithin z 512 (contents_diff z old new)
   pub state_formatted : IsWithin z 1008 (state_formatted z new)
   pub state_diff : IsWithin z 1008 (state_diff z old new)
-  pub input_mode_formatted : length (spell (input_mode_formatted new)) ≤ 128
-  pub input_mode_diff : length (spell (input_mode_diff old new)) ≤ 128
+  pub input_mode_formatted : length (bytes_of (input_mode_formatted new)) ≤ 128
+  pub input_mode_diff : length (bytes_of (input_mode_diff old new)) ≤ 128
 
 -- the forms for the new screen are short, whatever the old screen shows
 abbrev pub EachIsShort : Type 0

@@ -24,13 +24,13 @@ use Rattle.screen_model.proofs.RowTraits.{IsKnown, IsClean, IsCleanRow, sound, c
 use Rattle.screen_model.proofs.SheetTraits.{IsCleanSheet}
 use Rattle.screen_model.proofs.UnscrolledSizes.{resized-same}
 use Rattle.screen_model.proofs.UnscrolledStates.{Bounds, IsUnscrolledState, is-state, well-fresh, well-resized, main-fine}
-use Rattle.screen_model.proofs.ScalarEvents.{IsTold, added-told}
+use Rattle.screen_model.proofs.ScalarEvents.{IsReported, added-reported}
 use Rattle.screen_model.proofs.UnscrolledEvents.{effect-well}
 
-played-well : (es : List Event) → All IsTold es → (b : Bounds) (s : State) → IsUnscrolledState b s → IsUnscrolledState b (played es s)
+played-well : (es : List Event) → All IsReported es → (b : Bounds) (s : State) → IsUnscrolledState b s → IsUnscrolledState b (played es s)
 played-well [] h b s w = w
 played-well (e ∷ es) h b s w =
-    played-well es (All-tail IsTold e es h) b (effect e s).state (effect-well e (All-head IsTold e es h) b s w)
+    played-well es (All-tail IsReported e es h) b (effect e s).state (effect-well e (All-head IsReported e es h) b s w)
 
 abbrev pub bounded : Bounds → List Act → Bounds
 bounded b acts = record b { height = last_rows b.height acts; width = last_cols b.width acts }
@@ -40,7 +40,7 @@ acts-well : (acts : List Act) → All IsAct acts → (past : List ℕ) (b : Boun
 acts-well [] h past b s w = w
 acts-well (Fed bytes ∷ acts) h past b s w =
     acts-well acts (All-tail IsAct (Fed bytes) acts h) (past ++ bytes) b (played (events_added past bytes) s)
-    (played-well (events_added past bytes) (added-told past bytes) b s w)
+    (played-well (events_added past bytes) (added-reported past bytes) b s w)
 acts-well (Resized rows cols ∷ acts) h past b s w =
     let is = All-head IsAct (Resized rows cols) acts h in
     acts-well acts (All-tail IsAct (Resized rows cols) acts h) past (record b { height = rows; width = cols })

@@ -12,36 +12,36 @@ use Rattle.vte_core.specs.Event.{Event, Print, Execute, Hook, Put, Unhook, Osc, 
 use Rattle.vte_core.specs.Bytes.{is_abort, is_control, is_intermediate, is_header, ends_header, ends_escape, ends_osc}
 use Rattle.vte_core.specs.Bytes.{ends_device, is_put}
 use Rattle.vte_core.specs.Header.{is_well_formed, kept_groups, kept_intermediates, overflows}
-use Rattle.vte_core.specs.Text.{char_len, second_min, second_max, tail_len, front_len, first_bits, joined, char_event}
-use Rattle.vte_core.specs.Text.{malformed_event, front_event, text_after, text}
+use Rattle.vte_core.specs.Text.{char_len, second_min, second_max, tail_len, prefix_len, first_bits, joined, char_event}
+use Rattle.vte_core.specs.Text.{malformed_event, prefix_event, text_after, text}
 use Rattle.vte_core.specs.Shapes.{before, from, executed, aborted, swallowed_end, swallowed, device_end, device}
 use Rattle.vte_core.specs.Shapes.{hook_end}
 use Rattle.vte_core.specs.Shapes.{hook, csi_end, csi, osc_pieces, osc_end, osc, introduced, escape_end, escape}
 use Rattle.vte_core.specs.Shapes.{cut_at_esc, segments, events}
 use Rattle.screen_model.specs.Made.{events_added}
 
-abbrev pub IsTold : Event → Type 0
-IsTold (Print c) = IsScalar c
-IsTold e = Unit {0}
+abbrev pub IsReported : Event → Type 0
+IsReported (Print c) = IsScalar c
+IsReported e = Unit {0}
 
-abbrev Told : List Event → Type 0
-Told es = All IsTold es
+abbrev Reported : List Event → Type 0
+Reported es = All IsReported es
 
-none : Told []
-none = All-nil IsTold
+none : Reported []
+none = All-nil IsReported
 
 -- an event that prints nothing, and others
-then-more : (e : Event) (es : List Event) → IsTold e → Told es → Told (e ∷ es)
-then-more e es p h = All-cons IsTold e es p h
+then-more : (e : Event) (es : List Event) → IsReported e → Reported es → Reported (e ∷ es)
+then-more e es p h = All-cons IsReported e es p h
 
-one : (e : Event) → IsTold e → Told (e ∷ [])
+one : (e : Event) → IsReported e → Reported (e ∷ [])
 one e p = then-more e [] p none
 
-joined-told : (es fs : List Event) → Told es → Told fs → Told (es ++ fs)
-joined-told es fs p q = All-append IsTold es fs p q
+joined-reported : (es fs : List Event) → Reported es → Reported fs → Reported (es ++ fs)
+joined-reported es fs p q = All-append IsReported es fs p q
 
-if-told : (b : Bool) (es fs : List Event) → Told es → Told fs → Told (cond b es fs)
-if-told b es fs p q = cond_both b es fs (λ (xs : List Event). Told xs) (λ _. p) (λ _. q)
+if-reported : (b : Bool) (es fs : List Event) → Reported es → Reported fs → Reported (cond b es fs)
+if-reported b es fs p q = cond_both b es fs (λ (xs : List Event). Reported xs) (λ _. p) (λ _. q)
 
 -- ---- the number that well-formed bytes spell
 
@@ -164,14 +164,14 @@ len-none : (a : ℕ) → nat_lt a 0x80 ≡ false → is_in_range 0xC2 0xDF a ≡
     → is_in_range 0xF0 0xF4 a ≡ false → char_len a ≡ 0
 len-none a e f g h = rw (e, f, g, h) refl
 
-spelled-scalar : (a : ℕ) (bs : List ℕ) → front_len a bs ≡ char_len a
-    → IsScalar (joined (first_bits a) (take (front_len a bs - 1) bs))
+written-scalar : (a : ℕ) (bs : List ℕ) → prefix_len a bs ≡ char_len a
+    → IsScalar (joined (first_bits a) (take (prefix_len a bs - 1) bs))
 unfolding Whole
-spelled-scalar a bs e =
+written-scalar a bs e =
     let tail : (n : ℕ) → char_len a ≡ n → tail_len (n - 1) (second_min a) (second_max a) bs ≡ n - 1 = λ n f.
     ap (λ m. tail_len (m - 1) (second_min a) (second_max a) bs) (sym f) ∙ omega (arith, e, f) in
     let back : (n : ℕ) → char_len a ≡ n → IsScalar (joined (first_bits a) (take (n - 1) bs))
-    → IsScalar (joined (first_bits a) (take (front_len a bs - 1) bs)) = λ n f h.
+    → IsScalar (joined (first_bits a) (take (prefix_len a bs - 1) bs)) = λ n f h.
     subst (λ m. IsScalar (joined (first_bits a) (take (m - 1) bs))) (sym (e ∙ f)) h in
     ⊎_elim
     (λ (t : nat_lt a 0x80 ≡ true). let n : char_len a ≡ 1 = grind (arith, nat_tests) in
@@ -196,134 +196,134 @@ spelled-scalar a bs e =
 
 -- ---- ground text
 
-char-told : (c : ℕ) → IsScalar c → IsTold (char_event c)
-char-told c h = cond_both (nat_lt c 0x20 || is_in_range 0x80 0x9F c) (Execute c) (Print c) IsTold (λ _. tt) (λ _. h)
+char-reported : (c : ℕ) → IsScalar c → IsReported (char_event c)
+char-reported c h = cond_both (nat_lt c 0x20 || is_in_range 0x80 0x9F c) (Execute c) (Print c) IsReported (λ _. tt) (λ _. h)
 
-malformed-told : (n a : ℕ) → IsTold (malformed_event n a)
-malformed-told n a = cond_both ((n == 1) && is_in_range 0x80 0x9F a) (Execute a) (Print 0xFFFD) IsTold (λ _. tt)
+malformed-reported : (n a : ℕ) → IsReported (malformed_event n a)
+malformed-reported n a = cond_both ((n == 1) && is_in_range 0x80 0x9F a) (Execute a) (Print 0xFFFD) IsReported (λ _. tt)
     (λ _. refl)
 
-front-told : (cut : Bool) (a : ℕ) (bs : List ℕ) → Told (front_event cut a bs)
-front-told cut a bs =
-    let n = front_len a bs in
+prefix-reported : (cut : Bool) (a : ℕ) (bs : List ℕ) → Reported (prefix_event cut a bs)
+prefix-reported cut a bs =
+    let n = prefix_len a bs in
     let c = joined (first_bits a) (take (n - 1) bs) in
     let unfinished : List Event = cond cut (Print 0xFFFD ∷ []) [] in
     cond_both (n == char_len a) (char_event c ∷ [])
     (cond (nat_lt 0 (char_len a) && nat_lt (length bs) n) unfinished (malformed_event n a ∷ []))
-    (λ (xs : List Event). Told xs)
-    (λ e. one (char_event c) (char-told c (spelled-scalar a bs (eqb-true n (char_len a) e))))
-    (λ _. if-told (nat_lt 0 (char_len a) && nat_lt (length bs) n) unfinished (malformed_event n a ∷ [])
-    (if-told cut (Print 0xFFFD ∷ []) [] (one (Print 0xFFFD) refl) none)
-    (one (malformed_event n a) (malformed-told n a)))
+    (λ (xs : List Event). Reported xs)
+    (λ e. one (char_event c) (char-reported c (written-scalar a bs (eqb-true n (char_len a) e))))
+    (λ _. if-reported (nat_lt 0 (char_len a) && nat_lt (length bs) n) unfinished (malformed_event n a ∷ [])
+    (if-reported cut (Print 0xFFFD ∷ []) [] (one (Print 0xFFFD) refl) none)
+    (one (malformed_event n a) (malformed-reported n a)))
 
-text-told : (skip : ℕ) (cut : Bool) (bs : List ℕ) → Told (text_after skip cut bs)
-text-told skip cut [] = none
-text-told (suc skip) cut (b ∷ bs) = text-told skip cut bs
-text-told zero cut (b ∷ bs) =
-    joined-told (front_event cut b bs) (text_after (front_len b bs - 1) cut bs) (front-told cut b bs)
-    (text-told (front_len b bs - 1) cut bs)
+text-reported : (skip : ℕ) (cut : Bool) (bs : List ℕ) → Reported (text_after skip cut bs)
+text-reported skip cut [] = none
+text-reported (suc skip) cut (b ∷ bs) = text-reported skip cut bs
+text-reported zero cut (b ∷ bs) =
+    joined-reported (prefix_event cut b bs) (text_after (prefix_len b bs - 1) cut bs) (prefix-reported cut b bs)
+    (text-reported (prefix_len b bs - 1) cut bs)
 
 -- ---- sequences and strings
 
-executed-told : (s : List ℕ) → Told (executed s)
-executed-told s = All-map IsTold Execute (filter is_control s) (λ k d l. tt)
+executed-reported : (s : List ℕ) → Reported (executed s)
+executed-reported s = All-map IsReported Execute (filter is_control s) (λ k d l. tt)
 
-aborted-told : (cut : Bool) (b : ℕ) (rest : List ℕ) → Told (aborted cut b rest)
-aborted-told cut b rest = then-more (Execute b) (text cut rest) tt (text-told 0 cut rest)
+aborted-reported : (cut : Bool) (b : ℕ) (rest : List ℕ) → Reported (aborted cut b rest)
+aborted-reported cut b rest = then-more (Execute b) (text cut rest) tt (text-reported 0 cut rest)
 
-swallowed_end-told : (cut : Bool) (s : List ℕ) → Told (swallowed_end cut s)
-swallowed_end-told cut [] = none
-swallowed_end-told cut (b ∷ rest) = aborted-told cut b rest
+swallowed_end-reported : (cut : Bool) (s : List ℕ) → Reported (swallowed_end cut s)
+swallowed_end-reported cut [] = none
+swallowed_end-reported cut (b ∷ rest) = aborted-reported cut b rest
 
-swallowed-told : (cut : Bool) (s : List ℕ) → Told (swallowed cut s)
-swallowed-told cut s = swallowed_end-told cut (from is_abort s)
+swallowed-reported : (cut : Bool) (s : List ℕ) → Reported (swallowed cut s)
+swallowed-reported cut s = swallowed_end-reported cut (from is_abort s)
 
-after-told : (cut : Bool) (b : ℕ) (rest : List ℕ) → Told (cond (is_abort b) (aborted cut b rest) (text cut rest))
-after-told cut b rest =
-    if-told (is_abort b) (aborted cut b rest) (text cut rest) (aborted-told cut b rest) (text-told 0 cut rest)
+after-reported : (cut : Bool) (b : ℕ) (rest : List ℕ) → Reported (cond (is_abort b) (aborted cut b rest) (text cut rest))
+after-reported cut b rest =
+    if-reported (is_abort b) (aborted cut b rest) (text cut rest) (aborted-reported cut b rest) (text-reported 0 cut rest)
 
-device_end-told : (cut : Bool) (s : List ℕ) → Told (device_end cut s)
-device_end-told cut [] = if-told cut (Unhook ∷ []) [] (one Unhook tt) none
-device_end-told cut (b ∷ rest) = then-more Unhook (cond (is_abort b) (aborted cut b rest) (text cut rest)) tt
-    (after-told cut b rest)
+device_end-reported : (cut : Bool) (s : List ℕ) → Reported (device_end cut s)
+device_end-reported cut [] = if-reported cut (Unhook ∷ []) [] (one Unhook tt) none
+device_end-reported cut (b ∷ rest) = then-more Unhook (cond (is_abort b) (aborted cut b rest) (text cut rest)) tt
+    (after-reported cut b rest)
 
-device-told : (cut : Bool) (s : List ℕ) → Told (device cut s)
-device-told cut s =
-    joined-told (map Put (filter is_put (before ends_device s))) (device_end cut (from ends_device s))
-    (All-map IsTold Put (filter is_put (before ends_device s)) (λ k d l. tt))
-    (device_end-told cut (from ends_device s))
+device-reported : (cut : Bool) (s : List ℕ) → Reported (device cut s)
+device-reported cut s =
+    joined-reported (map Put (filter is_put (before ends_device s))) (device_end cut (from ends_device s))
+    (All-map IsReported Put (filter is_put (before ends_device s)) (λ k d l. tt))
+    (device_end-reported cut (from ends_device s))
 
 -- the byte after a header aborts it, or completes it if it is well formed
-header_end-told : (cut : Bool) (h : List ℕ) (b : ℕ) (rest : List ℕ) (acts others : List Event) → Told acts → Told others
-    → Told (cond (is_abort b) (aborted cut b rest) (cond (is_well_formed h) acts others))
-header_end-told cut h b rest acts others p q =
-    if-told (is_abort b) (aborted cut b rest) (cond (is_well_formed h) acts others) (aborted-told cut b rest)
-    (if-told (is_well_formed h) acts others p q)
+header_end-reported : (cut : Bool) (h : List ℕ) (b : ℕ) (rest : List ℕ) (acts others : List Event) → Reported acts → Reported others
+    → Reported (cond (is_abort b) (aborted cut b rest) (cond (is_well_formed h) acts others))
+header_end-reported cut h b rest acts others p q =
+    if-reported (is_abort b) (aborted cut b rest) (cond (is_well_formed h) acts others) (aborted-reported cut b rest)
+    (if-reported (is_well_formed h) acts others p q)
 
-hook_end-told : (cut : Bool) (h s : List ℕ) → Told (hook_end cut h s)
-hook_end-told cut h [] = none
-hook_end-told cut h (b ∷ rest) =
+hook_end-reported : (cut : Bool) (h s : List ℕ) → Reported (hook_end cut h s)
+hook_end-reported cut h [] = none
+hook_end-reported cut h (b ∷ rest) =
     let begins = Hook (kept_groups h) (kept_intermediates h) (overflows h) b in
-    header_end-told cut h b rest (begins ∷ device cut rest) (swallowed cut rest)
-    (then-more begins (device cut rest) tt (device-told cut rest)) (swallowed-told cut rest)
+    header_end-reported cut h b rest (begins ∷ device cut rest) (swallowed cut rest)
+    (then-more begins (device cut rest) tt (device-reported cut rest)) (swallowed-reported cut rest)
 
-csi_end-told : (cut : Bool) (h s : List ℕ) → Told (csi_end cut h s)
-csi_end-told cut h [] = none
-csi_end-told cut h (b ∷ rest) =
+csi_end-reported : (cut : Bool) (h s : List ℕ) → Reported (csi_end cut h s)
+csi_end-reported cut h [] = none
+csi_end-reported cut h (b ∷ rest) =
     let acts = Csi (kept_groups h) (kept_intermediates h) (overflows h) b in
-    header_end-told cut h b rest (acts ∷ text cut rest) (text cut rest)
-    (then-more acts (text cut rest) tt (text-told 0 cut rest)) (text-told 0 cut rest)
+    header_end-reported cut h b rest (acts ∷ text cut rest) (text cut rest)
+    (then-more acts (text cut rest) tt (text-reported 0 cut rest)) (text-reported 0 cut rest)
 
-csi-told : (cut : Bool) (s : List ℕ) → Told (csi cut s)
-csi-told cut s =
-    joined-told (executed (before ends_header s)) _ (executed-told (before ends_header s))
-    (csi_end-told cut (filter is_header (before ends_header s)) (from ends_header s))
+csi-reported : (cut : Bool) (s : List ℕ) → Reported (csi cut s)
+csi-reported cut s =
+    joined-reported (executed (before ends_header s)) _ (executed-reported (before ends_header s))
+    (csi_end-reported cut (filter is_header (before ends_header s)) (from ends_header s))
 
-osc_end-told : (n : ℕ) (cut : Bool) (s t : List ℕ) → Told (osc_end n cut s t)
-osc_end-told n cut s [] = if-told cut (Osc (osc_pieces n s) false ∷ []) [] (one (Osc (osc_pieces n s) false) tt) none
-osc_end-told n cut s (b ∷ rest) =
+osc_end-reported : (n : ℕ) (cut : Bool) (s t : List ℕ) → Reported (osc_end n cut s t)
+osc_end-reported n cut s [] = if-reported cut (Osc (osc_pieces n s) false ∷ []) [] (one (Osc (osc_pieces n s) false) tt) none
+osc_end-reported n cut s (b ∷ rest) =
     then-more (Osc (osc_pieces n s) (b == 0x07)) (cond (is_abort b) (aborted cut b rest) (text cut rest)) tt
-    (after-told cut b rest)
+    (after-reported cut b rest)
 
-osc-told : (n : ℕ) (cut : Bool) (s : List ℕ) → Told (osc n cut s)
-osc-told n cut s = osc_end-told n cut (filter (λ b. not (is_control b)) (before ends_osc s)) (from ends_osc s)
+osc-reported : (n : ℕ) (cut : Bool) (s : List ℕ) → Reported (osc n cut s)
+osc-reported n cut s = osc_end-reported n cut (filter (λ b. not (is_control b)) (before ends_osc s)) (from ends_osc s)
 
-hook-told : (cut : Bool) (s : List ℕ) → Told (hook cut s)
-hook-told cut s = hook_end-told cut (filter is_header (before ends_header s)) (from ends_header s)
+hook-reported : (cut : Bool) (s : List ℕ) → Reported (hook cut s)
+hook-reported cut s = hook_end-reported cut (filter is_header (before ends_header s)) (from ends_header s)
 
-introduced-told : (n : ℕ) (cut : Bool) (is : List ℕ) (b : ℕ) (rest : List ℕ) → Told (introduced n cut is b rest)
-introduced-told n cut is b rest =
+introduced-reported : (n : ℕ) (cut : Bool) (is : List ℕ) (b : ℕ) (rest : List ℕ) → Reported (introduced n cut is b rest)
+introduced-reported n cut is b rest =
     let none_between = length is == 0 in
     let acts : List Event = Esc (take 2 is) (nat_lt 2 (length is)) b ∷ text cut rest in
     let is_string = none_between && ((b == 0x58) || ((b == 0x5E) || (b == 0x5F))) in
     let string : List Event = cond is_string (swallowed cut rest) acts in
     let hooked : List Event = cond (none_between && (b == 0x50)) (hook cut rest) string in
     let command : List Event = cond (none_between && (b == 0x5D)) (osc n cut rest) hooked in
-    if-told (none_between && (b == 0x5B)) (csi cut rest) command (csi-told cut rest)
-    (if-told (none_between && (b == 0x5D)) (osc n cut rest) hooked (osc-told n cut rest)
-    (if-told (none_between && (b == 0x50)) (hook cut rest) string (hook-told cut rest)
-    (if-told is_string (swallowed cut rest) acts (swallowed-told cut rest)
-    (then-more (Esc (take 2 is) (nat_lt 2 (length is)) b) (text cut rest) tt (text-told 0 cut rest)))))
+    if-reported (none_between && (b == 0x5B)) (csi cut rest) command (csi-reported cut rest)
+    (if-reported (none_between && (b == 0x5D)) (osc n cut rest) hooked (osc-reported n cut rest)
+    (if-reported (none_between && (b == 0x50)) (hook cut rest) string (hook-reported cut rest)
+    (if-reported is_string (swallowed cut rest) acts (swallowed-reported cut rest)
+    (then-more (Esc (take 2 is) (nat_lt 2 (length is)) b) (text cut rest) tt (text-reported 0 cut rest)))))
 
-escape_end-told : (n : ℕ) (cut : Bool) (is s : List ℕ) → Told (escape_end n cut is s)
-escape_end-told n cut is [] = none
-escape_end-told n cut is (b ∷ rest) =
-    if-told (is_abort b) (aborted cut b rest) (introduced n cut is b rest) (aborted-told cut b rest)
-    (introduced-told n cut is b rest)
+escape_end-reported : (n : ℕ) (cut : Bool) (is s : List ℕ) → Reported (escape_end n cut is s)
+escape_end-reported n cut is [] = none
+escape_end-reported n cut is (b ∷ rest) =
+    if-reported (is_abort b) (aborted cut b rest) (introduced n cut is b rest) (aborted-reported cut b rest)
+    (introduced-reported n cut is b rest)
 
-escape-told : (n : ℕ) (cut : Bool) (s : List ℕ) → Told (escape n cut s)
-escape-told n cut s =
-    joined-told (executed (before ends_escape s)) _ (executed-told (before ends_escape s))
-    (escape_end-told n cut (filter is_intermediate (before ends_escape s)) (from ends_escape s))
+escape-reported : (n : ℕ) (cut : Bool) (s : List ℕ) → Reported (escape n cut s)
+escape-reported n cut s =
+    joined-reported (executed (before ends_escape s)) _ (executed-reported (before ends_escape s))
+    (escape_end-reported n cut (filter is_intermediate (before ends_escape s)) (from ends_escape s))
 
-segments-told : (n : ℕ) (f : Bool → List ℕ → List Event) → ((cut : Bool) (s : List ℕ) → Told (f cut s))
-    → (s : List ℕ) (ts : List (List ℕ)) → Told (segments n f s ts)
-segments-told n f h s [] = h false s
-segments-told n f h s (t ∷ ts) =
-    joined-told (f true s) (segments n (escape n) t ts) (h true s) (segments-told n (escape n) (escape-told n) t ts)
+segments-reported : (n : ℕ) (f : Bool → List ℕ → List Event) → ((cut : Bool) (s : List ℕ) → Reported (f cut s))
+    → (s : List ℕ) (ts : List (List ℕ)) → Reported (segments n f s ts)
+segments-reported n f h s [] = h false s
+segments-reported n f h s (t ∷ ts) =
+    joined-reported (f true s) (segments n (escape n) t ts) (h true s) (segments-reported n (escape n) (escape-reported n) t ts)
 
-pub added-told : (past bytes : List ℕ) → All IsTold (events_added past bytes)
-added-told past bytes =
+pub added-reported : (past bytes : List ℕ) → All IsReported (events_added past bytes)
+added-reported past bytes =
     let bs = past ++ bytes in
-    All-drop IsTold (length (events 1024 past)) (events 1024 bs)
-    (segments-told 1024 text (text-told 0) (cut_at_esc bs).0 (cut_at_esc bs).1)
+    All-drop IsReported (length (events 1024 past)) (events 1024 bs)
+    (segments-reported 1024 text (text-reported 0) (cut_at_esc bs).0 (cut_at_esc bs).1)

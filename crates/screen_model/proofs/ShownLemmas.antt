@@ -17,14 +17,14 @@ use Rattle.vt100_rows.specs.Sheet.{row_at}
 use Rattle.vt100_core.specs.Grid.{GridView, IsGrid, IsAllocated, visible_at, visible_row_at, cell_in}
 use Rattle.vt100_core.specs.Picture.{visible_lines}
 use Rattle.screen_model.specs.State.{State, IsState}
-use Rattle.screen_model.specs.Shown.{shown_state, EachCellIsTold, EachWrapIsTold, AreToldAlike}
-use Rattle.screen_model.specs.Shown.{AlikeShowTheSame, IsShownSomewhere, IsToldSomewhere, EachCharacterIsTold}
+use Rattle.screen_model.specs.Shown.{shown_state, EachCellIsReported, EachWrapIsReported, AreReportedAlike}
+use Rattle.screen_model.specs.Shown.{AlikeShowTheSame, IsShownSomewhere, IsReportedSomewhere, EachCharacterIsReported}
 
 -- ---- rows and cells
 
-row-told : (g : GridView) → IsGrid g → IsAllocated g → (r : ℕ) → r < g.height
+row-reported : (g : GridView) → IsGrid g → IsAllocated g → (r : ℕ) → r < g.height
     → visible_row_at g r ≡ Some (visible_at g r)
-row-told g i a r h = ap (λ b. cond b (Some (visible_at g r)) None) (lt-ltb r (length g.rows)
+row-reported g i a r h = ap (λ b. cond b (Some (visible_at g r)) None) (lt-ltb r (length g.rows)
     (omega (arith, h, i.sheet.count a)))
 
 -- a row that is shown is as wide as the screen, or wider
@@ -39,8 +39,8 @@ wide-enough g i a r h =
     i.shown kept (omega arith) (omega (arith, h)) (omega (arith, l, i.kept.offset)))
     (λ _. let wide = (i.sheet.each drawn (omega (arith, h, i.sheet.count a))).wide in omega (arith, wide))
 
-none-told : (g : GridView) → IsGrid g → IsAllocated g → (r : ℕ) → g.height ≤ r → visible_row_at g r ≡ None
-none-told g i a r h = ap (λ b. cond b (Some (visible_at g r)) None) (le-ltb r (length g.rows)
+none-reported : (g : GridView) → IsGrid g → IsAllocated g → (r : ℕ) → g.height ≤ r → visible_row_at g r ≡ None
+none-reported g i a r h = ap (λ b. cond b (Some (visible_at g r)) None) (le-ltb r (length g.rows)
     (omega (arith, h, i.sheet.count a)))
 
 here : (g : GridView) (r c : ℕ) → r < g.height → c < g.width
@@ -53,23 +53,23 @@ here g r c h w =
 outside : (g : GridView) (r c : ℕ) → (nat_lt r g.height && nat_lt c g.width) ≡ false → visible_lines g r c ≡ default_cell
 outside g r c e = ap (λ b. cond b (cell_at (visible_at g r).cells c) default_cell) e
 
-pub each-cell_is_told : EachCellIsTold
-each-cell_is_told s i r c h w =
+pub each-cell_is_reported : EachCellIsReported
+each-cell_is_reported s i r c h w =
     let g = s.shown in
     let v = visible_at g r in
-    ap (λ o. cell_in o c) (row-told g i.shown i.drawn r h)
+    ap (λ o. cell_in o c) (row-reported g i.shown i.drawn r h)
     ∙ slice_get-get_or v.cells c default_cell (omega (arith, w, wide-enough g i.shown i.drawn r h))
     ∙ ap Some (sym (here g r c h w))
 
-pub each-wrap_is_told : EachWrapIsTold
-each-wrap_is_told s i r =
+pub each-wrap_is_reported : EachWrapIsReported
+each-wrap_is_reported s i r =
     let g = s.shown in
     let v = visible_at g r in
     let f : Option RowView → Bool = λ o. unwrap_or (option_map (λ (x : RowView). x.wrapped) o) false in
     ⊎_elim
-    (λ (h : r < g.height). ap f (row-told g i.shown i.drawn r h)
+    (λ (h : r < g.height). ap f (row-reported g i.shown i.drawn r h)
     ∙ ap (λ b. b && v.wrapped) (sym (lt-ltb r g.height h)))
-    (λ (h : g.height ≤ r). ap f (none-told g i.shown i.drawn r h)
+    (λ (h : g.height ≤ r). ap f (none-reported g i.shown i.drawn r h)
     ∙ ap (λ b. b && v.wrapped) (sym (le-ltb r g.height h)))
     (cases_lt r g.height)
 
@@ -78,12 +78,12 @@ each-wrap_is_told s i r =
 some-same : (x y : CellView) → Some x ≡ Some y → x ≡ y
 some-same x y e = ap (λ o. unwrap_or o x) e
 
-none-stands : (x : CellView) (c : ℕ) → x ≡ default_cell → Contains x.text c → ⊥
-none-stands x c e h =
+none-state_after : (x : CellView) (c : ℕ) → x ≡ default_cell → Contains x.text c → ⊥
+none-state_after x c e h =
     All-contains (λ _. ⊥) [] c (All-nil (λ _. ⊥)) (subst (λ (y : CellView). Contains y.text c) e h)
 
-stands-told : (s : State) → IsState s → (c : ℕ) → IsShownSomewhere s c → IsToldSomewhere s c
-stands-told s i c h =
+state_after-reported : (s : State) → IsState s → (c : ℕ) → IsShownSomewhere s c → IsReportedSomewhere s c
+state_after-reported s i c h =
     let x = (shown_state s).cell h.0 h.1 in
     let on = nat_lt h.0 s.shown.height && nat_lt h.1 s.shown.width in
     ⊎_elim
@@ -97,19 +97,19 @@ stands-told s i c h =
       in_rows = l;
       in_cols = w;
       cell = x;
-      told = each-cell_is_told s i h.0 h.1 l w;
-      stands = h.2;
+      reported = each-cell_is_reported s i h.0 h.1 l w;
+      state_after = h.2;
     })
-    (λ (e : on ≡ false). absurd (none-stands x c (outside s.shown h.0 h.1 e) h.2)) (cases_Bool on)
+    (λ (e : on ≡ false). absurd (none-state_after x c (outside s.shown h.0 h.1 e) h.2)) (cases_Bool on)
 
-pub each-character_is_told : EachCharacterIsTold
-each-character_is_told s i c = record {
-  told = stands-told s i c;
-  shown = λ h. let e = each-cell_is_told s i h.row h.col h.in_rows h.in_cols in (
+pub each-character_is_reported : EachCharacterIsReported
+each-character_is_reported s i c = record {
+  reported = state_after-reported s i c;
+  shown = λ h. let e = each-cell_is_reported s i h.row h.col h.in_rows h.in_cols in (
     h.row,
     h.col,
     subst (λ (y : CellView). Contains y.text c)
-        (some-same h.cell ((shown_state s).cell h.row h.col) (sym h.told ∙ e)) h.stands,
+        (some-same h.cell ((shown_state s).cell h.row h.col) (sym h.reported ∙ e)) h.state_after,
   );
 }
 
@@ -136,7 +136,7 @@ same-attrs a b p q fg bg flags =
 
 -- ---- two screens
 
-cells-same : (s t : State) → IsState s → IsState t → AreToldAlike s t → (r c : ℕ)
+cells-same : (s t : State) → IsState s → IsState t → AreReportedAlike s t → (r c : ℕ)
     → (shown_state s).cell r c ≡ (shown_state t).cell r c
 cells-same s t i j a r c =
     let on = nat_lt r s.shown.height && nat_lt c s.shown.width in
@@ -146,17 +146,17 @@ cells-same s t i j a r c =
     let h = ltb-true r s.shown.height parts.0 in
     let w = ltb-true c s.shown.width parts.1 in
     some-same ((shown_state s).cell r c) ((shown_state t).cell r c)
-    (sym (each-cell_is_told s i r c h w) ∙ a.cells r c h w
-    ∙ each-cell_is_told t j r c (omega (arith, h, a.height)) (omega (arith, w, a.width))))
+    (sym (each-cell_is_reported s i r c h w) ∙ a.cells r c h w
+    ∙ each-cell_is_reported t j r c (omega (arith, h, a.height)) (omega (arith, w, a.width))))
     (λ (e : on ≡ false). outside s.shown r c e
     ∙ sym (outside t.shown r c ((λ k. nat_lt r (sym a.height k) && nat_lt c (sym a.width k)) ∙ e)))
     (cases_Bool on)
 
-wraps-same : (s t : State) → IsState s → IsState t → AreToldAlike s t → (r : ℕ)
+wraps-same : (s t : State) → IsState s → IsState t → AreReportedAlike s t → (r : ℕ)
     → (shown_state s).wrapped r ≡ (shown_state t).wrapped r
 wraps-same s t i j a r =
     ⊎_elim
-    (λ (h : r < s.shown.height). sym (each-wrap_is_told s i r) ∙ a.wraps r h ∙ each-wrap_is_told t j r)
+    (λ (h : r < s.shown.height). sym (each-wrap_is_reported s i r) ∙ a.wraps r h ∙ each-wrap_is_reported t j r)
     (λ (h : s.shown.height ≤ r).
     ap (λ b. b && (visible_at s.shown r).wrapped) (le-ltb r s.shown.height h)
     ∙ sym (ap (λ b. b && (visible_at t.shown r).wrapped) (le-ltb r t.shown.height (omega (arith, h, a.height)))))
@@ -176,4 +176,4 @@ alike-show_the_same s t i j a =
       style = a.style k;
     }
 
-pub ruleset told = (each-cell_is_told, each-wrap_is_told, each-character_is_told, alike-show_the_same)
+pub ruleset reported = (each-cell_is_reported, each-wrap_is_reported, each-character_is_reported, alike-show_the_same)

@@ -41,7 +41,7 @@ use Rattle.screen_model.proofs.UnscrolledStates.{well-region_up, well-region_dow
 use Rattle.screen_model.proofs.UnscrolledStates.{well-main_shown, well-alternate_entered, well-alternate_left, well-made_anew}
 use Rattle.screen_model.proofs.Tables.{Each, ◌&◌, Where, looked-up}
 use Rattle.screen_model.proofs.ProperLemmas.{sgr_read-proper}
-use Rattle.screen_model.proofs.ScalarEvents.{IsTold}
+use Rattle.screen_model.proofs.ScalarEvents.{IsReported}
 
 -- ---- tables
 
@@ -208,7 +208,7 @@ print-well c h b s w =
     cond_both (is_unhandled c) _ (steps (typed c s)) (λ (x : Effect). IsUnscrolledState b x.state) (λ _. w)
     (λ e. well-typed c h (handled-known c e) b s w)
 
-pub effect-well : (e : Event) → IsTold e → KeepsEffect (effect e)
+pub effect-well : (e : Event) → IsReported e → KeepsEffect (effect e)
 effect-well (Print c) h b s w = print-well c h b s w
 effect-well (Execute byte) h b s w =
     effect-or (lookup byte control_rows) _ (looked-up KeepsEffect byte control_rows controls-keep) b s w

@@ -37,6 +37,6 @@ Calls {C} step c v (k ∷ ks) d w = (b : C) × (u : ScreenView) × step c v k b 
 
 -- The callbacks c receive reports of these rows, in order and each once, and are then d; `scrolls` says what one report
 -- does.
-abbrev pub Hears : {C : Type 0} → (C → RowView → Bool → C → Type 0) → C → List Report → C → Type 0
-Hears scrolls c [] d = c ≡ d
-Hears {C} scrolls c (r ∷ rs) d = (b : C) × scrolls c r.row r.alternate b × Hears scrolls b rs d
+abbrev pub Receives : {C : Type 0} → (C → RowView → Bool → C → Type 0) → C → List Report → C → Type 0
+Receives scrolls c [] d = c ≡ d
+Receives {C} scrolls c (r ∷ rs) d = (b : C) × scrolls c r.row r.alternate b × Receives scrolls b rs d

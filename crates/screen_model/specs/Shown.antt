@@ -32,48 +32,48 @@ shown_state s = record {
 }
 
 -- the cell that `Screen::cell` returns at a place, and the flag that `Screen::row_wrapped` returns
-abbrev pub told_cell : State → ℕ → ℕ → Option CellView
-told_cell s r c = cell_in (visible_row_at s.shown r) c
+abbrev pub reported_cell : State → ℕ → ℕ → Option CellView
+reported_cell s r c = cell_in (visible_row_at s.shown r) c
 
-abbrev pub told_wrap : State → ℕ → Bool
-told_wrap s r = unwrap_or (option_map (λ v. v.wrapped) (visible_row_at s.shown r)) false
+abbrev pub reported_wrap : State → ℕ → Bool
+reported_wrap s r = unwrap_or (option_map (λ v. v.wrapped) (visible_row_at s.shown r)) false
 
 -- at each place of the screen the getter returns the cell that is shown
-abbrev pub EachCellIsTold : Type 0
-EachCellIsTold = (s : State) → IsState s → (r c : ℕ) → r < s.shown.height → c < s.shown.width
-    → told_cell s r c ≡ Some ((shown_state s).cell r c)
+abbrev pub EachCellIsReported : Type 0
+EachCellIsReported = (s : State) → IsState s → (r c : ℕ) → r < s.shown.height → c < s.shown.width
+    → reported_cell s r c ≡ Some ((shown_state s).cell r c)
 
-abbrev pub EachWrapIsTold : Type 0
-EachWrapIsTold = (s : State) → IsState s → (r : ℕ) → told_wrap s r ≡ (shown_state s).wrapped r
+abbrev pub EachWrapIsReported : Type 0
+EachWrapIsReported = (s : State) → IsState s → (r : ℕ) → reported_wrap s r ≡ (shown_state s).wrapped r
 
 -- a character is in the text of a cell that is shown
 abbrev pub IsShownSomewhere : State → ℕ → Type 0
 IsShownSomewhere s c = (row : ℕ) × (col : ℕ) × Contains ((shown_state s).cell row col).text c
 
 -- a character is in the text of a cell that the getter returns for a place of the screen
-pub record IsToldSomewhere (s : State) (c : ℕ) : Type 0 where
+pub record IsReportedSomewhere (s : State) (c : ℕ) : Type 0 where
   pub row : ℕ
   pub col : ℕ
   pub in_rows : row < s.shown.height
   pub in_cols : col < s.shown.width
   pub cell : CellView
-  pub told : told_cell s row col ≡ Some cell
-  pub stands : Contains cell.text c
+  pub reported : reported_cell s row col ≡ Some cell
+  pub state_after : Contains cell.text c
 
 -- the one is true exactly when the other is
-pub record IsToldWhereShown (s : State) (c : ℕ) : Type 0 where
-  pub told : IsShownSomewhere s c → IsToldSomewhere s c
-  pub shown : IsToldSomewhere s c → IsShownSomewhere s c
+pub record IsReportedWhereShown (s : State) (c : ℕ) : Type 0 where
+  pub reported : IsShownSomewhere s c → IsReportedSomewhere s c
+  pub shown : IsReportedSomewhere s c → IsShownSomewhere s c
 
-abbrev pub EachCharacterIsTold : Type 0
-EachCharacterIsTold = (s : State) → IsState s → (c : ℕ) → IsToldWhereShown s c
+abbrev pub EachCharacterIsReported : Type 0
+EachCharacterIsReported = (s : State) → IsState s → (c : ℕ) → IsReportedWhereShown s c
 
 -- two screens of one size, for which all getters return the same
-pub record AreToldAlike (s t : State) : Type 0 where
+pub record AreReportedAlike (s t : State) : Type 0 where
   pub height : s.shown.height ≡ t.shown.height
   pub width : s.shown.width ≡ t.shown.width
-  pub cells : (r c : ℕ) → r < s.shown.height → c < s.shown.width → told_cell s r c ≡ told_cell t r c
-  pub wraps : (r : ℕ) → r < s.shown.height → told_wrap s r ≡ told_wrap t r
+  pub cells : (r c : ℕ) → r < s.shown.height → c < s.shown.width → reported_cell s r c ≡ reported_cell t r c
+  pub wraps : (r : ℕ) → r < s.shown.height → reported_wrap s r ≡ reported_wrap t r
   pub row : s.shown.row ≡ t.shown.row
   pub col : s.shown.col ≡ t.shown.col
   pub hidden : s.hidden ≡ t.hidden
@@ -86,4 +86,4 @@ pub record AreToldAlike (s t : State) : Type 0 where
 
 -- screens for which all getters return the same show the same
 abbrev pub AlikeShowTheSame : Type 0
-AlikeShowTheSame = (s t : State) → IsState s → IsState t → AreToldAlike s t → shown_state s ≡ shown_state t
+AlikeShowTheSame = (s t : State) → IsState s → IsState t → AreReportedAlike s t → shown_state s ≡ shown_state t

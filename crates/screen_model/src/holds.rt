@@ -2,11 +2,11 @@
 //! function that does nothing.
 //!
 //! Sizes are from 1 to 65,535, and fewer than 2^64 rows are kept, as the types of the calls say.
-#![tactic(auto, using(crate::proofs::MadeLemmas::held, crate::proofs::ShownLemmas::told))]
+#![tactic(auto, using(crate::proofs::MadeLemmas::held, crate::proofs::ShownLemmas::reported))]
 
 ghost use Rattle.screen_model.specs.Holds.{MakesStates, MakesLastSize, MakesCapacity, MakesNoOffset, MakesCells};
 ghost use Rattle.screen_model.specs.Holds.{MakesProperCells, MakesByteColors, KeepsAtSameSize};
-ghost use Rattle.screen_model.specs.Shown.{EachCellIsTold, EachWrapIsTold, AlikeShowTheSame, EachCharacterIsTold};
+ghost use Rattle.screen_model.specs.Shown.{EachCellIsReported, EachWrapIsReported, AlikeShowTheSame, EachCharacterIsReported};
 
 /// A new terminal has a valid state after any bytes and resizes. Its main and its alternate screen have one size. The
 /// shown screen and the main one have their rows, and only the main one keeps rows that scroll off. The current, the
@@ -51,9 +51,9 @@ pub fn same_sizes()
 /// `Screen::cell` returns the cell that is shown, at each place of the screen, and `Screen::row_wrapped` returns each
 /// row's flag. So two terminals of one size, for which all getters return the same, show the same. A character, as
 /// U+FE0F, is shown somewhere exactly when it is in a cell that `Screen::cell` returns.
-pub fn shown_is_told()
-    ensures cells { EachCellIsTold }
-    ensures wraps { EachWrapIsTold }
+pub fn shown_is_reported()
+    ensures cells { EachCellIsReported }
+    ensures wraps { EachWrapIsReported }
     ensures alike { AlikeShowTheSame }
-    ensures characters { EachCharacterIsTold }
+    ensures characters { EachCharacterIsReported }
 {}

@@ -12,7 +12,7 @@ ghost use Rattle.screen_model.specs.Rows.{esc, shown_by, cell_shown, text_shown,
 ghost use Rattle.screen_model.specs.Rows.{cut_red, on_alternate};
 
 /// Calls for a style, a request for a size, and an unknown private mode.
-pub fn requests_are_told()
+pub fn requests_are_reported()
     ensures style { (shown_by 1 2 (esc (codes "[5 q"))).style ≡ style.BlinkVerticalBar }
     ensures size { calls_by 1 2 (esc (codes "[8;30;90t")) ≡ call.resize 30 90 ∷ [] }
     ensures unknown { calls_by 1 2 (esc (codes "[?7h")) ≡ call.unhandled_csi (Some 63) None ((7 ∷ []) ∷ []) 104 ∷ [] }

@@ -10,8 +10,8 @@ use Rattle.screen_model.specs.Holds.{IsSide}
 use Rattle.termview.specs.declared.view.View.{View}
 use Rattle.termview.specs.declared.until_cleared.UntilCleared.{UntilCleared}
 use Rattle.termrelay.specs.Hub.{HubState, as_kept}
-use Rattle.takers.specs.Pump.{Pumps, Writes}
-use Rattle.takers.proofs.PumpLaws.{takes-all, appends-front}
+use Rattle.byte_sinks.specs.Pump.{Pumps, Writes}
+use Rattle.byte_sinks.proofs.PumpLaws.{takes-all, appends-prefix}
 use Rattle.relay_streams.specs.declared.error.RelayError.{RelayError}
 use Rattle.relay_streams.specs.declared.error.RelayError.TheVariants.{Read, Write, Memory, TooManyReads, FrameTooLong}
 use Rattle.relay_streams.specs.Fill.{IsReadBy}
@@ -86,13 +86,13 @@ module _ (S W : Type 0) (gives : S → ℕ → Result (List ℕ) Error → S →
 pub holds-all : (W : Type 0) (contents : W → Option (List ℕ)) (w v : W) (owed held : List ℕ) (n : ℕ)
     → Pumps (Writes contents) w owed (Ok tt) n v → contents w ≡ Some [] → contents v ≡ Some held → held ≡ owed
 holds-all W contents w v owed held n pumps empty full =
-    let told = appends-front W contents w v owed (Ok tt) n pumps in
+    let reported = appends-prefix W contents w v owed (Ok tt) n pumps in
     let none : drop n owed ≡ [] = takes-all W (Writes contents) w v owed n pumps in
     let whole : take n owed ≡ owed =
-    sym (append-nil (take n owed)) ∙ ap (λ xs. take n owed ++ xs) (sym none) ∙ told.1 in
+    sym (append-nil (take n owed)) ∙ ap (λ xs. take n owed ++ xs) (sym none) ∙ reported.1 in
     let is : Appends (Some []) (Some held) (take n owed) =
     subst (λ o. Appends o (Some held) (take n owed)) empty
-    (subst (λ o. Appends (contents w) o (take n owed)) full told.0) in
+    (subst (λ o. Appends (contents w) o (take n owed)) full reported.0) in
     is ∙ whole
 
 -- a turn at which a fault came

@@ -1,7 +1,7 @@
 -- What a command answers, reads, writes and says.
 use Rattle.std.specs.Prelude.{◌≡◌, ℕ, List, [], ◌∷◌, ◌++◌, Ok, Err, Result, codes}
 use Rattle.std.specs.declared.io.Error.{Error}
-use Rattle.takers.specs.Pump.{Tells}
+use Rattle.byte_sinks.specs.Pump.{Tells}
 use Rattle.relay_streams.specs.declared.error.RelayError.{RelayError}
 use Rattle.relay_streams.specs.declared.error.RelayError.TheVariants.{Read, Write, Memory, TooManyReads, FrameTooLong}
 use Rattle.screencat_command.specs.Carried.{PrintsFar}
@@ -25,15 +25,15 @@ fault_line FrameTooLong = line (codes "screencat: frame too long")
 -- the exit status that goes with an answer, and what is told of it on the error output
 abbrev pub Reports : {V : Type 0} → (V → List ℕ → Result ℕ Error → V → Type 0) → Result (Unit {0}) RelayError → V → ℕ → V
     → Type 0
-Reports told (Ok u) e status f = (status ≡ 0) × (f ≡ e)
-Reports told (Err fault) e status f = (status ≡ 1) × Tells told e (fault_line fault) f
+Reports reported (Ok u) e status f = (status ≡ 0) × (f ≡ e)
+Reports reported (Err fault) e status f = (status ≡ 1) × Tells reported e (fault_line fault) f
 
 -- The screen was printed as a far terminal of this size shows it, from a source, a writer and an error output: what was
 -- answered, and so what was read, written and told.
 pub record CarriesOut {S W V : Type 0} (gives : S → ℕ → Result (List ℕ) Error → S → Type 0)
     (takes : W → List ℕ → Result ℕ Error → W → Type 0) (flushes : W → Result (Unit {0}) Error → W → Type 0)
-    (told : V → List ℕ → Result ℕ Error → V → Type 0) (sides : Sides) (s : S) (w : W) (e : V) (status : ℕ) (t : S)
+    (reported : V → List ℕ → Result ℕ Error → V → Type 0) (sides : Sides) (s : S) (w : W) (e : V) (status : ℕ) (t : S)
     (v : W) (f : V) : Type 0 where
   pub answer : Result (Unit {0}) RelayError
   pub does : PrintsFar gives takes flushes sides.rows sides.cols s w answer t v
-  pub reports : Reports told answer e status f
+  pub reports : Reports reported answer e status f

@@ -2,24 +2,24 @@
 
 ghost use Rattle.std.specs.Prelude.{◌≡◌, ℕ, List, map, None, IfSome};
 ghost use Rattle.std.specs.Io.KnownBytes.{Appends};
-ghost use Rattle.takers.specs.Pump.{Tells};
+ghost use Rattle.byte_sinks.specs.Pump.{Tells};
 ghost use Rattle.screencat_command.specs.Carried.{IsFarText};
 ghost use Rattle.screencat_command.specs.Command.{CarriesOut, fault_line, usage_line};
 ghost use Rattle.screencat_command.specs.Words.{sides_of};
 
 use crate::far_screen::print_far_screen;
 use crate::words::parse;
+use byte_sinks::{ByteSink, FlushSink};
 use command_line::{FAULT, SUCCESS, USAGE, report};
 use relay_streams::{RelayError, Source};
 use std::alloc::Global;
-use takers::{Sink, Taker};
 
 /// Runs the program on the words after its name, and answers its exit status.
 ///
 /// A fault is told in a line on `errors`: `screencat: read`, `write`, `memory`, `too many reads` or `frame too long`. Any
 /// other command line than `ROWS COLS` gets the usage line there, and then nothing is read or written. Such a line is
 /// written whole, unless a write of it fails or takes nothing; that changes nothing else.
-pub fn command<S: Source, W: Sink, V: Taker>(
+pub fn command<S: Source, W: FlushSink, V: ByteSink>(
     alloc: Global,
     words: &[&str],
     input: &mut S,
@@ -45,7 +45,7 @@ pub fn command<S: Source, W: Sink, V: Taker>(
 }
 
 /// Tells a fault in a line on `errors`, and answers the exit status that goes with it.
-pub fn report_fault<V: Taker>(errors: &mut V, error: RelayError) -> u8
+pub fn report_fault<V: ByteSink>(errors: &mut V, error: RelayError) -> u8
     ensures status { result ≡ 1 }
     ensures reports { Tells V.takes errors.old (fault_line error) errors.new }
 {

@@ -7,7 +7,7 @@ ghost use Rattle.terminal_model.specs.Term.{Shown};
 ghost use Rattle.relay_streams.specs.Turns.{Relaying};
 ghost use Rattle.screencat_command.specs.Carried.{Carried, Carries, Follows, IsFarText, PrintsFar};
 
-use relay_streams::{PIECE_LEN, RelayError, Sink, Source, fill, is_overlong, print_view};
+use relay_streams::{FlushSink, PIECE_LEN, RelayError, Source, fill, is_overlong, print_view};
 use std::alloc::Global;
 use std::num::NonZeroU16;
 use termrelay::{Client, Hub};
@@ -23,7 +23,7 @@ const STEP: usize = 7;
 /// Full pieces of 4,096 bytes are read, by at most 2^40 reads; an interrupted read is tried again and counted. A frame
 /// that would be longer than 2,097,150 bytes is a fault. Nothing is written before the input has ended. What was written
 /// when a fault came stays written.
-pub fn print_far_screen<S: Source, W: Sink>(
+pub fn print_far_screen<S: Source, W: FlushSink>(
     alloc: Global,
     rows: NonZeroU16,
     cols: NonZeroU16,

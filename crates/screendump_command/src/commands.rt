@@ -1,24 +1,24 @@
 //! The command line.
 
 ghost use Rattle.std.specs.Prelude.{◌≡◌, ◌≤◌, map, true, false};
-ghost use Rattle.takers.specs.Pump.{Tells};
+ghost use Rattle.byte_sinks.specs.Pump.{Tells};
 ghost use Rattle.screendump_command.specs.Words.{is_order, usage_line};
 
 use crate::dumping::dump_stream;
 use crate::error::DumpError;
 use crate::script::run_script;
 use crate::words::{Order, parse};
+use byte_sinks::{ByteSink, FlushSink};
 use command_line::{FAULT, SUCCESS, USAGE, report};
 use std::alloc::Global;
 use std::io::Read;
-use takers::{Sink, Taker};
 
 /// Runs the program on the words after its name, and answers its exit status.
 ///
 /// A fault is told in a line on `errors`: `screendump: read`, `write`, `memory` or `script`. Any other command line
 /// than `ROWS COLS [CAPACITY [TIMES]]` and `run` gets the usage line there, and then nothing is read or written. Such a
 /// line is written whole, unless a write of it fails or takes nothing; that changes nothing else.
-pub fn command<R: Read, W: Sink, V: Taker>(
+pub fn command<R: Read, W: FlushSink, V: ByteSink>(
     alloc: Global,
     words: &[&str],
     input: &mut R,
@@ -47,7 +47,7 @@ pub fn command<R: Read, W: Sink, V: Taker>(
 }
 
 /// Tells a fault in a line on `errors`, and answers the exit status that goes with it.
-pub fn report_fault<V: Taker>(errors: &mut V, error: DumpError) -> u8
+pub fn report_fault<V: ByteSink>(errors: &mut V, error: DumpError) -> u8
     ensures { result ≡ 1 }
 {
     report(

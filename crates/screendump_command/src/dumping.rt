@@ -3,11 +3,11 @@
 use crate::dump::push_screen;
 use crate::error::DumpError;
 use crate::stream::{flush, write_text};
+use byte_sinks::FlushSink;
 use command_line::read_all;
 use std::alloc::Global;
 use std::io::Read;
 use std::num::NonZeroU16;
-use takers::Sink;
 use vt100::{Parser, Screen};
 
 /// Bytes that are processed at once.
@@ -30,7 +30,7 @@ pub struct Dump {
 /// that it leaves.
 ///
 /// A fault ends it. What was written by then stays written.
-pub fn dump_stream<R: Read, W: Sink>(
+pub fn dump_stream<R: Read, W: FlushSink>(
     alloc: Global,
     dump: Dump,
     input: &mut R,
@@ -70,7 +70,11 @@ fn process(parser: &mut Parser<()>, bytes: &[u8]) -> Result<(), DumpError> {
     Ok(())
 }
 
-fn write_screen<W: Sink>(alloc: Global, screen: &Screen, output: &mut W) -> Result<(), DumpError> {
+fn write_screen<W: FlushSink>(
+    alloc: Global,
+    screen: &Screen,
+    output: &mut W,
+) -> Result<(), DumpError> {
     let mut text = String::new(alloc);
     push_screen(&mut text, screen)?;
     write_text(output, &text)?;

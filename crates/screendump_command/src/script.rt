@@ -5,12 +5,12 @@ use crate::error::DumpError;
 use crate::hex_digits::digit_value;
 use crate::stream::{flush, write_text};
 use crate::texts::{push_check, push_diffs, push_rows, push_text, push_texts};
+use byte_sinks::FlushSink;
 use command_line::read_all;
 use std::alloc::Global;
 use std::io::Read;
 use std::num::NonZeroU16;
 use std::str::SplitWhitespace;
-use takers::Sink;
 use vt100::{Parser, Screen};
 
 /// One line of a script.
@@ -160,7 +160,7 @@ fn byte_of(pair: &[u8]) -> Option<u8> {
 /// columns that keeps no rows.
 ///
 /// A fault ends it. What was written by then stays written.
-pub fn run_script<R: Read, W: Sink>(
+pub fn run_script<R: Read, W: FlushSink>(
     alloc: Global,
     input: &mut R,
     output: &mut W,
@@ -172,7 +172,7 @@ pub fn run_script<R: Read, W: Sink>(
     }
 }
 
-fn play<W: Sink>(alloc: Global, script: &str, output: &mut W) -> Result<(), DumpError> {
+fn play<W: FlushSink>(alloc: Global, script: &str, output: &mut W) -> Result<(), DumpError> {
     let mut replay = Replay::new(alloc)?;
     replay.take_lines(script, output)
 }
@@ -196,7 +196,7 @@ impl Replay {
         })
     }
 
-    fn take_lines<W: Sink>(&mut self, script: &str, output: &mut W) -> Result<(), DumpError> {
+    fn take_lines<W: FlushSink>(&mut self, script: &str, output: &mut W) -> Result<(), DumpError> {
         let mut answer = String::new(self.alloc);
         for line in script.lines() {
             self.answer_line(line, &mut answer, output)?;
@@ -204,7 +204,7 @@ impl Replay {
         flush(output)
     }
 
-    fn answer_line<W: Sink>(
+    fn answer_line<W: FlushSink>(
         &mut self,
         line: &str,
         answer: &mut String,

@@ -4,10 +4,10 @@ ghost use Rattle.std.specs.Prelude.{◌≡◌, IfErr};
 ghost use Rattle.screendump_command.specs.declared.error.DumpError.TheVariants as error;
 
 use crate::error::DumpError;
-use takers::{Sink, pump};
+use byte_sinks::{FlushSink, pump};
 
 /// Writes the whole text.
-pub(crate) fn write_text<W: Sink>(output: &mut W, text: &str) -> Result<(), DumpError>
+pub(crate) fn write_text<W: FlushSink>(output: &mut W, text: &str) -> Result<(), DumpError>
     ensures fault { IfErr result (λ e. e ≡ error.Write) }
 {
     pump(text.as_bytes(), output)
@@ -15,7 +15,7 @@ pub(crate) fn write_text<W: Sink>(output: &mut W, text: &str) -> Result<(), Dump
         .map_err(|_| DumpError::Write)
 }
 
-pub(crate) fn flush<W: Sink>(output: &mut W) -> Result<(), DumpError>
+pub(crate) fn flush<W: FlushSink>(output: &mut W) -> Result<(), DumpError>
     ensures fault { IfErr result (λ e. e ≡ error.Write) }
 {
     output.finish().map_err(|_| DumpError::Write)

@@ -1,7 +1,7 @@
 -- What `screenlive` answers, reads, writes and reports.
 use Rattle.std.specs.Prelude.{◌≡◌, ℕ, List, [], ◌∷◌, ◌++◌, Option, Some, None, Ok, Err, Result, codes}
 use Rattle.std.specs.declared.io.Error.{Error}
-use Rattle.takers.specs.Pump.{Tells}
+use Rattle.byte_sinks.specs.Pump.{Tells}
 use Rattle.command_line.specs.Numbers.{size_in}
 use Rattle.relay_streams.specs.declared.error.RelayError.{RelayError}
 use Rattle.relay_streams.specs.declared.error.RelayError.TheVariants.{Read, Write, Memory, TooManyReads, FrameTooLong}

@@ -4,15 +4,15 @@
 ghost use Rattle.std.specs.Prelude.{◌≡◌, ℕ, List, map, None, IfSome};
 ghost use Rattle.std.specs.Io.KnownBytes.{Appends};
 ghost use Rattle.std.specs.Option.{option_map};
-ghost use Rattle.takers.specs.Pump.{Tells};
+ghost use Rattle.byte_sinks.specs.Pump.{Tells};
 ghost use Rattle.relay_streams.specs.Live.{IsLiveText};
 ghost use Rattle.screenlive_command.specs.Command.{CarriesOut, fault_line, sides_of, usage_line};
 
+use byte_sinks::{ByteSink, FlushSink};
 use command_line::{FAULT, SUCCESS, USAGE, parse_size, report};
 use relay_streams::{RelayError, Source, relay_live};
 use std::alloc::Global;
 use std::num::NonZeroU16;
-use takers::{Sink, Taker};
 
 /// The size of a screen: 1 to 65,535 rows, and as many columns.
 #[derive(Clone, Copy, Debug, PartialEq, Eq)]
@@ -26,7 +26,7 @@ struct Sides {
 /// A fault is reported in a line on `errors`: `screenlive: read`, `write`, `memory`, `too many reads` or `frame too long`.
 /// Any other command line than `ROWS COLS` gets the usage line there, and then nothing is read or written. Such a line is
 /// written whole, unless a write of it fails or takes nothing; that changes nothing else.
-pub fn command<S: Source, W: Sink, V: Taker>(
+pub fn command<S: Source, W: FlushSink, V: ByteSink>(
     alloc: Global,
     words: &[&str],
     input: &mut S,
@@ -66,7 +66,7 @@ fn parse(words: &[&str]) -> Option<Sides>
 }
 
 /// Reports a fault in a line on `errors`, and answers the exit status that goes with it.
-pub fn report_fault<V: Taker>(errors: &mut V, error: RelayError) -> u8
+pub fn report_fault<V: ByteSink>(errors: &mut V, error: RelayError) -> u8
     ensures status { result ≡ 1 }
     ensures reports { Tells V.takes errors.old (fault_line error) errors.new }
 {

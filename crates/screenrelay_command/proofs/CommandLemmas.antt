@@ -2,7 +2,7 @@
 use Rattle.std.proofs.Common.{ℕ, List, Option, Result, OnOk, IfSome}
 use Rattle.std.specs.declared.io.Error.{Error}
 use Rattle.std.specs.Io.KnownBytes.{Appends, Keeps}
-use Rattle.takers.specs.Pump.{Writes}
+use Rattle.byte_sinks.specs.Pump.{Writes}
 use Rattle.relay_streams.specs.declared.error.RelayError.{RelayError}
 use Rattle.relay_streams.specs.Fill.{IsReadBy}
 use Rattle.relay_streams.specs.Shown.{sized}

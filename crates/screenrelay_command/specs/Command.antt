@@ -1,7 +1,7 @@
 -- What a command reads and writes, its exit status and its error messages.
 use Rattle.std.specs.Prelude.{◌≡◌, ℕ, List, [], ◌∷◌, ◌++◌, Ok, Err, Result, codes}
 use Rattle.std.specs.declared.io.Error.{Error}
-use Rattle.takers.specs.Pump.{Tells}
+use Rattle.byte_sinks.specs.Pump.{Tells}
 use Rattle.relay_streams.specs.declared.error.RelayError.{RelayError}
 use Rattle.relay_streams.specs.declared.error.RelayError.TheVariants.{Read, Write, Memory, TooManyReads, FrameTooLong}
 use Rattle.screenrelay_command.specs.declared.words.Job.{Job}
@@ -44,15 +44,15 @@ fault_line FrameTooLong = line (codes "screenrelay: frame too long")
 -- the exit status for a result, and the line written for it on the error output
 abbrev pub Reports : {V : Type 0} → (V → List ℕ → Result ℕ Error → V → Type 0) → Result (Unit {0}) RelayError → V → ℕ → V
     → Type 0
-Reports told (Ok u) e status f = (status ≡ 0) × (f ≡ e)
-Reports told (Err fault) e status f = (status ≡ 1) × Tells told e (fault_line fault) f
+Reports reported (Ok u) e status f = (status ≡ 0) × (f ≡ e)
+Reports reported (Err fault) e status f = (status ≡ 1) × Tells reported e (fault_line fault) f
 
 -- An order was carried out, with a source, a writer and an error output: its result, and with that what was read and
 -- written, and the line on the error output.
 pub record CarriesOut {S W V : Type 0} (gives : S → ℕ → Result (List ℕ) Error → S → Type 0)
     (takes : W → List ℕ → Result ℕ Error → W → Type 0) (flushes : W → Result (Unit {0}) Error → W → Type 0)
-    (told : V → List ℕ → Result ℕ Error → V → Type 0) (order : Order) (s : S) (w : W) (e : V) (status : ℕ) (t : S)
+    (reported : V → List ℕ → Result ℕ Error → V → Type 0) (order : Order) (s : S) (w : W) (e : V) (status : ℕ) (t : S)
     (v : W) (f : V) : Type 0 where
   pub answer : Result (Unit {0}) RelayError
   pub does : DoesBy gives takes flushes order.job order.rows order.cols s w answer t v
-  pub reports : Reports told answer e status f
+  pub reports : Reports reported answer e status f

@@ -2,15 +2,15 @@
 
 ghost use Rattle.std.specs.Prelude.{◌≡◌, ℕ, List, map, None, IfSome};
 ghost use Rattle.std.specs.Io.KnownBytes.{Appends};
-ghost use Rattle.takers.specs.Pump.{Tells};
+ghost use Rattle.byte_sinks.specs.Pump.{Tells};
 ghost use Rattle.screenrelay_command.specs.Command.{CarriesOut, DoesBy, Wants, fault_line, usage_line};
 ghost use Rattle.screenrelay_command.specs.Words.{order_of};
 
 use crate::words::{Job, Order, parse};
+use byte_sinks::{ByteSink, FlushSink};
 use command_line::{FAULT, SUCCESS, USAGE, report};
 use relay_streams::{RelayError, Source, relay, show};
 use std::alloc::Global;
-use takers::{Sink, Taker};
 
 /// Runs the program on the command line's words after its name. Returns the exit status: 0 for success, 1 for an error,
 /// 2 for a wrong command line.
@@ -19,7 +19,7 @@ use takers::{Sink, Taker};
 /// long`. If the command line is neither `relay ROWS COLS` nor `show ROWS COLS`, the usage line is written there, and
 /// nothing is read or written otherwise. Such a line is written whole, unless a write of it fails or takes no byte;
 /// that changes nothing else.
-pub fn command<S: Source, W: Sink, V: Taker>(
+pub fn command<S: Source, W: FlushSink, V: ByteSink>(
     alloc: Global,
     words: &[&str],
     input: &mut S,
@@ -45,7 +45,7 @@ pub fn command<S: Source, W: Sink, V: Taker>(
 }
 
 // Carries out the job that is asked for.
-fn carry_out<S: Source, W: Sink>(
+fn carry_out<S: Source, W: FlushSink>(
     alloc: Global,
     order: Order,
     input: &mut S,
@@ -61,7 +61,7 @@ fn carry_out<S: Source, W: Sink>(
 }
 
 /// Reports an error in a line on `errors`. Returns its exit status, 1.
-pub fn report_fault<V: Taker>(errors: &mut V, error: RelayError) -> u8
+pub fn report_fault<V: ByteSink>(errors: &mut V, error: RelayError) -> u8
     ensures status { result ≡ 1 }
     ensures reports { Tells V.takes errors.old (fault_line error) errors.new }
 {

@@ -33,13 +33,13 @@ unfolding clap_on_literals
 known_is_free = refl
 
 -- words that `clap` takes, by their values
-pub taken : (kinds : Kinds) (rows told : List Row) → kinds ≡ [] → told ≡ rows → are_words told ≡ is_order_of kinds rows
-taken kinds rows told none same = ap are_words same ∙ ap (λ ks. is_order_of ks rows) (sym none)
+pub taken : (kinds : Kinds) (rows reported : List Row) → kinds ≡ [] → reported ≡ rows → are_words reported ≡ is_order_of kinds rows
+taken kinds rows reported none same = ap are_words same ∙ ap (λ ks. is_order_of ks rows) (sym none)
 
 -- words that it doesn't take, by the kind of its error
-pub not_taken : (k : ErrorKind) (kinds told : Kinds) (rows : List Row) → told ≡ kinds → IsSingle kinds → IsAmong k told
+pub not_taken : (k : ErrorKind) (kinds reported : Kinds) (rows : List Row) → reported ≡ kinds → IsSingle kinds → IsAmong k reported
     → is_request k ≡ is_order_of kinds rows
-not_taken k kinds told rows same single among = go kinds single (subst (IsAmong k) same among)
+not_taken k kinds reported rows same single among = go kinds single (subst (IsAmong k) same among)
   where
     go : (ks : Kinds) → IsSingle ks → IsAmong k ks → is_request k ≡ is_order_of ks rows
     go [] s a = absurd a

@@ -1,7 +1,7 @@
 //! The command line.
 
 ghost use Rattle.std.specs.Prelude.{◌≡◌, ◌≤◌, ◌⊎◌, map, true, false};
-ghost use Rattle.takers.specs.Pump.{Tells};
+ghost use Rattle.byte_sinks.specs.Pump.{Tells};
 ghost use Rattle.screentext_command.specs.Words.{is_order, memory_line, usage_line};
 ghost use Rattle.screentext_command.specs.declared.error.TextError.TheVariants.{Memory};
 
@@ -12,13 +12,13 @@ use crate::list::list_of;
 use crate::source::{Source, with_markers};
 use crate::streams::write_all;
 use crate::words::{Order, parse};
+use byte_sinks::{ByteSink, FlushSink};
 use command_line::{FAULT, SUCCESS, USAGE, read_all, report};
 use recording_filter::with_lines_drawn;
 use recordings::{Recording, parse_recording};
 use std::alloc::Global;
 use std::fmt::Write;
 use std::io::Read;
-use takers::{Sink, Taker};
 
 const MEMORY_LINE: &[u8] = b"screentext: memory\n";
 
@@ -27,7 +27,7 @@ const USAGE_LINE: &[u8] =
 [--colours] [--html | --svg] [--list] [--kind NAME] [--timing FILE] [--no-line-drawing]\n";
 
 /// Runs the program where no file can be read: [`command_with`] without a timing file.
-pub fn command<R: Read, W: Sink, V: Taker>(
+pub fn command<R: Read, W: FlushSink, V: ByteSink>(
     alloc: Global,
     words: &[&str],
     input: &mut R,
@@ -53,7 +53,7 @@ pub fn command<R: Read, W: Sink, V: Taker>(
 /// A fault is told in a line on `errors`. Words that aren't understood get the usage line there, and then nothing is read
 /// or written, unless memory is refused before that is known: that is a fault. Such a line is written whole, unless a
 /// write of it fails or takes nothing; that changes nothing else.
-pub fn command_with<F: Files, R: Read, W: Sink, V: Taker>(
+pub fn command_with<F: Files, R: Read, W: FlushSink, V: ByteSink>(
     alloc: Global,
     words: &[&str],
     files: &F,
@@ -87,7 +87,7 @@ pub fn command_with<F: Files, R: Read, W: Sink, V: Taker>(
 }
 
 /// Tells a fault in a line on `errors`, and answers the exit status that goes with it.
-pub fn report_fault<V: Taker>(alloc: Global, errors: &mut V, error: TextError) -> u8
+pub fn report_fault<V: ByteSink>(alloc: Global, errors: &mut V, error: TextError) -> u8
     ensures status { result ≡ 1 }
     ensures memory { error ≡ Memory → Tells V.takes errors.old memory_line errors.new }
 {
@@ -102,7 +102,7 @@ pub fn report_fault<V: Taker>(alloc: Global, errors: &mut V, error: TextError) -
     FAULT
 }
 
-fn obey<F: Files, R: Read, W: Sink>(
+fn obey<F: Files, R: Read, W: FlushSink>(
     alloc: Global,
     order: Order,
     files: &F,

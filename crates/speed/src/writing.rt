@@ -21,8 +21,8 @@ impl<'a> Job<'a> {
     /// Writes what the stream's last bytes have changed.
     pub(crate) fn difference(&self) -> Option<usize> {
         let len = self.stream.len().saturating_sub(LAST_LEN);
-        let (front, last) = self.stream.split_at(len);
-        let mut parser = self.filled(front)?;
+        let (prefix, last) = self.stream.split_at(len);
+        let mut parser = self.filled(prefix)?;
         changed(&mut parser, last, self.times)
     }
 }

@@ -3,7 +3,7 @@ use Rattle.std.specs.Prelude.{ℕ, ◌≡◌, ◌<◌, ◌≤◌, false, List, [
 use Rattle.vt100_forms.specs.declared.attrs.Attrs.{Attrs}
 use Rattle.vt100_forms.specs.declared.position.Pos.{Pos}
 use Rattle.vt100_forms.specs.Attrs.{IsProper}
-use Rattle.vt100_forms.specs.Form.{Form, Text, spelling, change, moves}
+use Rattle.vt100_forms.specs.Form.{Form, Text, form_bytes, change, moves}
 use Rattle.vt100_cells.specs.Cell.{CellView, IsCell}
 use Rattle.vt100_cells.specs.Line.{span_of}
 use Rattle.terminal_model.specs.Term.{Size, Shown, Term, IsTerm, IsShown}
@@ -13,7 +13,7 @@ use Rattle.terminal_model.specs.Leads.{Leads}
 
 -- a form without bytes changes nothing
 abbrev pub EachEmptyFormIsIdle : Type 0
-EachEmptyFormIsIdle = (z : Size) (f : Form) (t : Term) → spelling f ≡ [] → apply z f t ≡ t
+EachEmptyFormIsIdle = (z : Size) (f : Form) (t : Term) → form_bytes f ≡ [] → apply z f t ≡ t
 
 abbrev pub EachFormKeepsTerminals : Type 0
 EachFormKeepsTerminals = (z : Size) (f : Form) (t : Term) → IsTerm z t → IsTerm z (apply z f t)

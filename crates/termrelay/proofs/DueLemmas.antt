@@ -1,7 +1,7 @@
 -- Which body goes with an answer.
 use Rattle.std.proofs.Common.{◌≡◌, ℕ, true, List, [], ◌++◌, Option, Some, None, ap, sym, ◌∙◌, append_assoc, arith}
-use Rattle.vt100_forms.specs.Form.{spell}
-use Rattle.row_drawing.proofs.WritesLemmas.{spell-joined}
+use Rattle.vt100_forms.specs.Form.{bytes_of}
+use Rattle.row_drawing.proofs.WritesLemmas.{bytes_of-joined}
 use Rattle.terminal_model.specs.Term.{Size, Shown}
 use Rattle.screen_drawing.specs.Modes.{input_mode_diff}
 use Rattle.screen_drawing.specs.Screen.{contents_formatted, state_formatted, state_diff}
@@ -24,21 +24,21 @@ redraw-body z base now frame other = grind arith
 -- ---- as text
 
 pub full-text : (z : Size) (now : Shown) {last : Option Shown} → last ≡ None
-    → spell (body_forms z last now) ≡ spell (state_formatted z now)
+    → bytes_of (body_forms z last now) ≡ bytes_of (state_formatted z now)
 unfolding body_forms state_formatted
-full-text z now none = ap (λ b. spell (body_forms z b now)) none
+full-text z now none = ap (λ b. bytes_of (body_forms z b now)) none
 
 pub difference-text : (z : Size) (now : Shown) {base : Shown} {last : Option Shown} {answer : Answer} → last ≡ Some base
-    → answer ≡ due z now last → answer ≡ Difference → spell (body_forms z last now) ≡ spell (state_diff z base now)
+    → answer ≡ due z now last → answer ≡ Difference → bytes_of (body_forms z last now) ≡ bytes_of (state_diff z base now)
 difference-text z now {base = base} is due_is e = rw (is, difference-body z base now (rw is at (sym due_is ∙ e)))
 
 pub redraw-text : (z : Size) (now : Shown) {base : Shown} {last : Option Shown} {answer : Answer} → last ≡ Some base
     → answer ≡ due z now last → is_frame answer ≡ true → (answer ≡ Difference → ⊥)
-    → spell (body_forms z last now) ≡ spell (contents_formatted z now) ++ spell (input_mode_diff base now)
+    → bytes_of (body_forms z last now) ≡ bytes_of (contents_formatted z now) ++ bytes_of (input_mode_diff base now)
 redraw-text z now {base = base} {answer = answer} is due_is frame other =
     let due_of : answer ≡ due z now (Some base) = due_is ∙ ap (due z now) is in
     rw (is, redraw-body z base now (rw due_of at frame) (λ e. other (due_of ∙ e)))
-    (spell-joined (contents_formatted z now) (input_mode_diff base now))
+    (bytes_of-joined (contents_formatted z now) (input_mode_diff base now))
 
 -- a frame's text is put together from the start mark on
 pub text-joined : (none head middle whole start body end : List ℕ) → none ≡ [] → head ≡ none ++ start

@@ -1,7 +1,7 @@
 -- The length of a frame.
 use Rattle.std.proofs.Common.{◌≡◌, ◌||◌, ◌++◌, length, Option, Some, None, refl, arith, length-append}
 use Rattle.std.proofs.lemmas.Bool.{cond_both}
-use Rattle.vt100_forms.specs.Form.{spell}
+use Rattle.vt100_forms.specs.Form.{bytes_of}
 use Rattle.terminal_model.specs.Term.{Size, Shown}
 use Rattle.screen_drawing.specs.Length.{IsSmallScreen, IsWithin}
 use Rattle.screen_drawing.specs.Modes.{input_mode_diff}
@@ -23,7 +23,7 @@ body-short z (Some base) now h small =
 
 pub frame-short : EachFrameIsShort
 frame-short z base now h small =
-    let body = spell (body_forms z base now) in
+    let body = bytes_of (body_forms z base now) in
     let start : length start_mark ≡ 8 = refl in
     let end : length end_mark ≡ 8 = refl in
     omega (

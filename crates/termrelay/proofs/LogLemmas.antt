@@ -7,13 +7,13 @@ use Rattle.std.proofs.lemmas.Bool.{and_parts, eqb-true, or_parts, or_right}
 use Rattle.termrelay.specs.Log.{SessionView, is_of, change_last, IsLast}
 
 module _ {A : Type 0} (test : A → Bool) where
-  any-here : (front back : List A) (x : A) → test x ≡ true → list_any test (front ++ x ∷ back) ≡ true
+  any-here : (prefix back : List A) (x : A) → test x ≡ true → list_any test (prefix ++ x ∷ back) ≡ true
   any-here [] back x is = rw is
   any-here (y ∷ ys) back x is = or_right (test y) _ (any-here ys back x is)
 
   -- the one at the place found
   found-last : (xs : List A) (at : ℕ) (d : A) (l : IsLast test xs at) → get_or xs at d ≡ l.last
-  found-last xs at d l = rw (l.parts, ← l.place) (get_or-append_seam l.front l.last l.back d)
+  found-last xs at d l = rw (l.parts, ← l.place) (get_or-append_seam l.prefix l.last l.back d)
 
   pub found-passes : (xs : List A) (at : ℕ) (d : A) → IsLast test xs at → test (get_or xs at d) ≡ true
   found-passes xs at d l = rw (found-last xs at d l) l.is
@@ -23,8 +23,8 @@ module _ {A : Type 0} (test : A → Bool) where
     none-changed [] none = refl
     none-changed (x ∷ xs) none = let (first, later) = or_parts (test x) (list_any test xs) none in rw (later, first)
 
-    seam-changed : (front back : List A) (x : A) → test x ≡ true → list_any test back ≡ false
-        → change_last test f (front ++ x ∷ back) ≡ front ++ f x ∷ back
+    seam-changed : (prefix back : List A) (x : A) → test x ≡ true → list_any test back ≡ false
+        → change_last test f (prefix ++ x ∷ back) ≡ prefix ++ f x ∷ back
     seam-changed [] back x is none = rw (none, is)
     seam-changed (y ∷ ys) back x is none = rw (any-here ys back x is, seam-changed ys back x is none)
 
@@ -32,8 +32,8 @@ module _ {A : Type 0} (test : A → Bool) where
     pub last-changed : (xs : List A) (at : ℕ) (d y : A) → IsLast test xs at → y ≡ f (get_or xs at d)
         → set xs at y ≡ change_last test f xs
     last-changed xs at d y l is =
-        rw (is, found-last xs at d l, l.parts, ← l.place, seam-changed l.front l.back l.last l.is l.none)
-        (set-append_seam l.front l.last l.back (f l.last))
+        rw (is, found-last xs at d l, l.parts, ← l.place, seam-changed l.prefix l.back l.last l.is l.none)
+        (set-append_seam l.prefix l.last l.back (f l.last))
 
 pub of-key : (key : ℕ) (s : SessionView) → is_of key s ≡ true → s.client ≡ key
 of-key key s h = eqb-true s.client key (and_parts (not s.ended) _ h).1

@@ -30,7 +30,7 @@ made-more p q act is m step = record {
   capacity = m.capacity;
   acts = m.acts ++ act ∷ [];
   are = are-more m.rows m.cols m.capacity m.acts act is m.are;
-  stands = step m.rows m.cols m.capacity m.acts m.stands;
+  state_after = step m.rows m.cols m.capacity m.acts m.state_after;
 }
 
 pub fed-made : (p q : ParserView (Unit {0})) (bytes : List ℕ) → IsMade p → GoesOn p (Fed bytes) q → IsMade q
@@ -61,7 +61,7 @@ nothing-fed p bytes none rows cols capacity acts at =
 
 pub made-unscrolled : (p : ParserView (Unit {0})) → IsMade p → IsUnscrolled p.screen.state
 made-unscrolled p m =
-    rw m.stands.screen (record {
+    rw m.state_after.screen (record {
       state = makes-states m.rows m.cols m.capacity m.acts m.are;
       offset = (makes-no_offset m.rows m.cols m.capacity m.acts m.are).shown;
     })
@@ -81,9 +81,9 @@ pub fed-size : (p q : ParserView (Unit {0})) (bytes : List ℕ) → IsMade p →
     → grid_size p.screen.state.shown ≡ grid_size q.screen.state.shown
 fed-size p q bytes m step =
     let are = are-more m.rows m.cols m.capacity m.acts (Fed bytes) tt m.are in
-    let at = step m.rows m.cols m.capacity m.acts m.stands in
+    let at = step m.rows m.cols m.capacity m.acts m.state_after in
     let old = makes-last_size m.rows m.cols m.capacity m.acts m.are in
     let new = makes-last_size m.rows m.cols m.capacity (m.acts ++ Fed bytes ∷ []) are in
     let height = old.height ∙ sym (new.height ∙ rows-fed m.rows m.acts bytes) in
     let width = old.width ∙ sym (new.width ∙ cols-fed m.cols m.acts bytes) in
-    rw (m.stands.screen, at.screen) (λ i. record { rows = height i; cols = width i })
+    rw (m.state_after.screen, at.screen) (λ i. record { rows = height i; cols = width i })

@@ -4,7 +4,7 @@ use Rattle.std.proofs.Common.{append_assoc, length-append}
 use Rattle.std.specs.List.{AllByRecursion, list_any}
 use Rattle.std.proofs.lemmas.Bool.{or_parts, eqb-false}
 use Rattle.std.proofs.lemmas.List.{append_cancel_left}
-use Rattle.vt100_forms.specs.Form.{Form, spell}
+use Rattle.vt100_forms.specs.Form.{Form, bytes_of}
 use Rattle.vt100_forms.specs.Mark.{mark_head, HasPlainText}
 use Rattle.vt100_forms.proofs.Marks.{marks_behind}
 use Rattle.terminal_model.specs.Term.{Shown}
@@ -49,24 +49,24 @@ at-end (z ∷ zs) ys e =
 
 -- a mark after the first byte of a frame is the end mark
 behind-first : (fs : List Form) → AllByRecursion HasPlainText fs → (x : ℕ) (xs ys : List ℕ)
-    → start_mark ++ (spell fs ++ end_mark) ≡ (x ∷ xs) ++ (mark_head ++ ys) → ys ≡ 108 ∷ []
+    → start_mark ++ (bytes_of fs ++ end_mark) ≡ (x ∷ xs) ++ (mark_head ++ ys) → ys ≡ 108 ∷ []
 unfolding start-tail
 behind-first fs h x xs ys e =
-    let r = spell fs ++ end_mark in
-    let (front, first, left) = behind-bytes start-tail refl r xs ys
+    let r = bytes_of fs ++ end_mark in
+    let (prefix, first, left) = behind-bytes start-tail refl r xs ys
     (same-rest 27 x (start-tail ++ r) (xs ++ (mark_head ++ ys)) e) in
-    let (zs, is) = marks_behind fs h end_mark front ys left in
-    at-end zs ys (append_cancel_left (spell fs) end_mark (zs ++ (mark_head ++ ys))
-    (left ∙ ap (λ ws. ws ++ (mark_head ++ ys)) is ∙ append_assoc (spell fs) zs (mark_head ++ ys)))
+    let (zs, is) = marks_behind fs h end_mark prefix ys left in
+    at-end zs ys (append_cancel_left (bytes_of fs) end_mark (zs ++ (mark_head ++ ys))
+    (left ∙ ap (λ ws. ws ++ (mark_head ++ ys)) is ∙ append_assoc (bytes_of fs) zs (mark_head ++ ys)))
 
 starts-once : (fs : List Form) → AllByRecursion HasPlainText fs → (xs ys : List ℕ)
-    → start_mark ++ (spell fs ++ end_mark) ≡ xs ++ (start_mark ++ ys) → xs ≡ []
+    → start_mark ++ (bytes_of fs ++ end_mark) ≡ xs ++ (start_mark ++ ys) → xs ≡ []
 starts-once fs h [] ys e = refl
 starts-once fs h (x ∷ xs) ys e =
     let other = same-first 104 108 ys [] (behind-first fs h x xs (104 ∷ ys) e) in absurd (omega (arith, other))
 
 ends-once : (fs : List Form) → AllByRecursion HasPlainText fs → (xs ys : List ℕ)
-    → start_mark ++ (spell fs ++ end_mark) ≡ xs ++ (end_mark ++ ys) → ys ≡ []
+    → start_mark ++ (bytes_of fs ++ end_mark) ≡ xs ++ (end_mark ++ ys) → ys ≡ []
 ends-once fs h [] ys e =
     let other = same-first 104 108 _ ys (append_cancel_left mark_head _ (108 ∷ ys) e) in absurd (omega (arith, other))
 ends-once fs h (x ∷ xs) ys e = same-rest 108 108 ys [] (behind-first fs h x xs (108 ∷ ys) e)
@@ -77,7 +77,7 @@ frame-marked z base now h =
     let each = λ (old : Shown). texts-plain z old now h in
     let plain = body-all HasPlainText _ z base now (each now).state_formatted (λ old _. each old) in
     record {
-      body = spell fs;
+      body = bytes_of fs;
       parts = refl;
       starts = starts-once fs plain;
       ends = ends-once fs plain;

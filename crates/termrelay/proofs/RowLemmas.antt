@@ -15,7 +15,7 @@ use Rattle.vt100_rows.specs.Row.{RowView}
 use Rattle.vt100_core.specs.Grid.{visible_row_at, cell_in}
 use Rattle.screen_model.specs.State.{State, IsState}
 use Rattle.screen_model.specs.Shown.{shown_state}
-use Rattle.screen_model.proofs.ShownLemmas.{each-cell_is_told}
+use Rattle.screen_model.proofs.ShownLemmas.{each-cell_is_reported}
 use Rattle.termrelay.specs.Answers.{all_below}
 use Rattle.termrelay.proofs.BelowLemmas.{all-missed, all-true, all-alike}
 
@@ -37,16 +37,16 @@ pub record AreCellsOf (s : State) (r : ℕ) (cells : List CellView) : Type 0 whe
   pub same : AreSame (cell_at cells) ((shown_state s).cell r) 0 s.shown.width
 
 -- the cells that a screen gives for one of its rows
-pub cells-told : (s : State) (r : ℕ) → IsState s → r < s.shown.height → (cells : List CellView)
+pub cells-reported : (s : State) (r : ℕ) → IsState s → r < s.shown.height → (cells : List CellView)
     → option_map (λ v. v.cells) (visible_row_at s.shown r) ≡ Some cells → AreCellsOf s r cells
-cells-told s r i inside cells e =
-    let told : (c : ℕ) → c < s.shown.width → slice_get cells c ≡ Some ((shown_state s).cell r c) =
-    λ c h. sym (cells-in (visible_row_at s.shown r) cells c e) ∙ each-cell_is_told s i r c inside h in
-    let wide = reaches s.shown.width cells ((shown_state s).cell r) told in
+cells-reported s r i inside cells e =
+    let reported : (c : ℕ) → c < s.shown.width → slice_get cells c ≡ Some ((shown_state s).cell r c) =
+    λ c h. sym (cells-in (visible_row_at s.shown r) cells c e) ∙ each-cell_is_reported s i r c inside h in
+    let wide = reaches s.shown.width cells ((shown_state s).cell r) reported in
     record {
       wide = wide;
       same = λ k _ h. same_Some (cell_at cells k) ((shown_state s).cell r k)
-          (sym (slice_get-get_or cells k default_cell (omega (arith, h, wide))) ∙ told k h);
+          (sym (slice_get-get_or cells k default_cell (omega (arith, h, wide))) ∙ reported k h);
     }
 
 -- the cells that are left of a row that is cut at the width

@@ -25,9 +25,9 @@ made-none h l = ([], sym (append-nil l.replies), (refl, refl))
 
 made-one : (h g k : HubState as_kept) (l m o : LogView) (calls : List Call) (call : Call) → MadeAll h l calls g m
     → ServesLogged g call k m o → MadeAll h l (calls ++ call ∷ []) k o
-made-one h g k l m o calls call (replies, are, runs) (reply, is, serves, told, kept) = (
+made-one h g k l m o calls call (replies, are, runs) (reply, is, serves, reported, kept) = (
   replies ++ reply ∷ [],
-  told ∙ ap (λ xs. xs ++ reply ∷ []) are ∙ append_assoc l.replies replies (reply ∷ []),
+  reported ∙ ap (λ xs. xs ++ reply ∷ []) are ∙ append_assoc l.replies replies (reply ∷ []),
   runs-more h g k l.sessions m.sessions o.sessions calls replies call reply runs is serves kept,
 )
 

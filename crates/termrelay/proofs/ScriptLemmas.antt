@@ -7,10 +7,10 @@ use Rattle.std.proofs.Math.Seq.{take-append_seam}
 use Rattle.std.proofs.lemmas.Bool.{eq-eqb}
 use Rattle.std.proofs.lemmas.Bool.Decides.{nat_tests}
 use Rattle.std.specs.declared.io.Error.{Error}
-use Rattle.takers.specs.Pump.{Pumps, all, nothing, fault, some}
+use Rattle.byte_sinks.specs.Pump.{Pumps, all, nothing, fault, some}
 use Rattle.termrelay.specs.Answers.{ClientState}
 use Rattle.termrelay.specs.Hub.{Telling, HubState, clients_in, Puts, PumpsFrom}
-use Rattle.termrelay.specs.Calls.{WritesAsTold, taken_by, Pump, Serves}
+use Rattle.termrelay.specs.Calls.{WritesAsReported, taken_by, Pump, Serves}
 use Rattle.termrelay.specs.Log.{bytes_taken}
 use Rattle.termrelay.specs.declared.call.Take.{Take}
 use Rattle.termrelay.specs.declared.call.Take.TheVariants.{Bytes, Fault}
@@ -29,38 +29,38 @@ some-owed (x ∷ xs) h = omega arith
 pub ok-number : (m n : ℕ) → m ≡ n → (let left : Result ℕ Error = Ok m in left) ≡ Ok n
 ok-number m n h = ap (λ k. Ok k) h
 
-pub first-none : (takes rest : List Take) (owed : List ℕ) → owed ≢ [] → WritesAsTold takes owed (Ok 0) rest
+pub first-none : (takes rest : List Take) (owed : List ℕ) → owed ≢ [] → WritesAsReported takes owed (Ok 0) rest
     → taken_by takes (length owed) ≡ 0
 unfolding taken_by
-first-none [] rest owed owes told = grind arith
-first-none (Bytes j ∷ takes) rest owed owes told = grind (arith, nat_tests, some-owed owed owes)
-first-none (Fault ∷ takes) rest owed owes told = refl
+first-none [] rest owed owes reported = grind arith
+first-none (Bytes j ∷ takes) rest owed owes reported = grind (arith, nat_tests, some-owed owed owes)
+first-none (Fault ∷ takes) rest owed owes reported = refl
 
-pub first-fault : (takes rest : List Take) (owed : List ℕ) (e : Error) → WritesAsTold takes owed (Err e) rest
+pub first-fault : (takes rest : List Take) (owed : List ℕ) (e : Error) → WritesAsReported takes owed (Err e) rest
     → taken_by takes (length owed) ≡ 0
 unfolding taken_by
-first-fault [] rest owed e told = absurd (grind arith)
-first-fault (Bytes j ∷ takes) rest owed e told = absurd (grind arith)
-first-fault (Fault ∷ takes) rest owed e told = refl
+first-fault [] rest owed e reported = absurd (grind arith)
+first-fault (Bytes j ∷ takes) rest owed e reported = absurd (grind arith)
+first-fault (Fault ∷ takes) rest owed e reported = refl
 
 pub first-some : (takes rest : List Take) (owed : List ℕ) (first : ℕ) → 0 < first
-    → WritesAsTold takes owed (Ok first) rest
+    → WritesAsReported takes owed (Ok first) rest
     → (taken_by takes (length owed) ≡ min first (length owed) + taken_by rest (length owed - first))
     × (first ≡ min first (length owed))
 unfolding taken_by
-first-some [] rest owed first pos told = grind (arith, takes-nothing rest)
-first-some (Bytes j ∷ takes) rest owed first pos told = grind (arith, nat_tests, takes-nothing rest)
-first-some (Fault ∷ takes) rest owed first pos told = absurd (grind arith)
+first-some [] rest owed first pos reported = grind (arith, takes-nothing rest)
+first-some (Bytes j ∷ takes) rest owed first pos reported = grind (arith, nat_tests, takes-nothing rest)
+first-some (Fault ∷ takes) rest owed first pos reported = absurd (grind arith)
 
 -- a pump to a scripted writer takes the bytes that the script says
-pub taken-as-told : (takes rest : List Take) (owed : List ℕ) (end : Result (Unit {0}) Error) (n : ℕ)
-    → Pumps WritesAsTold takes owed end n rest → n ≡ taken_by takes (length owed)
-taken-as-told takes rest owed end n all = sym (takes-nothing takes)
-taken-as-told takes rest owed end n (nothing owes told kind) = sym (first-none takes rest owed owes told)
-taken-as-told takes rest owed end n (fault {e = e} owes told) = sym (first-fault takes rest owed e told)
-taken-as-told takes rest owed end n (some middle first k more pos told later) =
-    let h = first-some takes middle owed first pos told in
-    let further = taken-as-told middle rest (drop first owed) end k later in
+pub taken-as-reported : (takes rest : List Take) (owed : List ℕ) (end : Result (Unit {0}) Error) (n : ℕ)
+    → Pumps WritesAsReported takes owed end n rest → n ≡ taken_by takes (length owed)
+taken-as-reported takes rest owed end n all = sym (takes-nothing takes)
+taken-as-reported takes rest owed end n (nothing owes reported kind) = sym (first-none takes rest owed owes reported)
+taken-as-reported takes rest owed end n (fault {e = e} owes reported) = sym (first-fault takes rest owed e reported)
+taken-as-reported takes rest owed end n (some middle first k more pos reported later) =
+    let h = first-some takes middle owed first pos reported in
+    let further = taken-as-reported middle rest (drop first owed) end k later in
     grind (arith, h, further, length-drop first owed)
 
 -- ---- what it leaves
@@ -75,13 +75,13 @@ module _ {way : Telling} where
       → clients_in h key ≡ Some c → Serves h (Pump key takes) reply g
       → clients_in g key ≡ Some (record c { owed = drop (taken_by takes (length c.owed)) c.owed })
   pumped-left h g key takes reply c found (result, rest, f, is) =
-      let at : PumpsFrom WritesAsTold h key (Some c) takes result rest g = rw found at f in
-      put-there h g key _ at.4 ∙ rw (taken-as-told takes rest c.owed at.0 at.1 at.2)
+      let at : PumpsFrom WritesAsReported h key (Some c) takes result rest g = rw found at f in
+      put-there h g key _ at.4 ∙ rw (taken-as-reported takes rest c.owed at.0 at.1 at.2)
 
 -- bytes are appended, and those that weren't taken are cut off
-pub front-kept : (bytes owed : List ℕ) (n left : ℕ) → left ≡ length (drop n owed)
+pub prefix-kept : (bytes owed : List ℕ) (n left : ℕ) → left ≡ length (drop n owed)
     → take (length (bytes ++ owed) - left) (bytes ++ owed) ≡ bytes ++ take n owed
-front-kept bytes owed n left is =
+prefix-kept bytes owed n left is =
     let whole : bytes ++ owed ≡ (bytes ++ take n owed) ++ drop n owed =
     ap (λ ys. bytes ++ ys) (sym (take-append-drop n owed)) ∙ sym (append_assoc bytes (take n owed) (drop n owed)) in
     let count : length (bytes ++ owed) - left ≡ length (bytes ++ take n owed) =

@@ -14,8 +14,8 @@ use Rattle.vt100_cells.specs.Cell.{bool_eq, cell_eq}
 use Rattle.vt100_cells.specs.CellEq.{attrs_eq-refl, cell_eq-refl}
 use Rattle.terminal_model.specs.Term.{Size, Modes, Shown}
 use Rattle.screen_model.specs.State.{State, IsState}
-use Rattle.screen_model.specs.Shown.{shown_state, told_wrap}
-use Rattle.screen_model.proofs.ShownLemmas.{each-wrap_is_told}
+use Rattle.screen_model.specs.Shown.{shown_state, reported_wrap}
+use Rattle.screen_model.proofs.ShownLemmas.{each-wrap_is_reported}
 use Rattle.termrelay.specs.Answers.{all_below, modes_eq, same_shown, EachOneIsSame}
 use Rattle.termrelay.proofs.BelowLemmas.{all-true}
 
@@ -33,10 +33,10 @@ same-test : (a b : Bool) → beq a b ≡ bool_eq a b
 same-test a b = grind arith
 
 -- the wrap flags of a row are compared on two screens
-pub wraps-compared : (s t : State) (r : ℕ) → IsState s → IsState t → (a b : Bool) → a ≡ told_wrap s r
-    → b ≡ told_wrap t r → beq a b ≡ bool_eq ((shown_state s).wrapped r) ((shown_state t).wrapped r)
+pub wraps-compared : (s t : State) (r : ℕ) → IsState s → IsState t → (a b : Bool) → a ≡ reported_wrap s r
+    → b ≡ reported_wrap t r → beq a b ≡ bool_eq ((shown_state s).wrapped r) ((shown_state t).wrapped r)
 wraps-compared s t r i j a b e f =
-    rw (same-test a b, e, f, each-wrap_is_told s i r, each-wrap_is_told t j r)
+    rw (same-test a b, e, f, each-wrap_is_reported s i r, each-wrap_is_reported t j r)
 
 -- ---- attributes
 
@@ -50,8 +50,8 @@ abbrev pub attrs_asked : Attrs → Attrs → Bool
 attrs_asked a b = color_eq a.fgcolor b.fgcolor && (color_eq a.bgcolor b.bgcolor && flags_asked a b)
 
 -- they tell whether the attributes are equal
-pub attrs-told : (a b : Attrs) → IsProper a → IsProper b → attrs_asked a b ≡ attrs_eq a b
-attrs-told a b p q =
+pub attrs-reported : (a b : Attrs) → IsProper a → IsProper b → attrs_asked a b ≡ attrs_eq a b
+attrs-reported a b p q =
     let asked = λ (m n : ℕ). flags_asked (with_mode a m) (with_mode b n) in
     let row = agree_below_at (λ m. agree_below (asked m) (λ n. m == n) 32) (λ _. true) 32 a.mode refl p.small in
     ap (λ x. color_eq a.fgcolor b.fgcolor && (color_eq a.bgcolor b.bgcolor && x))
@@ -72,9 +72,9 @@ shown_asked z s t =
     && (all_below z.rows (λ r. bool_eq (s.wrapped r) (t.wrapped r))
     && all_below z.rows (λ r. all_below z.cols (λ k. cell_eq (s.cell r k) (t.cell r k))))))))
 
-pub shown-told : (z : Size) (s t : Shown) → shown_asked z s t ≡ same_shown z s t
+pub shown-reported : (z : Size) (s t : Shown) → shown_asked z s t ≡ same_shown z s t
 unfolding same_shown
-shown-told z s t =
+shown-reported z s t =
     tests-in_order (s.row == t.row) (s.col == t.col) (bool_eq s.hidden t.hidden)
     (style_number s.style == style_number t.style) (modes_eq s.modes t.modes) (attrs_eq s.attrs t.attrs)
     (all_below z.rows (λ r. bool_eq (s.wrapped r) (t.wrapped r)))

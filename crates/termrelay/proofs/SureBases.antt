@@ -74,14 +74,14 @@ redraw-due now (Some v) h e =
 
 -- ---- what an answer tells
 
-told : (z : Size) (now : Shown) (base : Option Shown) → sameb the_type (due z now base) Unsure ≡ is_unsure z now
-told z now None = grind arith
-told z now (Some base) = grind arith
+reported : (z : Size) (now : Shown) (base : Option Shown) → sameb the_type (due z now base) Unsure ≡ is_unsure z now
+reported z now None = grind arith
+reported z now (Some base) = grind arith
 
 -- where it brings a frame, whether the screen of the frame is sure
-pub unsure-told : (now : State) (base : Option Shown) (owed : List ℕ) (answer : Answer)
+pub unsure-reported : (now : State) (base : Option Shown) (owed : List ℕ) (answer : Answer)
     → answer ≡ wanted_to now base owed → is_frame answer ≡ true
     → sameb the_type answer Unsure ≡ is_unsure (grid_size now.shown) (shown_state now)
-unsure-told now base owed answer is frame =
+unsure-reported now base owed answer is frame =
     ap (λ a. sameb the_type a Unsure) (is ∙ wanted-due now base owed (rw is at frame))
-    ∙ told (grid_size now.shown) (shown_state now) base
+    ∙ reported (grid_size now.shown) (shown_state now) base

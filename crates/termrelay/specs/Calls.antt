@@ -17,10 +17,10 @@ use Rattle.termrelay.specs.declared.call.Call.TheVariants as given
 
 -- One write of these bytes to a scripted writer: its script, the result of the write, and the rest of the script. After
 -- the end of the script a write takes all bytes.
-abbrev pub WritesAsTold : List Take → List ℕ → Result ℕ Error → List Take → Type 0
-WritesAsTold [] bytes answer rest = (answer ≡ Ok (length bytes)) × (rest ≡ [])
-WritesAsTold (Bytes n ∷ takes) bytes answer rest = (answer ≡ Ok (min n (length bytes))) × (rest ≡ takes)
-WritesAsTold (Fault ∷ takes) bytes answer rest = ((e : Error) × (answer ≡ Err e)) × (rest ≡ takes)
+abbrev pub WritesAsReported : List Take → List ℕ → Result ℕ Error → List Take → Type 0
+WritesAsReported [] bytes answer rest = (answer ≡ Ok (length bytes)) × (rest ≡ [])
+WritesAsReported (Bytes n ∷ takes) bytes answer rest = (answer ≡ Ok (min n (length bytes))) × (rest ≡ takes)
+WritesAsReported (Fault ∷ takes) bytes answer rest = ((e : Error) × (answer ≡ Err e)) × (rest ≡ takes)
 
 -- how many of n bytes a scripted writer takes in a pump
 unfoldable pub taken_by : List Take → ℕ → ℕ
@@ -82,7 +82,7 @@ module _ {way : Telling} where
       (result : Result Answer HubError) × Frames h key result g × (reply ≡ replied Answered result)
   Serves h (Pump key takes) reply g =
       (result : Result (Unit {0}) HubError) × (rest : List Take)
-      × PumpsClient WritesAsTold h key takes result rest g × (reply ≡ done result)
+      × PumpsClient WritesAsReported h key takes result rest g × (reply ≡ done result)
 
   -- Calls, one after another, take a hub h to k, with these replies. All their numbers fit the code's types.
   abbrev pub Runs : HubState way → List Call → List Reply → HubState way → Type 0

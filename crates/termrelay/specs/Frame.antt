@@ -5,7 +5,7 @@ use Rattle.std.specs.Prelude.{None}
 use Rattle.std.specs.Prelude.{if◌then◌else◌, Contains}
 use Rattle.std.specs.List.{list_any}
 use Rattle.vt100_forms.specs.Attrs.{IsProper, HasByteColors}
-use Rattle.vt100_forms.specs.Form.{Form, spell}
+use Rattle.vt100_forms.specs.Form.{Form, bytes_of}
 use Rattle.vt100_forms.specs.Mark.{mark_head}
 use Rattle.vt100_cells.specs.Cell.{CellView}
 use Rattle.terminal_model.specs.Term.{Size, Shown, Term, IsShown, blank_shown, shown_of}
@@ -50,7 +50,7 @@ body_forms z (Some base) now =
 
 -- a frame's bytes: the start mark, the bytes of the body, the end mark
 abbrev pub frame_text : Size → Option Shown → Shown → List ℕ
-frame_text z base now = start_mark ++ (spell (body_forms z base now) ++ end_mark)
+frame_text z base now = start_mark ++ (bytes_of (body_forms z base now) ++ end_mark)
 
 -- if a screen is sure, no cell's text has U+FE0F
 abbrev pub EachSureIsPlain : Type 0

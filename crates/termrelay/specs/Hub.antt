@@ -13,10 +13,10 @@ use Rattle.screen_model.specs.Call.{ScreenView}
 use Rattle.screen_model.specs.Made.{Act, Fed, Resized, events_added}
 use Rattle.screen_model.specs.Shown.{shown_state}
 use Rattle.vt100.specs.Memory.{some_may_take}
-use Rattle.vt100.specs.Parsing.{ParserView, HasRead, ParserStandsAt}
+use Rattle.vt100.specs.Parsing.{ParserView, HasRead, ParserIsAfter}
 use Rattle.vt100.specs.declared.error.ScreenError.{ScreenError}
 use Rattle.vt100.specs.declared.error.ScreenError.TheVariants as screen
-use Rattle.takers.specs.Pump.{Pumps}
+use Rattle.byte_sinks.specs.Pump.{Pumps}
 use Rattle.termrelay.specs.Answers.{ClientState, answer_for, after_answer, may_take_memory}
 use Rattle.termrelay.specs.Frame.{IsShortFrame, IsLocalFrame}
 use Rattle.termrelay.specs.Record.{RecordView, client_of}
@@ -44,8 +44,8 @@ pub record HubState (way : Telling) : Type 0 where
 -- an act takes the parser p to q, whatever acts came before it
 abbrev pub GoesOn : ParserView (Unit {0}) → Act → ParserView (Unit {0}) → Type 0
 GoesOn p act q =
-    (rows cols capacity : ℕ) (acts : List Act) → ParserStandsAt p rows cols capacity acts
-    → ParserStandsAt q rows cols capacity (acts ++ act ∷ [])
+    (rows cols capacity : ℕ) (acts : List Act) → ParserIsAfter p rows cols capacity acts
+    → ParserIsAfter q rows cols capacity (acts ++ act ∷ [])
 
 -- The parser has failed at these bytes. Whatever bytes it read before, one of the events of these may allocate memory.
 abbrev pub FailsAt : ParserView (Unit {0}) → List ℕ → ParserView (Unit {0}) → Type 0
@@ -206,5 +206,5 @@ module _ {way : Telling} where
 
 -- a hub of this size, with a blank screen, no scrollback and no clients
 pub record IsNewHub (rows cols : ℕ) (h : HubState as_kept) : Type 0 where
-  pub parser : ParserStandsAt h.parser rows cols 0 []
+  pub parser : ParserIsAfter h.parser rows cols 0 []
   pub clients : clients_in h ≡ no_clients

@@ -3,7 +3,7 @@ use Rattle.std.specs.Prelude.{◌≡◌, ℕ, false, List, IfSome}
 use Rattle.slab.specs.Slab.{get}
 use Rattle.screen_model.specs.Made.{Act}
 use Rattle.screen_model.specs.Holds.{AreActs}
-use Rattle.vt100.specs.Parsing.{ParserView, ParserStandsAt}
+use Rattle.vt100.specs.Parsing.{ParserView, ParserIsAfter}
 use Rattle.termrelay.specs.Hub.{HubState, as_kept}
 use Rattle.termrelay.specs.Record.{IsRecordOf}
 use Rattle.termrelay.specs.declared.hub.Hub.TheInside.{Inside}
@@ -18,7 +18,7 @@ pub record IsMade (p : ParserView (Unit {0})) : Type 0 where
   pub capacity : ℕ
   pub acts : List Act
   pub are : AreActs rows cols capacity acts
-  pub stands : ParserStandsAt p rows cols capacity acts
+  pub state_after : ParserIsAfter p rows cols capacity acts
 
 -- Unless the hub has failed, its parser is in the state after some acts. Then each base has the screen's size, and each
 -- client is owed at most the longest frame's bytes. The copy that the hub keeps is of the present screen.

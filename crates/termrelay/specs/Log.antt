@@ -43,11 +43,11 @@ change_last test f (x ∷ xs) =
 
 -- the last item that passes the test is at this index
 pub record IsLast {A : Type 0} (test : A → Bool) (xs : List A) (at : ℕ) : Type 0 where
-  pub front : List A
+  pub prefix : List A
   pub last : A
   pub back : List A
-  pub parts : xs ≡ front ++ last ∷ back
-  pub place : length front ≡ at
+  pub parts : xs ≡ prefix ++ last ∷ back
+  pub place : length prefix ≡ at
   pub is : test last ≡ true
   pub none : list_any test back ≡ false
 

@@ -1,6 +1,6 @@
 //! The body of a frame: the bytes between its marks.
 ghost use Rattle.std.specs.Prelude.{◌≡◌, ◌++◌, OnOk, OnErr, Err};
-ghost use Rattle.vt100_forms.specs.Form.{spell};
+ghost use Rattle.vt100_forms.specs.Form.{bytes_of};
 ghost use Rattle.screen_drawing.specs.Modes.{input_mode_diff};
 ghost use Rattle.screen_drawing.specs.Screen.{contents_formatted, state_diff, state_formatted};
 ghost use Rattle.vt100_core.specs.Picture.{grid_size};
@@ -15,7 +15,7 @@ use vt100::Screen;
 pub(crate) fn push_state(text: &mut Vec<u8>, now: &Screen) -> Result<(), HubError>
     requires { IsUnscrolled now.now.state }
     ensures text { OnOk result (text.new.items ≡ text.old.items
-        ++ spell (state_formatted (grid_size now.now.state.shown) (shown_state now.now.state))) }
+        ++ bytes_of (state_formatted (grid_size now.now.state.shown) (shown_state now.now.state))) }
     ensures memory { OnErr result (result ≡ Err Memory) }
 {
     text.extend_from_slice(now.state_formatted()?.as_bytes())?;
@@ -32,7 +32,7 @@ pub(crate) fn push_difference(
     requires base { IsUnscrolled base.now.state }
     requires now { IsUnscrolled now.now.state }
     requires size { grid_size base.now.state.shown ≡ grid_size now.now.state.shown }
-    ensures text { OnOk result (text.new.items ≡ text.old.items ++ spell
+    ensures text { OnOk result (text.new.items ≡ text.old.items ++ bytes_of
         (state_diff (grid_size now.now.state.shown) (shown_state base.now.state) (shown_state now.now.state))) }
     ensures memory { OnErr result (result ≡ Err Memory) }
 {
@@ -44,8 +44,8 @@ pub(crate) fn push_difference(
 pub(crate) fn push_redraw(text: &mut Vec<u8>, base: &Screen, now: &Screen) -> Result<(), HubError>
     requires { IsUnscrolled now.now.state }
     ensures text { OnOk result (text.new.items ≡ text.old.items
-        ++ (spell (contents_formatted (grid_size now.now.state.shown) (shown_state now.now.state))
-        ++ spell (input_mode_diff (shown_state base.now.state) (shown_state now.now.state)))) }
+        ++ (bytes_of (contents_formatted (grid_size now.now.state.shown) (shown_state now.now.state))
+        ++ bytes_of (input_mode_diff (shown_state base.now.state) (shown_state now.now.state)))) }
     ensures memory { OnErr result (result ≡ Err Memory) }
 {
     text.extend_from_slice(now.contents_formatted()?.as_bytes())?;

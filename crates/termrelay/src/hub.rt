@@ -10,12 +10,12 @@ use crate::answer::Answer;
 use crate::client::Client;
 use crate::error::HubError;
 use crate::record::{Record, is_too_long};
+use byte_sinks::ByteSink;
 use slab::Slab;
 use std::alloc::Global;
 use std::marker::Model;
 use std::num::NonZeroU16;
 use std::rc::Rc;
-use takers::Taker;
 use vt100::{Parser, Screen};
 
 /// One program's screen, and clients that are sent frames of it.
@@ -157,7 +157,7 @@ impl Hub {
     /// The first error of a write ends the call and is returned, also if the write was interrupted. A write that takes
     /// no byte is an error of kind `WriteZero`. Bytes that were taken are no longer owed. If a write returns more than
     /// the number of bytes it was offered, it counts as having taken all of them.
-    pub fn pump<T: Taker>(&mut self, client: Client, to: &mut T) -> Result<(), HubError>
+    pub fn pump<T: ByteSink>(&mut self, client: Client, to: &mut T) -> Result<(), HubError>
         ensures { PumpsClient T.takes self.old client to.old result to.new self.new }
     {
         match self.clients.get_mut(client.key()) {

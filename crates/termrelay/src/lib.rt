@@ -16,11 +16,11 @@ pub mod session;
 mod shown;
 
 pub use answer::Answer;
+pub use byte_sinks::ByteSink;
 pub use call::{Call, Reply, Take};
 pub use client::Client;
 pub use error::HubError;
 pub use hub::Hub;
 pub use log::{Log, run};
 pub use session::Session;
-pub use takers::Taker;
 pub use vt100::Screen;

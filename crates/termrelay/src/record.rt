@@ -2,14 +2,14 @@
 ghost use Rattle.std.specs.Prelude.{◌≡◌, ℕ, ◌++◌, [], true, drop, length, nat_lt, Some, None, IfOk, OnOk, OnErr, Err};
 ghost use Rattle.std.specs.Prelude.{if◌then◌else◌};
 ghost use Rattle.std.specs.Option.{option_copied, option_map};
-ghost use Rattle.vt100_forms.specs.Form.{spell};
+ghost use Rattle.vt100_forms.specs.Form.{bytes_of};
 ghost use Rattle.vt100_core.specs.Picture.{grid_size};
 ghost use Rattle.screen_model.specs.State.{IsState};
 ghost use Rattle.screen_model.specs.Shown.{shown_state};
 ghost use Rattle.vt100.specs.WriterLaws.{IsUnscrolled};
 ghost use Rattle.termrelay.specs.Frame.{frame_text as text_of_frame, body_forms};
 ghost use Rattle.termrelay.specs.Answers.{wanted_of, due, is_frame, longest_frame};
-ghost use Rattle.takers.specs.Pump.{Pumps};
+ghost use Rattle.byte_sinks.specs.Pump.{Pumps};
 ghost use Rattle.termrelay.specs.Record.{RecordView, client_of, IsRecordOf, IsBaseOf, is_unsure_screen, sure_base};
 ghost use Rattle.termrelay.specs.declared.answer.Answer.TheVariants.{Unsure};
 ghost use Rattle.termrelay.specs.declared.error.HubError.TheVariants.{Memory};
@@ -18,11 +18,11 @@ use crate::answer::Answer;
 use crate::body::{push_difference, push_redraw, push_state};
 use crate::error::HubError;
 use crate::shown::{is_unsure, is_unsure_since, same_shown};
+use byte_sinks::{ByteSink, pump};
 use std::alloc::Global;
 use std::io;
 use std::marker::Model;
 use std::rc::Rc;
-use takers::{Taker, pump};
 use vt100::Screen;
 
 /// The bytes that begin a synchronized update: private mode 2026 set (`CSI ? 2026 h`).
@@ -176,7 +176,7 @@ impl Record {
         requires due { answer ≡ due (grid_size now.now.state.shown) (shown_state now.now.state)
             (client_of self.now).base }
         requires frame { is_frame answer ≡ true }
-        ensures text { OnOk result (text.new.items ≡ text.old.items ++ spell (body_forms
+        ensures text { OnOk result (text.new.items ≡ text.old.items ++ bytes_of (body_forms
             (grid_size now.now.state.shown) (client_of self.now).base (shown_state now.now.state))) }
         ensures memory { OnErr result (result ≡ Err Memory) }
     {
@@ -200,7 +200,7 @@ impl Record {
     }
 
     /// Writes the bytes that are owed to a writer. The bytes it took are no longer owed.
-    pub(crate) fn pump<T: Taker>(&mut self, to: &mut T) -> io::Result<()>
+    pub(crate) fn pump<T: ByteSink>(&mut self, to: &mut T) -> io::Result<()>
         ensures { (n : ℕ) × Pumps T.takes to.old self.old.owed result n to.new
             × (self.new ≡ record self.old { owed = drop n self.old.owed }) }
     {

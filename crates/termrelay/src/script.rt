@@ -1,12 +1,12 @@
 //! A writer with a script.
 ghost use Rattle.std.specs.Prelude.{List};
-ghost use Rattle.termrelay.specs.Calls.{WritesAsTold};
+ghost use Rattle.termrelay.specs.Calls.{WritesAsReported};
 
 use crate::call::Take;
+use byte_sinks::ByteSink;
 use std::io;
 use std::io::ErrorKind;
 use std::marker::Model;
-use takers::Taker;
 
 /// A scripted writer: the results of its next writes are given. After the last of them each write takes all bytes.
 #[derive(Drop)]
@@ -33,8 +33,8 @@ impl<'a> Script<'a> {
     }
 }
 
-impl Taker for Script<'_> {
-    ghost takes = { WritesAsTold };
+impl ByteSink for Script<'_> {
+    ghost takes = { WritesAsReported };
 
     fn offer(&mut self, bytes: &[u8]) -> io::Result<usize> {
         let Some((take, rest)) = self.takes.split_first() else {

@@ -23,7 +23,7 @@ use Rattle.vte.specs.Moves.{Move, given}
 use Rattle.vte.specs.Frames.{Drives, ends, gives, stops}
 use Rattle.vte.proofs.HoldLemmas.{opens_in-append}
 use Rattle.vte.proofs.FrameLemmas.{cut_later}
-use Rattle.vte.proofs.FrameMarks.{opens_in-parts, opens_in-front, begun_none, start_opens, end_none, ground_start}
+use Rattle.vte.proofs.FrameMarks.{opens_in-parts, opens_in-prefix, begun_none, start_opens, end_none, ground_start}
 use Rattle.vte.proofs.FrameMarks.{ground_end, contrary}
 use Rattle.vt100_forms.specs.declared.modes.MouseProtocolEncoding.{MouseProtocolEncoding}
 use Rattle.vt100_forms.specs.declared.modes.MouseProtocolEncoding.TheVariants as encoding
@@ -34,7 +34,7 @@ use Rattle.vt100_forms.specs.declared.modes.CursorStyle.TheVariants as style
 use Rattle.vt100_forms.specs.Form.{Form, Text, MoveTo, MoveRight, EraseChar}
 use Rattle.vt100_forms.specs.Form.{HideCursor, Keypad, CursorKeys}
 use Rattle.vt100_forms.specs.Form.{Paste, Mouse, Encoding, Style, Sgr, mouse_number, encoding_number, style_number}
-use Rattle.vt100_forms.specs.Form.{sgr_numbers, spell}
+use Rattle.vt100_forms.specs.Form.{sgr_numbers, bytes_of}
 use Rattle.terminal_model.specs.Apply.{run}
 use Rattle.terminal_model.proofs.TermLemmas.{neither}
 use Rattle.forms_read.specs.Events.{kept_number, sequence, bare, counted_events, mode_events}
@@ -45,9 +45,9 @@ use Rattle.forms_read.proofs.SentTexts.{forms-readable}
 use Rattle.termview.specs.Seen.{seen}
 use Rattle.termview.specs.Standing.{HoldsAt}
 use Rattle.termview.specs.FormFrames.{FormsMakeFrames, FramesOpenOnce, FramesFinish, FramesShowForms}
-use Rattle.termview.specs.FormFrames.{SpellingsAreParsed, SpellingsAreTaken}
+use Rattle.termview.specs.FormFrames.{WrittenFormsAreParsed, WrittenFormsAreTaken}
 use Rattle.termview.proofs.LawLemmas.{marks_show}
-use Rattle.termview.proofs.Spellings.{spelling-shown}
+use Rattle.termview.proofs.WrittenForms.{written_form-shown}
 
 -- ---- forms say nothing of updates
 
@@ -134,13 +134,13 @@ unmarked-forms (f ∷ fs) = unmarked-append (events_of f) (events_of_all fs) (un
 
 -- ---- so no end mark stands in their bytes
 
-told : (fs : List Form) → AllByRecursion IsSentForm fs → events 1024 (spell fs) ≡ events_of_all fs
-told fs k =
-    sym (ground-added 1024 [] (spell fs) (ground-nothing 1024))
+reported : (fs : List Form) → AllByRecursion IsSentForm fs → events 1024 (bytes_of fs) ≡ events_of_all fs
+reported fs k =
+    sym (ground-added 1024 [] (bytes_of fs) (ground-nothing 1024))
     ∙ (list-read 1024 [] fs (ground-nothing 1024) (forms-readable fs k)).0
 
-unmarked-spelling : (fs : List Form) → AllByRecursion IsSentForm fs → Unmarked (events 1024 (spell fs))
-unmarked-spelling fs k = ap (list_any is_mark) (told fs k) ∙ unmarked-forms fs
+unmarked-written_form : (fs : List Form) → AllByRecursion IsSentForm fs → Unmarked (events 1024 (bytes_of fs))
+unmarked-written_form fs k = ap (list_any is_mark) (reported fs k) ∙ unmarked-forms fs
 
 end-marks : (before after : List ℕ) → list_any is_mark (events 1024 (before ++ (end_mark ++ after))) ≡ true
 end-marks before after =
@@ -151,7 +151,7 @@ end-marks before after =
     ∙ or-true (list_any is_mark (events 1024 (before ++ 27 ∷ [])))
 
 -- two end marks don't overlap
-end-apart : (front after : List ℕ) → length front < 8 → end_mark ++ after ≡ front ++ end_mark → front ≡ []
+end-apart : (prefix after : List ℕ) → length prefix < 8 → end_mark ++ after ≡ prefix ++ end_mark → prefix ≡ []
 end-apart [] after h e = refl
 end-apart (a ∷ []) after h e = absurd (omega (arith, ap (λ xs. get_or xs 1 0) e))
 end-apart (a ∷ b ∷ []) after h e = absurd (omega (arith, ap (λ xs. get_or xs 2 0) e))
@@ -160,7 +160,7 @@ end-apart (a ∷ b ∷ c ∷ d ∷ []) after h e = absurd (omega (arith, ap (λ 
 end-apart (a ∷ b ∷ c ∷ d ∷ f ∷ []) after h e = absurd (omega (arith, ap (λ xs. get_or xs 5 0) e))
 end-apart (a ∷ b ∷ c ∷ d ∷ f ∷ g ∷ []) after h e = absurd (omega (arith, ap (λ xs. get_or xs 6 0) e))
 end-apart (a ∷ b ∷ c ∷ d ∷ f ∷ g ∷ i ∷ []) after h e = absurd (omega (arith, ap (λ xs. get_or xs 7 0) e))
-end-apart (a ∷ b ∷ c ∷ d ∷ f ∷ g ∷ i ∷ j ∷ front) after h e = absurd (omega (arith, h))
+end-apart (a ∷ b ∷ c ∷ d ∷ f ∷ g ∷ i ∷ j ∷ prefix) after h e = absurd (omega (arith, h))
 
 -- an end mark occurs only at the end, if none is among the events of the body
 ends-once : (body before after : List ℕ) → Unmarked (events 1024 body)
@@ -185,33 +185,33 @@ ends-once body before after none e =
 
 -- ---- frames
 
-opens-nothing : (fs : List Form) → AllByRecursion IsSentForm fs → list_any opens (events 1024 (spell fs)) ≡ false
-opens-nothing fs k = events-open_nothing (events 1024 (spell fs)) (unmarked-spelling fs k)
+opens-nothing : (fs : List Form) → AllByRecursion IsSentForm fs → list_any opens (events 1024 (bytes_of fs)) ≡ false
+opens-nothing fs k = events-open_nothing (events 1024 (bytes_of fs)) (unmarked-written_form fs k)
 
 pub forms-framed : FormsMakeFrames
 forms-framed fs k = record {
-  body = spell fs;
+  body = bytes_of fs;
   is = refl;
-  ends_once = λ before after e. ends-once (spell fs) before after (unmarked-spelling fs k) e;
+  ends_once = λ before after e. ends-once (bytes_of fs) before after (unmarked-written_form fs k) e;
   opens_nothing = opens-nothing fs k;
 }
 
 -- outside of a character or a sequence, forms open no update
-opens_in-spelling : (past : List ℕ) (fs : List Form) → AtGround 1024 past → AllByRecursion IsSentForm fs
-    → opens_in past (spell fs) ≡ false
-opens_in-spelling past fs g k = ap (list_any opens) (ground-added 1024 past (spell fs) g) ∙ opens-nothing fs k
+opens_in-written_form : (past : List ℕ) (fs : List Form) → AtGround 1024 past → AllByRecursion IsSentForm fs
+    → opens_in past (bytes_of fs) ≡ false
+opens_in-written_form past fs g k = ap (list_any opens) (ground-added 1024 past (bytes_of fs) g) ∙ opens-nothing fs k
 
 pub frame-opens : FramesOpenOnce
 frame-opens past fs k =
-    let rest = spell fs ++ end_mark in (
+    let rest = bytes_of fs ++ end_mark in (
       record {
         within = omega arith;
         opened = start_opens past;
         first = λ m h. ap (opens_in past) (take-append-le m start_mark rest (omega (arith, h))) ∙ begun_none past m h;
       },
-      opens_in-append (past ++ start_mark) (spell fs) end_mark
-          ∙ rw (opens_in-spelling (past ++ start_mark) fs (ground_start past) k)
-          (end_none ((past ++ start_mark) ++ spell fs)),
+      opens_in-append (past ++ start_mark) (bytes_of fs) end_mark
+          ∙ rw (opens_in-written_form (past ++ start_mark) fs (ground_start past) k)
+          (end_none ((past ++ start_mark) ++ bytes_of fs)),
     )
 
 parts : (past body : List ℕ) → past ++ (start_mark ++ (body ++ end_mark)) ≡ ((past ++ start_mark) ++ body) ++ end_mark
@@ -219,15 +219,15 @@ parts past body = sym (append_assoc past start_mark (body ++ end_mark))
     ∙ sym (append_assoc (past ++ start_mark) body end_mark)
 
 pub frame-finishes : FramesFinish
-frame-finishes past fs = subst (λ (xs : List ℕ). AtGround 1024 xs) (sym (parts past (spell fs)))
-    (ground_end ((past ++ start_mark) ++ spell fs))
+frame-finishes past fs = subst (λ (xs : List ℕ). AtGround 1024 xs) (sym (parts past (bytes_of fs)))
+    (ground_end ((past ++ start_mark) ++ bytes_of fs))
 
 pub frame-shows : FramesShowForms
 frame-shows z past fs some_row some_col small g k =
     let opened = past ++ start_mark in
-    let body = spelling-shown z opened fs some_row some_col small (ground_start past) k in
-    ap (seen z) (parts past (spell fs))
-    ∙ (marks_show z (opened ++ spell fs) body.1).1
+    let body = written_form-shown z opened fs some_row some_col small (ground_start past) k in
+    ap (seen z) (parts past (bytes_of fs))
+    ∙ (marks_show z (opened ++ bytes_of fs) body.1).1
     ∙ body.0
     ∙ ap (run z fs) ((marks_show z past g).0 8 (omega arith))
 
@@ -239,7 +239,7 @@ quiet-piece : (past piece parsed : List ℕ) (hold : Option (List ℕ)) (calls :
     → (parsed ≡ past ++ piece) × (hold ≡ None)
 quiet-piece past piece parsed hold calls ticks (parses _ _ none) q = (refl, refl)
 quiet-piece past piece parsed hold calls ticks (begins _ _ n _ _ cs ts at t) q =
-    absurd (contrary _ at.opened (opens_in-front past piece n q))
+    absurd (contrary _ at.opened (opens_in-prefix past piece n q))
 
 quiet-moves : (moves : List Move) (past parsed : List ℕ) (start hold : Option (List ℕ)) → start ≡ None
     → opens_in past (given moves) ≡ false → Drives moves past start parsed hold
@@ -258,17 +258,17 @@ quiet-moves moves past parsed start hold none q (stops rest _ _ _ _ l) =
     (ap (λ xs. opens_in xs (given rest)) same ∙ q) l in
     (later.0 ∙ ap (λ xs. xs ++ given rest) same, later.1)
 
-pub spelling-parsed : SpellingsAreParsed
-spelling-parsed fs moves past parsed hold g k e l =
-    let quiet : opens_in past (given moves) ≡ false = ap (opens_in past) e ∙ opens_in-spelling past fs g k in
+pub written_form-parsed : WrittenFormsAreParsed
+written_form-parsed fs moves past parsed hold g k e l =
+    let quiet : opens_in past (given moves) ≡ false = ap (opens_in past) e ∙ opens_in-written_form past fs g k in
     let r = quiet-moves moves past parsed None hold refl quiet l in
     (r.0 ∙ ap (λ xs. past ++ xs) e, r.1)
 
-pub spelling-taken : {T : Type 0} (ticking : Ticking T) → SpellingsAreTaken ticking
-spelling-taken ticking fs past old new g k t =
+pub written_form-taken : {T : Type 0} (ticking : Ticking T) → WrittenFormsAreTaken ticking
+written_form-taken ticking fs past old new g k t =
     let l = t.leads in
-    let r = quiet-piece past (spell fs) l.parsed' l.hold' l.calls l.ticks l.takes (opens_in-spelling past fs g k) in (
+    let r = quiet-piece past (bytes_of fs) l.parsed' l.hold' l.calls l.ticks l.takes (opens_in-written_form past fs g k) in (
       subst (λ (xs : List ℕ). HoldsAt ticking new xs None) r.0
-          (subst (λ (h : Option (List ℕ)). HoldsAt ticking new l.parsed' h) r.1 t.stands),
+          (subst (λ (h : Option (List ℕ)). HoldsAt ticking new l.parsed' h) r.1 t.state_after),
       t.size,
     )

@@ -76,9 +76,9 @@ whole_shown z frames moves past parsed hold g all e l =
     let ground = frames_ground frames past (recursion_from_All IsFrame frames all) g in
     (ap (seen z) is.0, is.1, subst (λ (xs : List ℕ). AtGround 1024 xs) (sym is.0) ground)
 
-all_front : (P : List ℕ → Type 0) (a b : List (List ℕ)) → AllByRecursion P (a ++ b) → AllByRecursion P a
-all_front P [] b h = tt
-all_front P (x ∷ a) b h = (h.0, all_front P a b h.1)
+all_prefix : (P : List ℕ → Type 0) (a b : List (List ℕ)) → AllByRecursion P (a ++ b) → AllByRecursion P a
+all_prefix P [] b h = tt
+all_prefix P (x ∷ a) b h = (h.0, all_prefix P a b h.1)
 
 all_back : (P : List ℕ → Type 0) (a b : List (List ℕ)) → AllByRecursion P (a ++ b) → AllByRecursion P b
 all_back P [] b h = h
@@ -87,13 +87,13 @@ all_back P (x ∷ a) b h = all_back P a b h.1
 pub none_torn : NoFrameIsTorn
 none_torn z frames pieces beyond past parsed hold g all small e l =
     let u = never_torn frames pieces beyond past parsed hold all small e l in
-    let f = u.front in
+    let f = u.prefix in
     let each : AllByRecursion IsFrame (f.whole ++ f.rest) =
     subst (AllByRecursion IsFrame) f.frames_are (recursion_from_All IsFrame frames all) in
     let begun = mark_begun (past ++ concat f.whole) f.part parsed hold f.rest (all_back IsFrame f.whole f.rest each)
     f.is_part u.rests in
-    let ground = frames_ground f.whole past (all_front IsFrame f.whole f.rest each) g in
+    let ground = frames_ground f.whole past (all_prefix IsFrame f.whole f.rest each) g in
     record {
-      front = f;
+      prefix = f;
       shows = ap (seen z) begun.2 ∙ begun-shows z (past ++ concat f.whole) begun.0 ground begun.1;
     }

@@ -8,6 +8,6 @@ pub mod PictureSteps
 pub mod LawLemmas
 pub mod KeptTerms
 pub mod ViewReads
-pub mod Spellings
+pub mod WrittenForms
 pub mod FramedForms
 pub mod RunSteps

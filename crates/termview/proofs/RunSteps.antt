@@ -20,7 +20,7 @@ use Rattle.vte_types.specs.Call.{Call, Calls, input}
 use Rattle.vte_types.proofs.CallLemmas.{Calls-append}
 use Rattle.terminal_model.specs.Apply.{made_to_fit}
 use Rattle.termview.specs.Step.{view_step, printed}
-use Rattle.termview.specs.Picture.{PictureView, IsPicture, Becomes, Does, ShowsFront, term_of_picture}
+use Rattle.termview.specs.Picture.{PictureView, IsPicture, Becomes, Does, ShowsPrefix, term_of_picture}
 use Rattle.termview.proofs.RowTerms.{cursor_row, cursor_row-is, here, printed-is, span_of-cell}
 use Rattle.termview.proofs.KeptPictures.{IsPicture-row, IsPicture-put, put_at}
 use Rattle.termview.proofs.PictureSteps.{prints, read, room-there}
@@ -122,23 +122,23 @@ runs-on p q r xs n first more =
 
 -- ---- the front of a text, and what is left of it
 
-pub front-run : (text : List ℕ) (n : ℕ) (p q : PictureView) → All IsPrintable (take n text)
-    → Calls Does p (map input (take n text)) q → ShowsFront text (drop n text) p q
-front-run text n p q s shown = (take n text, printable-chars text n s, shown)
+pub prefix-run : (text : List ℕ) (n : ℕ) (p q : PictureView) → All IsPrintable (take n text)
+    → Calls Does p (map input (take n text)) q → ShowsPrefix text (drop n text) p q
+prefix-run text n p q s shown = (take n text, printable-chars text n s, shown)
 
-pub front-char : (text left : List ℕ) (c : ℕ) (p q : PictureView) → IsUtf8 text → text ≡ encode_utf8 c ++ left
-    → Becomes p q (printed p.size c (term_of_picture p)) → ShowsFront text left p q
+pub prefix-char : (text left : List ℕ) (c : ℕ) (p q : PictureView) → IsUtf8 text → text ≡ encode_utf8 c ++ left
+    → Becomes p q (printed p.size c (term_of_picture p)) → ShowsPrefix text left p q
 unfolding view_step
-front-char text left c p q utf8 e shown = (c ∷ [], chars_past_char text left c utf8 e, (q, shown, refl))
+prefix-char text left c p q utf8 e shown = (c ∷ [], chars_past_char text left c utf8 e, (q, shown, refl))
 
-pub front-then : (text left : List ℕ) (p q r : PictureView) → ShowsFront text left p q
+pub prefix-then : (text left : List ℕ) (p q r : PictureView) → ShowsPrefix text left p q
     → Calls Does q (map input (chars left)) r → Calls Does p (map input (chars text)) r
-front-then text left p q r front more =
+prefix-then text left p q r prefix more =
     subst (λ (cs : List Call). Calls Does p cs r)
-    (sym (map-append input front.0 (chars left)) ∙ ap (map input) (sym front.1))
-    (Calls-append Does p q r (map input front.0) (map input (chars left)) front.2 more)
+    (sym (map-append input prefix.0 (chars left)) ∙ ap (map input) (sym prefix.1))
+    (Calls-append Does p q r (map input prefix.0) (map input (chars left)) prefix.2 more)
 
 -- where nothing is left
-pub front-end : (left : List ℕ) (p : PictureView) → length left ≡ 0 → Calls Does p (map input (chars left)) p
-front-end left p e =
+pub prefix-end : (left : List ℕ) (p : PictureView) → length left ≡ 0 → Calls Does p (map input (chars left)) p
+prefix-end left p e =
     subst (λ (xs : List ℕ). Calls Does p (map input xs) p) (sym (ap chars (nil_from_length left e) ∙ chars-nil)) refl

@@ -24,9 +24,9 @@ use Rattle.vt100_cells.specs.Line.{wiped, wipe_unflags}
 use Rattle.terminal_model.specs.Position.{update}
 use Rattle.terminal_model.specs.Term.{Size, Term, IsTerm}
 use Rattle.terminal_model.specs.Apply.{input, erase, with_line, apply, switched}
-use Rattle.forms_read.specs.Calls.{name_of, color_told, style_told, set_call, reset_call}
+use Rattle.forms_read.specs.Calls.{name_of, color_reported, style_reported, set_call, reset_call}
 use Rattle.forms_read.specs.Terminals.{ReadsAttributes, ReadsCalls}
-use Rattle.forms_read.proofs.Told.{Below, each-below}
+use Rattle.forms_read.proofs.Reported.{Below, each-below}
 use Rattle.termview.specs.Step.{printed, erase_below, named_color, with_foreground, with_background, with_attr}
 use Rattle.termview.specs.Step.{view_step}
 
@@ -38,14 +38,14 @@ names = search rules
 named-is : (i : ℕ) → i < 16 → named_color (name_of i) ≡ Some (Idx i)
 named-is i l = each-below (λ j. named_color (name_of j) ≡ Some (Idx j)) 16 i names l
 
-fore-is : (c : Color) (x : Attrs) → with_attr (a.Foreground (color_told n.Foreground c)) x ≡ record x { fgcolor = c }
+fore-is : (c : Color) (x : Attrs) → with_attr (a.Foreground (color_reported n.Foreground c)) x ≡ record x { fgcolor = c }
 fore-is Default x = refl
 fore-is (Idx i) x =
     cond_both (nat_lt i 16) _ _ (λ y. with_attr (a.Foreground y) x ≡ record x { fgcolor = Idx i })
     (λ e. ap (λ o. with_foreground o x) (named-is i (ltb-true i 16 e))) (λ _. refl)
 fore-is (Rgb r g b) x = refl
 
-back-is : (c : Color) (x : Attrs) → with_attr (a.Background (color_told n.Background c)) x ≡ record x { bgcolor = c }
+back-is : (c : Color) (x : Attrs) → with_attr (a.Background (color_reported n.Background c)) x ≡ record x { bgcolor = c }
 back-is Default x = refl
 back-is (Idx i) x =
     cond_both (nat_lt i 16) _ _ (λ y. with_attr (a.Background y) x ≡ record x { bgcolor = Idx i })
@@ -166,7 +166,7 @@ encoding-reset z encoding.Default t ne = absurd (ne refl)
 encoding-reset z _ t ne = refl
 
 style-is : (z : Size) (s : CursorStyle) (t : Term)
-    → view_step z (call.set_cursor_style (style_told s)) t ≡ record t { style = s }
+    → view_step z (call.set_cursor_style (style_reported s)) t ≡ record t { style = s }
 unfolding view_step
 style-is z style.Default t = refl
 style-is z _ t = refl

@@ -7,7 +7,7 @@ use Rattle.vte.specs.Marks.{start_mark, end_mark}
 use Rattle.vte.specs.Stretch.{opens_in, OpensAt}
 use Rattle.vte.specs.Moves.{Move, given}
 use Rattle.vte.specs.Frames.{IsFrame, Drives}
-use Rattle.vt100_forms.specs.Form.{Form, spell}
+use Rattle.vt100_forms.specs.Form.{Form, bytes_of}
 use Rattle.terminal_model.specs.Term.{Size}
 use Rattle.terminal_model.specs.Apply.{run}
 use Rattle.terminal_model.specs.FormText.{IsSentForm}
@@ -18,7 +18,7 @@ use Rattle.termview.specs.declared.view.View.{View}
 
 -- the marks of an update around the bytes of forms
 abbrev pub framed : List Form → List ℕ
-framed fs = start_mark ++ (spell fs ++ end_mark)
+framed fs = start_mark ++ (bytes_of fs ++ end_mark)
 
 -- the bytes of forms between the marks are a frame
 abbrev pub FormsMakeFrames : Type 0
@@ -27,7 +27,7 @@ FormsMakeFrames = (fs : List Form) → AllByRecursion IsSentForm fs → IsFrame 
 -- whatever came before, such a frame opens a synchronized update at its eighth byte, and at no other byte
 abbrev pub FramesOpenOnce : Type 0
 FramesOpenOnce = (past : List ℕ) (fs : List Form) → AllByRecursion IsSentForm fs
-    → OpensAt past (framed fs) 8 × (opens_in (past ++ start_mark) (spell fs ++ end_mark) ≡ false)
+    → OpensAt past (framed fs) 8 × (opens_in (past ++ start_mark) (bytes_of fs ++ end_mark) ≡ false)
 
 -- such a frame doesn't end inside a character or an escape sequence
 abbrev pub FramesFinish : Type 0
@@ -40,13 +40,13 @@ FramesShowForms = (z : Size) (past : List ℕ) (fs : List Form) → 0 < z.rows �
 
 -- If no update is open, and the past doesn't end inside a character or a sequence, the bytes of forms are all parsed
 -- and none is buffered. This holds for any pieces, and wherever `stop_sync` is called.
-abbrev pub SpellingsAreParsed : Type 0
-SpellingsAreParsed = (fs : List Form) (moves : List Move) (past parsed : List ℕ) (hold : Option (List ℕ))
-    → AtGround 1024 past → AllByRecursion IsSentForm fs → given moves ≡ spell fs → Drives moves past None parsed hold
-    → (parsed ≡ past ++ spell fs) × (hold ≡ None)
+abbrev pub WrittenFormsAreParsed : Type 0
+WrittenFormsAreParsed = (fs : List Form) (moves : List Move) (past parsed : List ℕ) (hold : Option (List ℕ))
+    → AtGround 1024 past → AllByRecursion IsSentForm fs → given moves ≡ bytes_of fs → Drives moves past None parsed hold
+    → (parsed ≡ past ++ bytes_of fs) × (hold ≡ None)
 
 -- a view that has buffered nothing parses all bytes of forms at once
-abbrev pub SpellingsAreTaken : {T : Type 0} → Ticking T → Type 0
-SpellingsAreTaken {T} ticking = (fs : List Form) (past : List ℕ) (old new : View T)
-    → AtGround 1024 past → AllByRecursion IsSentForm fs → Taken ticking old past None (spell fs) new
-    → HoldsAt ticking new (past ++ spell fs) None × (view_size new ≡ view_size old)
+abbrev pub WrittenFormsAreTaken : {T : Type 0} → Ticking T → Type 0
+WrittenFormsAreTaken {T} ticking = (fs : List Form) (past : List ℕ) (old new : View T)
+    → AtGround 1024 past → AllByRecursion IsSentForm fs → Taken ticking old past None (bytes_of fs) new
+    → HoldsAt ticking new (past ++ bytes_of fs) None × (view_size new ≡ view_size old)

@@ -9,8 +9,8 @@ use Rattle.vte.specs.Stretch.{last_of, calls_from}
 use Rattle.vte.specs.Marks.{start_mark, end_mark}
 use Rattle.vte.specs.Hold.{limit}
 use Rattle.vte.specs.Moves.{Move, Gives, given}
-use Rattle.vte.specs.Frames.{IsFrame, IsFront, Drives}
-use Rattle.vt100_forms.specs.Form.{Form, spell}
+use Rattle.vte.specs.Frames.{IsFrame, IsPrefix, Drives}
+use Rattle.vt100_forms.specs.Form.{Form, bytes_of}
 use Rattle.terminal_model.specs.Term.{Size, Term, IsTerm}
 use Rattle.terminal_model.specs.Apply.{run}
 use Rattle.terminal_model.specs.FormText.{IsSentForm}
@@ -45,8 +45,8 @@ WholeFramesAreShown = (z : Size) (frames : List (List ℕ)) (moves : List Move) 
 
 -- exactly the frames that were given whole are shown
 pub record ShowsWhole (z : Size) (frames : List (List ℕ)) (past bytes parsed : List ℕ) : Type 0 where
-  pub front : IsFront frames bytes
-  pub shows : seen z parsed ≡ seen z (past ++ concat front.whole)
+  pub prefix : IsPrefix frames bytes
+  pub shows : seen z parsed ≡ seen z (past ++ concat prefix.whole)
 
 -- frames below the buffer's limit are never shown in part, whatever prefix of them arrives, in any pieces
 abbrev pub NoFrameIsTorn : Type 0
@@ -65,7 +65,7 @@ EachStreamShowsATerminal = (z : Size) (bytes : List ℕ) → 0 < z.rows → 0 < 
 
 -- The bytes of forms have the effect of the forms, after any past that leaves the parser at ground, and leave it at
 -- ground again. Their texts may have U+FE0F.
-abbrev pub EachSpellingIsShown : Type 0
-EachSpellingIsShown = (z : Size) (past : List ℕ) (fs : List Form) → 0 < z.rows → 0 < z.cols → IsSmall z
+abbrev pub EachWrittenFormIsShown : Type 0
+EachWrittenFormIsShown = (z : Size) (past : List ℕ) (fs : List Form) → 0 < z.rows → 0 < z.cols → IsSmall z
     → AtGround 1024 past → AllByRecursion IsSentForm fs
-    → (seen z (past ++ spell fs) ≡ run z fs (seen z past)) × AtGround 1024 (past ++ spell fs)
+    → (seen z (past ++ bytes_of fs) ≡ run z fs (seen z past)) × AtGround 1024 (past ++ bytes_of fs)

@@ -64,5 +64,5 @@ abbrev pub Does : PictureView → Call → PictureView → Type 0
 Does p c q = Becomes p q (view_step p.size c (term_of_picture p))
 
 -- a prefix of the text's characters has been printed, and `left` are the bytes of the others
-abbrev pub ShowsFront : List ℕ → List ℕ → PictureView → PictureView → Type 0
-ShowsFront text left p q = (front : List ℕ) × (chars text ≡ front ++ chars left) × Calls Does p (map input front) q
+abbrev pub ShowsPrefix : List ℕ → List ℕ → PictureView → PictureView → Type 0
+ShowsPrefix text left p q = (prefix : List ℕ) × (chars text ≡ prefix ++ chars left) × Calls Does p (map input prefix) q

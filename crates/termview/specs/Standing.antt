@@ -23,14 +23,14 @@ abbrev pub timeout_of : {T : Type 0} → View T → T
 timeout_of v = processor.timeout_of v.processor
 
 -- the view has parsed `parsed` and shows its effect on a blank terminal, and it has buffered `held`
-pub record ViewStandsAt {T : Type 0} (v : View T) (parsed held : List ℕ) : Type 0 where
-  pub reads : processor.StandsAt v.processor parsed held
+pub record ViewIsAfter {T : Type 0} (v : View T) (parsed held : List ℕ) : Type 0 where
+  pub reads : processor.IsStateAfter v.processor parsed held
   pub shows : shown_by v ≡ seen (view_size v) parsed
 
 -- the view is in that state, and the timeout is pending exactly if an update is open
 pub record HoldsAt {T : Type 0} (ticking : Ticking T) (v : View T) (parsed : List ℕ) (hold : Option (List ℕ))
     : Type 0 where
-  pub stands : ViewStandsAt v parsed (held_of hold)
+  pub state_after : ViewIsAfter v parsed (held_of hold)
   pub awaits : Awaits ticking (timeout_of v) (is_some hold)
 
 -- the state of the view after the next bytes
@@ -40,19 +40,19 @@ pub record Advanced {T : Type 0} (ticking : Ticking T) (old : View T) (parsed he
   pub held' : List ℕ
   pub calls : List Call
   pub advances : Advances ticking false (timeout_of old) parsed held piece (timeout_of new) parsed' held' calls
-  pub stands : ViewStandsAt new parsed' held'
+  pub state_after : ViewIsAfter new parsed' held'
   pub size : view_size new ≡ view_size old
 
 -- the state of the view after the next bytes, with a timeout that is pending exactly from setting to clearing
 pub record Taken {T : Type 0} (ticking : Ticking T) (old : View T) (parsed : List ℕ) (hold : Option (List ℕ))
     (piece : List ℕ) (new : View T) : Type 0 where
   pub leads : TakesPiece ticking (timeout_of old) parsed hold piece (timeout_of new)
-  pub stands : HoldsAt ticking new leads.parsed' leads.hold'
+  pub state_after : HoldsAt ticking new leads.parsed' leads.hold'
   pub size : view_size new ≡ view_size old
 
 -- all buffered bytes were parsed, and the update was closed
 pub record Emptied {T : Type 0} (ticking : Ticking T) (old : View T) (parsed held : List ℕ) (new : View T)
     : Type 0 where
-  pub stands : ViewStandsAt new (parsed ++ held) []
+  pub state_after : ViewIsAfter new (parsed ++ held) []
   pub ticked : Ticked ticking (timeout_of old) (ticks_from parsed held ++ Clears ∷ []) (timeout_of new)
   pub size : view_size new ≡ view_size old

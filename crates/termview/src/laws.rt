@@ -1,9 +1,9 @@
 //! Laws of what a view shows, each as the contract of a function that does nothing.
 ghost use Rattle.termview.specs.Laws.{MoreBytesStep, MarksShowNothing, FramesShowTheirBodies, WholeFramesAreShown};
 ghost use Rattle.termview.specs.Laws.{NoFrameIsTorn, EachCallKeepsTerminals, EachStreamShowsATerminal};
-ghost use Rattle.termview.specs.Laws.{EachSpellingIsShown};
+ghost use Rattle.termview.specs.Laws.{EachWrittenFormIsShown};
 ghost use Rattle.termview.specs.FormFrames.{FormsMakeFrames, FramesOpenOnce, FramesFinish, FramesShowForms};
-ghost use Rattle.termview.specs.FormFrames.{SpellingsAreParsed, SpellingsAreTaken};
+ghost use Rattle.termview.specs.FormFrames.{WrittenFormsAreParsed, WrittenFormsAreTaken};
 
 pub use crate::until_cleared::until_cleared_is_exact;
 use vte::ansi::Timeout;
@@ -44,8 +44,8 @@ pub fn views_show_terminals()
 /// The bytes of forms (texts and escape sequences of the writers) have the forms' effect, on every screen of at most
 /// 65,535 rows and columns. They may follow any bytes that don't end inside a character or an escape sequence, and they
 /// don't end inside one either.
-pub fn spellings_are_shown()
-    ensures { EachSpellingIsShown }
+pub fn written_forms_are_shown()
+    ensures { EachWrittenFormIsShown }
 {}
 
 /// The bytes of forms between the marks of a synchronized update are a frame (`frames`). Whatever came before, the
@@ -60,7 +60,7 @@ pub fn forms_are_framed()
 
 /// If no synchronized update is open, all bytes of forms are parsed at once and none is buffered, in any pieces. They
 /// must not follow an unfinished character or escape sequence.
-pub fn spellings_are_read<T: Timeout>()
-    ensures pieces { SpellingsAreParsed }
-    ensures views { SpellingsAreTaken T.ticking }
+pub fn written_forms_are_read<T: Timeout>()
+    ensures pieces { WrittenFormsAreParsed }
+    ensures views { WrittenFormsAreTaken T.ticking }
 {}

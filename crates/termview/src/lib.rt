@@ -16,8 +16,8 @@ mod text;
 mod until_cleared;
 mod view;
 
+pub use byte_sinks::ByteSink;
 pub use error::ViewError;
-pub use takers::Taker;
 pub use until_cleared::UntilCleared;
 pub use view::View;
 pub use vt100_cells::Cell as ViewCell;

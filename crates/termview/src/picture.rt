@@ -12,7 +12,7 @@ ghost use Rattle.vt100_rows.specs.Text.{line_text};
 ghost use Rattle.terminal_model.specs.Term.{blank_term};
 ghost use Rattle.terminal_model.specs.Apply.{erase, input, print, join, down, wrap, made_to_fit};
 ghost use Rattle.termview.specs.Step.{printed, erase_below, cursor_saved, cursor_restored, flag_above};
-ghost use Rattle.termview.specs.Picture.{term_of_picture, Becomes, Does, ShowsFront};
+ghost use Rattle.termview.specs.Picture.{term_of_picture, Becomes, Does, ShowsPrefix};
 ghost use Rattle.termview.specs.Seen.{cell_shown, text_shown};
 
 use crate::error::ViewError;
@@ -103,7 +103,7 @@ impl Picture {
     pub(crate) fn input_some<'a>(&mut self, text: &'a str) -> &'a str
         requires { 0 < length text.now }
         ensures shorter { length result.now < length text.now }
-        ensures shown { ShowsFront text.now result.now self.old self.new }
+        ensures shown { ShowsPrefix text.now result.now self.old self.new }
     {
         let len = printable_len(text.as_bytes());
         if len > 0 {

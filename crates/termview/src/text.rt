@@ -1,18 +1,18 @@
 //! Writing the text of a row.
 ghost use Rattle.std.specs.Prelude.{◌≡◌, ◌≤◌, ℕ, List, length, encode_utf8_all};
-ghost use Rattle.takers.specs.Sent.{SendsText};
+ghost use Rattle.byte_sinks.specs.Sent.{SendsText};
 ghost use Rattle.vt100_cells.specs.Cells.{cell_at};
 ghost use Rattle.vt100_rows.specs.Text.{column_text, columns_text, line_text};
 ghost use Rattle.termview.specs.Writing.{cell_text};
 
+use byte_sinks::{ByteSink, pump};
 use std::io;
-use takers::{Taker, pump};
 use vt100_cells::Cell;
 use vt100_cells::line::at;
 
 /// Writes the text of the cells, without the empty cells at their end. Each cell is written with a pump of its own. The
 /// first failed write ends it.
-pub(crate) fn write_cells<T: Taker>(cells: &[Cell], to: &mut T) -> io::Result<()>
+pub(crate) fn write_cells<T: ByteSink>(cells: &[Cell], to: &mut T) -> io::Result<()>
     ensures { SendsText T.takes to.old (encode_utf8_all (line_text (cell_at cells.now) 0 (length cells.now))) result
         to.new }
 {

@@ -2,7 +2,7 @@
 ghost use Rattle.std.specs.Prelude.{◌≡◌, ℕ, List, [], Option, Some, None, false, length, IfOk, OnErr, Err};
 ghost use Rattle.std.specs.Prelude.{encode_utf8_all, ◌++◌, ◌≤◌};
 ghost use Rattle.std.specs.Option.{option_copied};
-ghost use Rattle.takers.specs.Sent.{SendsText};
+ghost use Rattle.byte_sinks.specs.Sent.{SendsText};
 ghost use Rattle.vt100_forms.specs.Attrs.{is_bold, is_dim, is_italic, is_underlined, is_inverse};
 ghost use Rattle.termview.specs.Seen.{cell_shown, text_shown};
 ghost use Rattle.termview.specs.declared.error.ViewError.TheVariants.{Memory};
@@ -10,10 +10,10 @@ ghost use Rattle.termview.specs.declared.error.ViewError.TheVariants.{Memory};
 use crate::error::ViewError;
 use crate::picture::Picture;
 use crate::text::write_cells;
+use byte_sinks::ByteSink;
 use std::alloc::Global;
 use std::io;
 use std::num::NonZeroU16;
-use takers::Taker;
 use vt100_cells::Cell;
 use vt100_forms::{Color, CursorStyle, MouseProtocolEncoding, MouseProtocolMode};
 use vt100_rows::Size;
@@ -33,7 +33,7 @@ pub struct View<T: Timeout> {
 impl<T: Timeout + Drop> View<T> {
     ghost use Rattle.vte.specs.Timeout.{IsExact, Awaits};
     ghost use Rattle.vte.specs.Hold.{held_of};
-    ghost use Rattle.termview.specs.Standing.{view_size, shown_by, timeout_of, ViewStandsAt, HoldsAt, Advanced, Emptied};
+    ghost use Rattle.termview.specs.Standing.{view_size, shown_by, timeout_of, ViewIsAfter, HoldsAt, Advanced, Emptied};
     ghost use Rattle.termview.specs.Standing.{Taken};
 
     /// A blank view of this size. It allocates all the memory that it will need, so no later call fails for want of
@@ -45,7 +45,7 @@ impl<T: Timeout + Drop> View<T> {
         cols: NonZeroU16,
         timeout: T,
     ) -> Result<Self, ViewError>
-        ensures stands { IfOk result (λ v. ViewStandsAt v [] []) }
+        ensures state_after { IfOk result (λ v. ViewIsAfter v [] []) }
         ensures exact { IfOk result (λ v. Awaits T.ticking timeout false → HoldsAt T.ticking v [] None) }
         ensures rows { IfOk result (λ v. (view_size v).rows ≡ rows.value) }
         ensures cols { IfOk result (λ v. (view_size v).cols ≡ cols.value) }
@@ -59,7 +59,7 @@ impl<T: Timeout + Drop> View<T> {
 
     /// Reads the next bytes of the stream. They may end anywhere, also inside a character or an escape sequence.
     pub fn advance(&mut self, bytes: &[u8])
-        ensures advanced { (parsed held : List ℕ) → ViewStandsAt self.old parsed held
+        ensures advanced { (parsed held : List ℕ) → ViewIsAfter self.old parsed held
             → Advanced T.ticking self.old parsed held bytes.now self.new }
         ensures exact { (parsed : List ℕ) (hold : Option (List ℕ)) → IsExact T.ticking
             → HoldsAt T.ticking self.old parsed hold
@@ -70,7 +70,7 @@ impl<T: Timeout + Drop> View<T> {
 
     /// Parses the buffered bytes, and closes the synchronized update.
     pub fn stop_sync(&mut self)
-        ensures emptied { (parsed held : List ℕ) → ViewStandsAt self.old parsed held
+        ensures emptied { (parsed held : List ℕ) → ViewIsAfter self.old parsed held
             → Emptied T.ticking self.old parsed held self.new }
         ensures exact { (parsed : List ℕ) (hold : Option (List ℕ)) → IsExact T.ticking
             → HoldsAt T.ticking self.old parsed hold
@@ -81,7 +81,7 @@ impl<T: Timeout + Drop> View<T> {
 
     /// How many bytes of a synchronized update are buffered: at most 2,097,150.
     pub fn sync_bytes_count(&self) -> usize
-        ensures count { (parsed held : List ℕ) → ViewStandsAt self.now parsed held → result ≡ length held }
+        ensures count { (parsed held : List ℕ) → ViewIsAfter self.now parsed held → result ≡ length held }
         ensures most { result ≤ 2_097_150 }
     {
         self.processor.sync_bytes_count()
@@ -125,7 +125,7 @@ impl<T: Timeout> View<T> {
     /// Writes the text of the row, counted from 0, as UTF-8 and without the empty columns at its end. It writes nothing
     /// for a row past the last. Fails only if a write fails or takes no byte; the bytes that were taken before stay
     /// written.
-    pub fn row_text<W: Taker>(&self, row: u16, to: &mut W) -> io::Result<()>
+    pub fn row_text<W: ByteSink>(&self, row: u16, to: &mut W) -> io::Result<()>
         ensures { SendsText W.takes to.old (encode_utf8_all (text_shown (view_size self.now) (shown_by self.now) row))
             result to.new }
     {

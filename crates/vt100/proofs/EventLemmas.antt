@@ -5,7 +5,7 @@ use Rattle.std.proofs.lemmas.Bool.{false≢true}
 use Rattle.vt100_rows.specs.Row.{RowView}
 use Rattle.screen_model.specs.State.{State}
 use Rattle.screen_model.specs.Step.{Stepped, Partly}
-use Rattle.screen_model.specs.Call.{Call, ScreenView, Hears, unhandled_escape}
+use Rattle.screen_model.specs.Call.{Call, ScreenView, Receives, unhandled_escape}
 use Rattle.screen_model.specs.Effect.{Effect, changes, steps, calling, partly, first, second, row_effect, plain_effect}
 use Rattle.screen_model.specs.Effect.{plain_rows, private_rows, other_rows, escape_effect}
 use Rattle.screen_model.specs.Lookup.{lookup}
@@ -69,7 +69,7 @@ module _ {C : Type 0} {step : C → ScreenView → Call → C → ScreenView →
       → (v.failed ≡ false → result ≡ Err Memory → t ≡ true) → Does step scrolls (λ s. steps (f s)) t c v d w
   does_steps {A} {t} {c} {d} f (Ok a) x k takes = record {
     dead = λ e. ((x.dead e).2, (x.dead e).1);
-    live = λ e. inl (d, x.hears, (refl, x.screen));
+    live = λ e. inl (d, x.receives, (refl, x.screen));
   }
   does_steps f (Err Memory) x k takes = record {
     dead = λ e. ((x.dead e).2, (x.dead e).1);
@@ -77,7 +77,7 @@ module _ {C : Type 0} {step : C → ScreenView → Call → C → ScreenView →
       may_take = takes e refl;
       failed = x.memory refl;
       bounds = k;
-      told = x.told refl;
+      reported = x.reported refl;
     });
   }
   does_steps f (Err Failed) x k takes = record {
@@ -119,22 +119,22 @@ module _ {C : Type 0} {step : C → ScreenView → Call → C → ScreenView →
 
   -- a call of which parts can be unknown, and then the calls that tell of these
   does_unhandled : {t : Bool} {c d : C} {v w : ScreenView} (f : State → Partly) (k : Call) (n : ℕ) (b : C)
-      (u : ScreenView) → v.failed ≡ false → Hears scrolls c (f v.state).reports b → u ≡ alive (f v.state).state
+      (u : ScreenView) → v.failed ≡ false → Receives scrolls c (f v.state).reports b → u ≡ alive (f v.state).state
       → n ≡ (f v.state).unhandled → Tells step b u (replicate n k) d w → Does step scrolls (λ s. partly (f s) k) t c v d w
-  does_unhandled f k n b u h hears screen count calls =
-      does_live (λ s. partly (f s) k) h (inl (b, hears, rw (count, screen) at calls))
+  does_unhandled f k n b u h receives screen count calls =
+      does_live (λ s. partly (f s) k) h (inl (b, receives, rw (count, screen) at calls))
 
   pub does_counts : {t : Bool} {c b d : C} {v u w : ScreenView} {n : ℕ} {f : State → Partly} (k : Call)
       → v.failed ≡ false → Counts scrolls f v c n u b → Tells step b u (replicate n k) d w
       → Does step scrolls (λ s. partly (f s) k) t c v d w
   does_counts {t} {c} {b} {d} {v} {u} {w} {n} {f} k h x calls =
-      does_unhandled f k _ _ _ h (x.hears h) (x.screen h) (x.count h) calls
+      does_unhandled f k _ _ _ h (x.receives h) (x.screen h) (x.count h) calls
 
   pub does_parts : {t : Bool} {c b d : C} {v u w : ScreenView} {n : ℕ} {f : State → Partly} (k : Call)
       → v.failed ≡ false → TriesParts scrolls f v c (Ok n) u b → Tells step b u (replicate n k) d w
       → Does step scrolls (λ s. partly (f s) k) t c v d w
   does_parts {t} {c} {b} {d} {v} {u} {w} {n} {f} k h x calls =
-      does_unhandled f k _ _ _ h x.tries.hears x.tries.screen x.count calls
+      does_unhandled f k _ _ _ h x.tries.receives x.tries.screen x.count calls
 
   -- the same effect, in other words
   pub does_as : {t : Bool} {g : State → Effect} {c d : C} {v w : ScreenView} (f : State → Effect)

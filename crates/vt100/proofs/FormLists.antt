@@ -29,7 +29,7 @@ use Rattle.screen_model.proofs.MadeLemmas.{makes-cells}
 use Rattle.vt100.specs.Writers.{contents_diff, state_diff, each_formatted, each_diff}
 use Rattle.vt100.specs.WriterLaws.{IsUnscrolled, IsPlainlyShown}
 use Rattle.vt100.specs.FormLists.{EachScreenIsKnown, EachMadeScreenIsKnown, IsTrueOfLists, EachListIsSent}
-use Rattle.vt100.specs.FormLists.{EachListIsOfForms, IsSpelled, IsTrueOfRows, EachRowIsSent, EachRowIsOfForms}
+use Rattle.vt100.specs.FormLists.{EachListIsOfForms, IsWritten, IsTrueOfRows, EachRowIsSent, EachRowIsOfForms}
 use Rattle.vt100.specs.FormLists.{EachScreenIsSmall}
 use Rattle.vt100.proofs.ShownLemmas.{cells-are, shown-is, old-shown, redraw-of_shown, difference-of_shown}
 use Rattle.vt100.proofs.ShownLemmas.{screen-drawable}
@@ -134,7 +134,7 @@ EachIs P vs = (j : ℕ) → j < length vs → P (row_at vs j)
 
 each-sent : (Q : List Form → Type 0) (P : RowView → Type 0) → ((v : RowView) → P v → IsTrueOfSmallForms Q v)
     → (start width i : ℕ) (whole above : Bool) (vs : List RowView) → EachIs P vs → i + length vs ≤ 2 ^ 16
-    → AllByRecursion (IsSpelled Q) (each_formatted start width whole i above vs)
+    → AllByRecursion (IsWritten Q) (each_formatted start width whole i above vs)
 unfolding IsSmallPen SmallErase
 each-sent Q P lists start width i whole above [] h l = tt
 each-sent Q P lists start width i whole above (v ∷ vs) h l =
@@ -146,7 +146,7 @@ each-sent Q P lists start width i whole above (v ∷ vs) h l =
 
 each-changed : (Q : List Form → Type 0) (P : RowView → Type 0) → ((v : RowView) → P v → IsTrueOfSmallForms Q v)
     → (start width i : ℕ) (vs es : List RowView) → EachIs P vs → i + length vs ≤ 2 ^ 16
-    → AllByRecursion (IsSpelled Q) (each_diff start width i vs es)
+    → AllByRecursion (IsWritten Q) (each_diff start width i vs es)
 unfolding IsSmallPen SmallErase
 each-changed Q P lists start width i [] es h l = tt
 each-changed Q P lists start width i (v ∷ vs) [] h l = tt

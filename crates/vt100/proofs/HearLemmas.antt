@@ -12,9 +12,9 @@ use Rattle.vt100_core.specs.Grid.{GridView, IsAllocated, SameLimits}
 use Rattle.vt100_core.specs.Scroll.{Scrolled, ScrollsNoneOff}
 use Rattle.screen_model.specs.State.{State}
 use Rattle.screen_model.specs.Step.{Report, Stepped, reports_of}
-use Rattle.screen_model.specs.Call.{ScreenView, Hears}
+use Rattle.screen_model.specs.Call.{ScreenView, Receives}
 use Rattle.vt100.specs.Draws.{Draws}
-use Rattle.vt100.specs.Tries.{MayScroll, Tries, HearsFront, alive}
+use Rattle.vt100.specs.Tries.{MayScroll, Tries, ReceivesPrefix, alive}
 use Rattle.vt100.specs.declared.error.ScreenError.{ScreenError}
 use Rattle.vt100.specs.declared.error.ScreenError.TheVariants.{Memory}
 use Rattle.vt100.specs.declared.screen.reported.Reporter.{Reporter}
@@ -41,25 +41,25 @@ Reports scrolls s v t = scrolls s.callbacks.now v s.alternate_screen t.callbacks
 
 module _ {C : Type 0} (scrolls : C → RowView → Bool → C → Type 0) where
   -- the callbacks of a reporter hear of the rows, and stay where they are
-  pub hears_all : (s : Reporter C) (rows : List RowView) (t : Reporter C) → TakesAll (Reports scrolls) s rows t
-      → Hears scrolls s.callbacks.now (reports_of s.alternate_screen rows) t.callbacks.now
+  pub receives_all : (s : Reporter C) (rows : List RowView) (t : Reporter C) → TakesAll (Reports scrolls) s rows t
+      → Receives scrolls s.callbacks.now (reports_of s.alternate_screen rows) t.callbacks.now
       × (t.callbacks.ghost_name ≡ s.callbacks.ghost_name)
-  hears_all s [] t h =
+  receives_all s [] t h =
       (ap (λ (x : Reporter C). x.callbacks.now) h, ap (λ (x : Reporter C). x.callbacks.ghost_name) (sym h))
-  hears_all s (v ∷ vs) t h =
-      let rest = hears_all h.0 vs t h.2 in
-      let later = subst (λ (a : Bool). Hears scrolls h.0.callbacks.now (reports_of a vs) t.callbacks.now) h.1.1 rest.0 in
+  receives_all s (v ∷ vs) t h =
+      let rest = receives_all h.0 vs t h.2 in
+      let later = subst (λ (a : Bool). Receives scrolls h.0.callbacks.now (reports_of a vs) t.callbacks.now) h.1.1 rest.0 in
       ((h.0.callbacks.now, h.1.0, later), rest.1 ∙ h.1.2)
 
   -- one list of reports after another
-  pub hears_append : (c : C) (xs ys : List Report) (b d : C) → Hears scrolls c xs b → Hears scrolls b ys d
-      → Hears scrolls c (xs ++ ys) d
-  hears_append c [] ys b d h k = subst (λ (x : C). Hears scrolls x ys d) (sym h) k
-  hears_append c (x ∷ xs) ys b d h k = (h.0, h.1, hears_append h.0 xs ys b d h.2 k)
+  pub receives_append : (c : C) (xs ys : List Report) (b d : C) → Receives scrolls c xs b → Receives scrolls b ys d
+      → Receives scrolls c (xs ++ ys) d
+  receives_append c [] ys b d h k = subst (λ (x : C). Receives scrolls x ys d) (sym h) k
+  receives_append c (x ∷ xs) ys b d h k = (h.0, h.1, receives_append h.0 xs ys b d h.2 k)
 
   -- all of some rows
-  pub hears_whole : (c : C) (xs : List Report) (d : C) → Hears scrolls c xs d → HearsFront scrolls c xs d
-  hears_whole c xs d h = (xs, [], sym (append-nil xs), h)
+  pub receives_whole : (c : C) (xs : List Report) (d : C) → Receives scrolls c xs d → ReceivesPrefix scrolls c xs d
+  receives_whole c xs d h = (xs, [], sym (append-nil xs), h)
 
   -- ---- calls on a sheet
 
@@ -68,12 +68,12 @@ module _ {C : Type 0} (scrolls : C → RowView → Bool → C → Type 0) where
       → (g.kept.capacity ≡ 0 → IsOk result) → (ScrollsNoneOff g x.grid → IsOk result) → IsAllocated h
       → Draws scrolls x g s result h t
   draws_all {A} {E} {x} {g} {h} {s} {t} result is taken limits keeps stays some =
-      let all = hears_all s x.sunk t taken in
+      let all = receives_all s x.sunk t taken in
       record {
         grid = is;
         same = all.1;
-        hears = on_ok result (λ _. all.0);
-        told = on-err result (hears_whole s.callbacks.now (reports_of s.alternate_screen x.sunk) t.callbacks.now all.0);
+        receives = on_ok result (λ _. all.0);
+        reported = on-err result (receives_whole s.callbacks.now (reports_of s.alternate_screen x.sunk) t.callbacks.now all.0);
         limits = limits;
         keeps_none = keeps;
         stays = stays;
@@ -83,28 +83,28 @@ module _ {C : Type 0} (scrolls : C → RowView → Bool → C → Type 0) where
   -- ---- calls
 
   pub tries_ok : {A : Type 0} (f : State → Stepped) (v : ScreenView) (c : C) (a : A) (w : ScreenView) (d : C)
-      → v.failed ≡ false → w ≡ alive (f v.state).state → Hears scrolls c (f v.state).reports d
+      → v.failed ≡ false → w ≡ alive (f v.state).state → Receives scrolls c (f v.state).reports d
       → Tries scrolls f v c (Ok a) w d
-  tries_ok f v c a w d live screen hears = record {
+  tries_ok f v c a w d live screen receives = record {
     live = live;
     screen = screen;
-    hears = hears;
+    receives = receives;
     memory = λ e. cc;
-    told = λ e. cc;
+    reported = λ e. cc;
     refused = λ e. cc;
     dead = λ e. absurd (false≢true (sym live ∙ e));
   }
 
   -- the screen has failed, and the callbacks were told of the first of the rows
-  pub tries_front : {A : Type 0} (f : State → Stepped) (v : ScreenView) (c : C) (w : ScreenView) (d : C)
-      → v.failed ≡ false → w.failed ≡ true → HearsFront scrolls c (f v.state).reports d
+  pub tries_prefix : {A : Type 0} (f : State → Stepped) (v : ScreenView) (c : C) (w : ScreenView) (d : C)
+      → v.failed ≡ false → w.failed ≡ true → ReceivesPrefix scrolls c (f v.state).reports d
       → Tries {A = A} scrolls f v c (Err Memory) w d
-  tries_front f v c w d live failed told = record {
+  tries_prefix f v c w d live failed reported = record {
     live = tt;
     screen = tt;
-    hears = tt;
+    receives = tt;
     memory = λ _. failed;
-    told = λ _. told;
+    reported = λ _. reported;
     refused = λ e. cc;
     dead = λ e. absurd (false≢true (sym live ∙ e));
   }
@@ -112,13 +112,13 @@ module _ {C : Type 0} (scrolls : C → RowView → Bool → C → Type 0) where
   -- after a call on the shown sheet
   pub scroll_refused : {A E : Type 0} {c d : C} {h : GridView} {failed : Bool} (f : State → Stepped) (v : ScreenView)
       (answer : Result A E) → v.failed ≡ false → failed ≡ true → IsErr answer
-      → OnErr answer (HearsFront scrolls c (f v.state).reports d) → SameLimits v.state.shown h
+      → OnErr answer (ReceivesPrefix scrolls c (f v.state).reports d) → SameLimits v.state.shown h
       → (v.state.shown.kept.capacity ≡ 0 → IsOk answer)
       → (ScrollsNoneOff v.state.shown (f v.state).state.shown → IsOk answer)
       → MayScroll scrolls f (record { screen = v; callbacks = c }) (Err Memory)
       (record { screen = record { state = record (v.state) { shown = h }; failed = failed }; callbacks = d })
-  scroll_refused {A} {E} {c} {d} {h} f v answer live failed refused told limits keeps stays = record {
-    tries = tries_front f v c _ d live failed (at-err answer refused told);
+  scroll_refused {A} {E} {c} {d} {h} f v answer live failed refused reported limits keeps stays = record {
+    tries = tries_prefix f v c _ d live failed (at-err answer refused reported);
     bounds = bounds_drawn v.state h v.state.last limits;
     keeps_none = λ _ none. not-ok answer refused (keeps none);
     stays = λ _ none. not-ok answer refused (stays none);
@@ -134,9 +134,9 @@ module _ {C : Type 0} (scrolls : C → RowView → Bool → C → Type 0) where
         tries = record {
           live = t.live;
           screen = subst (λ (u : Stepped). OnOk result (q.screen ≡ alive u.state)) e t.screen;
-          hears = subst (λ (u : Stepped). OnOk result (Hears scrolls p.callbacks u.reports q.callbacks)) e t.hears;
+          receives = subst (λ (u : Stepped). OnOk result (Receives scrolls p.callbacks u.reports q.callbacks)) e t.receives;
           memory = t.memory;
-          told = λ m. subst (λ (u : Stepped). HearsFront scrolls p.callbacks u.reports q.callbacks) e (t.told m);
+          reported = λ m. subst (λ (u : Stepped). ReceivesPrefix scrolls p.callbacks u.reports q.callbacks) e (t.reported m);
           refused = t.refused;
           dead = t.dead;
         };

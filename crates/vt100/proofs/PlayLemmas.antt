@@ -5,8 +5,8 @@ use Rattle.std.proofs.lemmas.List.Elements.{All-head, All-tail}
 use Rattle.std.proofs.lemmas.Bool.{cases_Bool, false≢true}
 use Rattle.vte_core.specs.Event.{Event, Performs}
 use Rattle.vte_core.specs.declared.parser.Parser.{Parser}
-use Rattle.vte_core.specs.Standing.{Stands}
-use Rattle.vte_core.specs.Told.{Told}
+use Rattle.vte_core.specs.Standing.{IsAfter}
+use Rattle.vte_core.specs.Reported.{Reported}
 use Rattle.vte_core.specs.Added.{added}
 use Rattle.vte_core.proofs.AddedLemmas.{added-is, added-append, added-none}
 use Rattle.vt100_cells.proofs.CellLemmas.{or-true}
@@ -21,14 +21,14 @@ use Rattle.vt100.specs.declared.error.ScreenError.{ScreenError}
 use Rattle.vt100.specs.Tries.{Tries, SameBounds, alive}
 use Rattle.vt100.specs.Goes.{Tells, Fails, Goes, GoesThrough}
 use Rattle.vt100.specs.Memory.{may_take_memory, some_may_take}
-use Rattle.vt100.specs.Parsing.{ParserView, ParserStandsAt, KeepsScreens}
+use Rattle.vt100.specs.Parsing.{ParserView, ParserIsAfter, KeepsScreens}
 use Rattle.vt100.specs.Laws.{PlaysEvents, FeedsMake, FeedsJoin, FeedsNothing, ActsFollow, ResizedScreensArePutIn}
 use Rattle.screen_model.specs.Holds.{AreActs}
 use Rattle.vt100_core.specs.Grid.{GridView, SameLimits}
 use Rattle.screen_model.proofs.UnscrolledSheets.{Limits, IsUnscrolledSheet}
 use Rattle.screen_model.proofs.UnscrolledStates.{Bounds, IsUnscrolledState, limits, main-fine, alternate-fine}
 use Rattle.screen_model.proofs.UnscrolledEvents.{effect-well}
-use Rattle.screen_model.proofs.ScalarEvents.{IsTold, added-told}
+use Rattle.screen_model.proofs.ScalarEvents.{IsReported, added-reported}
 use Rattle.screen_model.proofs.MadeLemmas.{bounded, first_bounds, made-well}
 use Rattle.vt100.proofs.LimitsLemmas.{bounds_same, bounds_trans}
 use Rattle.vt100.proofs.EventLemmas.{is_alive}
@@ -46,14 +46,14 @@ goes_through step scrolls [] p q h = (ap (λ x. x.callbacks) h, ap (λ x. x.scre
 goes_through step scrolls (e ∷ es) p q (m, s, h) = (m.callbacks, m.screen, s, goes_through step scrolls es m q h)
 
 -- what a call of the reader told
-pub goes_told : {C : Type 0} {step : C → ScreenView → Call → C → ScreenView → Type 0}
+pub goes_reported : {C : Type 0} {step : C → ScreenView → Call → C → ScreenView → Type 0}
     {scrolls : C → RowView → Bool → C → Type 0} {r : Parser 1024} {p : WrappedScreen C} {bytes : List ℕ}
-    {q : WrappedScreen C} → Told (Steps step scrolls) 1024 r p bytes q → (past : List ℕ) → Stands 1024 r past
+    {q : WrappedScreen C} → Reported (Steps step scrolls) 1024 r p bytes q → (past : List ℕ) → IsAfter 1024 r past
     → GoesThrough step scrolls (events_added past bytes) p.callbacks p.screen q.callbacks q.screen
 unfolding added
-goes_told {C} {step} {scrolls} {r} {p} {bytes} {q} t past stands =
+goes_reported {C} {step} {scrolls} {r} {p} {bytes} {q} t past state_after =
     subst (λ (es : List Event). GoesThrough step scrolls es p.callbacks p.screen q.callbacks q.screen)
-    (added-is 1024 past bytes t.told (t.added past stands)) (goes_through step scrolls t.told p q t.performed)
+    (added-is 1024 past bytes t.reported (t.added past state_after)) (goes_through step scrolls t.reported p q t.performed)
 
 -- ---- what acts make
 
@@ -145,13 +145,13 @@ module _ {C : Type 0} (step : C → ScreenView → Call → C → ScreenView →
 
   -- ---- where a parser stands
 
-  pub stands_fed : (p q : ParserView C) (bytes : List ℕ)
-      → ((past : List ℕ) → Stands 1024 p.reader past → Stands 1024 q.reader (past ++ bytes))
-      → ((past : List ℕ) → Stands 1024 p.reader past
+  pub state_after_fed : (p q : ParserView C) (bytes : List ℕ)
+      → ((past : List ℕ) → IsAfter 1024 p.reader past → IsAfter 1024 q.reader (past ++ bytes))
+      → ((past : List ℕ) → IsAfter 1024 p.reader past
       → GoesThrough step scrolls (events_added past bytes) p.callbacks p.screen q.callbacks q.screen)
-      → q.screen.failed ≡ false → (rows cols capacity : ℕ) (acts : List Act) → ParserStandsAt p rows cols capacity acts
-      → ParserStandsAt q rows cols capacity (acts ++ Fed bytes ∷ [])
-  stands_fed p q bytes reads goes live rows cols capacity acts at =
+      → q.screen.failed ≡ false → (rows cols capacity : ℕ) (acts : List Act) → ParserIsAfter p rows cols capacity acts
+      → ParserIsAfter q rows cols capacity (acts ++ Fed bytes ∷ [])
+  state_after_fed p q bytes reads goes live rows cols capacity acts at =
       let past = bytes_fed acts in
       let alive_there = ap (λ (x : ScreenView). x.failed) at.screen in
       let shown = all_played (events_added past bytes) p.callbacks p.screen q.callbacks q.screen
@@ -176,31 +176,31 @@ module _ {C : Type 0} (step : C → ScreenView → Call → C → ScreenView →
         | inr x ↦ x
       ]
 
-  events_bounded : (b : Bounds) (es : List Event) → All IsTold es → (c : C) (v : ScreenView) (d : C) (w : ScreenView)
+  events_bounded : (b : Bounds) (es : List Event) → All IsReported es → (c : C) (v : ScreenView) (d : C) (w : ScreenView)
       → v.failed ≡ false → IsUnscrolledState b v.state → GoesThrough step scrolls es c v d w
       → SameBounds v.state w.state
-  events_bounded b [] told c v d w h well g = rw g.1 (bounds_same v.state)
-  events_bounded b (e ∷ es) told c v d w h well (m, u, one, more) =
+  events_bounded b [] reported c v d w h well g = rw g.1 (bounds_same v.state)
+  events_bounded b (e ∷ es) reported c v d w h well (m, u, one, more) =
       elim (cases_Bool u.failed) [
         | inl f ↦ rw (failed_same es m u d w f more) (one_failed e c v m u h one f).bounds
         | inr f ↦
             let is = ap (λ (x : ScreenView). x.state) (one_played e c v m u h one f) in
-            let next : IsUnscrolledState b u.state = rw is (effect-well e (All-head IsTold e es told) b v.state well) in
+            let next : IsUnscrolledState b u.state = rw is (effect-well e (All-head IsReported e es reported) b v.state well) in
             bounds_trans v.state u.state w.state (well-bounds b v.state u.state well next)
-            (events_bounded b es (All-tail IsTold e es told) m u d w f next more)
+            (events_bounded b es (All-tail IsReported e es reported) m u d w f next more)
       ]
 
-  pub fed_bounded : (p : ParserView C) (q : WrappedScreen C) (bytes : List ℕ) → Told (Steps step scrolls) 1024 p.reader
+  pub fed_bounded : (p : ParserView C) (q : WrappedScreen C) (bytes : List ℕ) → Reported (Steps step scrolls) 1024 p.reader
       (record { screen = p.screen; callbacks = p.callbacks }) bytes q
       → (rows cols capacity : ℕ) (acts : List Act) → AreActs rows cols capacity acts
-      → ParserStandsAt p rows cols capacity acts → SameBounds p.screen.state q.screen.state
-  fed_bounded p q bytes told rows cols capacity acts are at =
+      → ParserIsAfter p rows cols capacity acts → SameBounds p.screen.state q.screen.state
+  fed_bounded p q bytes reported rows cols capacity acts are at =
       let past = bytes_fed acts in
       let b = bounded (first_bounds rows cols capacity) acts in
       let well : IsUnscrolledState b p.screen.state = rw at.screen (made-well rows cols capacity acts are) in
-      events_bounded b (events_added past bytes) (added-told past bytes) p.callbacks p.screen q.callbacks q.screen
+      events_bounded b (events_added past bytes) (added-reported past bytes) p.callbacks p.screen q.callbacks q.screen
       (ap (λ (x : ScreenView). x.failed) at.screen) well
-      (goes_told told past at.has_read)
+      (goes_reported reported past at.has_read)
 
   -- ---- where memory may be taken
 
@@ -225,25 +225,25 @@ plays_events es s w g live = all_played (λ c x k d y. x ≡ y) (λ c r a d. c �
 pub feeds_make : FeedsMake
 feeds_make past bytes s w g live = plays_events (events_added past bytes) s w g live
 
-pub stands_resized : {C : Type 0} (p q : ParserView C) (height width : ℕ) → q.reader ≡ p.reader
+pub state_after_resized : {C : Type 0} (p q : ParserView C) (height width : ℕ) → q.reader ≡ p.reader
     → q.screen ≡ alive (resized_to height width p.screen.state).state
-    → (rows cols capacity : ℕ) (acts : List Act) → ParserStandsAt p rows cols capacity acts
-    → ParserStandsAt q rows cols capacity (acts ++ Resized height width ∷ [])
-stands_resized p q height width reader screen rows cols capacity acts at = record {
+    → (rows cols capacity : ℕ) (acts : List Act) → ParserIsAfter p rows cols capacity acts
+    → ParserIsAfter q rows cols capacity (acts ++ Resized height width ∷ [])
+state_after_resized p q height width reader screen rows cols capacity acts at = record {
   has_read = rw (bytes_after acts (Resized height width ∷ []), append-nil, reader) at.has_read;
   screen = screen ∙ ap (λ (x : ScreenView). alive (resized_to height width x.state).state) at.screen
       ∙ ap alive (sym (acts_follow rows cols capacity acts (Resized height width ∷ [])));
 }
 
-pub resized_stands : {C : Type 0} (scrolls : C → RowView → Bool → C → Type 0) (p q : ParserView C) (height width : ℕ)
+pub resized_state_after : {C : Type 0} (scrolls : C → RowView → Bool → C → Type 0) (p q : ParserView C) (height width : ℕ)
     (result : Result (Unit {0}) ScreenError) → q.reader ≡ p.reader
     → Tries scrolls (resized_to height width) p.screen p.callbacks result q.screen q.callbacks
-    → (rows cols capacity : ℕ) (acts : List Act) → ParserStandsAt p rows cols capacity acts
-    → OnOk result (ParserStandsAt q rows cols capacity (acts ++ Resized height width ∷ []))
-resized_stands scrolls p q height width (Ok u) reader t rows cols capacity acts at =
-    stands_resized p q height width reader t.screen rows cols capacity acts at
-resized_stands scrolls p q height width (Err e) reader t rows cols capacity acts at = tt
+    → (rows cols capacity : ℕ) (acts : List Act) → ParserIsAfter p rows cols capacity acts
+    → OnOk result (ParserIsAfter q rows cols capacity (acts ++ Resized height width ∷ []))
+resized_state_after scrolls p q height width (Ok u) reader t rows cols capacity acts at =
+    state_after_resized p q height width reader t.screen rows cols capacity acts at
+resized_state_after scrolls p q height width (Err e) reader t rows cols capacity acts at = tt
 
 pub put_in : ResizedScreensArePutIn
 put_in p w height width rows cols capacity acts at screen =
-    stands_resized p (record p { screen = w }) height width refl screen rows cols capacity acts at
+    state_after_resized p (record p { screen = w }) height width refl screen rows cols capacity acts at

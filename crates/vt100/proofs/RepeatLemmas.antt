@@ -7,12 +7,12 @@ use Rattle.vt100_core.specs.Scroll.{ScrollsNoneOff}
 use Rattle.vt100_core.proofs.CountLemmas.{CountsOn, CountsOn-trans, counts-printed}
 use Rattle.screen_model.specs.State.{State}
 use Rattle.screen_model.specs.Step.{Report, typed, typed_times}
-use Rattle.screen_model.specs.Call.{ScreenView, Hears}
-use Rattle.vt100.specs.Tries.{MayScroll, HearsFront}
+use Rattle.screen_model.specs.Call.{ScreenView, Receives}
+use Rattle.vt100.specs.Tries.{MayScroll, ReceivesPrefix}
 use Rattle.vt100.specs.declared.error.ScreenError.{ScreenError}
 use Rattle.vt100.specs.declared.screen.wrapped.WrappedScreen.{WrappedScreen}
 use Rattle.vt100.proofs.EventLemmas.{is_alive}
-use Rattle.vt100.proofs.HearLemmas.{hears_append, tries_ok}
+use Rattle.vt100.proofs.HearLemmas.{receives_append, tries_ok}
 use Rattle.vt100.proofs.LimitsLemmas.{bounds_same, bounds_trans, capacity_times}
 
 -- of n times, the reports of the first i, those of the next one, and others
@@ -88,18 +88,18 @@ module _ {C : Type 0} (scrolls : C → RowView → Bool → C → Type 0) where
       record {
         tries = tries_ok scrolls (typed_times (suc i) ch) p.screen p.callbacks tt q.screen q.callbacks x.tries.live
             (rw x.tries.screen at y.tries.screen)
-            (hears_append scrolls p.callbacks t.reports (typed ch t.state).reports m.callbacks q.callbacks x.tries.hears
-            (rw x.tries.screen at y.tries.hears));
+            (receives_append scrolls p.callbacks t.reports (typed ch t.state).reports m.callbacks q.callbacks x.tries.receives
+            (rw x.tries.screen at y.tries.receives));
         bounds = bounds_trans p.screen.state m.screen.state q.screen.state x.bounds y.bounds;
         keeps_none = λ _ _. refl;
         stays = λ _ _. refl;
       }
 
   -- the first of the rows of a part, after all that were before it
-  front_after : (all first next more : List Report) (c b d : C) → all ≡ first ++ (next ++ more)
-      → Hears scrolls c first b → HearsFront scrolls b next d → HearsFront scrolls c all d
-  front_after all first next more c b d e heard h =
-      (first ++ h.0, h.1 ++ more, rw e (rw h.2 (simp append_assoc)), hears_append scrolls c first h.0 b d heard h.3)
+  prefix_after : (all first next more : List Report) (c b d : C) → all ≡ first ++ (next ++ more)
+      → Receives scrolls c first b → ReceivesPrefix scrolls b next d → ReceivesPrefix scrolls c all d
+  prefix_after all first next more c b d e heard h =
+      (first ++ h.0, h.1 ++ more, rw e (rw h.2 (simp append_assoc)), receives_append scrolls c first h.0 b d heard h.3)
 
   -- or not any more
   pub scroll_stops : {p m q : WrappedScreen C} {e : ScreenError} (n i ch : ℕ) → i < n
@@ -114,10 +114,10 @@ module _ {C : Type 0} (scrolls : C → RowView → Bool → C → Type 0) where
         tries = record {
           live = tt;
           screen = tt;
-          hears = tt;
+          receives = tt;
           memory = y.tries.memory;
-          told = λ h. front_after (typed_times n ch s).reports t.reports (typed ch t.state).reports o.0 p.callbacks
-              m.callbacks q.callbacks o.1 x.tries.hears (rw is at (y.tries.told h));
+          reported = λ h. prefix_after (typed_times n ch s).reports t.reports (typed ch t.state).reports o.0 p.callbacks
+              m.callbacks q.callbacks o.1 x.tries.receives (rw is at (y.tries.reported h));
           refused = λ h. absurd (false≢true (sym (ap (λ (v : ScreenView). v.failed) is) ∙ y.tries.refused h));
           dead = λ h. absurd (false≢true (sym x.tries.live ∙ h));
         };

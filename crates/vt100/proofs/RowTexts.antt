@@ -3,7 +3,7 @@ use Rattle.std.proofs.Common.{◌≡◌, ◌∙◌, ℕ, zero, suc, ◌+◌, ◌
 use Rattle.std.proofs.Common.{get_or, Contains, None, refl, sym, ap, subst, arith}
 use Rattle.std.proofs.lemmas.Bool.{and_right}
 use Rattle.vt100_forms.specs.Attrs.{default_attrs}
-use Rattle.vt100_forms.specs.Form.{spell}
+use Rattle.vt100_forms.specs.Form.{bytes_of}
 use Rattle.vt100_forms.specs.declared.position.Pos.{Pos}
 use Rattle.vt100_cells.specs.Cell.{CellView}
 use Rattle.vt100_cells.specs.Cells.{cell_at}
@@ -51,7 +51,7 @@ before-later whole above (v ∷ w ∷ vs) (suc j) h =
     before-later whole (whole && v.wrapped) (w ∷ vs) j (omega (arith, h))
 
 abbrev formatted_text : RowView → ℕ → ℕ → Bool → List ℕ
-formatted_text v width i above = spell (formatted v 0 width i above None None).forms
+formatted_text v width i above = bytes_of (formatted v 0 width i above None None).forms
 
 text-formatted : (width i j : ℕ) (whole above : Bool) (vs : List RowView) → j < length vs
     → get_or (each_formatted 0 width whole i above vs) j []
@@ -72,7 +72,7 @@ length-formatted width i whole above (v ∷ vs) = ap suc (length-formatted width
 
 abbrev differing_text : RowView → RowView → ℕ → ℕ → List ℕ
 differing_text v e width i =
-    spell (differing v e 0 width i false false (record { row = i; col = 0 }) default_attrs).forms
+    bytes_of (differing v e 0 width i false false (record { row = i; col = 0 }) default_attrs).forms
 
 text-differing : (width i j : ℕ) (vs es : List RowView) → j < length vs → j < length es
     → get_or (each_diff 0 width i vs es) j [] ≡ differing_text (row_at vs j) (row_at es j) width (i + j)
@@ -173,17 +173,17 @@ text-is s h width i l c =
 
 -- forms that draw the row on a terminal as wide as it is
 draws-row : (s : State) (h : IsUnscrolled s) (i : ℕ) (t : Term) (text : List ℕ) (d : Drawn) → i < s.shown.height
-    → text ≡ spell d.forms → (IsTrueOfSmallForms AreForms (row_at s.shown.rows i) → AreForms d.forms)
+    → text ≡ bytes_of d.forms → (IsTrueOfSmallForms AreForms (row_at s.shown.rows i) → AreForms d.forms)
     → IsPlainLine ((shown_state s).cell i) → IsRowDrawn i (cell_at (row_at s.shown.rows i).cells) d.pen t
     (run (row_screen s.shown.height (row_at s.shown.rows i)) d.forms t)
     → DrawsRow (grid_size s.shown) text ((shown_state s).cell i) i t
-draws-row s h i t text d l spelled forms plain drawn =
+draws-row s h i t text d l written forms plain drawn =
     let v = row_at s.shown.rows i in
     let size : row_screen s.shown.height v ≡ grid_size s.shown =
     λ j. record { rows = s.shown.height; cols = (row-of s h i l).wide j } in
     record {
       forms = d.forms;
-      spelled = spelled;
+      written = written;
       are_forms = λ known.
           let y = ready-row s h i l known in
           forms (lists-forms v y.row y.small y.known (plain-row s h i plain).plain);
@@ -243,7 +243,7 @@ row-differences_lead old new width o h same wide =
             row_is = at.row_is;
             col_is = at.col_is;
             attrs_are = at.attrs_are;
-            told_pos = refl;
-            told_attrs = refl;
+            reported_pos = refl;
+            reported_attrs = refl;
           }));
     }

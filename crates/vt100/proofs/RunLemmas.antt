@@ -19,29 +19,29 @@ use Rattle.vt100_rows.specs.Row.{RowView}
 use Rattle.vt100_rows.specs.Sink.{TakesAll}
 use Rattle.vt100_core.specs.Grid.{IsKept, GridView, IsAllocated, SameLimits}
 use Rattle.vt100_core.specs.Scroll.{ScrollsNoneOff}
-use Rattle.vt100_core.specs.Text.{PrintedGrid, printed, spaced, printed_all, TakesFront}
+use Rattle.vt100_core.specs.Text.{PrintedGrid, printed, spaced, printed_all, TakesPrefix}
 use Rattle.vt100_core.specs.declared.printed.Printed.{Printed}
 use Rattle.vt100_core.proofs.TextLemmas.{IsMade-made, printed-spaced}
 use Rattle.vt100_core.proofs.CountLemmas.{Counts, Counts-map, Counts-trans, counts-same, counts-printed}
 use Rattle.screen_model.specs.State.{State, IsState}
 use Rattle.screen_model.specs.Step.{Report, Stepped, reports_of, typed, last_after}
 use Rattle.screen_model.specs.Call as said
-use Rattle.screen_model.specs.Call.{Call, ScreenView, Hears}
+use Rattle.screen_model.specs.Call.{Call, ScreenView, Receives}
 use Rattle.screen_model.specs.Effect.{is_unhandled, calling, steps}
 use Rattle.vte_core.specs.Event.{Event, Print, Performs}
 use Rattle.vt100.specs.declared.error.ScreenError.{ScreenError}
 use Rattle.vt100.specs.declared.error.ScreenError.TheVariants.{Memory, Failed}
 use Rattle.vt100.specs.declared.screen.wrapped.WrappedScreen.{WrappedScreen}
 use Rattle.vt100.specs.Memory.{keeps_row}
-use Rattle.vt100.specs.Tries.{MayScroll, SameBounds, HearsFront, alive}
+use Rattle.vt100.specs.Tries.{MayScroll, SameBounds, ReceivesPrefix, alive}
 use Rattle.vt100.specs.Goes.{Fails, Goes, GoesThrough}
-use Rattle.vt100.specs.Runs.{IsHandled, IsRun, characters, typed_all, last_of, PrintsFront}
+use Rattle.vt100.specs.Runs.{IsHandled, IsRun, characters, typed_all, last_of, PrintsPrefix}
 use Rattle.vt100.specs.Draws.{Draws, drawn_on}
 use Rattle.vt100.specs.declared.screen.reported.Drawing.TheVariants.{Characters}
 use Rattle.vt100.specs.declared.screen.reported.Run.{Run}
 use Rattle.vt100.specs.declared.screen.reported.Run.TheVariants.{Narrow, Wide}
 use Rattle.vt100.specs.declared.screen.reported.Reporter.{Reporter}
-use Rattle.vt100.proofs.HearLemmas.{Reports, hears_all, hears_whole, draws_all, scroll_as, refused_keeps}
+use Rattle.vt100.proofs.HearLemmas.{Reports, receives_all, receives_whole, draws_all, scroll_as, refused_keeps}
 use Rattle.vt100.proofs.HearLemmas.{not_grown}
 use Rattle.vt100_rows.proofs.PrintableLemmas.{printable-chars}
 use Rattle.vt100.proofs.EventLemmas.{is_alive, does_as, does_live, does_none, does_where}
@@ -145,26 +145,26 @@ module _ {C : Type 0} (scrolls : C → RowView → Bool → C → Type 0) where
   pub draws_run : {A E : Type 0} {g h : GridView} {s t : Reporter C} (xs : List ℕ) (a : Attrs)
       (result : Result A E) → OnOk result (h ≡ (printed_all g xs a).grid)
       → OnOk result (TakesAll (Reports scrolls) s (printed_all g xs a).sunk t)
-      → OnErr result (TakesFront (Reports scrolls) s g xs a t) → SameLimits g h
+      → OnErr result (TakesPrefix (Reports scrolls) s g xs a t) → SameLimits g h
       → (g.kept.capacity ≡ 0 → IsOk result) → (ScrollsNoneOff g (printed_all g xs a).grid → IsOk result)
       → IsAllocated h → Draws scrolls (printed_all g xs a) g s result h t
   draws_run xs a (Ok u) is taken begun limits keeps stays some =
       draws_all scrolls (Ok u) is taken limits keeps stays some
   draws_run {A} {E} {g} {h} {s} {t} xs a (Err e) is taken begun limits keeps stays some =
-      let front = printed_all g begun.0 a in
-      let rest = printed_all front.grid begun.1 a in
+      let prefix = printed_all g begun.0 a in
+      let rest = printed_all prefix.grid begun.1 a in
       let reports = reports_of s.alternate_screen in
-      let heard = hears_all scrolls s front.sunk t begun.3 in
+      let heard = receives_all scrolls s prefix.sunk t begun.3 in
       record {
         grid = tt;
         same = heard.1;
-        hears = tt;
-        told = (
-          reports front.sunk,
+        receives = tt;
+        reported = (
+          reports prefix.sunk,
           reports rest.sunk,
           ap (λ (ys : List ℕ). reports (printed_all g ys a).sunk) begun.2
               ∙ ap reports (sunk-append g begun.0 begun.1 a)
-              ∙ sym (reports-append s.alternate_screen front.sunk rest.sunk),
+              ∙ sym (reports-append s.alternate_screen prefix.sunk rest.sunk),
           heard.0,
         );
         limits = limits;
@@ -174,22 +174,22 @@ module _ {C : Type 0} (scrolls : C → RowView → Bool → C → Type 0) where
       }
 
   -- reports of two changes are told of, one change after the other
-  hears-split : (c : C) (xs ys : List Report) (d : C) → Hears scrolls c (xs ++ ys) d
-      → (b : C) × Hears scrolls c xs b × Hears scrolls b ys d
-  hears-split c [] ys d h = (c, refl, h)
-  hears-split c (x ∷ xs) ys d h =
-      let r = hears-split h.0 xs ys d h.2 in
+  receives-split : (c : C) (xs ys : List Report) (d : C) → Receives scrolls c (xs ++ ys) d
+      → (b : C) × Receives scrolls c xs b × Receives scrolls b ys d
+  receives-split c [] ys d h = (c, refl, h)
+  receives-split c (x ∷ xs) ys d h =
+      let r = receives-split h.0 xs ys d h.2 in
       (r.0, (h.0, h.1, r.1), r.2)
 
   -- and of a front of both, which ends in the first of them, or has all of it
-  front-split : (c : C) (xs ys : List Report) (d : C) → HearsFront scrolls c (xs ++ ys) d
-      → HearsFront scrolls c xs d ⊎ ((b : C) × Hears scrolls c xs b × HearsFront scrolls b ys d)
-  front-split c [] ys d h = inr (c, refl, h)
-  front-split c (x ∷ xs) ys d ([], rest, e, h) = inl ([], x ∷ xs, refl, h)
-  front-split c (x ∷ xs) ys d (f ∷ front, rest, e, h) =
+  prefix-split : (c : C) (xs ys : List Report) (d : C) → ReceivesPrefix scrolls c (xs ++ ys) d
+      → ReceivesPrefix scrolls c xs d ⊎ ((b : C) × Receives scrolls c xs b × ReceivesPrefix scrolls b ys d)
+  prefix-split c [] ys d h = inr (c, refl, h)
+  prefix-split c (x ∷ xs) ys d ([], rest, e, h) = inl ([], x ∷ xs, refl, h)
+  prefix-split c (x ∷ xs) ys d (f ∷ prefix, rest, e, h) =
       let heads : x ≡ f = cc in
-      let tails : xs ++ ys ≡ front ++ rest = cc in
-      elim (front-split h.0 xs ys d (front, rest, tails, h.2)) [
+      let tails : xs ++ ys ≡ prefix ++ rest = cc in
+      elim (prefix-split h.0 xs ys d (prefix, rest, tails, h.2)) [
         | inl k ↦ inl (x ∷ k.0, k.1, ap (λ (rs : List Report). x ∷ rs) k.2, (h.0, rw heads h.1, k.3))
         | inr k ↦ inr (k.0, (h.0, rw heads h.1, k.1), k.2)
       ]
@@ -255,13 +255,13 @@ first-keeps s t u e h = rw (← e) h
 module _ {C : Type 0} (step : C → ScreenView → Call → C → ScreenView → Type 0)
     (scrolls : C → RowView → Bool → C → Type 0) where
   -- callbacks that were told of no rows are the same
-  front-none : (c : C) (rows : List Report) (d : C) → rows ≡ [] → HearsFront scrolls c rows d → d ≡ c
-  front-none c rows d e ([], rest, parts, h) = sym h
-  front-none c rows d e (f ∷ front, rest, parts, h) = absurd (cc (sym e ∙ parts))
+  prefix-none : (c : C) (rows : List Report) (d : C) → rows ≡ [] → ReceivesPrefix scrolls c rows d → d ≡ c
+  prefix-none c rows d e ([], rest, parts, h) = sym h
+  prefix-none c rows d e (f ∷ prefix, rest, parts, h) = absurd (cc (sym e ∙ parts))
 
   -- one character of a run
   goes-typed : (ch : ℕ) (c : C) (v : ScreenView) (d : C) (w : ScreenView) → is_unhandled ch ≡ false → v.failed ≡ false
-      → (Hears scrolls c (typed ch v.state).reports d × (w ≡ alive (typed ch v.state).state)) ⊎ Fails scrolls
+      → (Receives scrolls c (typed ch v.state).reports d × (w ≡ alive (typed ch v.state).state)) ⊎ Fails scrolls
       (keeps_row v.state (typed ch v.state).state) (typed ch v.state).reports c v d w → Goes step scrolls (Print ch) c v d w
   goes-typed ch c v d w p live h =
       does_where (ap (λ (b : Bool). not b && keeps_row v.state (typed ch v.state).state) (sym p)) (does_as (λ t. steps (typed ch t))
@@ -277,12 +277,12 @@ module _ {C : Type 0} (step : C → ScreenView → Call → C → ScreenView →
   goes-failed (x ∷ xs) c v h = (c, v, does_none h, goes-failed xs c v h)
 
   goes-run : (xs : List ℕ) (c : C) (v : ScreenView) (d : C) (w : ScreenView) → All IsHandled xs → v.failed ≡ false
-      → Hears scrolls c (typed_all xs v.state).reports d → w ≡ alive (typed_all xs v.state).state
+      → Receives scrolls c (typed_all xs v.state).reports d → w ≡ alive (typed_all xs v.state).state
       → GoesThrough step scrolls (map Print xs) c v d w
-  goes-run [] c v d w p live hears screen = (sym hears, screen ∙ sym (is_alive v live))
-  goes-run (x ∷ xs) c v d w p live hears screen =
+  goes-run [] c v d w p live receives screen = (sym receives, screen ∙ sym (is_alive v live))
+  goes-run (x ∷ xs) c v d w p live receives screen =
       let t = typed x v.state in
-      let s = hears-split scrolls c t.reports (typed_all xs t.state).reports d hears in (
+      let s = receives-split scrolls c t.reports (typed_all xs t.state).reports d receives in (
         s.0,
         alive t.state,
         goes-typed x c v s.0 (alive t.state) (p zero 0 (omega arith)) live (inl (s.1, refl)),
@@ -292,22 +292,22 @@ module _ {C : Type 0} (step : C → ScreenView → Call → C → ScreenView →
   -- the screen fails at the first of some characters, where it is w then
   goes-here : (x : ℕ) (xs : List ℕ) (c : C) (v : ScreenView) (d : C) (w : ScreenView) → IsHandled x → v.failed ≡ false
       → w.failed ≡ true → keeps_row v.state (typed x v.state).state ≡ true → SameBounds v.state w.state
-      → HearsFront scrolls c (typed x v.state).reports d → GoesThrough step scrolls (map Print (x ∷ xs)) c v d w
-  goes-here x xs c v d w h live failed keeps bounds told =
+      → ReceivesPrefix scrolls c (typed x v.state).reports d → GoesThrough step scrolls (map Print (x ∷ xs)) c v d w
+  goes-here x xs c v d w h live failed keeps bounds reported =
       let one : Fails scrolls (keeps_row v.state (typed x v.state).state) (typed x v.state).reports
       c v d w =
-      record { may_take = keeps; failed = failed; bounds = bounds; told = told } in
+      record { may_take = keeps; failed = failed; bounds = bounds; reported = reported } in
       (d, w, goes-typed x c v d w h live (inr one), goes-failed xs d w failed)
 
   -- or at one of them, by which a row is kept: if the callbacks haven't heard of rows that leave by the others
   goes-refused : (x : ℕ) (xs : List ℕ) (c : C) (v : ScreenView) (d : C) (w : ScreenView) → All IsHandled (x ∷ xs)
       → v.failed ≡ false → w.failed ≡ true → IsKeeping v.state
       → keeps_row v.state (typed_all (x ∷ xs) v.state).state ≡ true → SameBounds v.state w.state
-      → HearsFront scrolls c (typed_all (x ∷ xs) v.state).reports d
+      → ReceivesPrefix scrolls c (typed_all (x ∷ xs) v.state).reports d
       → GoesThrough step scrolls (map Print (x ∷ xs)) c v d w
-  goes-refused x [] c v d w p live failed k keeps bounds told =
-      goes-here x [] c v d w (p zero 0 (omega arith)) live failed keeps bounds (rw append-nil at told)
-  goes-refused x (y ∷ ys) c v d w p live failed k keeps bounds told =
+  goes-refused x [] c v d w p live failed k keeps bounds reported =
+      goes-here x [] c v d w (p zero 0 (omega arith)) live failed keeps bounds (rw append-nil at reported)
+  goes-refused x (y ∷ ys) c v d w p live failed k keeps bounds reported =
       let s = v.state in
       let t = typed x s in
       let all = typed_all (y ∷ ys) t.state in
@@ -317,18 +317,18 @@ module _ {C : Type 0} (step : C → ScreenView → Call → C → ScreenView →
       let more = counts-typed_all (y ∷ ys) t.state one.on.bounded in
       let next = IsKeeping-typed x s k in
       let later = bounds_back s t.state w.state (bounds_typed x s) bounds in
-      elim (front-split scrolls c t.reports all.reports d told) [
+      elim (prefix-split scrolls c t.reports all.reports d reported) [
         | inl here ↦ elim (cases_Bool (keeps_row s t.state)) [
           | inl e ↦ goes-here x (y ∷ ys) c v d w handled live failed e bounds here
           | inr e ↦
               let none = not_grown s.shown.kept.capacity s.shown.kept.scrolled_off t.state.shown.kept.scrolled_off
               k.some e in
               let silent = one.quiet k.fits k.keeps none.0 none.1 in
-              let same = front-none c t.reports d silent here in (
+              let same = prefix-none c t.reports d silent here in (
                 c,
                 alive t.state,
                 goes-typed x c v c (alive t.state) handled live
-                    (inl (subst (λ (rows : List Report). Hears scrolls c rows c) (sym silent) refl, refl)),
+                    (inl (subst (λ (rows : List Report). Receives scrolls c rows c) (sym silent) refl, refl)),
                 goes-refused y ys c (alive t.state) d w others refl failed next
                     (late-keeps s t.state all.state (capacity_typed x s) none.1 keeps) later ([], all.reports, refl, sym same),
               )
@@ -344,9 +344,9 @@ module _ {C : Type 0} (step : C → ScreenView → Call → C → ScreenView →
               let none = not_grown t.state.shown.kept.capacity t.state.shown.kept.scrolled_off
               all.state.shown.kept.scrolled_off next.some e in
               let silent = more.quiet next.fits next.keeps none.0 none.1 in
-              let same = front-none h.0 all.reports d silent h.2 in
+              let same = prefix-none h.0 all.reports d silent h.2 in
               goes-here x (y ∷ ys) c v d w handled live failed (first-keeps s t.state all.state none.1 keeps) bounds
-              (hears_whole scrolls c t.reports d (subst (λ (b : C). Hears scrolls c t.reports b) (sym same) h.1))
+              (receives_whole scrolls c t.reports d (subst (λ (b : C). Receives scrolls c t.reports b) (sym same) h.1))
         ]
       ]
 
@@ -355,7 +355,7 @@ module _ {C : Type 0} (step : C → ScreenView → Call → C → ScreenView →
       → MayScroll scrolls (typed_all xs) p result q
       → GoesThrough step scrolls (map Print xs) p.callbacks p.screen q.callbacks q.screen
   goes-typed_all xs {p} {q} (Ok a) some h is x =
-      goes-run xs p.callbacks p.screen q.callbacks q.screen h x.tries.live x.tries.hears x.tries.screen
+      goes-run xs p.callbacks p.screen q.callbacks q.screen h x.tries.live x.tries.receives x.tries.screen
   goes-typed_all [] (Err Memory) some h is x = absurd (omega arith)
   goes-typed_all (y ∷ ys) {p} {q} (Err Memory) some h is x =
       elim (cases_Bool p.screen.failed) [
@@ -366,7 +366,7 @@ module _ {C : Type 0} (step : C → ScreenView → Call → C → ScreenView →
             (typed_all (y ∷ ys) s).state.shown.kept.scrolled_off (Err Memory) x.keeps_none x.stays f refl in
             goes-refused y ys p.callbacks p.screen q.callbacks q.screen h f (x.tries.memory refl)
             (IsKeeping-of s (is f).shown.kept (and_parts (nat_lt 0 s.shown.kept.capacity) _ keeps).0) keeps x.bounds
-            (x.tries.told refl)
+            (x.tries.reported refl)
       ]
   goes-typed_all xs {p} {q} (Err Failed) some h is x =
       let f = x.tries.refused refl in
@@ -384,11 +384,11 @@ module _ {C : Type 0} (step : C → ScreenView → Call → C → ScreenView →
   -- ---- the front of a text
 
   -- printable ASCII
-  pub front-run : (bs : List ℕ) (n : ℕ) {p q : WrappedScreen C} (result : Result (Unit {0}) ScreenError) → 0 < n
+  pub prefix-run : (bs : List ℕ) (n : ℕ) {p q : WrappedScreen C} (result : Result (Unit {0}) ScreenError) → 0 < n
       → n ≤ length bs → All IsPrintable (take n bs) → (p.screen.failed ≡ false → IsState p.screen.state)
       → MayScroll scrolls (typed_all (take n bs)) p result q
-      → PrintsFront step scrolls bs (drop n bs) p.callbacks p.screen q.callbacks q.screen
-  front-run bs n result pos within h is x =
+      → PrintsPrefix step scrolls bs (drop n bs) p.callbacks p.screen q.callbacks q.screen
+  prefix-run bs n result pos within h is x =
       let some : 0 < length (take n bs) = grind (arith, common_steps) in (
         take n bs,
         printable-chars bs n h,
@@ -396,24 +396,24 @@ module _ {C : Type 0} (step : C → ScreenView → Call → C → ScreenView →
       )
 
   -- a character
-  pub front-char : (bs rest : List ℕ) (ch : ℕ) (c : C) (v : ScreenView) (d : C) (w : ScreenView) → IsUtf8 bs
-      → bs ≡ encode_utf8 ch ++ rest → Goes step scrolls (Print ch) c v d w → PrintsFront step scrolls bs rest c v d w
-  front-char bs rest ch c v d w u e goes =
+  pub prefix-char : (bs rest : List ℕ) (ch : ℕ) (c : C) (v : ScreenView) (d : C) (w : ScreenView) → IsUtf8 bs
+      → bs ≡ encode_utf8 ch ++ rest → Goes step scrolls (Print ch) c v d w → PrintsPrefix step scrolls bs rest c v d w
+  prefix-char bs rest ch c v d w u e goes =
       (ch ∷ [], chars_past_char bs rest ch u e, (d, w, goes, (refl, refl)))
 
   -- and then the others
-  pub front-then : (bs rest : List ℕ) (p m q : WrappedScreen C)
-      → PrintsFront step scrolls bs rest p.callbacks p.screen m.callbacks m.screen
+  pub prefix-then : (bs rest : List ℕ) (p m q : WrappedScreen C)
+      → PrintsPrefix step scrolls bs rest p.callbacks p.screen m.callbacks m.screen
       → Performs (Steps step scrolls) m (map Print (chars rest)) q
       → Performs (Steps step scrolls) p (map Print (chars bs)) q
-  front-then bs rest p m q h more =
+  prefix-then bs rest p m q h more =
       same_events (Steps step scrolls) p q (map Print h.0 ++ map Print (chars rest)) (map Print (chars bs))
       (sym (map-append Print h.0 (chars rest)) ∙ ap (map Print) (sym h.1))
       (performs-append (Steps step scrolls) p m q (map Print h.0) (map Print (chars rest))
       (performs-goes (map Print h.0) p m h.2) more)
 
-  pub front-end : (bs : List ℕ) (p : WrappedScreen C) → length bs ≡ 0
+  pub prefix-end : (bs : List ℕ) (p : WrappedScreen C) → length bs ≡ 0
       → Performs (Steps step scrolls) p (map Print (chars bs)) p
-  front-end [] p none =
+  prefix-end [] p none =
       same_events (Steps step scrolls) p p [] (map Print (chars [])) (ap (map Print) (sym chars-nil)) refl
-  front-end (x ∷ xs) p none = absurd (omega arith)
+  prefix-end (x ∷ xs) p none = absurd (omega arith)

@@ -2,7 +2,7 @@
 use Rattle.std.proofs.Common.{◌≡◌, ◌≤◌, ℕ, ◌+◌, ◌-◌, ◌*◌, Bool, nat_lt, List, [], ◌∷◌, ◌++◌, length, arith}
 use Rattle.std.proofs.lemmas.Bool.{cond_both}
 use Rattle.vt100_forms.specs.Attrs.{HasByteColors}
-use Rattle.vt100_forms.specs.Form.{Form, HideCursor, change, spell}
+use Rattle.vt100_forms.specs.Form.{Form, HideCursor, change, bytes_of}
 use Rattle.vt100_forms.proofs.Lengths.{length-change}
 use Rattle.vt100_cells.specs.Cell.{bool_eq}
 use Rattle.vt100_cells.specs.Cells.{cell_at}
@@ -31,28 +31,28 @@ visible-colors s h r k =
 sheet-short : (s : State) → IsState s → lists.AreShort s.shown
 sheet-short s h = grid-short s.shown h.shown (λ r k. (h.proper.drawn r k).colors) (visible-colors s h)
 
-hides : (b : Bool) → length (spell (HideCursor b ∷ [])) ≤ 6
+hides : (b : Bool) → length (bytes_of (HideCursor b ∷ [])) ≤ 6
 hides b = (form-small (HideCursor b) 6 tt (omega arith)).1
 
-hides-changed : (old new : Bool) → length (spell (switch HideCursor old new)) ≤ 6
+hides-changed : (old new : Bool) → length (bytes_of (switch HideCursor old new)) ≤ 6
 hides-changed old new =
-    cond_both (bool_eq new old) [] (HideCursor new ∷ []) (λ fs. length (spell fs) ≤ 6) (λ _. omega arith) (λ _. hides new)
+    cond_both (bool_eq new old) [] (HideCursor new ∷ []) (λ fs. length (bytes_of fs) ≤ 6) (λ _. omega arith) (λ _. hides new)
 
 -- a list between two others
 three-joined : (fs gs hs : List Form)
-    → length (spell ((fs ++ gs) ++ hs)) ≡ length (spell fs) + length (spell gs) + length (spell hs)
+    → length (bytes_of ((fs ++ gs) ++ hs)) ≡ length (bytes_of fs) + length (bytes_of gs) + length (bytes_of hs)
 three-joined fs gs hs = omega (arith, join-length (fs ++ gs) hs, join-length fs gs)
 
 abbrev cells : State → ℕ
 cells s = 1024 * (s.shown.height * s.shown.width)
 
-redraw-short : (s : State) → IsState s → length (spell (contents_formatted s)) ≤ cells s + 310
+redraw-short : (s : State) → IsState s → length (bytes_of (contents_formatted s)) ≤ cells s + 310
 redraw-short s h =
     let hidden = HideCursor s.hidden ∷ [] in
     let drawn = grid.contents_formatted s.shown in
     let a = (grid.redrawn s.shown).pen.attrs in
-    let joined : length (spell (contents_formatted s))
-    ≡ length (spell hidden) + length (spell (drawn ++ change a s.attrs)) = join-length hidden (drawn ++ change a s.attrs) in
+    let joined : length (bytes_of (contents_formatted s))
+    ≡ length (bytes_of hidden) + length (bytes_of (drawn ++ change a s.attrs)) = join-length hidden (drawn ++ change a s.attrs) in
     omega (
       arith,
       joined,
@@ -63,7 +63,7 @@ redraw-short s h =
     )
 
 difference-short : (old new : State) → HasByteColors old.attrs → IsState new
-    → length (spell (contents_diff old new)) ≤ cells new + 310
+    → length (bytes_of (contents_diff old new)) ≤ cells new + 310
 difference-short old new k h =
     let hidden = switch HideCursor old.hidden new.hidden in
     let d = sheet_diff old new in

@@ -9,12 +9,12 @@ use Rattle.vt100_core.specs.declared.printed.Printed.{Printed}
 use Rattle.vt100_core.specs.declared.printed.Printed.TheVariants.{Nothing, Spacing}
 use Rattle.screen_model.specs.State.{State}
 use Rattle.screen_model.specs.Step.{Stepped, last_after, reports_of}
-use Rattle.screen_model.specs.Call.{Hears}
+use Rattle.screen_model.specs.Call.{Receives}
 use Rattle.vt100.specs.declared.screen.reported.Drawing.{Drawing}
 use Rattle.vt100.specs.declared.screen.reported.Drawing.TheVariants.{Character, Characters, LineFeed, ScrollUp}
 use Rattle.vt100.specs.declared.screen.reported.Reporter.{Reporter}
 use Rattle.vt100.specs.Runs.{IsRun, characters, last_of}
-use Rattle.vt100.specs.Tries.{HearsFront}
+use Rattle.vt100.specs.Tries.{ReceivesPrefix}
 
 -- a sheet of w columns has room for what is drawn
 abbrev pub IsDrawable : ℕ → Drawing → Type 0
@@ -64,8 +64,8 @@ pub record Draws {C A E : Type 0} (scrolls : C → RowView → Bool → C → Ty
     (s : Reporter C) (result : Result A E) (h : GridView) (t : Reporter C) : Type 0 where
   pub grid : OnOk result (h ≡ x.grid)
   pub same : t.callbacks.ghost_name ≡ s.callbacks.ghost_name
-  pub hears : OnOk result (Hears scrolls s.callbacks.now (reports_of s.alternate_screen x.sunk) t.callbacks.now)
-  pub told : OnErr result (HearsFront scrolls s.callbacks.now (reports_of s.alternate_screen x.sunk) t.callbacks.now)
+  pub receives : OnOk result (Receives scrolls s.callbacks.now (reports_of s.alternate_screen x.sunk) t.callbacks.now)
+  pub reported : OnErr result (ReceivesPrefix scrolls s.callbacks.now (reports_of s.alternate_screen x.sunk) t.callbacks.now)
   pub limits : SameLimits g h
   pub keeps_none : g.kept.capacity ≡ 0 → IsOk result
   pub stays : ScrollsNoneOff g x.grid → IsOk result

@@ -3,7 +3,7 @@
 use Rattle.std.specs.Prelude.{ℕ, ◌≡◌, ◌+◌, ◌*◌, ◌≤◌, List, length, Contains}
 use Rattle.std.specs.List.{AllByRecursion}
 use Rattle.vt100_forms.specs.Attrs.{HasByteColors}
-use Rattle.vt100_forms.specs.Form.{Form, spell}
+use Rattle.vt100_forms.specs.Form.{Form, bytes_of}
 use Rattle.vt100_forms.specs.declared.modes.MouseProtocolMode.TheVariants as mouse
 use Rattle.vt100_forms.specs.declared.modes.MouseProtocolEncoding.TheVariants as encoding
 use Rattle.vt100_forms.specs.declared.modes.CursorStyle.TheVariants as style
@@ -82,13 +82,13 @@ EachListIsOfForms = (old new : State) → IsUnscrolled old → IsUnscrolled new 
     → IsKnown (shown_state new) → IsPlainlyShown (shown_state new) → IsTrueOfLists AreForms old new
 
 -- this text is that of such a list
-abbrev pub IsSpelled : (List Form → Type 0) → List ℕ → Type 0
-IsSpelled Q text = (forms : List Form) × Q forms × (text ≡ spell forms)
+abbrev pub IsWritten : (List Form → Type 0) → List ℕ → Type 0
+IsWritten Q text = (forms : List Form) × Q forms × (text ≡ bytes_of forms)
 
 -- the same of each text of a row, of whichever columns
 pub record IsTrueOfRows (Q : List Form → Type 0) (old new : State) (start width : ℕ) : Type 0 where
-  pub rows_formatted : AllByRecursion (IsSpelled Q) (rows_formatted new.shown start width)
-  pub rows_diff : AllByRecursion (IsSpelled Q) (rows_diff old.shown new.shown start width)
+  pub rows_formatted : AllByRecursion (IsWritten Q) (rows_formatted new.shown start width)
+  pub rows_diff : AllByRecursion (IsWritten Q) (rows_diff old.shown new.shown start width)
 
 -- whatever the earlier screen is
 abbrev pub EachRowIsSent : Type 0
@@ -107,8 +107,8 @@ pub record AreShort (old new : State) : Type 0 where
   pub contents_diff : IsWithin (grid_size new.shown) 512 (contents_diff old new)
   pub state_formatted : IsWithin (grid_size new.shown) 1008 (state_formatted new)
   pub state_diff : IsWithin (grid_size new.shown) 1008 (state_diff old new)
-  pub input_mode_formatted : length (spell (input_mode_formatted (shown_state new))) ≤ 128
-  pub input_mode_diff : length (spell (input_mode_diff (shown_state old) (shown_state new))) ≤ 128
+  pub input_mode_formatted : length (bytes_of (input_mode_formatted (shown_state new))) ≤ 128
+  pub input_mode_diff : length (bytes_of (input_mode_diff (shown_state old) (shown_state new))) ≤ 128
 
 -- whatever the earlier screen shows, and also where kept rows are shown
 abbrev pub EachListIsShort : Type 0
@@ -123,5 +123,5 @@ IsShortText z more text = length text ≤ 1024 * (z.rows * z.cols) + more
 -- The text is that of these forms. Read by a terminal that shows `old`, they touch local cells of the two pictures alone;
 -- but where the cursor of `new` waits, also the last cell of one row.
 pub record IsLocalText (forms : List Form) (z : Size) (old new : Shown) (text : List ℕ) : Type 0 where
-  pub spelled : text ≡ spell forms
+  pub written : text ≡ bytes_of forms
   pub touches : IsLocalList z old new forms

@@ -4,11 +4,11 @@ use Rattle.vte_core.specs.Event.{Event}
 use Rattle.vt100_rows.specs.Row.{RowView}
 use Rattle.screen_model.specs.State.{State}
 use Rattle.screen_model.specs.Step.{Report}
-use Rattle.screen_model.specs.Call.{Call, ScreenView, Hears}
+use Rattle.screen_model.specs.Call.{Call, ScreenView, Receives}
 use Rattle.screen_model.specs.Effect.{Effect, effect}
 use Rattle.vt100.specs.declared.screen.wrapped.WrappedScreen.{WrappedScreen}
 use Rattle.vt100.specs.Memory.{may_take_memory}
-use Rattle.vt100.specs.Tries.{SameBounds, HearsFront, alive}
+use Rattle.vt100.specs.Tries.{SameBounds, ReceivesPrefix, alive}
 
 -- P where it is so, else Q
 abbrev pub Either : Bool → Type 0 → Type 0 → Type 0
@@ -27,7 +27,7 @@ Tells {C} step c v (k ∷ ks) d w =
 -- the rows that leave, and then the calls are made
 abbrev pub Acts : {C : Type 0} → (C → ScreenView → Call → C → ScreenView → Type 0) → (C → RowView → Bool → C → Type 0)
     → C → Effect → C → ScreenView → Type 0
-Acts {C} step scrolls c x d w = (b : C) × Hears scrolls c x.reports b × Tells step b (alive x.state) x.calls d w
+Acts {C} step scrolls c x d w = (b : C) × Receives scrolls c x.reports b × Tells step b (alive x.state) x.calls d w
 
 -- A change of a screen v and callbacks c that finds no memory, where it may take some: the screen is then w, which has
 -- failed, with sheets of the same size, and the callbacks d were told of the first of these rows alone.
@@ -36,7 +36,7 @@ pub record Fails {C : Type 0} (scrolls : C → RowView → Bool → C → Type 0
   pub may_take : takes ≡ true
   pub failed : w.failed ≡ true
   pub bounds : SameBounds v.state w.state
-  pub told : HearsFront scrolls c rows d
+  pub reported : ReceivesPrefix scrolls c rows d
 
 -- What brings about the effect f does to callbacks c and a screen v, which are then d and w; it may take memory where
 -- `takes` says so. On a failed screen nothing is done. Else f comes about, or the change finds no memory.

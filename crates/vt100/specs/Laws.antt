@@ -7,7 +7,7 @@ use Rattle.screen_model.specs.Step.{resized_to}
 use Rattle.screen_model.specs.Made.{Act, Fed, Resized, played, events_added, bytes_fed, made_on, made}
 use Rattle.vt100.specs.Tries.{alive}
 use Rattle.vt100.specs.Goes.{GoesThrough}
-use Rattle.vt100.specs.Parsing.{ParserView, ParserStandsAt}
+use Rattle.vt100.specs.Parsing.{ParserView, ParserIsAfter}
 
 -- the callbacks that do nothing
 abbrev pub GoesAlone : List Event → ScreenView → ScreenView → Type 0
@@ -41,6 +41,6 @@ ActsFollow = (rows cols capacity : ℕ) (acts more : List Act)
 -- or a character that its bytes leave unfinished goes on
 abbrev pub ResizedScreensArePutIn : Type 0
 ResizedScreensArePutIn = (p : ParserView (Unit {0})) (w : ScreenView) (height width rows cols capacity : ℕ)
-    (acts : List Act) → ParserStandsAt p rows cols capacity acts
+    (acts : List Act) → ParserIsAfter p rows cols capacity acts
     → w ≡ alive (resized_to height width p.screen.state).state
-    → ParserStandsAt (record p { screen = w }) rows cols capacity (acts ++ Resized height width ∷ [])
+    → ParserIsAfter (record p { screen = w }) rows cols capacity (acts ++ Resized height width ∷ [])

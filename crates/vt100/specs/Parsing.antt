@@ -1,7 +1,7 @@
 -- What a parser is, and where it stands.
 use Rattle.std.specs.Prelude.{◌≡◌, ℕ, List}
 use Rattle.vte_core.specs.declared.parser.Parser.{Parser}
-use Rattle.vte_core.specs.Standing.{Stands}
+use Rattle.vte_core.specs.Standing.{IsAfter}
 use Rattle.screen_model.specs.Call.{Call, ScreenView}
 use Rattle.screen_model.specs.Made.{Act, bytes_fed, made}
 use Rattle.vt100.specs.Tries.{alive}
@@ -14,10 +14,10 @@ pub record ParserView (C : Type 0) : Type 0 where
 
 -- these bytes have been read
 abbrev pub HasRead : {C : Type 0} → ParserView C → List ℕ → Type 0
-HasRead p past = Stands 1024 p.reader past
+HasRead p past = IsAfter 1024 p.reader past
 
 -- these acts have been done to a new parser of this size, which keeps so many rows
-pub record ParserStandsAt {C : Type 0} (p : ParserView C) (rows cols capacity : ℕ) (acts : List Act) : Type 0 where
+pub record ParserIsAfter {C : Type 0} (p : ParserView C) (rows cols capacity : ℕ) (acts : List Act) : Type 0 where
   pub has_read : HasRead p (bytes_fed acts)
   pub screen : p.screen ≡ alive (made rows cols capacity acts)
 

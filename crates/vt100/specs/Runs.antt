@@ -42,7 +42,7 @@ IsHandled c = is_unhandled c ≡ false
 
 -- callbacks c and a screen v have gone through the printing of the characters at the front of a text, of which these
 -- bytes are left, and are d and w
-abbrev pub PrintsFront : {C : Type 0} → (C → ScreenView → Call → C → ScreenView → Type 0)
+abbrev pub PrintsPrefix : {C : Type 0} → (C → ScreenView → Call → C → ScreenView → Type 0)
     → (C → RowView → Bool → C → Type 0) → List ℕ → List ℕ → C → ScreenView → C → ScreenView → Type 0
-PrintsFront step scrolls text left c v d w =
-    (front : List ℕ) × (chars text ≡ front ++ chars left) × GoesThrough step scrolls (map Print front) c v d w
+PrintsPrefix step scrolls text left c v d w =
+    (prefix : List ℕ) × (chars text ≡ prefix ++ chars left) × GoesThrough step scrolls (map Print prefix) c v d w

@@ -6,7 +6,7 @@ use Rattle.vt100_core.specs.Scroll.{ScrollsNoneOff}
 use Rattle.vt100_core.specs.Resize.{KeepsNoMore, resized}
 use Rattle.screen_model.specs.State.{State, main_sheet, alternate_sheet}
 use Rattle.screen_model.specs.Step.{Stepped, Partly, Report}
-use Rattle.screen_model.specs.Call.{ScreenView, Hears}
+use Rattle.screen_model.specs.Call.{ScreenView, Receives}
 use Rattle.vt100.specs.declared.error.ScreenError.{ScreenError}
 use Rattle.vt100.specs.declared.error.ScreenError.TheVariants.{Memory, Failed}
 use Rattle.vt100.specs.declared.screen.wrapped.WrappedScreen.{WrappedScreen}
@@ -30,9 +30,9 @@ pub record SameBounds (s t : State) : Type 0 where
   pub alternate : SameLimits (alternate_sheet s) (alternate_sheet t)
 
 -- callbacks c have been told of the first of these rows, all of them or fewer, and of nothing else, and are d
-abbrev pub HearsFront : {C : Type 0} → (C → RowView → Bool → C → Type 0) → C → List Report → C → Type 0
-HearsFront scrolls c rows d =
-    (front : List Report) × (rest : List Report) × (rows ≡ front ++ rest) × Hears scrolls c front d
+abbrev pub ReceivesPrefix : {C : Type 0} → (C → RowView → Bool → C → Type 0) → C → List Report → C → Type 0
+ReceivesPrefix scrolls c rows d =
+    (prefix : List Report) × (rest : List Report) × (rows ≡ prefix ++ rest) × Receives scrolls c prefix d
 
 -- A refused resize of a state s, which is then t, has stopped at the sheet that found no memory: the main one, and the
 -- alternate one is as it was; or the alternate one, and the main one has the new size.
@@ -47,9 +47,9 @@ pub record Tries {C A : Type 0} (scrolls : C → RowView → Bool → C → Type
     (v : ScreenView) (c : C) (result : Result A ScreenError) (w : ScreenView) (d : C) : Type 0 where
   pub live : OnOk result (v.failed ≡ false)
   pub screen : OnOk result (w ≡ alive (f v.state).state)
-  pub hears : OnOk result (Hears scrolls c (f v.state).reports d)
+  pub receives : OnOk result (Receives scrolls c (f v.state).reports d)
   pub memory : result ≡ Err Memory → w.failed ≡ true
-  pub told : result ≡ Err Memory → HearsFront scrolls c (f v.state).reports d
+  pub reported : result ≡ Err Memory → ReceivesPrefix scrolls c (f v.state).reports d
   pub refused : result ≡ Err Failed → v.failed ≡ true
   pub dead : v.failed ≡ true → (result ≡ Err Failed) × (w ≡ v) × (d ≡ c)
 
@@ -80,7 +80,7 @@ TakesNone rows cols s = (rows ≤ s.shown.height) × (cols ≤ s.shown.width) ×
 pub record Counts {C : Type 0} (scrolls : C → RowView → Bool → C → Type 0) (f : State → Partly)
     (v : ScreenView) (c : C) (unhandled : ℕ) (w : ScreenView) (d : C) : Type 0 where
   pub screen : v.failed ≡ false → w ≡ alive (f v.state).state
-  pub hears : v.failed ≡ false → Hears scrolls c (f v.state).reports d
+  pub receives : v.failed ≡ false → Receives scrolls c (f v.state).reports d
   pub count : v.failed ≡ false → unhandled ≡ (f v.state).unhandled
   pub dead : v.failed ≡ true → (w ≡ v) × (d ≡ c) × (unhandled ≡ 0)
 

@@ -1,7 +1,7 @@
 -- What a screen's calls write, and where it leads.
 use Rattle.std.specs.Prelude.{ℕ, ◌<◌, ◌≤◌, ◌≡◌, false, List, [], length, get_or, Contains, None}
 use Rattle.vt100_forms.specs.Attrs.{default_attrs}
-use Rattle.vt100_forms.specs.Form.{Form, spell}
+use Rattle.vt100_forms.specs.Form.{Form, bytes_of}
 use Rattle.vt100_forms.specs.declared.modes.MouseProtocolMode.TheVariants as mouse
 use Rattle.vt100_forms.specs.declared.modes.MouseProtocolEncoding.TheVariants as encoding
 use Rattle.vt100_forms.specs.declared.modes.CursorStyle.TheVariants as style
@@ -97,7 +97,7 @@ IsKnownLine f = (k : ℕ) → Contains (f k).text 0xFFFD → ⊥
 -- cursor, attributes and that row's flag
 pub record DrawsRow (z : Size) (text : List ℕ) (cells : ℕ → CellView) (i : ℕ) (t : Term) : Type 0 where
   pub forms : List Form
-  pub spelled : text ≡ spell forms
+  pub written : text ≡ bytes_of forms
   pub are_forms : IsKnownLine cells → AreForms forms
   pub pen : Pen
   pub drawn : IsRowDrawn i cells pen t (run z forms t)

@@ -3,7 +3,7 @@
 -- The rows are drawn as they are shown. Where no kept row is, these are the forms for what the screen shows.
 use Rattle.std.specs.Prelude.{ℕ, ◌+◌, ◌==◌, Bool, false, ◌&&◌, List, [], ◌∷◌, ◌++◌, None}
 use Rattle.vt100_forms.specs.Attrs.{default_attrs}
-use Rattle.vt100_forms.specs.Form.{Form, HideCursor, spell}
+use Rattle.vt100_forms.specs.Form.{Form, HideCursor, bytes_of}
 use Rattle.row_drawing.specs.Writer.{Drawn}
 use Rattle.vt100_rows.specs.Row.{RowView}
 use Rattle.vt100_rows.specs.Forms as row
@@ -44,7 +44,7 @@ cursor_state_formatted s = HideCursor s.hidden ∷ grid.cursor_position_formatte
 abbrev pub each_formatted : ℕ → ℕ → Bool → ℕ → Bool → List RowView → List (List ℕ)
 each_formatted start width whole i above [] = []
 each_formatted start width whole i above (v ∷ vs) =
-    spell (row.formatted v start width i above None None).forms
+    bytes_of (row.formatted v start width i above None None).forms
     ∷ each_formatted start width whole (i + 1) (whole && v.wrapped) vs
 
 abbrev pub rows_formatted : GridView → ℕ → ℕ → List (List ℕ)
@@ -58,7 +58,7 @@ abbrev pub each_diff : ℕ → ℕ → ℕ → List RowView → List RowView →
 each_diff start width i [] _ = []
 each_diff start width i (v ∷ vs) [] = []
 each_diff start width i (v ∷ vs) (e ∷ es) =
-    spell (row.differing v e start width i false false (record { row = i; col = start }) default_attrs).forms
+    bytes_of (row.differing v e start width i false false (record { row = i; col = start }) default_attrs).forms
     ∷ each_diff start width (i + 1) vs es
 
 abbrev pub rows_diff : GridView → GridView → ℕ → ℕ → List (List ℕ)

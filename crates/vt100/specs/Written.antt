@@ -1,7 +1,7 @@
 -- What calls answer that write what a screen shows as forms.
 use Rattle.std.specs.Prelude.{◌≡◌, ◌≤◌, ◌++◌, ℕ, List, [], length, Result, IfOk, OnOk, OnErr, IsOk, Err}
 use Rattle.std.specs.Prelude.{String, string_bytes}
-use Rattle.vt100_forms.specs.Form.{Form, spell}
+use Rattle.vt100_forms.specs.Form.{Form, bytes_of}
 use Rattle.terminal_model.specs.Term.{Size, Shown}
 use Rattle.vt100_core.specs.Picture.{grid_size}
 use Rattle.screen_model.specs.State.{State, IsState}
@@ -14,22 +14,22 @@ use Rattle.vt100.specs.declared.error.ScreenError.TheVariants.{Memory}
 module _ {Z : Type 0} where
   -- forms are appended to a text, unless there is no memory for them
   abbrev pub Writes : {A E : Type 0} → List Form → String Z → Result A E → String Z → Type 0
-  Writes forms old result new = OnOk result (string_bytes new ≡ string_bytes old ++ spell forms)
+  Writes forms old result new = OnOk result (string_bytes new ≡ string_bytes old ++ bytes_of forms)
 
   -- the text of forms, of at most so many bytes; an empty one takes no memory
   pub record GivesModes (forms : List Form) (most : ℕ) (result : Result (String Z) ScreenError) : Type 0 where
-    pub text : IfOk result (λ string. string_bytes string ≡ spell forms)
+    pub text : IfOk result (λ string. string_bytes string ≡ bytes_of forms)
     pub short : IfOk result (λ string. length (string_bytes string) ≤ most)
     pub memory : OnErr result (result ≡ Err Memory)
-    pub empty : spell forms ≡ [] → IsOk result
+    pub empty : bytes_of forms ≡ [] → IsOk result
 
   -- the text of a screen's forms, with at most so many bytes more than 1,024 a cell: where no kept row is shown, the
   -- forms of its picture
   pub record GivesRedraw (forms : State → List Form) (pictured : Size → Shown → List Form) (more : ℕ) (s : State)
       (result : Result (String Z) ScreenError) : Type 0 where
-    pub text : IfOk result (λ string. string_bytes string ≡ spell (forms s))
+    pub text : IfOk result (λ string. string_bytes string ≡ bytes_of (forms s))
     pub shown : IsUnscrolled s
-        → IfOk result (λ string. string_bytes string ≡ spell (pictured (grid_size s.shown) (shown_state s)))
+        → IfOk result (λ string. string_bytes string ≡ bytes_of (pictured (grid_size s.shown) (shown_state s)))
     pub short : IsState s → IfOk result (λ string. IsShortText (grid_size s.shown) more (string_bytes string))
     pub memory : OnErr result (result ≡ Err Memory)
 
@@ -37,14 +37,14 @@ module _ {Z : Type 0} where
   -- of their pictures, and where no cell shows U+FE0F, they touch local cells; an empty text takes no memory
   pub record GivesDifference (forms : State → State → List Form) (pictured : Size → Shown → Shown → List Form)
       (more : ℕ) (old new : State) (result : Result (String Z) ScreenError) : Type 0 where
-    pub text : IfOk result (λ string. string_bytes string ≡ spell (forms old new))
+    pub text : IfOk result (λ string. string_bytes string ≡ bytes_of (forms old new))
     pub shown : IsUnscrolled old → IsUnscrolled new → grid_size old.shown ≡ grid_size new.shown
         → IfOk result (λ string. string_bytes string
-        ≡ spell (pictured (grid_size new.shown) (shown_state old) (shown_state new)))
+        ≡ bytes_of (pictured (grid_size new.shown) (shown_state old) (shown_state new)))
     pub short : IsState new → IfOk result (λ string. IsShortText (grid_size new.shown) more (string_bytes string))
     pub local : IsUnscrolled old → IsUnscrolled new → grid_size old.shown ≡ grid_size new.shown
         → IsPlainlyShown (shown_state new)
         → IfOk result (λ string. IsLocalText (forms old new) (grid_size new.shown) (shown_state old) (shown_state new)
         (string_bytes string))
     pub memory : OnErr result (result ≡ Err Memory)
-    pub empty : spell (forms old new) ≡ [] → IsOk result
+    pub empty : bytes_of (forms old new) ≡ [] → IsOk result

@@ -62,7 +62,7 @@ impl<CB> Parser<CB> {
 }
 
 impl Parser<()> {
-    ghost use Rattle.vt100.specs.Parsing.{ParserStandsAt};
+    ghost use Rattle.vt100.specs.Parsing.{ParserIsAfter};
 
     /// A parser of this size that keeps so many rows, and tells nobody of anything.
     pub fn new(
@@ -71,7 +71,7 @@ impl Parser<()> {
         cols: NonZeroU16,
         scrollback_capacity: usize,
     ) -> Result<Self, ScreenError>
-        ensures stands { IfOk result (λ p. ParserStandsAt p rows.value cols.value scrollback_capacity []) }
+        ensures state_after { IfOk result (λ p. ParserIsAfter p rows.value cols.value scrollback_capacity []) }
         ensures memory { OnErr result (result ≡ Err Memory) }
     {
         Parser::new_with_callbacks(alloc, rows, cols, scrollback_capacity, ())
@@ -79,7 +79,7 @@ impl Parser<()> {
 
     /// A parser of 24 rows and 80 columns that keeps no rows.
     pub fn new_default(alloc: Global) -> Result<Self, ScreenError>
-        ensures stands { IfOk result (λ p. ParserStandsAt p 24 80 0 []) }
+        ensures state_after { IfOk result (λ p. ParserIsAfter p 24 80 0 []) }
         ensures memory { OnErr result (result ≡ Err Memory) }
     {
         let rows = NonZeroU16::new(ROWS).unwrap();
@@ -90,7 +90,7 @@ impl Parser<()> {
 
 impl<CB: Callbacks> Parser<CB> {
     ghost use Rattle.vt100.specs.Goes.{GoesThrough};
-    ghost use Rattle.vt100.specs.Parsing.{HasRead, ParserStandsAt, KeepsScreens};
+    ghost use Rattle.vt100.specs.Parsing.{HasRead, ParserIsAfter, KeepsScreens};
     ghost use Rattle.vt100.specs.ParserLends.{lends_screen, lends_callbacks, lends_both};
 
     /// A parser of this size that keeps so many rows, and tells these callbacks of its events.
@@ -103,7 +103,7 @@ impl<CB: Callbacks> Parser<CB> {
     ) -> Result<Self, ScreenError>
     where
         CB: Drop,
-        ensures stands { IfOk result (λ p. ParserStandsAt p rows.value cols.value scrollback_capacity []) }
+        ensures state_after { IfOk result (λ p. ParserIsAfter p rows.value cols.value scrollback_capacity []) }
         ensures callbacks { IfOk result (λ p. p.callbacks ≡ callbacks) }
         ensures memory { OnErr result (result ≡ Err Memory) }
     {
@@ -133,10 +133,10 @@ impl<CB: Callbacks> Parser<CB> {
             → GoesThrough CB.step CB.scrolls (events_added past bytes.now) self.old.callbacks self.old.screen
             self.new.callbacks self.new.screen }
         ensures made { KeepsScreens CB.step → (rows cols capacity : ℕ) (acts : List Act)
-            → ParserStandsAt self.old rows cols capacity acts
-            → OnOk result (ParserStandsAt self.new rows cols capacity (acts ++ Fed bytes.now ∷ [])) }
+            → ParserIsAfter self.old rows cols capacity acts
+            → OnOk result (ParserIsAfter self.new rows cols capacity (acts ++ Fed bytes.now ∷ [])) }
         ensures bounds { KeepsScreens CB.step → (rows cols capacity : ℕ) (acts : List Act)
-            → AreActs rows cols capacity acts → ParserStandsAt self.old rows cols capacity acts
+            → AreActs rows cols capacity acts → ParserIsAfter self.old rows cols capacity acts
             → SameBounds self.old.screen.state self.new.screen.state }
         ensures takes { KeepsScreens CB.step → result ≡ Err Memory → (past : List ℕ) → HasRead self.old past
             → some_may_take (events_added past bytes.now) self.old.screen.state ≡ true }
@@ -169,8 +169,8 @@ impl<CB: Callbacks> Parser<CB> {
         ensures smaller { self.old.screen.failed ≡ false → TakesNone rows.value cols.value self.old.screen.state
             → IsOk result }
         ensures reader { self.new.reader ≡ self.old.reader }
-        ensures made { (height width capacity : ℕ) (acts : List Act) → ParserStandsAt self.old height width capacity acts
-            → OnOk result (ParserStandsAt self.new height width capacity (acts ++ Resized rows.value cols.value ∷ [])) }
+        ensures made { (height width capacity : ℕ) (acts : List Act) → ParserIsAfter self.old height width capacity acts
+            → OnOk result (ParserIsAfter self.new height width capacity (acts ++ Resized rows.value cols.value ∷ [])) }
     {
         self.screen.set_size_with_cb(rows, cols)
     }
@@ -221,7 +221,7 @@ impl<CB: Callbacks> Parser<CB> {
 /// aren't refused (`takes`).
 impl Write for Parser<()> {
     ghost use Rattle.vt100.specs.Goes.{GoesThrough};
-    ghost use Rattle.vt100.specs.Parsing.{HasRead, ParserStandsAt};
+    ghost use Rattle.vt100.specs.Parsing.{HasRead, ParserIsAfter};
 
     fn write(&mut self, buf: &[u8]) -> io::Result<usize>
         ensures bound { WritesAtMost result buf.now }
@@ -236,10 +236,10 @@ impl Write for Parser<()> {
         ensures goes { self.old.screen.failed ≡ false → (past : List ℕ) → HasRead self.old past
             → GoesThrough (λ c v k d w. v ≡ w) (λ c v a d. c ≡ d) (events_added past buf.now) self.old.callbacks
             self.old.screen self.new.callbacks self.new.screen }
-        ensures made { (rows cols capacity : ℕ) (acts : List Act) → ParserStandsAt self.old rows cols capacity acts
-            → OnOk result (ParserStandsAt self.new rows cols capacity (acts ++ Fed buf.now ∷ [])) }
+        ensures made { (rows cols capacity : ℕ) (acts : List Act) → ParserIsAfter self.old rows cols capacity acts
+            → OnOk result (ParserIsAfter self.new rows cols capacity (acts ++ Fed buf.now ∷ [])) }
         ensures bounds { (rows cols capacity : ℕ) (acts : List Act) → AreActs rows cols capacity acts
-            → ParserStandsAt self.old rows cols capacity acts → SameBounds self.old.screen.state self.new.screen.state }
+            → ParserIsAfter self.old rows cols capacity acts → SameBounds self.old.screen.state self.new.screen.state }
         ensures takes { IfErr result (λ e. self.old.screen.failed ≡ false → (past : List ℕ) → HasRead self.old past
             → some_may_take (events_added past buf.now) self.old.screen.state ≡ true) }
     {

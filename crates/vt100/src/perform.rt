@@ -11,7 +11,7 @@ ghost use Rattle.screen_model.specs.Lookup.{lookup};
 ghost use Rattle.screen_model.specs.Call as said;
 ghost use Rattle.vt100.specs.Goes.{Handles, Tells};
 ghost use Rattle.vt100.specs.Memory.{escape_may_take, plain_may_take, private_may_take};
-ghost use Rattle.vt100.specs.Runs.{PrintsFront};
+ghost use Rattle.vt100.specs.Runs.{PrintsPrefix};
 
 use crate::callbacks::Callbacks;
 use crate::screen::WrappedScreen;
@@ -144,7 +144,7 @@ impl<CB: Callbacks> WrappedScreen<CB> {
     fn print_some<'a>(&mut self, text: &'a str) -> &'a str
         requires { 0 < length text.now }
         ensures shorter { length result.now < length text.now }
-        ensures printed { PrintsFront CB.step CB.scrolls text.now result.now self.old.callbacks self.old.screen
+        ensures printed { PrintsPrefix CB.step CB.scrolls text.now result.now self.old.callbacks self.old.screen
             self.new.callbacks self.new.screen }
     {
         let len = printable_len(text.as_bytes());

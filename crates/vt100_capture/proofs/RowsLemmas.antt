@@ -180,16 +180,16 @@ module _ (n : ℕ) (bs : List ℕ) (inside : Bool) (taken at : ℕ) (rest : List
       let more = parts.0 in
       let good : all_scalars more ≡ true =
       rest-scalars _ (all_scalars more) (ap all_scalars (sym parts.1) ∙ h.scalars) in
-      let front = before ++ encode_utf8 10 in
-      let whole : bs ≡ front ++ encode_utf8_all more =
+      let prefix = before ++ encode_utf8 10 in
+      let whole : bs ≡ prefix ++ encode_utf8_all more =
       h.whole ∙ ap (λ cs. before ++ encode_utf8_all cs) (parts.1 ∙ ap (λ x. x ∷ more) nl)
       ∙ sym (append_assoc before (encode_utf8 10) (encode_utf8_all more)) in
-      let size : length front ≡ at + 1 =
+      let size : length prefix ≡ at + 1 =
       length-append before (encode_utf8 10)
       ∙ ap (λ (xs : List ℕ). length before + length xs) (encode_ascii 10 (omega arith))
       ∙ ap (λ k. k + 1) (sym h.place) in
       let rest : drop (at + 1) bs ≡ encode_utf8_all more =
-      ap (λ k. drop k bs) (sym size) ∙ ap (drop (length front)) whole ∙ drop-append_seam front (encode_utf8_all more) in
+      ap (λ k. drop k bs) (sym size) ∙ ap (drop (length prefix)) whole ∙ drop-append_seam prefix (encode_utf8_all more) in
       let later : capture_rows n (drop (at + 1) bs) ≡ map encode_utf8_all (rows_from n false 0 [] more) =
       ap (capture_rows n) rest
       ∙ ap (λ xs. map encode_utf8_all (rows_from n false 0 [] xs)) (chars-encodes more good) in (
@@ -199,7 +199,7 @@ module _ (n : ℕ) (bs : List ℕ) (inside : Bool) (taken at : ℕ) (rest : List
         (
           seam,
           subst (λ k. IsCharBoundary bs k) size
-              (IsCharBoundary-at_seam bs front (encode_utf8_all more) whole (more, (good, refl))),
+              (IsCharBoundary-at_seam bs prefix (encode_utf8_all more) whole (more, (good, refl))),
         ),
       )
 

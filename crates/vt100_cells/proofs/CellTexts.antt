@@ -23,9 +23,9 @@ all-put_on : (y : ℕ) (ys ds : List ℕ) (w q : Bool) (a : Attrs) → IsShort (
 all-put_on y ys [] w q a h = λ i. record { text = y ∷ sym (append-nil ys) i; wide = w; continuation = q; attrs = a }
 all-put_on y ys (d ∷ ds) w q a h =
     let n = length-append ys (d ∷ ds) in
-    let front : take (suc (length ys)) (y ∷ (ys ++ d ∷ ds)) ≡ y ∷ ys = ap (λ zs. y ∷ zs) (take-append_seam ys (d ∷ ds))
+    let prefix : take (suc (length ys)) (y ∷ (ys ++ d ∷ ds)) ≡ y ∷ ys = ap (λ zs. y ∷ zs) (take-append_seam ys (d ∷ ds))
     in
-    let room : has_room (y ∷ ys) ≡ true = ap has_room (sym front) ∙ h (suc (length ys)) (omega arith) (omega arith) in
+    let room : has_room (y ∷ ys) ≡ true = ap has_room (sym prefix) ∙ h (suc (length ys)) (omega arith) (omega arith) in
     let same : ys ++ d ∷ [] ++ ds ≡ ys ++ d ∷ ds = append_assoc ys (d ∷ []) ds in
     ap (λ x. all_appended x ds) (put_on y ys w q a d room)
     ∙ all-put_on y (ys ++ d ∷ []) ds w q a (rw same h)
@@ -55,7 +55,7 @@ one_char (c ∷ d ∷ ds) e = absurd (omega (arith, e))
 -- the last of n + 2 characters was put on a text with room
 last-is_short : (n : ℕ) (cs : List ℕ) → length cs ≡ n + 2 → IsShort cs → length (encode_utf8_all cs) ≤ 21
 last-is_short n cs e h =
-    let front = ltb-true (length (encode_utf8_all (take (n + 1) cs))) 18 (h (n + 1) (omega arith) (omega arith)) in
+    let prefix = ltb-true (length (encode_utf8_all (take (n + 1) cs))) 18 (h (n + 1) (omega arith) (omega arith)) in
     let last = one_char (drop (n + 1) cs) (omega (arith, length-drop (n + 1) cs)) in
     let whole : length (encode_utf8_all cs) ≡ length (encode_utf8_all (take (n + 1) cs))
     + length (encode_utf8_all (drop (n + 1) cs)) =

@@ -60,8 +60,8 @@ wipes xs ys zs ws s e m a x h l em ey ez ew ex =
     let n = length xs in
     let ly = reads_len n (left_cleared f s) ys ey in
     let lz : length zs ≡ n = reads_len (length ys) (right_cleared (cell_at ys) e) zs ez ∙ ly in
-    let front : length (take m (drop s zs)) ≡ m = simp (length-take, length-drop) (omega arith) in
-    let ew2 : ws ≡ replicate m (empty_cell a) = ew ∙ ap (λ j. replicate j x) front ∙ ap (replicate m) ex in
+    let prefix : length (take m (drop s zs)) ≡ m = simp (length-take, length-drop) (omega arith) in
+    let ew2 : ws ≡ replicate m (empty_cell a) = ew ∙ ap (λ j. replicate j x) prefix ∙ ap (replicate m) ex in
     let lw : length ws ≡ m = ap length ew2 ∙ length-replicate m (empty_cell a) in
     by_position_is n (wiped f s e a) (put_mid s m zs ws) (simp (length-append, length-take, length-drop) (omega arith))
     (λ k q.

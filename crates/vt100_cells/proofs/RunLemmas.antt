@@ -94,9 +94,9 @@ writes-run xs ys zs ws i e m ts a b some ee within em eb ey ez ew =
     let all : m ≡ n = omega arith in
     let lz = reads_len (length ys) (right_made (cell_at ys) e space) zs ez
     ∙ reads_len (length xs) (left_cleared f i) ys ey in
-    let front : length (take m (drop i zs)) ≡ n = simp (length-take, length-drop) (omega arith) in
+    let prefix : length (take m (drop i zs)) ≡ n = simp (length-take, length-drop) (omega arith) in
     let ew2 : ws ≡ by_position n (λ k. cell_of (slice_index ts k) b) =
-    ew ∙ ap (λ j. by_position j (λ k. cell_of (slice_index ts k) b)) front in
+    ew ∙ ap (λ j. by_position j (λ k. cell_of (slice_index ts k) b)) prefix in
     ap (λ j. put_mid i j zs ws) all
     ∙ writes-part xs ys zs ws i n space (printed_run f i ts a) (omega arith)
     (reads_len n (λ k. cell_of (slice_index ts k) b) ws ew2) ey

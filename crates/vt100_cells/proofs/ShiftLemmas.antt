@@ -19,9 +19,9 @@ shifted-read : (xs ys zs : List CellView) (i n k : ℕ) → i + n ≤ length xs 
     → cell_at (put_mid i n (put_mid i (length xs - i) xs ys) zs) k ≡ shifted_right (cell_at xs) i n k
 shifted-read xs ys zs i n k h l ey ez = grind (arith, places, nat_tests)
 
-front-len : (xs ys : List CellView) (i n : ℕ) → i + n ≤ length xs → length ys ≡ length xs - i
+prefix-len : (xs ys : List CellView) (i n : ℕ) → i + n ≤ length xs → length ys ≡ length xs - i
     → length (take n (drop i (put_mid i (length xs - i) xs ys))) ≡ n
-front-len xs ys i n h e = grind (arith, places)
+prefix-len xs ys i n h e = grind (arith, places)
 
 -- a part of the row is turned, and its front is written over: m is i + n - i
 pub shifts-right : (xs ys zs mid : List CellView) (i n m : ℕ) (x : CellView) → i + n ≤ length xs → m ≡ n
@@ -37,7 +37,7 @@ shifts-right xs ys zs mid i n m x h e em ey ez ex =
     let ly : length ys ≡ length xs - i = ap length ey2 ∙ simp (length-append, length-take, length-drop) (omega arith) in
     let ez2 : zs ≡ replicate n default_cell = ez ∙ ap (λ j.
     replicate (length (take j (drop i (put_mid i (length xs - i) xs ys)))) x) e
-    ∙ ap (λ j. replicate j x) (front-len xs ys i n h ly) ∙ ap (replicate n) ex in
+    ∙ ap (λ j. replicate j x) (prefix-len xs ys i n h ly) ∙ ap (replicate n) ex in
     by_position_is (length xs) (shifted_right (cell_at xs) i n) (put_mid i m (put_mid i (length xs - i) xs ys) zs)
     (grind (arith, places))
     (λ k l. ap (λ j. cell_at (put_mid i j (put_mid i (length xs - i) xs ys) zs) k) e
@@ -123,9 +123,9 @@ pub moves-left : (xs zs ys mid : List CellView) (s n m : ℕ) (x : CellView) →
     → put_mid s (length (put_mid s m xs zs) - s) (put_mid s m xs zs) ys
     ≡ by_position (length xs) (shifted_left (length xs) (cell_at xs) s n)
 moves-left xs zs ys mid s n m x h e ez ex em ey =
-    let front : length (take n (drop s xs)) ≡ n = simp (length-take, length-drop) (omega arith) in
+    let prefix : length (take n (drop s xs)) ≡ n = simp (length-take, length-drop) (omega arith) in
     let ez2 : zs ≡ replicate n default_cell = ez ∙ ap (λ j. replicate (length (take j (drop s xs))) x) e
-    ∙ ap (λ j. replicate j x) front ∙ ap (replicate n) ex in
+    ∙ ap (λ j. replicate j x) prefix ∙ ap (replicate n) ex in
     let lz : length zs ≡ n = ap length ez2 ∙ length-replicate n default_cell in
     let lw : length (put_mid s n xs zs) ≡ length xs = simp (length-append, length-take, length-drop) (omega arith) in
     let em2 : mid ≡ drop s (put_mid s n xs zs) = em ∙ ap (λ j. drop s (put_mid s j xs zs)) e in

@@ -177,11 +177,11 @@ IsBegun-owed {g = g} {v = v} {wrapping = wrapping} {old = old} {was = was} k now
     let written = encode_utf8_all (written_text v 0 g.width wrapping) in
     let part = replicate k 10 ++ written in
     let next = IsBegun-row ((was ++ replicate k 10) ++ written) h cut (begun_whole (was ++ replicate k 10) written _ refl) in
-    let front : next.0 ≡ grown.0 ++ part = append_cancel_left old next.0 (grown.0 ++ part)
+    let prefix : next.0 ≡ grown.0 ++ part = append_cancel_left old next.0 (grown.0 ++ part)
     (sym next.3 ∙ append_assoc was (replicate k 10) written ∙ ap (λ bs. bs ++ part) grown.1
     ∙ append_assoc old grown.0 part) in
     IsBegun-within old was grown.0 part next.1 (encode_utf8_all (text_lines g (length g.rows))) now grown.1
-    (next.2 ∙ ap (λ bs. bs ++ next.1) front) begun
+    (next.2 ∙ ap (λ bs. bs ++ next.1) prefix) begun
 
 -- the row has a text that doesn't fit behind them: then the whole text without newlines at its end doesn't either
 pub full-owed : {Z : Type 0} {g : GridView} {n : ℕ} {from left : List RowView} {v : RowView} {wrapping : Bool}

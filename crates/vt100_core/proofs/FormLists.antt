@@ -3,7 +3,7 @@ use Rattle.std.proofs.Common.{◌≡◌, ℕ, List, ◌++◌, length, length-app
 use Rattle.std.specs.Prelude.{unwrap_or}
 use Rattle.vt100_forms.specs.declared.attrs.Attrs.{Attrs}
 use Rattle.vt100_forms.specs.Attrs.{IsProper, HasByteColors, default_attrs}
-use Rattle.vt100_forms.specs.Form.{Form, spell}
+use Rattle.vt100_forms.specs.Form.{Form, bytes_of}
 use Rattle.terminal_model.specs.FormText.{AreForms, AreSentForms}
 use Rattle.terminal_model.specs.Term.{Size, Shown, IsShown}
 use Rattle.row_drawing.specs.Writer.{Drawn}
@@ -66,13 +66,13 @@ grid-forms g h colors clean plain =
 
 -- ---- what is appended
 
-pub grown-short : (g : GridView) (fs : List Form) (s t : List ℕ) → IsWithin (grid_size g) 256 fs → t ≡ s ++ spell fs
+pub grown-short : (g : GridView) (fs : List Form) (s t : List ℕ) → IsWithin (grid_size g) 256 fs → t ≡ s ++ bytes_of fs
     → IsShortGrowth g s t
-grown-short g fs s t h is = omega (arith, h, ap length is, length-append s (spell fs))
+grown-short g fs s t h is = omega (arith, h, ap length is, length-append s (bytes_of fs))
 
 -- which cells a difference touches
 pub appends-local : (g old : GridView) (a : Attrs) (s t : List ℕ) → IsDrawableGrid g → IsUnscrolledGrid old
-    → grid_size old ≡ grid_size g → IsProper a → t ≡ s ++ spell (differing g old a).forms
+    → grid_size old ≡ grid_size g → IsProper a → t ≡ s ++ bytes_of (differing g old a).forms
     → AppendsLocal (differing g old a).forms g old a s t
 appends-local g old a s t h o e proper is = record {
   appended = is;

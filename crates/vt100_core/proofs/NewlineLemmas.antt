@@ -49,7 +49,7 @@ cut-newlines xs (suc k) =
 
 -- bytes, or characters, of which the last is no newline
 abbrev pub EndsOtherwise : List ℕ → Type 0
-EndsOtherwise cs = (front : List ℕ) × (c : ℕ) × (cs ≡ front ++ c ∷ []) × ((c == 10) ≡ false)
+EndsOtherwise cs = (prefix : List ℕ) × (c : ℕ) × (cs ≡ prefix ++ c ∷ []) × ((c == 10) ≡ false)
 
 pub ends-after : (xs bs : List ℕ) → EndsOtherwise bs → EndsOtherwise (xs ++ bs)
 ends-after xs bs h = (xs ++ h.0, h.1, ap (λ cs. xs ++ cs) h.2 ∙ sym (append_assoc xs h.0 (h.1 ∷ [])), h.3)
@@ -200,11 +200,11 @@ pub written-text : (v : RowView) (w : ℕ) (wrapping : Bool) → 0 < length (row
 written-text v w wrapping h =
     let same : 0 + w ≡ w = omega arith in
     ap (λ k. cond (wrapping && (length (row_text v 0 k) == 0)) (10 ∷ []) (row_text v 0 k)) same
-    ∙ ap (λ b. cond b (10 ∷ []) (row_text v 0 w)) (stands wrapping (length (row_text v 0 w)) h)
+    ∙ ap (λ b. cond b (10 ∷ []) (row_text v 0 w)) (state_after wrapping (length (row_text v 0 w)) h)
   where
-    stands : (b : Bool) (n : ℕ) → 0 < n → (b && (n == 0)) ≡ false
-    stands true n l = ne_eqb n 0 (λ z. omega (arith, l, z))
-    stands false n l = refl
+    state_after : (b : Bool) (n : ℕ) → 0 < n → (b && (n == 0)) ≡ false
+    state_after true n l = ne_eqb n 0 (λ z. omega (arith, l, z))
+    state_after false n l = refl
 
 written-none : (v : RowView) (w : ℕ) (wrapping : Bool) → row_text v 0 w ≡ []
     → written_text v 0 w wrapping ≡ replicate (cond wrapping 1 0) 10

@@ -238,22 +238,22 @@ printed_all-append (x ∷ xs) ys g a =
 -- a grid g and a sink s on the way from g0 and s0: a front of the text has been printed
 pub record IsOnTheWay (IsOne : ℕ → Type 0) {S : Type 0} (takes : S → RowView → S → Type 0) (s0 s : S)
     (g0 g : GridView) (text : List ℕ) (a : Attrs) (rest : List ℕ) : Type 0 where
-  pub front : List ℕ
-  pub parts : text ≡ front ++ rest
+  pub prefix : List ℕ
+  pub parts : text ≡ prefix ++ rest
   pub each : All IsOne rest
-  pub grid : g ≡ (printed_all g0 front a).grid
-  pub taken : TakesAll takes s0 (printed_all g0 front a).sunk s
+  pub grid : g ≡ (printed_all g0 prefix a).grid
+  pub taken : TakesAll takes s0 (printed_all g0 prefix a).sunk s
   pub limits : SameLimits g0 g
   pub allocated : IsAllocated g
 
 -- what has been taken once n more characters have been printed
 taken-next : {S : Type 0} (takes : S → RowView → S
-    → Type 0) (g0 g : GridView) (s0 s t : S) (front xs : List ℕ) (a : Attrs) → g ≡ (printed_all g0 front a).grid
-    → TakesAll takes s0 (printed_all g0 front a).sunk s → TakesAll takes s (printed_all g xs a).sunk t
-    → TakesAll takes s0 (printed_all g0 (front ++ xs) a).sunk t
-taken-next takes g0 g s0 s t front xs a e taken next =
-    let o = printed_all g0 front a in
-    subst (λ (p : Scrolled). TakesAll takes s0 p.sunk t) (sym (printed_all-append front xs g0 a))
+    → Type 0) (g0 g : GridView) (s0 s t : S) (prefix xs : List ℕ) (a : Attrs) → g ≡ (printed_all g0 prefix a).grid
+    → TakesAll takes s0 (printed_all g0 prefix a).sunk s → TakesAll takes s (printed_all g xs a).sunk t
+    → TakesAll takes s0 (printed_all g0 (prefix ++ xs) a).sunk t
+taken-next takes g0 g s0 s t prefix xs a e taken next =
+    let o = printed_all g0 prefix a in
+    subst (λ (p : Scrolled). TakesAll takes s0 p.sunk t) (sym (printed_all-append prefix xs g0 a))
     (TakesAll-append takes s0 s t o.sunk (printed_all o.grid xs a).sunk taken
     (subst (λ (y : GridView). TakesAll takes s (printed_all y xs a).sunk t) e next))
 
@@ -262,31 +262,31 @@ pub on-the-way-next : {IsOne : ℕ → Type 0} {S : Type 0} {takes : S → RowVi
     → IsOnTheWay IsOne takes s0 s g0 g text a rest → PrintsFirst takes s t g h {E = E} (Ok n) rest a
     → others ≡ drop n rest → IsOnTheWay IsOne takes s0 t g0 h text a others
 on-the-way-next {IsOne} {takes = takes} {s0} {s} {t} {g0} {g} {h} {rest = rest} {a = a} {n = n} w next e = record {
-  front = w.front ++ take n rest;
-  parts = w.parts ∙ ap (λ xs. w.front ++ xs) (sym (take-append-drop n rest) ∙ ap (λ xs. take n rest ++ xs) (sym e))
-      ∙ sym (append_assoc w.front (take n rest) _);
+  prefix = w.prefix ++ take n rest;
+  parts = w.parts ∙ ap (λ xs. w.prefix ++ xs) (sym (take-append-drop n rest) ∙ ap (λ xs. take n rest ++ xs) (sym e))
+      ∙ sym (append_assoc w.prefix (take n rest) _);
   each = rw e (All-drop IsOne n rest w.each);
   grid = next.grid ∙ ap (λ (y : GridView). (printed_all y (take n rest) a).grid) w.grid
-      ∙ sym (ap (λ (p : Scrolled). p.grid) (printed_all-append w.front (take n rest) g0 a));
-  taken = taken-next takes g0 g s0 s t w.front (take n rest) a w.grid w.taken next.sink;
+      ∙ sym (ap (λ (p : Scrolled). p.grid) (printed_all-append w.prefix (take n rest) g0 a));
+  taken = taken-next takes g0 g s0 s t w.prefix (take n rest) a w.grid w.taken next.sink;
   limits = SameLimits-trans g0 g h w.limits next.limits;
   allocated = next.allocated;
 }
 
 -- where no row scrolls off by all of them none does by the first of what is left
-none-on-the-way : (g0 g : GridView) (front rest : List ℕ) (a : Attrs) → g ≡ (printed_all g0 front a).grid
-    → ScrollsNoneOff g0 (printed_all g0 (front ++ rest) a).grid → ScrollsNoneOff g (printed_all g (take 1 rest) a).grid
-none-on-the-way g0 g front rest a e none =
-    let f = (printed_all g0 front a).grid in
+none-on-the-way : (g0 g : GridView) (prefix rest : List ℕ) (a : Attrs) → g ≡ (printed_all g0 prefix a).grid
+    → ScrollsNoneOff g0 (printed_all g0 (prefix ++ rest) a).grid → ScrollsNoneOff g (printed_all g (take 1 rest) a).grid
+none-on-the-way g0 g prefix rest a e none =
+    let f = (printed_all g0 prefix a).grid in
     let m = (printed_all f (take 1 rest) a).grid in
     let t = (printed_all m (drop 1 rest) a).grid in
-    let parts : (printed_all g0 (front ++ rest) a).grid ≡ t =
-    ap (λ (s : Scrolled). s.grid) (printed_all-append front rest g0 a)
+    let parts : (printed_all g0 (prefix ++ rest) a).grid ≡ t =
+    ap (λ (s : Scrolled). s.grid) (printed_all-append prefix rest g0 a)
     ∙ ap (λ xs. (printed_all f xs a).grid) (sym (take-append-drop 1 rest))
     ∙ ap (λ (s : Scrolled). s.grid) (printed_all-append (take 1 rest) (drop 1 rest) f a) in
     let count : t.kept.scrolled_off ≡ g0.kept.scrolled_off =
     ap (λ (x : GridView). x.kept.scrolled_off) (sym parts) ∙ none.1 in
-    let one = counts-all front g0 a (omega (arith, none.0)) in
+    let one = counts-all prefix g0 a (omega (arith, none.0)) in
     let two = counts-all (take 1 rest) f a one.on.bounded in
     let three = counts-all (drop 1 rest) m a two.on.bounded in
     rw e (
@@ -303,15 +303,15 @@ on-the-way-refused {takes = takes} {s0} {s} {t} {g0} {g} {h} {rest = rest} {a} w
   grid = tt;
   sink = tt;
   begun = (
-    w.front ++ take 1 rest,
+    w.prefix ++ take 1 rest,
     drop 1 rest,
-    w.parts ∙ ap (λ xs. w.front ++ xs) (sym (take-append-drop 1 rest))
-        ∙ sym (append_assoc w.front (take 1 rest) (drop 1 rest)),
-    taken-next takes g0 g s0 s t w.front (take 1 rest) a w.grid w.taken next.begun,
+    w.parts ∙ ap (λ xs. w.prefix ++ xs) (sym (take-append-drop 1 rest))
+        ∙ sym (append_assoc w.prefix (take 1 rest) (drop 1 rest)),
+    taken-next takes g0 g s0 s t w.prefix (take 1 rest) a w.grid w.taken next.begun,
   );
   limits = SameLimits-trans g0 g h w.limits next.limits;
   keeps_none = λ z. next.keeps_none (w.limits.kept.capacity ∙ z);
-  stays = λ z. next.stays (none-on-the-way g0 g w.front rest a w.grid
+  stays = λ z. next.stays (none-on-the-way g0 g w.prefix rest a w.grid
       (subst (λ xs. ScrollsNoneOff g0 (printed_all g0 xs a).grid) w.parts z));
   allocated = next.allocated;
 }

@@ -6,7 +6,7 @@ use Rattle.std.proofs.lemmas.Bool.{false≢true, cases_lt, le-ltb, lt-ltb}
 use Rattle.std.specs.Prelude.{length, OnErr, replicate, unwrap_or, String, string_bytes, string_len, string_capacity}
 use Rattle.vt100_forms.specs.declared.attrs.Attrs.{Attrs}
 use Rattle.vt100_forms.specs.declared.position.Pos.{Pos}
-use Rattle.vt100_forms.specs.Form.{Form, Text, Lf, spell}
+use Rattle.vt100_forms.specs.Form.{Form, Text, Lf, bytes_of}
 use Rattle.vt100_forms.specs.Attrs.{default_attrs}
 use Rattle.vt100_cells.specs.Cell.{CellView, has_text}
 use Rattle.terminal_model.specs.Term.{Size}
@@ -14,7 +14,7 @@ use Rattle.row_drawing.specs.declared.pen.Pen.{Pen}
 use Rattle.row_drawing.specs.Writer.{Drawn, Writer, ◌>>◌}
 use Rattle.row_drawing.specs.Writes.{Appended, IsBegun, Refused, Wrote}
 use Rattle.row_drawing.proofs.WritesLemmas.{appended_both, begun-later, begun-more, refused_first, refused_then}
-use Rattle.row_drawing.proofs.WritesLemmas.{spell-joined}
+use Rattle.row_drawing.proofs.WritesLemmas.{bytes_of-joined}
 use Rattle.screen_drawing.specs.Rows.{afresh, RowWriters, next_row, in_turn}
 use Rattle.screen_drawing.specs.Screen.{cursor_placed}
 use Rattle.screen_drawing.specs.Cursor as cursor
@@ -30,27 +30,27 @@ use Rattle.vt100_core.proofs.ContentsLemmas.{below-next}
 
 -- ---- lists of forms
 
-pub spelled_then : (fs gs : List Form) (s t u : List ℕ) → t ≡ s ++ spell fs → u ≡ t ++ spell gs
-    → u ≡ s ++ spell (fs ++ gs)
-spelled_then fs gs s t u a b =
-    b ∙ ap (λ bs. bs ++ spell gs) a ∙ append_assoc s (spell fs) (spell gs)
-    ∙ ap (λ bs. s ++ bs) (sym (spell-joined fs gs))
+pub bytes_then : (fs gs : List Form) (s t u : List ℕ) → t ≡ s ++ bytes_of fs → u ≡ t ++ bytes_of gs
+    → u ≡ s ++ bytes_of (fs ++ gs)
+bytes_then fs gs s t u a b =
+    b ∙ ap (λ bs. bs ++ bytes_of gs) a ∙ append_assoc s (bytes_of fs) (bytes_of gs)
+    ∙ ap (λ bs. s ++ bs) (sym (bytes_of-joined fs gs))
 
-bytes_of_both : (fs gs : List Form) → length (spell (fs ++ gs)) ≡ length (spell fs) + length (spell gs)
-bytes_of_both fs gs = ap length (spell-joined fs gs) ∙ length-append (spell fs) (spell gs)
+bytes_of_both : (fs gs : List Form) → length (bytes_of (fs ++ gs)) ≡ length (bytes_of fs) + length (bytes_of gs)
+bytes_of_both fs gs = ap length (bytes_of-joined fs gs) ∙ length-append (bytes_of fs) (bytes_of gs)
 
 module _ {Z : Type 0} where
-  pub appended : {fs : List Form} {s : String Z} (t : String Z) → string_bytes t ≡ string_bytes s ++ spell fs
+  pub appended : {fs : List Form} {s : String Z} (t : String Z) → string_bytes t ≡ string_bytes s ++ bytes_of fs
       → string_capacity s ≤ string_capacity t → AppendedForms fs s t
   appended t bytes room = record { bytes = bytes; capacity = room }
 
   -- the first ones are refused
-  begun_front : (fs gs : List Form) (s t : String Z) → RefusedForms fs s t → RefusedForms (fs ++ gs) s t
-  begun_front fs gs s t h =
+  begun_prefix : (fs gs : List Form) (s t : String Z) → RefusedForms fs s t → RefusedForms (fs ++ gs) s t
+  begun_prefix fs gs s t h =
       let both = bytes_of_both fs gs in
       record {
-        begun = subst (λ bs. IsBegun (string_bytes s) bs (string_bytes t)) (sym (spell-joined fs gs))
-            (begun-more (string_bytes s) (spell fs) (spell gs) (string_bytes t) h.begun);
+        begun = subst (λ bs. IsBegun (string_bytes s) bs (string_bytes t)) (sym (bytes_of-joined fs gs))
+            (begun-more (string_bytes s) (bytes_of fs) (bytes_of gs) (string_bytes t) h.begun);
         full = omega (arith, h.full, both);
       }
 
@@ -59,19 +59,19 @@ module _ {Z : Type 0} where
       → RefusedForms (fs ++ gs) s u
   begun_rest fs gs s t u e h =
       let both = bytes_of_both fs gs in
-      let now = ap length e.bytes ∙ length-append (string_bytes s) (spell fs) in
+      let now = ap length e.bytes ∙ length-append (string_bytes s) (bytes_of fs) in
       record {
-        begun = subst (λ bs. IsBegun (string_bytes s) bs (string_bytes u)) (sym (spell-joined fs gs))
-            (begun-later (string_bytes s) (spell fs) (spell gs) (string_bytes t) (string_bytes u) e.bytes h.begun);
+        begun = subst (λ bs. IsBegun (string_bytes s) bs (string_bytes u)) (sym (bytes_of-joined fs gs))
+            (begun-later (string_bytes s) (bytes_of fs) (bytes_of gs) (string_bytes t) (string_bytes u) e.bytes h.begun);
         full = omega (arith, both, now, e.capacity, h.full, s.bytes.ok.0, t.bytes.ok.0);
       }
 
   -- a call that appends the first ones in one piece is refused
   pub begun_none : (fs gs all : List Form) (s t : String Z) → all ≡ fs ++ gs → string_bytes t ≡ string_bytes s
-      → string_capacity s < string_len s + length (spell fs) → RefusedForms all s t
+      → string_capacity s < string_len s + length (bytes_of fs) → RefusedForms all s t
   begun_none fs gs all s t e same full =
-      subst (λ hs. RefusedForms hs s t) (sym e) (begun_front fs gs s t (record {
-        begun = ([], spell fs, refl, same ∙ sym (append-nil (string_bytes s)));
+      subst (λ hs. RefusedForms hs s t) (sym e) (begun_prefix fs gs s t (record {
+        begun = ([], bytes_of fs, refl, same ∙ sym (append-nil (string_bytes s)));
         full = full;
       }))
 
@@ -84,8 +84,8 @@ module _ {Z : Type 0} where
   pub appends_rest : (fs gs all : List Form) (s t : String Z) (b : Bool) (u : String Z) → all ≡ fs ++ gs
       → AppendedForms fs s t → Appends gs t b u → Appends all s b u
   appends_rest fs gs all s t true u e h r = record {
-    bytes = spelled_then fs gs (string_bytes s) (string_bytes t) (string_bytes u) h.bytes r.bytes
-        ∙ ap (λ hs. string_bytes s ++ spell hs) (sym e);
+    bytes = bytes_then fs gs (string_bytes s) (string_bytes t) (string_bytes u) h.bytes r.bytes
+        ∙ ap (λ hs. string_bytes s ++ bytes_of hs) (sym e);
     capacity = omega (arith, h.capacity, r.capacity);
   }
   appends_rest fs gs all s t false u e h r =
@@ -93,8 +93,8 @@ module _ {Z : Type 0} where
 
   -- what a call says that appends some in one piece
   pub last_appends : {T E : Type 0} (r : Result T E) (fs : List Form) (s t : String Z)
-      → string_bytes t ≡ cond (is_ok r) (string_bytes s ++ spell fs) (string_bytes s)
-      → OnErr r (string_capacity s < string_len s + length (spell fs)) → string_capacity s ≤ string_capacity t
+      → string_bytes t ≡ cond (is_ok r) (string_bytes s ++ bytes_of fs) (string_bytes s)
+      → OnErr r (string_capacity s < string_len s + length (bytes_of fs)) → string_capacity s ≤ string_capacity t
       → Appends fs s (is_ok r) t
   last_appends (Ok x) fs s t e full room = record { bytes = e; capacity = room }
   last_appends (Err x) fs s t e full room =
@@ -102,22 +102,22 @@ module _ {Z : Type 0} where
 
   -- a form is appended, and then the others, or a part of them
   pub form_appends : (f : Form) (gs : List Form) (s t : String Z) (b : Bool) (u : String Z)
-      → string_bytes t ≡ string_bytes s ++ spell (f ∷ []) → string_capacity s ≤ string_capacity t → Appends gs t b u
+      → string_bytes t ≡ string_bytes s ++ bytes_of (f ∷ []) → string_capacity s ≤ string_capacity t → Appends gs t b u
       → Appends (f ∷ gs) s b u
   form_appends f gs s t b u h room r =
       appends_rest (f ∷ []) gs (f ∷ gs) s t b u refl (record { bytes = h; capacity = room }) r
 
   -- none is appended
   pub none_appends : {T E : Type 0} (r : Result T E) (fs gs all : List Form) (s t : String Z) → IsErr r
-      → all ≡ fs ++ gs → string_bytes t ≡ string_bytes s → string_capacity s < string_len s + length (spell fs)
+      → all ≡ fs ++ gs → string_bytes t ≡ string_bytes s → string_capacity s < string_len s + length (bytes_of fs)
       → Appends all s (is_ok r) t
   none_appends r fs gs all s t err e same full = refused r all s t err (begun_none fs gs all s t e same full)
 
   -- the first ones are refused
-  pub refused_front : {T E : Type 0} (r : Result T E) (fs gs all : List Form) (s t : String Z) → IsErr r
+  pub refused_prefix : {T E : Type 0} (r : Result T E) (fs gs all : List Form) (s t : String Z) → IsErr r
       → all ≡ fs ++ gs → RefusedForms fs s t → Appends all s (is_ok r) t
-  refused_front r fs gs all s t err e h =
-      refused r all s t err (subst (λ hs. RefusedForms hs s t) (sym e) (begun_front fs gs s t h))
+  refused_prefix r fs gs all s t err e h =
+      refused r all s t err (subst (λ hs. RefusedForms hs s t) (sym e) (begun_prefix fs gs s t h))
 
   -- the same forms
   pub appends_as : (fs gs : List Form) (s : String Z) (b : Bool) (t : String Z) → gs ≡ fs → Appends fs s b t
@@ -125,7 +125,7 @@ module _ {Z : Type 0} where
   appends_as fs gs s b t e h = subst (λ hs. Appends hs s b t) (sym e) h
 
   -- none are to be appended
-  pub appends_nothing : (fs : List Form) (s : String Z) → string_bytes s ≡ string_bytes s ++ spell fs
+  pub appends_nothing : (fs : List Form) (s : String Z) → string_bytes s ≡ string_bytes s ++ bytes_of fs
       → AppendedForms fs s s
   appends_nothing fs s e = record { bytes = e; capacity = omega arith }
 
@@ -135,12 +135,12 @@ line_feeds-suc : (n : ℕ) → replicate (suc n) Lf ≡ replicate n Lf ++ (Lf �
 line_feeds-suc zero = refl
 line_feeds-suc (suc n) = ap (λ (fs : List Form). Lf ∷ fs) (line_feeds-suc n)
 
-pub line_feeds-next : (n m : ℕ) (s t u : List ℕ) → m ≡ n + 1 → t ≡ s ++ spell (replicate n Lf)
-    → u ≡ t ++ spell (Lf ∷ []) → u ≡ s ++ spell (replicate m Lf)
+pub line_feeds-next : (n m : ℕ) (s t u : List ℕ) → m ≡ n + 1 → t ≡ s ++ bytes_of (replicate n Lf)
+    → u ≡ t ++ bytes_of (Lf ∷ []) → u ≡ s ++ bytes_of (replicate m Lf)
 line_feeds-next n m s t u e a b =
     let next : suc n ≡ m = omega (arith, e) in
-    spelled_then (replicate n Lf) (Lf ∷ []) s t u a b ∙ ap (λ fs. s ++ spell fs) (sym (line_feeds-suc n))
-    ∙ ap (λ k. s ++ spell (replicate k Lf)) next
+    bytes_then (replicate n Lf) (Lf ∷ []) s t u a b ∙ ap (λ fs. s ++ bytes_of fs) (sym (line_feeds-suc n))
+    ∙ ap (λ k. s ++ bytes_of (replicate k Lf)) next
 
 line_feeds-both : (n k m : ℕ) → n + k ≡ m → replicate m Lf ≡ replicate n Lf ++ replicate k Lf
 line_feeds-both zero k m e = let same : m ≡ k = omega (arith, e) in ap (λ j. replicate j Lf) same
@@ -148,7 +148,7 @@ line_feeds-both (suc n) k zero e = absurd (omega (arith, e))
 line_feeds-both (suc n) k (suc m) e = ap (λ (fs : List Form). Lf ∷ fs) (line_feeds-both n k m (omega (arith, e)))
 
 pub line_feeds-begun : {Z : Type 0} (n m : ℕ) (s t u : String Z) → n < m → AppendedForms (replicate n Lf) s t
-    → string_bytes u ≡ string_bytes t → string_capacity t < string_len t + length (spell (Lf ∷ []))
+    → string_bytes u ≡ string_bytes t → string_capacity t < string_len t + length (bytes_of (Lf ∷ []))
     → RefusedForms (replicate m Lf) s u
 line_feeds-begun n m s t u inside a same full =
     let k = m - n - 1 in
@@ -169,12 +169,12 @@ end-above z C (suc r) q e h =
 -- ---- the cursor waits
 
 pub wait_behind-none : (z : Size) (C : Cells) (p : Option Pos) (a : Attrs) (r col : ℕ) (t : List ℕ) → col ≡ z.cols
-    → is_pen_at p (place r col) ≡ true → t ≡ t ++ spell (wait_behind z C p a r)
+    → is_pen_at p (place r col) ≡ true → t ≡ t ++ bytes_of (wait_behind z C p a r)
 unfolding wait_behind
 wait_behind-none z C p a r col t e h =
     let there : is_pen_at p (place r z.cols) ≡ true = ap (λ k. is_pen_at p (place r k)) (sym e) ∙ h in
     let rest = arriving p (place r (end_col z C r)) ++ printed_with a (end_cell z C r) in
-    sym (ap (λ b. t ++ spell (cond b [] rest)) there ∙ append-nil t)
+    sym (ap (λ b. t ++ bytes_of (cond b [] rest)) there ∙ append-nil t)
 
 pub wait_behind-some : (z : Size) (C : Cells) (p : Option Pos) (a : Attrs) (r col k : ℕ) (x : CellView) → col ≡ z.cols
     → is_pen_at p (place r col) ≡ false → k ≡ end_col z C r → x ≡ end_cell z C r
@@ -202,7 +202,7 @@ cursor-inside g p a h = rw (lt-ltb g.col g.width h) refl
 
 -- it waits there already
 pub cursor-there : (g : GridView) (p : Option Pos) (a : Option Attrs) (t : List ℕ) → g.width ≤ g.col
-    → is_pen_at p (place g.row g.col) ≡ true → t ≡ t ++ spell (cursor_position_formatted g p a)
+    → is_pen_at p (place g.row g.col) ≡ true → t ≡ t ++ bytes_of (cursor_position_formatted g p a)
 unfolding cursor.cursor_position_formatted
 cursor-there g p a t h e = rw (le-ltb g.col g.width h, e) (sym (append-nil t))
 
@@ -293,7 +293,7 @@ module _ (g : GridView) (f : Writer) (start : Pen) where
   placed-rows {p = p} s t e h =
       let q = (f start).pen in
       let rows = subst (λ x. Refused f x s t) e h in
-      begun_front (f start).forms (cursor_placed (grid_size g) (drawn_on g) q).forms s t
+      begun_prefix (f start).forms (cursor_placed (grid_size g) (drawn_on g) q).forms s t
       (record { begun = rows.begun; full = rows.full })
 
   -- they are drawn, and then the cursor is placed, or this is refused

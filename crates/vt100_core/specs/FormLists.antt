@@ -3,7 +3,7 @@ use Rattle.std.specs.Prelude.{ℕ, ◌+◌, ◌*◌, ◌≤◌, ◌≡◌, List,
 use Rattle.vt100_forms.specs.declared.attrs.Attrs.{Attrs}
 use Rattle.vt100_forms.specs.declared.position.Pos.{Pos}
 use Rattle.vt100_forms.specs.Attrs.{HasByteColors, default_attrs}
-use Rattle.vt100_forms.specs.Form.{Form, spell}
+use Rattle.vt100_forms.specs.Form.{Form, bytes_of}
 use Rattle.vt100_cells.specs.Cells.{cell_at}
 use Rattle.terminal_model.specs.FormText.{AreForms, AreSentForms}
 use Rattle.vt100_rows.specs.Picture.{lines_of}
@@ -62,5 +62,5 @@ IsShortGrowth g old new = length new ≤ length old + (1024 * (g.height * g.widt
 -- the attributes a, they touch local cells of the two pictures alone; but where the cursor waits, also the last cell of
 -- one row.
 pub record AppendsLocal (forms : List Form) (g old : GridView) (a : Attrs) (s t : List ℕ) : Type 0 where
-  pub appended : t ≡ s ++ spell forms
+  pub appended : t ≡ s ++ bytes_of forms
   pub touches : (x : Extras) → x.attrs ≡ a → IsLocalList (grid_size g) (picture_of old x) (drawn_on g) forms

@@ -92,9 +92,9 @@ printed_all g (c ∷ cs) a =
     record { grid = others.grid; sunk = first.sunk ++ others.sunk }
 
 -- the sink s has been given the rows that leave while a front of the text is printed, and is t
-abbrev pub TakesFront : {S : Type 0} → (S → RowView → S → Type 0) → S → GridView → List ℕ → Attrs → S → Type 0
-TakesFront takes s g text a t =
-    (front : List ℕ) × (rest : List ℕ) × (text ≡ front ++ rest) × TakesAll takes s (printed_all g front a).sunk t
+abbrev pub TakesPrefix : {S : Type 0} → (S → RowView → S → Type 0) → S → GridView → List ℕ → Attrs → S → Type 0
+TakesPrefix takes s g text a t =
+    (prefix : List ℕ) × (rest : List ℕ) × (text ≡ prefix ++ rest) × TakesAll takes s (printed_all g prefix a).sunk t
 
 -- what a call does that prints a text on a grid g, which is h then, as `Prints` says of each character in turn; where
 -- it is refused the sink has been given what leaves while a front of the text is printed
@@ -102,7 +102,7 @@ pub record PrintsAll {S : Type 0} (takes : S → RowView → S → Type 0) (s t 
     (result : Result T E) (text : List ℕ) (a : Attrs) : Type 0 where
   pub grid : OnOk result (h ≡ (printed_all g text a).grid)
   pub sink : OnOk result (TakesAll takes s (printed_all g text a).sunk t)
-  pub begun : OnErr result (TakesFront takes s g text a t)
+  pub begun : OnErr result (TakesPrefix takes s g text a t)
   pub limits : SameLimits g h
   pub keeps_none : g.kept.capacity ≡ 0 → IsOk result
   pub stays : ScrollsNoneOff g (printed_all g text a).grid → IsOk result

@@ -7,7 +7,7 @@ use Rattle.std.specs.Prelude.{String, string_bytes, string_len, string_capacity}
 use Rattle.vt100_forms.specs.declared.attrs.Attrs.{Attrs}
 use Rattle.vt100_forms.specs.declared.position.Pos.{Pos}
 use Rattle.vt100_forms.specs.Attrs.{default_attrs}
-use Rattle.vt100_forms.specs.Form.{Form, spell}
+use Rattle.vt100_forms.specs.Form.{Form, bytes_of}
 use Rattle.terminal_model.specs.Term.{Shown, blank_shown}
 use Rattle.row_drawing.specs.Writer.{Drawn, Writer, ◌>>◌}
 use Rattle.row_drawing.specs.Writes.{IsBegun}
@@ -23,13 +23,13 @@ use Rattle.vt100_core.specs.Picture.{grid_size}
 module _ {Z : Type 0} where
   -- The string s becomes t: these forms are appended, and s keeps its room.
   pub record AppendedForms (fs : List Form) (s t : String Z) : Type 0 where
-    pub bytes : string_bytes t ≡ string_bytes s ++ spell fs
+    pub bytes : string_bytes t ≡ string_bytes s ++ bytes_of fs
     pub capacity : string_capacity s ≤ string_capacity t
 
   -- They don't fit in the room of s, and there is no memory for more; a part of them may have been appended.
   pub record RefusedForms (fs : List Form) (s t : String Z) : Type 0 where
-    pub begun : IsBegun (string_bytes s) (spell fs) (string_bytes t)
-    pub full : string_capacity s < string_len s + length (spell fs)
+    pub begun : IsBegun (string_bytes s) (bytes_of fs) (string_bytes t)
+    pub full : string_capacity s < string_len s + length (bytes_of fs)
 
   -- they are appended, or refused
   abbrev pub Appends : List Form → String Z → Bool → String Z → Type 0

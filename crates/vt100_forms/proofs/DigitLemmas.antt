@@ -11,15 +11,15 @@ decimal_tens n h small =
 pub decimal_hundreds : (n : ℕ) → 100 ≤ n → n < 1000
     → decimal n ≡ (48 + n / 100) ∷ (48 + n / 10 % 10) ∷ (48 + n % 10) ∷ []
 decimal_hundreds n h small =
-    let front : n / 10 / 10 ≡ n / 100 = omega arith in
+    let prefix : n / 10 / 10 ≡ n / 100 = omega arith in
     decimal_step n (omega arith) (omega arith)
     ∙ ap (λ ds. ds ++ (48 + n % 10) ∷ []) (decimal_tens (n / 10) (omega arith) (omega arith))
-    ∙ ap (λ m. (48 + m) ∷ (48 + n / 10 % 10) ∷ (48 + n % 10) ∷ []) front
+    ∙ ap (λ m. (48 + m) ∷ (48 + n / 10 % 10) ∷ (48 + n % 10) ∷ []) prefix
 
 pub decimal_thousands : (n : ℕ) → 1000 ≤ n → n < 2 ^ 64
     → decimal n ≡ decimal (n / 1000) ++ (48 + n / 100 % 10) ∷ (48 + n / 10 % 10) ∷ (48 + n % 10) ∷ []
 decimal_thousands n h fits =
-    let front : n / 10 / 10 / 10 ≡ n / 1000 = omega arith in
+    let prefix : n / 10 / 10 / 10 ≡ n / 1000 = omega arith in
     let middle : n / 10 / 10 ≡ n / 100 = omega arith in
     decimal_step n (omega arith) fits
     ∙ ap (λ ds. ds ++ (48 + n % 10) ∷ []) (decimal_step (n / 10) (omega arith) (omega (arith, fits))
@@ -27,7 +27,7 @@ decimal_thousands n h fits =
     ∙ append_assoc (decimal (n / 10 / 10 / 10) ++ (48 + n / 10 / 10 % 10) ∷ []) ((48 + n / 10 % 10) ∷ [])
     ((48 + n % 10) ∷ [])
     ∙ append_assoc (decimal (n / 10 / 10 / 10)) ((48 + n / 10 / 10 % 10) ∷ []) ((48 + n / 10 % 10) ∷ (48 + n % 10) ∷ [])
-    ∙ ap (λ m. decimal m ++ (48 + n / 10 / 10 % 10) ∷ (48 + n / 10 % 10) ∷ (48 + n % 10) ∷ []) front
+    ∙ ap (λ m. decimal m ++ (48 + n / 10 / 10 % 10) ∷ (48 + n / 10 % 10) ∷ (48 + n % 10) ∷ []) prefix
     ∙ ap (λ m. decimal (n / 1000) ++ (48 + m % 10) ∷ (48 + n / 10 % 10) ∷ (48 + n % 10) ∷ []) middle
 
 pub two_pushed : (xs ys zs : List ℕ) (a b : ℕ) → ys ≡ xs ++ a ∷ [] → zs ≡ ys ++ b ∷ [] → zs ≡ xs ++ a ∷ b ∷ []

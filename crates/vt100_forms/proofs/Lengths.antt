@@ -17,11 +17,11 @@ use Rattle.vt100_forms.specs.declared.modes.CursorStyle.TheVariants as style
 use Rattle.vt100_forms.specs.Attrs.{default_attrs, color_eq, attrs_eq, IsByteColor}
 use Rattle.vt100_forms.specs.Form.{Form, Text, MoveTo, MoveRight, EraseChar, ClearRowForward, ClearScreen, ClearAttrs}
 use Rattle.vt100_forms.specs.Form.{Crlf, Lf, Backspace, SaveCursor, RestoreCursor, HideCursor, Keypad, CursorKeys}
-use Rattle.vt100_forms.specs.Form.{Paste, Mouse, Encoding, Style, Sgr, Change, spelling, spell, changed_attrs}
+use Rattle.vt100_forms.specs.Form.{Paste, Mouse, Encoding, Style, Sgr, Change, form_bytes, bytes_of, changed_attrs}
 use Rattle.vt100_forms.specs.Form.{changed_color, counted, mode_change, mouse_number, encoding_number, style_number}
 use Rattle.vt100_forms.specs.Form.{color_numbers, color_part, intensity_part, flag_part, sgr_numbers, sgr_text}
 use Rattle.vt100_forms.specs.Form.{further_numbers}
-use Rattle.vt100_forms.specs.Length.{IsByteOption, EachSpellingIsShort, EachMoveIsShort, EachChangeIsShort}
+use Rattle.vt100_forms.specs.Length.{IsByteOption, EachWrittenFormIsShort, EachMoveIsShort, EachChangeIsShort}
 
 digits-1 : (n : ℕ) → n < 10 → length (decimal n) ≤ 1
 digits-1 n h = length-decimal-le 1 n (omega arith) h (omega arith)
@@ -38,7 +38,7 @@ digits-4 n h = length-decimal-le 4 n (omega arith) h (omega arith)
 digits-5 : (n : ℕ) → n < 100000 → length (decimal n) ≤ 5
 digits-5 n h = length-decimal-le 5 n (omega arith) h (omega arith)
 
-length-MoveTo : (r c : ℕ) → r < 2 ^ 16 → c < 2 ^ 16 → length (spelling (MoveTo r c)) ≤ 14
+length-MoveTo : (r c : ℕ) → r < 2 ^ 16 → c < 2 ^ 16 → length (form_bytes (MoveTo r c)) ≤ 14
 length-MoveTo r c hr hc = cond_both ((r == 0) && (c == 0)) _ _ (λ xs. length xs ≤ 14) (λ h. omega arith)
     (λ h. simp length-append (omega (arith, digits-5 (r + 1) (omega arith), digits-5 (c + 1) (omega arith))))
 
@@ -113,7 +113,7 @@ width_of-sgr c f b = simp width_of-append (omega (
   width_of-flag 7 27 c.inverse (omega arith) (omega arith),
 ))
 
-length-Sgr : (c : Change) → IsByteOption c.fgcolor → IsByteOption c.bgcolor → length (spelling (Sgr c)) ≤ 48
+length-Sgr : (c : Change) → IsByteOption c.fgcolor → IsByteOption c.bgcolor → length (form_bytes (Sgr c)) ≤ 48
 length-Sgr c f b = omega (arith, length-sgr_text (sgr_numbers c), width_of-sgr c f b)
 
 mouse_number-small : (m : MouseProtocolMode) → mouse_number m < 10000
@@ -137,57 +137,57 @@ style_number-small style.SteadyUnderline = omega arith
 style_number-small style.BlinkVerticalBar = omega arith
 style_number-small style.SteadyVerticalBar = omega arith
 
-length-Style : (to from : CursorStyle) → length (spelling (Style to from)) ≤ 5
+length-Style : (to from : CursorStyle) → length (form_bytes (Style to from)) ≤ 5
 length-Style to from = cond_both (style_number to == style_number from) _ _ (λ xs. length xs ≤ 5) (λ h. omega arith)
     (λ h. simp length-append (omega (arith, digits-1 (style_number to) (style_number-small to))))
 
-pub length-spelling : EachSpellingIsShort
-length-spelling (Text cs) h = omega arith
-length-spelling (MoveTo r c) h = length-MoveTo r c h.0 h.1
-length-spelling (MoveRight n) h = length-counted n 67 h
-length-spelling (EraseChar n) h = length-counted n 88 h
-length-spelling ClearRowForward h = omega arith
-length-spelling ClearScreen h = omega arith
-length-spelling ClearAttrs h = omega arith
-length-spelling Crlf h = omega arith
-length-spelling Lf h = omega arith
-length-spelling Backspace h = omega arith
-length-spelling SaveCursor h = omega arith
-length-spelling RestoreCursor h = omega arith
-length-spelling (HideCursor true) h = omega arith
-length-spelling (HideCursor false) h = omega arith
-length-spelling (Keypad true) h = omega arith
-length-spelling (Keypad false) h = omega arith
-length-spelling (CursorKeys true) h = omega arith
-length-spelling (CursorKeys false) h = omega arith
-length-spelling (Paste true) h = omega arith
-length-spelling (Paste false) h = omega arith
-length-spelling (Mouse to from) h = length-mode_change _ _ (mouse_number-small to) (mouse_number-small from)
-length-spelling (Encoding to from) h = length-mode_change _ _ (encoding_number-small to) (encoding_number-small from)
-length-spelling (Style to from) h = length-Style to from
-length-spelling (Sgr c) h = length-Sgr c h.0 h.1
+pub length-form_bytes : EachWrittenFormIsShort
+length-form_bytes (Text cs) h = omega arith
+length-form_bytes (MoveTo r c) h = length-MoveTo r c h.0 h.1
+length-form_bytes (MoveRight n) h = length-counted n 67 h
+length-form_bytes (EraseChar n) h = length-counted n 88 h
+length-form_bytes ClearRowForward h = omega arith
+length-form_bytes ClearScreen h = omega arith
+length-form_bytes ClearAttrs h = omega arith
+length-form_bytes Crlf h = omega arith
+length-form_bytes Lf h = omega arith
+length-form_bytes Backspace h = omega arith
+length-form_bytes SaveCursor h = omega arith
+length-form_bytes RestoreCursor h = omega arith
+length-form_bytes (HideCursor true) h = omega arith
+length-form_bytes (HideCursor false) h = omega arith
+length-form_bytes (Keypad true) h = omega arith
+length-form_bytes (Keypad false) h = omega arith
+length-form_bytes (CursorKeys true) h = omega arith
+length-form_bytes (CursorKeys false) h = omega arith
+length-form_bytes (Paste true) h = omega arith
+length-form_bytes (Paste false) h = omega arith
+length-form_bytes (Mouse to from) h = length-mode_change _ _ (mouse_number-small to) (mouse_number-small from)
+length-form_bytes (Encoding to from) h = length-mode_change _ _ (encoding_number-small to) (encoding_number-small from)
+length-form_bytes (Style to from) h = length-Style to from
+length-form_bytes (Sgr c) h = length-Sgr c h.0 h.1
 
-length-spell_one : (f : Form) (n : ℕ) → length (spelling f) ≤ n → length (spell (f ∷ [])) ≤ n
-length-spell_one f n h = simp length-append (omega (arith, h))
+length-bytes_of_one : (f : Form) (n : ℕ) → length (form_bytes f) ≤ n → length (bytes_of (f ∷ [])) ≤ n
+length-bytes_of_one f n h = simp length-append (omega (arith, h))
 
 pub length-moves : EachMoveIsShort
 length-moves p q hp hq =
-    let P : List Form → Type 0 = λ fs. length (spell fs) ≤ 14 in
+    let P : List Form → Type 0 = λ fs. length (bytes_of fs) ≤ 14 in
     cond_both ((q.row == p.row + 1) && (q.col == 0)) _ _ P (λ h. omega arith)
     (λ h. cond_both ((p.row == q.row) && (p.col == q.col)) _ _ P (λ g. omega arith)
     (λ g. cond_both ((p.row == q.row) && nat_lt p.col q.col) _ _ P
-    (λ k. length-spell_one (MoveRight (q.col - p.col)) 14
+    (λ k. length-bytes_of_one (MoveRight (q.col - p.col)) 14
     (omega (arith, length-counted (q.col - p.col) 67 (omega (arith, hq.1)))))
-    (λ k. length-spell_one (MoveTo q.row q.col) 14 (length-MoveTo q.row q.col hq.0 hq.1))))
+    (λ k. length-bytes_of_one (MoveTo q.row q.col) 14 (length-MoveTo q.row q.col hq.0 hq.1))))
 
 changed_color-small : (old new : Color) → IsByteColor new → IsByteOption (changed_color old new)
 changed_color-small old new h = cond_both (color_eq new old) None (Some new) IsByteOption (λ i. tt) (λ i. h)
 
 pub length-change : EachChangeIsShort
 length-change a b h =
-    let P : List Form → Type 0 = λ fs. length (spell fs) ≤ 48 in
+    let P : List Form → Type 0 = λ fs. length (bytes_of fs) ≤ 48 in
     cond_both (attrs_eq b a) _ _ P (λ i. omega arith)
     (λ i. cond_both (attrs_eq b default_attrs) _ _ P (λ j. omega arith)
-    (λ j. length-spell_one (Sgr (changed_attrs a b)) 48
+    (λ j. length-bytes_of_one (Sgr (changed_attrs a b)) 48
     (length-Sgr (changed_attrs a b) (changed_color-small a.fgcolor b.fgcolor h.0)
     (changed_color-small a.bgcolor b.bgcolor h.1))))

@@ -14,7 +14,7 @@ use Rattle.vt100_forms.specs.declared.modes.MouseProtocolEncoding.TheVariants as
 use Rattle.vt100_forms.specs.declared.modes.CursorStyle.{CursorStyle}
 use Rattle.vt100_forms.specs.Form.{Form, Text, MoveTo, MoveRight, EraseChar, ClearRowForward, ClearScreen, ClearAttrs}
 use Rattle.vt100_forms.specs.Form.{Crlf, Lf, Backspace, SaveCursor, RestoreCursor, HideCursor, Keypad, CursorKeys}
-use Rattle.vt100_forms.specs.Form.{Paste, Mouse, Encoding, Style, Sgr, spelling, spell, csi, counted, mode_change}
+use Rattle.vt100_forms.specs.Form.{Paste, Mouse, Encoding, Style, Sgr, form_bytes, bytes_of, csi, counted, mode_change}
 use Rattle.vt100_forms.specs.Form.{mode_set, mode_reset, mouse_number, encoding_number, style_number, sgr_numbers}
 use Rattle.vt100_forms.specs.Form.{sgr_text, further_numbers}
 use Rattle.vt100_forms.specs.Mark.{mark_head, HasPlainText, MarksStandBehindForms, NoMarkInForms}
@@ -196,7 +196,7 @@ further-plain (n ∷ ns) = (
 abbrev IsClear : List ℕ → Type 0
 IsClear xs = clear xs ≡ true
 
-clear-MoveTo : (r c : ℕ) → clear (spelling (MoveTo r c)) ≡ true
+clear-MoveTo : (r c : ℕ) → clear (form_bytes (MoveTo r c)) ≡ true
 unfolding clear agrees
 clear-MoveTo r c = cond_both ((r == 0) && (c == 0)) _ _ IsClear (λ i. refl)
     (λ i. clear-numbered (r + 1) (59 ∷ (decimal (c + 1) ++ codes "H")) (
@@ -242,50 +242,50 @@ unfolding clear
 clear-mode_change to from h k = cond_both (to == from) _ _ IsClear (λ i. refl)
     (λ i. cond_both (to == 0) _ _ IsClear (λ j. k.1) (λ j. h.0))
 
-clear-Style : (to from : CursorStyle) → clear (spelling (Style to from)) ≡ true
+clear-Style : (to from : CursorStyle) → clear (form_bytes (Style to from)) ≡ true
 unfolding clear
 clear-Style to from = cond_both (style_number to == style_number from) _ _ IsClear (λ i. refl)
     (λ i. clear-numbered (style_number to) (codes " q") (λ e. omega (arith, e), plain_byte 113 (omega arith)))
 
-clear-spelling : (f : Form) → HasPlainText f → clear (spelling f) ≡ true
+clear-form_bytes : (f : Form) → HasPlainText f → clear (form_bytes f) ≡ true
 unfolding clear agrees
-clear-spelling (Text cs) h = clear-plain (encode_utf8_all cs) h
-clear-spelling (MoveTo r c) h = clear-MoveTo r c
-clear-spelling (MoveRight n) h = clear-counted n 67 (omega arith)
-clear-spelling (EraseChar n) h = clear-counted n 88 (omega arith)
-clear-spelling ClearRowForward h = refl
-clear-spelling ClearScreen h = refl
-clear-spelling ClearAttrs h = refl
-clear-spelling Crlf h = refl
-clear-spelling Lf h = refl
-clear-spelling Backspace h = refl
-clear-spelling SaveCursor h = refl
-clear-spelling RestoreCursor h = refl
-clear-spelling (HideCursor true) h = refl
-clear-spelling (HideCursor false) h = refl
-clear-spelling (Keypad true) h = refl
-clear-spelling (Keypad false) h = refl
-clear-spelling (CursorKeys true) h = refl
-clear-spelling (CursorKeys false) h = refl
-clear-spelling (Paste true) h = refl
-clear-spelling (Paste false) h = refl
-clear-spelling (Mouse to from) h = clear-mode_change _ _ (clear-mouse to) (clear-mouse from)
-clear-spelling (Encoding to from) h = clear-mode_change _ _ (clear-encoding to) (clear-encoding from)
-clear-spelling (Style to from) h = clear-Style to from
-clear-spelling (Sgr c) h = clear-sgr_text (sgr_numbers c)
+clear-form_bytes (Text cs) h = clear-plain (encode_utf8_all cs) h
+clear-form_bytes (MoveTo r c) h = clear-MoveTo r c
+clear-form_bytes (MoveRight n) h = clear-counted n 67 (omega arith)
+clear-form_bytes (EraseChar n) h = clear-counted n 88 (omega arith)
+clear-form_bytes ClearRowForward h = refl
+clear-form_bytes ClearScreen h = refl
+clear-form_bytes ClearAttrs h = refl
+clear-form_bytes Crlf h = refl
+clear-form_bytes Lf h = refl
+clear-form_bytes Backspace h = refl
+clear-form_bytes SaveCursor h = refl
+clear-form_bytes RestoreCursor h = refl
+clear-form_bytes (HideCursor true) h = refl
+clear-form_bytes (HideCursor false) h = refl
+clear-form_bytes (Keypad true) h = refl
+clear-form_bytes (Keypad false) h = refl
+clear-form_bytes (CursorKeys true) h = refl
+clear-form_bytes (CursorKeys false) h = refl
+clear-form_bytes (Paste true) h = refl
+clear-form_bytes (Paste false) h = refl
+clear-form_bytes (Mouse to from) h = clear-mode_change _ _ (clear-mouse to) (clear-mouse from)
+clear-form_bytes (Encoding to from) h = clear-mode_change _ _ (clear-encoding to) (clear-encoding from)
+clear-form_bytes (Style to from) h = clear-Style to from
+clear-form_bytes (Sgr c) h = clear-sgr_text (sgr_numbers c)
 
 behind-nil : IsBehind []
 behind-nil r xs ys e = (xs, refl)
 
 pub marks_behind : MarksStandBehindForms
 marks_behind [] h = behind-nil
-marks_behind (f ∷ fs) h = behind-append (spelling f) (spell fs) (behind-clear (spelling f) (clear-spelling f h.0))
+marks_behind (f ∷ fs) h = behind-append (form_bytes f) (bytes_of fs) (behind-clear (form_bytes f) (clear-form_bytes f h.0))
     (marks_behind fs h.1)
 
 pub no_mark : NoMarkInForms
 no_mark fs h xs ys e =
-    let (zs, found) = marks_behind fs h [] xs ys (append-nil (spell fs) ∙ e) in
-    let joined : length (spell fs) ≡ length xs + (length mark_head + length ys) =
+    let (zs, found) = marks_behind fs h [] xs ys (append-nil (bytes_of fs) ∙ e) in
+    let joined : length (bytes_of fs) ≡ length xs + (length mark_head + length ys) =
     ap length e ∙ length-append xs (mark_head ++ ys) ∙ ap (λ n. length xs + n) (length-append mark_head ys) in
-    let long : length xs ≡ length (spell fs) + length zs = ap length found ∙ length-append (spell fs) zs in
+    let long : length xs ≡ length (bytes_of fs) + length zs = ap length found ∙ length-append (bytes_of fs) zs in
     omega (arith, joined, long)

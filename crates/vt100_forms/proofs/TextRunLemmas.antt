@@ -19,11 +19,11 @@ len-is r xs h v = ap length (sym v) ∙ length-take-le r.len r.bytes (omega (ari
 take-put_some : (a k n : ℕ) (xs ys : List ℕ) → a ≤ length xs → length ys ≡ k → n ≤ k
     → take (a + n) (put_mid a k xs ys) ≡ take a xs ++ take n ys
 take-put_some a k n xs ys h e l =
-    let front = length-take-le a xs h in
+    let prefix = length-take-le a xs h in
     sym (take-take (a + n) (a + k) (put_mid a k xs ys) (omega arith))
     ∙ ap (take (a + n)) (take-put_mid a k xs ys (a + k) (omega arith) h)
     ∙ take-add a n (take a xs ++ ys)
-    ∙ (λ i. take_at (take a xs) ys a front i ++ take n (drop_at (take a xs) ys a front i))
+    ∙ (λ i. take_at (take a xs) ys a prefix i ++ take n (drop_at (take a xs) ys a prefix i))
 
 -- k bytes ys were written after the run, of which the first n count
 pub bytes_of-push : (r : Inside) (xs : List ℕ) (k n : ℕ) (ys : List ℕ) → IsRun r → bytes_of r ≡ xs

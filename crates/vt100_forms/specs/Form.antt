@@ -1,4 +1,4 @@
--- The forms that are sent to a terminal, and the bytes of each (`spelling`). A form is one escape sequence, or the text
+-- The forms that are sent to a terminal, and the bytes of each (`form_bytes`). A form is one escape sequence, or the text
 -- of one cell.
 use Rattle.std.specs.Prelude.{ℕ, ◌≡◌, ◌+◌, ◌-◌, ◌==◌, ◌&&◌, bit_and, bit_or, unwrap_or, List, [], ◌∷◌, ◌++◌, Bool, true}
 use Rattle.std.specs.Prelude.{false, if◌then◌else◌, nat_lt, decimal, codes, encode_utf8_all, Option, Some, None}
@@ -161,39 +161,39 @@ sgr_text [] = []
 sgr_text (n ∷ ns) = csi (decimal n ++ (further_numbers ns ++ codes "m"))
 
 -- the bytes of a form
-abbrev pub spelling : Form → List ℕ
-spelling (Text cs) = encode_utf8_all cs
-spelling (MoveTo r c) =
+abbrev pub form_bytes : Form → List ℕ
+form_bytes (Text cs) = encode_utf8_all cs
+form_bytes (MoveTo r c) =
     if (r == 0) && (c == 0) then csi (codes "H")
     else csi (decimal (r + 1) ++ 59 ∷ (decimal (c + 1) ++ codes "H"))
-spelling (MoveRight n) = counted n (codes "C")
-spelling (EraseChar n) = counted n (codes "X")
-spelling ClearRowForward = csi (codes "K")
-spelling ClearScreen = csi (codes "H") ++ csi (codes "J")
-spelling ClearAttrs = csi (codes "m")
-spelling Crlf = 13 ∷ 10 ∷ []
-spelling Lf = 10 ∷ []
-spelling Backspace = 8 ∷ []
-spelling SaveCursor = 27 ∷ codes "7"
-spelling RestoreCursor = 27 ∷ codes "8"
-spelling (HideCursor true) = csi (codes "?25l")
-spelling (HideCursor false) = csi (codes "?25h")
-spelling (Keypad true) = 27 ∷ codes "="
-spelling (Keypad false) = 27 ∷ codes ">"
-spelling (CursorKeys true) = csi (codes "?1h")
-spelling (CursorKeys false) = csi (codes "?1l")
-spelling (Paste true) = csi (codes "?2004h")
-spelling (Paste false) = csi (codes "?2004l")
-spelling (Mouse to from) = mode_change (mouse_number to) (mouse_number from)
-spelling (Encoding to from) = mode_change (encoding_number to) (encoding_number from)
-spelling (Style to from) =
+form_bytes (MoveRight n) = counted n (codes "C")
+form_bytes (EraseChar n) = counted n (codes "X")
+form_bytes ClearRowForward = csi (codes "K")
+form_bytes ClearScreen = csi (codes "H") ++ csi (codes "J")
+form_bytes ClearAttrs = csi (codes "m")
+form_bytes Crlf = 13 ∷ 10 ∷ []
+form_bytes Lf = 10 ∷ []
+form_bytes Backspace = 8 ∷ []
+form_bytes SaveCursor = 27 ∷ codes "7"
+form_bytes RestoreCursor = 27 ∷ codes "8"
+form_bytes (HideCursor true) = csi (codes "?25l")
+form_bytes (HideCursor false) = csi (codes "?25h")
+form_bytes (Keypad true) = 27 ∷ codes "="
+form_bytes (Keypad false) = 27 ∷ codes ">"
+form_bytes (CursorKeys true) = csi (codes "?1h")
+form_bytes (CursorKeys false) = csi (codes "?1l")
+form_bytes (Paste true) = csi (codes "?2004h")
+form_bytes (Paste false) = csi (codes "?2004l")
+form_bytes (Mouse to from) = mode_change (mouse_number to) (mouse_number from)
+form_bytes (Encoding to from) = mode_change (encoding_number to) (encoding_number from)
+form_bytes (Style to from) =
     if style_number to == style_number from then []
     else csi (decimal (style_number to) ++ codes " q")
-spelling (Sgr c) = sgr_text (sgr_numbers c)
+form_bytes (Sgr c) = sgr_text (sgr_numbers c)
 
 -- the bytes of a list of forms
-abbrev pub spell : List Form → List ℕ
-spell fs = flat_map spelling fs
+abbrev pub bytes_of : List Form → List ℕ
+bytes_of fs = flat_map form_bytes fs
 
 -- bold if the bit for bold is set, whatever the bit for dim says
 abbrev pub intensity_of : Attrs → Intensity

@@ -6,7 +6,7 @@ use Rattle.vt100_forms.specs.declared.position.Pos.{Pos}
 use Rattle.vt100_forms.specs.Attrs.{IsByteColor, HasByteColors}
 use Rattle.vt100_forms.specs.Form.{Form, Text, MoveTo, MoveRight, EraseChar, ClearRowForward, ClearScreen, ClearAttrs}
 use Rattle.vt100_forms.specs.Form.{Crlf, Lf, Backspace, SaveCursor, RestoreCursor, HideCursor, Keypad, CursorKeys}
-use Rattle.vt100_forms.specs.Form.{Paste, Mouse, Encoding, Style, Sgr, spelling, spell, change, moves}
+use Rattle.vt100_forms.specs.Form.{Paste, Mouse, Encoding, Style, Sgr, form_bytes, bytes_of, change, moves}
 
 -- both numbers fit in 16 bits, as those of a `Pos` do
 abbrev pub IsShortPos : Pos → Type 0
@@ -47,11 +47,11 @@ longest (Encoding to from) = 8
 longest (Style to from) = 5
 longest (Sgr c) = 48
 
-abbrev pub EachSpellingIsShort : Type 0
-EachSpellingIsShort = (f : Form) → HasSmallNumbers f → length (spelling f) ≤ longest f
+abbrev pub EachWrittenFormIsShort : Type 0
+EachWrittenFormIsShort = (f : Form) → HasSmallNumbers f → length (form_bytes f) ≤ longest f
 
 abbrev pub EachMoveIsShort : Type 0
-EachMoveIsShort = (p q : Pos) → IsShortPos p → IsShortPos q → length (spell (moves p q)) ≤ 14
+EachMoveIsShort = (p q : Pos) → IsShortPos p → IsShortPos q → length (bytes_of (moves p q)) ≤ 14
 
 abbrev pub EachChangeIsShort : Type 0
-EachChangeIsShort = (a b : Attrs) → HasByteColors b → length (spell (change a b)) ≤ 48
+EachChangeIsShort = (a b : Attrs) → HasByteColors b → length (bytes_of (change a b)) ≤ 48

@@ -55,7 +55,7 @@ impl Default for Attrs {
 }
 
 impl Attrs {
-    ghost use Rattle.vt100_forms.specs.Form.{spell, change, intensity_of};
+    ghost use Rattle.vt100_forms.specs.Form.{bytes_of, change, intensity_of};
     ghost use Rattle.vt100_forms.specs.Writer.{HandsOver};
     ghost use Rattle.vt100_forms.specs.Attrs.{default_attrs, is_bold, is_dim, is_italic, is_underlined, is_inverse};
     ghost use Rattle.vt100_forms.specs.Attrs.{with_bold, with_dim, with_normal_intensity, with_italic, with_underline};
@@ -184,10 +184,10 @@ impl Attrs {
         other: &Self,
     ) -> Result<(), GridError>
         ensures bytes { string_bytes contents.new ≡
-            (if is_ok result then string_bytes contents.old ++ spell (change other.now self.now)
+            (if is_ok result then string_bytes contents.old ++ bytes_of (change other.now self.now)
             else string_bytes contents.old) }
         ensures full { OnErr result
-            (string_capacity contents.old < string_len contents.old + length (spell (change other.now self.now))) }
+            (string_capacity contents.old < string_len contents.old + length (bytes_of (change other.now self.now))) }
         ensures capacity { string_capacity contents.old ≤ string_capacity contents.new }
     {
         let mut run = TextRun::new();
@@ -202,7 +202,7 @@ impl Attrs {
     #[inline(always)]
     pub fn push_escape_code_diff(&self, run: &mut TextRun, other: &Self)
         requires { length run.old + 58 ≤ 128 }
-        ensures bytes { run.new ≡ run.old ++ spell (change other.now self.now) }
+        ensures bytes { run.new ≡ run.old ++ bytes_of (change other.now self.now) }
         ensures len { length run.new ≤ length run.old + 58 }
     {
         if *self == *other {
@@ -225,8 +225,8 @@ impl Attrs {
         other: &Self,
     ) -> fmt::Result
         ensures written { OnOk result
-            (HandsOver W.write_str_gives writer.old (spell (change other.now self.now)) writer.new) }
-        ensures empty { spell (change other.now self.now) ≡ [] → IsOk result }
+            (HandsOver W.write_str_gives writer.old (bytes_of (change other.now self.now)) writer.new) }
+        ensures empty { bytes_of (change other.now self.now) ≡ [] → IsOk result }
     {
         let mut run = TextRun::new();
         self.push_escape_code_diff(&mut run, other);

@@ -1,7 +1,7 @@
 //! Facts about attributes and forms as wholes. Each function does nothing: its contract is the fact.
 ghost use Rattle.vt100_forms.specs.Attrs.{EachSetterIsRead, EachSetterKeepsProper};
 ghost use Rattle.vt100_forms.specs.Form.{EachChangeLeads};
-ghost use Rattle.vt100_forms.specs.Length.{EachSpellingIsShort, EachMoveIsShort, EachChangeIsShort};
+ghost use Rattle.vt100_forms.specs.Length.{EachWrittenFormIsShort, EachMoveIsShort, EachChangeIsShort};
 ghost use Rattle.vt100_forms.specs.Mark.{NoMarkInForms, MarksStandBehindForms};
 
 /// A setter of `Attrs` sets what its name says, and no other flag changes.
@@ -21,8 +21,8 @@ pub fn changes_lead()
 {}
 
 /// A form has at most as many bytes as the definition `longest` says for its kind.
-pub fn spellings_are_short()
-    ensures { EachSpellingIsShort }
+pub fn written_forms_are_short()
+    ensures { EachWrittenFormIsShort }
 {}
 
 /// A move of the cursor takes 14 bytes at most.
@@ -36,7 +36,7 @@ pub fn changes_are_short()
 {}
 
 /// The bytes of forms hold no mark of a synchronized update (private mode 2026), if the texts among them hold no ESC.
-pub fn no_mark_stands_in_forms()
+pub fn no_mark_is_in_forms()
     ensures { NoMarkInForms }
 {}
 

@@ -1,7 +1,7 @@
 //! The escape sequences that are sent to a terminal (ECMA-48, the VT100's and xterm's control sequences).
 ghost use Rattle.std.specs.Prelude.{◌≡◌, ◌≤◌, ◌<◌, ◌+◌, ◌^◌, length, decimal, List, [], ◌∷◌, ◌++◌};
 ghost use Rattle.std.specs.Prelude.{string_bytes, string_len, string_capacity, is_ok, IsOk, OnOk, OnErr, if◌then◌else◌};
-ghost use Rattle.vt100_forms.specs.Form.{Form, spell, counted};
+ghost use Rattle.vt100_forms.specs.Form.{Form, bytes_of, counted};
 ghost use Rattle.vt100_forms.specs.Writer.{HandsOver};
 
 mod attrs;
@@ -33,13 +33,13 @@ pub trait BufWrite {
     /// Returns the bytes. They are a constant, or are built in `room`, which must be empty.
     fn as_text<'a>(&self, room: &'a mut FormText) -> &'a str
         requires { room.old.bytes ≡ [] }
-        ensures { result.now ≡ spell (forms self.now) };
+        ensures { result.now ≡ bytes_of (forms self.now) };
 
     /// Writes the bytes to `writer` in one call, or in no call if there are none. The only error is that call's.
     fn write_fmt<W: fmt::Write>(&self, writer: &mut W) -> fmt::Result
         ensures written { OnOk result
-            (HandsOver W.write_str_gives writer.old (spell (forms self.now)) writer.new) }
-        ensures empty { spell (forms self.now) ≡ [] → IsOk result }
+            (HandsOver W.write_str_gives writer.old (bytes_of (forms self.now)) writer.new) }
+        ensures empty { bytes_of (forms self.now) ≡ [] → IsOk result }
     {
         let mut room = FormText::new();
         let text = self.as_text(&mut room);
@@ -52,9 +52,9 @@ pub trait BufWrite {
     /// Appends the bytes to `buf`. Fails only if an allocation fails; `buf` is then unchanged.
     fn write_buf(&self, buf: &mut String) -> Result<(), GridError>
         ensures bytes { string_bytes buf.new ≡
-            (if is_ok result then string_bytes buf.old ++ spell (forms self.now) else string_bytes buf.old) }
+            (if is_ok result then string_bytes buf.old ++ bytes_of (forms self.now) else string_bytes buf.old) }
         ensures full { OnErr result
-            (string_capacity buf.old < string_len buf.old + length (spell (forms self.now))) }
+            (string_capacity buf.old < string_len buf.old + length (bytes_of (forms self.now))) }
         ensures capacity { string_capacity buf.old ≤ string_capacity buf.new }
     {
         let mut room = FormText::new();

@@ -9,7 +9,7 @@ use Rattle.std.proofs.lemmas.Str.{encode_ascii, length-le-encodes}
 use Rattle.std.proofs.lemmas.Bool.{cases_Bool, cases_lt}
 use Rattle.std.proofs.lemmas.Bool.Decides.{nat_tests}
 use Rattle.vt100_forms.specs.declared.attrs.Attrs.{Attrs}
-use Rattle.vt100_forms.specs.Form.{spell, change}
+use Rattle.vt100_forms.specs.Form.{bytes_of, change}
 use Rattle.vt100_forms.specs.Writer.{HandsOver}
 use Rattle.vt100_cells.specs.Cell.{CellView, has_text, is_default}
 use Rattle.vt100_rows.specs.Basic.{basic_cell, attrs_after, basic_attrs, basic_columns}
@@ -52,13 +52,13 @@ from-ok (Err e) f = tt
 pub basic_cell-default : (a : Attrs) (x : CellView) → x.continuation ≡ false → is_default x ≡ true
     → basic_cell a x ≡ 32 ∷ []
 basic_cell-default a x h d =
-    let shown = spell (change a x.attrs) ++ encode_utf8_all (cond (has_text x) x.text (32 ∷ [])) in
+    let shown = bytes_of (change a x.attrs) ++ encode_utf8_all (cond (has_text x) x.text (32 ∷ [])) in
     ap (λ q. cond q [] (cond (is_default x) (32 ∷ []) shown)) h ∙ ap (λ q. cond q (32 ∷ []) shown) d
 
 pub basic_cell-own : (a : Attrs) (x : CellView) (b : Bool) → x.continuation ≡ false → is_default x ≡ false
-    → has_text x ≡ b → basic_cell a x ≡ spell (change a x.attrs) ++ encode_utf8_all (cond b x.text (32 ∷ []))
+    → has_text x ≡ b → basic_cell a x ≡ bytes_of (change a x.attrs) ++ encode_utf8_all (cond b x.text (32 ∷ []))
 basic_cell-own a x b h d t =
-    let shown = λ (q : Bool). spell (change a x.attrs) ++ encode_utf8_all (cond q x.text (32 ∷ [])) in
+    let shown = λ (q : Bool). bytes_of (change a x.attrs) ++ encode_utf8_all (cond q x.text (32 ∷ [])) in
     ap (λ q. cond q [] (cond (is_default x) (32 ∷ []) (shown (has_text x)))) h
     ∙ ap (λ q. cond q (32 ∷ []) (shown (has_text x))) d ∙ ap shown t
 
@@ -85,7 +85,7 @@ basic_cell-some a x h e =
       | inr d ↦
           let text = cond (has_text x) x.text (32 ∷ []) in
           let shown = encode_utf8_all text in
-          let none : length shown ≡ 0 = ap length (nil-right (spell (change a x.attrs)) shown
+          let none : length shown ≡ 0 = ap length (nil-right (bytes_of (change a x.attrs)) shown
           (sym (basic_cell-own a x (has_text x) h d refl) ∙ e)) in
           omega (arith, none, length-le-encodes text, some-text (has_text x) x.text refl)
     ]
@@ -98,11 +98,11 @@ module _ {W : Type 0} (gives : W → List ℕ → W → Type 0) (w : W) (a : Att
       (encode_ascii 32 (omega arith) ∙ sym (basic_cell-default a x whole d)) (writes-one gives w v (encode_utf8 32) g)
 
   pub writes-own : (b : Bool) (c : Attrs) (u v : W) (bs : List ℕ) → is_default x ≡ false → has_text x ≡ b
-      → c ≡ x.attrs → HandsOver gives w (spell (change a c)) u → bs ≡ encode_utf8_all (cond b x.text (32 ∷ []))
+      → c ≡ x.attrs → HandsOver gives w (bytes_of (change a c)) u → bs ≡ encode_utf8_all (cond b x.text (32 ∷ []))
       → gives u bs v → WritesInCalls gives w (basic_cell a x) v
   writes-own b c u v bs d t ec given e text =
-      let ask = spell (change a x.attrs) in
-      let form = subst (λ y. HandsOver gives w (spell (change a y)) u) ec given in
+      let ask = bytes_of (change a x.attrs) in
+      let form = subst (λ y. HandsOver gives w (bytes_of (change a y)) u) ec given in
       subst (λ cs. WritesInCalls gives w cs v) (ap (λ cs. ask ++ cs) e ∙ sym (basic_cell-own a x b whole d t))
       (writes-append gives w u v ask bs (writes-handed gives w u ask form) (writes-one gives u v bs text))
 

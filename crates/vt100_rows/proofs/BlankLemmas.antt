@@ -125,13 +125,13 @@ pub blank-min : (cells : List CellView) (filled m : ℕ) → IsBlankFrom cells f
 blank-min cells filled m b e k l =
     ⊎_elim (λ lt. b k (omega (arith, e, l, lt))) (λ ge. cell_at_past cells k ge) (cases_lt k (length cells))
 
-pub resets-front : (cells : List CellView) (end : ℕ) → end ≤ length cells → IsBlankFrom cells end
+pub resets-prefix : (cells : List CellView) (end : ℕ) → end ≤ length cells → IsBlankFrom cells end
     → replicate end default_cell ++ drop end cells ≡ replicate (length cells) default_cell
-resets-front [] zero h b = refl
-resets-front [] (suc end) h b = absurd (omega (arith, h))
-resets-front (x ∷ xs) zero h b =
-    let rest = resets-front xs zero (omega arith) (λ k l. b (suc k) (omega arith)) in
+resets-prefix [] zero h b = refl
+resets-prefix [] (suc end) h b = absurd (omega (arith, h))
+resets-prefix (x ∷ xs) zero h b =
+    let rest = resets-prefix xs zero (omega arith) (λ k l. b (suc k) (omega arith)) in
     λ i. b zero (omega arith) i ∷ rest i
-resets-front (x ∷ xs) (suc end) h b =
-    let rest = resets-front xs end (omega (arith, h)) (λ k l. b (suc k) (omega (arith, l))) in
+resets-prefix (x ∷ xs) (suc end) h b =
+    let rest = resets-prefix xs end (omega (arith, h)) (λ k l. b (suc k) (omega (arith, l))) in
     λ i. default_cell ∷ rest i

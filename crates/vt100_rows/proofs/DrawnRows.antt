@@ -87,24 +87,24 @@ module _ (rows : ℕ) (t : Term) (v earlier : RowView) (row : ℕ) (was_above : 
   row-after : (p : Pen) (u : Term) → IsDrawn scene p u → IsRowDrawn row (cell_at v.cells) p t u
   unfolding scene
   row-after p u d = record {
-    drawn = λ k. ap (λ (x : Term). x.cell row k) d.stands
+    drawn = λ k. ap (λ (x : Term). x.cell row k) d.state_after
         ∙ ap (λ (f : ℕ → CellView). f k) (update-same t.cell row (cell_at v.cells));
-    others = λ r k apart. ap (λ (x : Term). x.cell r k) d.stands
+    others = λ r k apart. ap (λ (x : Term). x.cell r k) d.state_after
         ∙ ap (λ (f : ℕ → CellView). f k) (update-other t.cell row r (cell_at v.cells) apart);
-    flags = λ r apart. ap (λ (x : Term). x.wrapped r) d.stands ∙ (elim d.flagged [
+    flags = λ r apart. ap (λ (x : Term). x.wrapped r) d.state_after ∙ (elim d.flagged [
       | inl set ↦ other-flags d.flags t.wrapped row v.wrapped r apart set
       | inr waits ↦ sym (update-other d.flags row r true apart)
           ∙ other-flags (update d.flags row true) t.wrapped row true r apart waits.3
     ]);
-    row_is = ap (λ (x : Term). x.row) d.stands;
-    col_is = ap (λ (x : Term). x.col) d.stands;
-    attrs_are = ap (λ (x : Term). x.attrs) d.stands;
-    hidden = ap (λ (x : Term). x.hidden) d.stands;
-    modes = ap (λ (x : Term). x.modes) d.stands;
-    style = ap (λ (x : Term). x.style) d.stands;
-    saved_row = ap (λ (x : Term). x.saved_row) d.stands;
-    saved_col = ap (λ (x : Term). x.saved_col) d.stands;
-    saved_attrs = ap (λ (x : Term). x.saved_attrs) d.stands;
+    row_is = ap (λ (x : Term). x.row) d.state_after;
+    col_is = ap (λ (x : Term). x.col) d.state_after;
+    attrs_are = ap (λ (x : Term). x.attrs) d.state_after;
+    hidden = ap (λ (x : Term). x.hidden) d.state_after;
+    modes = ap (λ (x : Term). x.modes) d.state_after;
+    style = ap (λ (x : Term). x.style) d.state_after;
+    saved_row = ap (λ (x : Term). x.saved_row) d.state_after;
+    saved_col = ap (λ (x : Term). x.saved_col) d.state_after;
+    saved_attrs = ap (λ (x : Term). x.saved_attrs) d.state_after;
   }
 
   -- e are the forms of a row, which d leads there
@@ -127,10 +127,10 @@ module _ (rows : ℕ) (t : Term) (v earlier : RowView) (row : ℕ) (was_above : 
 
 -- ---- the redraw
 
-pen-told : (v : RowView) (row : ℕ) (pos : Option Pos) (attrs : Option Attrs)
+pen-reported : (v : RowView) (row : ℕ) (pos : Option Pos) (attrs : Option Attrs)
     → unwrap_or pos (record { row = row; col = 0 }) ≡ record { row = row; col = 0 }
     → unwrap_or attrs default_attrs ≡ default_attrs → pen_before v 0 row false pos attrs ≡ starting row
-pen-told v row pos attrs p a = λ i. record { pos = p i; attrs = a i; erase = None; lost = false }
+pen-reported v row pos attrs p a = λ i. record { pos = p i; attrs = a i; erase = None; lost = false }
 
 pub row-drawn : EachRowIsDrawn
 unfolding scene
@@ -139,7 +139,7 @@ row-drawn rows t v row width pos attrs h plain inside some wide at =
     let s = scene rows t v none row false in
     leads-there rows t v none row false (formatted v 0 width row false pos attrs)
     (row_redraw s.job s.job.cols (starting row)) pos attrs at
-    (ap (redraw v 0 width row false) (pen-told v row pos attrs at.told_pos at.told_attrs)
+    (ap (redraw v 0 width row false) (pen-reported v row pos attrs at.reported_pos at.reported_attrs)
     ∙ ap (λ b. cond b (row_redraw s.job (min width (length v.cells - 0))) skip (starting row))
     (lt-ltb 0 (length v.cells) some) ∙ ap (λ n. row_redraw s.job n (starting row)) (omega (arith, wide)))
     (redraw-leads s (starting row) (is-scene rows t v none row false h plain (blank-line (length v.cells)) inside some
@@ -152,16 +152,16 @@ unfolding scene
 difference-drawn rows t v earlier row width was_above pos attrs h plain was same inside some wide at =
     let s = scene rows t v earlier row was_above in
     let cols = min (length v.cells) (length earlier.cells) in
-    let told : record { pos = pos; attrs = attrs; erase = None; lost = false } ≡ starting row = λ i. record {
-      pos = at.told_pos i;
-      attrs = at.told_attrs i;
+    let reported : record { pos = pos; attrs = attrs; erase = None; lost = false } ≡ starting row = λ i. record {
+      pos = at.reported_pos i;
+      attrs = at.reported_attrs i;
       erase = None;
       lost = false;
     } in
     let old = subst (λ n. IsLine n (cell_at earlier.cells) earlier.wrapped) same (line-of earlier was) in
     leads-there rows t v earlier row was_above (differing v earlier 0 width row false was_above pos attrs)
     (row_difference s.job s.job.cols (starting row)) (Some pos) (Some attrs) at
-    (ap (difference v earlier 0 width row false was_above) told
+    (ap (difference v earlier 0 width row false was_above) reported
     ∙ ap (λ b. cond b (row_difference s.job (min width (cols - 0))) skip (starting row))
     (lt-ltb 0 cols (omega (arith, same, some)))
     ∙ ap (λ n. row_difference s.job n (starting row)) (omega (arith, same, wide)))

@@ -63,16 +63,16 @@ wipes-none xs s e m t a is p b h et none = rw is (none-default xs s e m t p b h 
 
 -- ---- the front of a line
 
-pub line-of-front : (xs : List CellView) (t : ℕ) → IsBlankFrom xs t → cell_at (take t xs) ≡ cell_at xs
-line-of-front xs t b =
+pub line-of-prefix : (xs : List CellView) (t : ℕ) → IsBlankFrom xs t → cell_at (take t xs) ≡ cell_at xs
+line-of-prefix xs t b =
     fun_ext (λ k. ⊎_elim (λ lt. get_or-take t xs k default_cell lt)
     (λ ge. cell_at_past (take t xs) k (omega (arith, length-take t xs)) ∙ sym (b k ge)) (cases_lt k t))
 
 -- where ws is what an edit makes of the front, and g what stands where then
-fronts : (xs ws : List CellView) (t : ℕ) (f g : ℕ → CellView) → t ≤ length xs → ws ≡ by_position t f
+prefixes : (xs ws : List CellView) (t : ℕ) (f g : ℕ → CellView) → t ≤ length xs → ws ≡ by_position t f
     → ((k : ℕ) → k < t → f k ≡ g k) → ((k : ℕ) → t ≤ k → k < length xs → cell_at xs k ≡ g k)
     → ws ++ drop t xs ≡ by_position (length xs) g
-fronts xs ws t f g h e before behind =
+prefixes xs ws t f g h e before behind =
     let l = reads_len t f ws e in
     by_position_is (length xs) g (ws ++ drop t xs) (simp (length-append, length-drop) (omega (arith, l)))
     (λ k q. ⊎_elim (λ lt. let read = reads t f ws e k lt in let same = before k lt in grind (arith, places))
@@ -80,9 +80,9 @@ fronts xs ws t f g h e before behind =
 
 -- ---- removal
 
-closed-front : (f : ℕ → CellView) (s n t len k : ℕ) → ((j : ℕ) → t ≤ j → f j ≡ default_cell) → s + n ≤ t → t ≤ len
+closed-prefix : (f : ℕ → CellView) (s n t len k : ℕ) → ((j : ℕ) → t ≤ j → f j ≡ default_cell) → s + n ≤ t → t ≤ len
     → k < t → closed t f s n k ≡ closed len f s n k
-closed-front f s n t len k b h l lt =
+closed-prefix f s n t len k b h l lt =
     ⊎_elim (λ within. grind (arith, nat_tests)) (λ past. let d = b (k + n) past in grind (arith, nat_tests))
     (cases_lt (k + n) t)
 
@@ -95,12 +95,12 @@ pub removes-filled : (xs ws : List CellView) (s n t : ℕ) → IsBlankFrom xs t 
     → ws ≡ by_position (length (take t xs)) (closed (length (take t xs)) (cell_at (take t xs)) s n)
     → ws ++ drop t xs ≡ by_position (length xs) (closed (length xs) (cell_at xs) s n)
 removes-filled xs ws s n t b h l pos e =
-    let front : length (take t xs) ≡ t = omega (arith, length-take t xs) in
-    let same = line-of-front xs t b in
+    let prefix : length (take t xs) ≡ t = omega (arith, length-take t xs) in
+    let same = line-of-prefix xs t b in
     let whole : ws ≡ by_position t (closed t (cell_at xs) s n) =
-    e ∙ (λ i. by_position (front i) (closed (front i) (same i) s n)) in
-    fronts xs ws t (closed t (cell_at xs) s n) (closed (length xs) (cell_at xs) s n) l whole
-    (λ k lt. closed-front (cell_at xs) s n t (length xs) k b h l lt)
+    e ∙ (λ i. by_position (prefix i) (closed (prefix i) (same i) s n)) in
+    prefixes xs ws t (closed t (cell_at xs) s n) (closed (length xs) (cell_at xs) s n) l whole
+    (λ k lt. closed-prefix (cell_at xs) s n t (length xs) k b h l lt)
     (λ k ge q. closed-behind (cell_at xs) s n t (length xs) k b h pos ge)
 
 closed-none : (f : ℕ → CellView) (s n m len k : ℕ) → IsPaired f → ((j : ℕ) → m ≤ j → f j ≡ default_cell) → m ≤ s
@@ -129,9 +129,9 @@ opened-narrow : (f : ℕ → CellView) (i n m k : ℕ) → IsPaired f → ((j : 
 opened-narrow f i n m k p b h e =
     let narrow = narrow-before f m (k - n) p b (omega arith) in grind (arith, nat_tests)
 
-cut-front : (f : ℕ → CellView) (i n m t len k : ℕ) → IsPaired f → ((j : ℕ) → m ≤ j → f j ≡ default_cell) → i < m
+cut-prefix : (f : ℕ → CellView) (i n m t len k : ℕ) → IsPaired f → ((j : ℕ) → m ≤ j → f j ≡ default_cell) → i < m
     → t ≡ min (m + n) len → k < t → cut t (opened f i n) k ≡ cut len (opened f i n) k
-cut-front f i n m t len k p b h et lt =
+cut-prefix f i n m t len k p b h et lt =
     ⊎_elim (λ short. ⊎_elim (λ far. grind (arith, nat_tests))
     (λ near. let narrow = opened-narrow f i n m k p b h (omega arith) in grind (arith, nat_tests))
     (cases_lt (k + 1) t))
@@ -142,15 +142,15 @@ cut-behind : (f : ℕ → CellView) (i n m len k : ℕ) → ((j : ℕ) → m ≤
 cut-behind f i n m len k b h ge lt =
     let d = b k (omega arith) in let e = opened-blank f i n m k b h ge in grind (arith, nat_tests)
 
-front-inserted : (xs ws : List CellView) (i count m t : ℕ) → IsBlankFrom xs t → i < m → i ≤ length xs
+prefix-inserted : (xs ws : List CellView) (i count m t : ℕ) → IsBlankFrom xs t → i < m → i ≤ length xs
     → t ≡ min (m + count) (length xs) → ws ≡ inserted_cells (take t xs) i count
     → ws ≡ (if nat_lt 0 (min count (length xs - i))
     then by_position t (cut t (opened (cell_at xs) i (min count (length xs - i)))) else take t xs)
-front-inserted xs ws i count m t b h l et e =
-    let front : length (take t xs) ≡ t = omega (arith, length-take t xs) in
-    let same = line-of-front xs t b in
-    let n : min count (length (take t xs) - i) ≡ min count (length xs - i) = omega (arith, front) in
-    e ∙ (λ j. if nat_lt 0 (n j) then by_position (front j) (cut (front j) (opened (same j) i (n j))) else take t xs)
+prefix-inserted xs ws i count m t b h l et e =
+    let prefix : length (take t xs) ≡ t = omega (arith, length-take t xs) in
+    let same = line-of-prefix xs t b in
+    let n : min count (length (take t xs) - i) ≡ min count (length xs - i) = omega (arith, prefix) in
+    e ∙ (λ j. if nat_lt 0 (n j) then by_position (prefix j) (cut (prefix j) (opened (same j) i (n j))) else take t xs)
 
 pub inserts-filled : (xs ws : List CellView) (i count m t : ℕ) → IsPaired (cell_at xs) → IsBlankFrom xs m → i < m
     → i ≤ length xs → t ≡ min (m + count) (length xs) → ws ≡ inserted_cells (take t xs) i count
@@ -160,11 +160,11 @@ inserts-filled xs ws i count m t p b h l et e =
     let f = cell_at xs in
     let blank : IsBlankFrom xs t = λ k ge. ⊎_elim (λ lt. b k (omega (arith, ge, et, lt)))
     (λ past. cell_at_past xs k past) (cases_lt k (length xs)) in
-    let is = front-inserted xs ws i count m t blank h l et e in
+    let is = prefix-inserted xs ws i count m t blank h l et e in
     cond_both (nat_lt 0 n) (by_position (length xs) (cut (length xs) (opened f i n))) xs (λ cells. ws ++ drop t xs ≡ cells)
-    (λ some. fronts xs ws t (cut t (opened f i n)) (cut (length xs) (opened f i n)) (omega (arith, et))
+    (λ some. prefixes xs ws t (cut t (opened f i n)) (cut (length xs) (opened f i n)) (omega (arith, et))
     (is ∙ ap (λ b. if b then by_position t (cut t (opened f i n)) else take t xs) some)
-    (λ k lt. cut-front f i n m t (length xs) k p b h (omega (arith, et, h, l)) lt)
+    (λ k lt. cut-prefix f i n m t (length xs) k p b h (omega (arith, et, h, l)) lt)
     (λ k ge q. cut-behind f i n m (length xs) k b h (omega (arith, et, ge, q)) q))
     (λ none. ap (λ (zs : List CellView). zs ++ drop t xs) (is ∙ ap (λ b. if b then by_position t (cut t (opened f i n)) else take t xs) none)
     ∙ take-append-drop t xs)
@@ -233,9 +233,9 @@ pub blank-later : (xs : List CellView) (m t : ℕ) → IsBlankFrom xs m → min 
 blank-later xs m t b h k ge =
     ⊎_elim (λ lt. b k (omega (arith, h, ge, lt))) (λ past. cell_at_past xs k past) (cases_lt k (length xs))
 
-pub paired-front : (xs : List CellView) (t : ℕ) → IsBlankFrom xs t → IsPaired (cell_at xs)
+pub paired-prefix : (xs : List CellView) (t : ℕ) → IsBlankFrom xs t → IsPaired (cell_at xs)
     → IsPaired (cell_at (take t xs))
-paired-front xs t b p = rw (line-of-front xs t b) p
+paired-prefix xs t b p = rw (line-of-prefix xs t b) p
 
 pub blank-taken : (v : RowView) (s e m : ℕ) → IsBlankFrom v.cells m → IsBlankFrom (removed v s e).cells m
 blank-taken v s e m b =

@@ -159,7 +159,7 @@ IsBegun-spaces n k old now h e =
     )
 
 -- the text up to a column where one stands is a front of the text of more columns
-module _ (f : ℕ → CellView) (s n : ℕ) (stands : has_text (f (s + n)) ≡ true) where
+module _ (f : ℕ → CellView) (s n : ℕ) (state_after : has_text (f (s + n)) ≡ true) where
   abbrev first : List ℕ
   first = columns_text f s (suc n)
 
@@ -184,13 +184,13 @@ module _ (f : ℕ → CellView) (s n : ℕ) (stands : has_text (f (s + n)) ≡ t
       (λ (l : k ≤ n).
       let e : k ≡ n = omega (arith, h, l) in (
         [],
-        ap (λ j. line_text f s (suc j)) e ∙ ap (λ b. cond b (columns_text f s (suc n)) (line_text f s n)) stands
+        ap (λ j. line_text f s (suc j)) e ∙ ap (λ b. cond b (columns_text f s (suc n)) (line_text f s n)) state_after
             ∙ sym (append-nil first),
       ))
       (cases_lt n k)
 
-some-front : (xs ys : List ℕ) → not (length xs == 0) ≡ true → not (length (xs ++ ys) == 0) ≡ true
-some-front xs ys h = grind (arith, nat_tests, length-append xs ys)
+some-prefix : (xs ys : List ℕ) → not (length xs == 0) ≡ true → not (length (xs ++ ys) == 0) ≡ true
+some-prefix xs ys h = grind (arith, nat_tests, length-append xs ys)
 
 pub on-err : {T E P : Type 0} (r : Result T E) → P → OnErr r P
 on-err (Ok x) p = tt
@@ -204,11 +204,11 @@ pub IsBegun-text : (v : RowView) (s start n col b : ℕ) (wrapping shown : Bool)
     → IsBegun old (encode_utf8_all (written_text v start n wrapping)) now
 IsBegun-text v s start n col b wrapping shown old was now x es later within h ex has begun = rw (← es) (
     let f = cell_at v.cells in
-    let stands = ap has_text (sym ex) ∙ has in
+    let state_after = ap has_text (sym ex) ∙ has in
     let k = col - s in
     let m = min (s + n) (length v.cells) - s in
     let at : s + k ≡ col = omega arith in
-    let here : has_text (f (s + k)) ≡ true = ap (λ j. has_text (f j)) at ∙ stands in
+    let here : has_text (f (s + k)) ≡ true = ap (λ j. has_text (f j)) at ∙ state_after in
     let ls = line_text f s k in
     let t = (f (s + k)).text in
     let more = line-more f s k here m (omega arith) in
@@ -218,7 +218,7 @@ IsBegun-text v s start n col b wrapping shown old was now x es later within h ex
     ∙ append_assoc (ls ++ replicate b 32) t more.0 in
     let some : (wrapping && (length (row_text v s (s + n)) == 0)) ≡ false =
     and-none wrapping (length (row_text v s (s + n)) == 0) (ap (λ (cs : List ℕ). not (length cs == 0)) whole
-    ∙ some-text (ls ++ replicate b 32) (t ++ more.0) (some-front t more.0 here)) in
+    ∙ some-text (ls ++ replicate b 32) (t ++ more.0) (some-prefix t more.0 here)) in
     let text = ap (λ (y : CellView). replicate b 32 ++ encode_utf8_all y.text) (ex ∙ ap f (sym at)) in
     IsBegun-within old was (encode_utf8_all ls) (replicate b 32 ++ encode_utf8_all t) (encode_utf8_all more.0)
     (encode_utf8_all (written_text v s n wrapping)) now h.bytes

@@ -1,7 +1,7 @@
 -- A row's text with its attributes, in the basic format of a capture: no control sequences but SGR.
 use Rattle.std.specs.Prelude.{ℕ, zero, suc, List, [], ◌∷◌, ◌++◌, ◌||◌, encode_utf8_all, if◌then◌else◌}
 use Rattle.vt100_forms.specs.declared.attrs.Attrs.{Attrs}
-use Rattle.vt100_forms.specs.Form.{spell, change}
+use Rattle.vt100_forms.specs.Form.{bytes_of, change}
 use Rattle.vt100_cells.specs.Cell.{CellView, has_text, is_default}
 use Rattle.vt100_cells.specs.Cells.{cell_at, trimmed_len}
 use Rattle.vt100_rows.specs.Row.{RowView}
@@ -13,7 +13,7 @@ abbrev pub basic_cell : Attrs → CellView → List ℕ
 basic_cell a x =
     if x.continuation then []
     else if is_default x then 32 ∷ []
-    else spell (change a x.attrs) ++ encode_utf8_all (if has_text x then x.text else 32 ∷ [])
+    else bytes_of (change a x.attrs) ++ encode_utf8_all (if has_text x then x.text else 32 ∷ [])
 
 -- the attributes that are set after a cell
 abbrev pub attrs_after : Attrs → CellView → Attrs

@@ -34,8 +34,8 @@ pub record IsAtRow (row : ℕ) (f : ℕ → CellView) (flag : Bool) (pos : Optio
   pub row_is : t.row ≡ row
   pub col_is : t.col ≡ 0
   pub attrs_are : t.attrs ≡ default_attrs
-  pub told_pos : unwrap_or pos (record { row = row; col = 0 }) ≡ record { row = row; col = 0 }
-  pub told_attrs : unwrap_or attrs default_attrs ≡ default_attrs
+  pub reported_pos : unwrap_or pos (record { row = row; col = 0 }) ≡ record { row = row; col = 0 }
+  pub reported_attrs : unwrap_or attrs default_attrs ≡ default_attrs
 
 -- From the terminal t to the terminal u: row `row` shows these cells, and all other rows are as they were, with their
 -- flags. The cursor and the attributes are those of the pen; what is hidden, the modes and what is saved stay.

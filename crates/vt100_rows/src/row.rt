@@ -112,7 +112,7 @@ impl Row {
         ensures { self.new ≡ blank_row (length self.old.cells) }
     {
         let end = usize::from(self.filled).min(self.cells.len());
-        reset_front(&mut self.cells, end);
+        reset_prefix(&mut self.cells, end);
         self.wrapped = false;
         self.filled = 0;
     }
@@ -456,7 +456,7 @@ fn filled_between(filled: u16, i: u16, count: u16) -> u16
 /// Makes the first `end` cells default cells, which those behind are.
 // LLVM knows that all bytes of a default cell are 0.
 #[inline]
-fn reset_front(cells: &mut [Cell], end: usize)
+fn reset_prefix(cells: &mut [Cell], end: usize)
     requires in_row { end ≤ length cells.old }
     requires blank { IsBlankFrom cells.old end }
     ensures { cells.new ≡ replicate (length cells.old) default_cell }

@@ -301,8 +301,8 @@ fn check_lengths(
     prev: &Screen,
 ) -> Result<(), Fail> {
     for (text, len) in FULL {
-        let told = text_of(screen, prev, rt.alloc(), *text)?;
-        same_for(rt, text, &told.len(), len);
+        let reported = text_of(screen, prev, rt.alloc(), *text)?;
+        same_for(rt, text, &reported.len(), len);
     }
     Ok(())
 }

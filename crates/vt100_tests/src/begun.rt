@@ -26,9 +26,9 @@ fn begun_text(alloc: Global) -> Result<String, GridError> {
 }
 
 /// Whether a text holds what it held before, and a front of what was to be appended.
-fn holds_a_front(text: &str, want: &str) -> bool {
+fn holds_a_prefix(text: &str, want: &str) -> bool {
     match text.strip_prefix(BEGUN) {
-        Some(front) => want.starts_with(front),
+        Some(prefix) => want.starts_with(prefix),
         None => false,
     }
 }
@@ -42,7 +42,7 @@ fn check_refused(
 ) -> Result<(), Fail> {
     same(
         rt,
-        &(error, holds_a_front(text.as_str(), want)),
+        &(error, holds_a_prefix(text.as_str(), want)),
         &(GridError::Memory, true),
     );
     text.clear();

@@ -152,8 +152,12 @@ const COLOURED: &str = "hello\x1b[31;1mworld";
 #[test]
 fn pieces_stand_at_their_places(rt: HostRuntime) {
     let mut pieces = basic_formatted_to_plain_indexed(COLOURED);
-    let told = [pieces.next(), pieces.next(), pieces.next()];
-    same(&rt, &told, &[Some((0, "hello")), Some((12, "world")), None]);
+    let reported = [pieces.next(), pieces.next(), pieces.next()];
+    same(
+        &rt,
+        &reported,
+        &[Some((0, "hello")), Some((12, "world")), None],
+    );
 }
 
 #[test]

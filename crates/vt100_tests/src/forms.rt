@@ -49,7 +49,7 @@ fn appended<B: BufWrite>(alloc: Global, form: &B) -> Result<String, GridError> {
 
 /// What a writer has taken after the first write and in how many calls, and what a second write answers that lacks
 /// room.
-fn told<'a>(want: &'a str) -> (fmt::Result, usize, fmt::Result, &'a str) {
+fn reported<'a>(want: &'a str) -> (fmt::Result, usize, fmt::Result, &'a str) {
     if want.is_empty() {
         (Ok(()), 0, Ok(()), want)
     } else {
@@ -73,15 +73,15 @@ fn tells<R: Abort, B: BufWrite>(
     same(
         rt,
         &(first, calls, second, limited.taken.as_str()),
-        &told(want),
+        &reported(want),
     );
     Ok(())
 }
 
 /// The same, where memory is found.
 fn check<B: BufWrite>(rt: &(impl Abort + AllocGlobal), form: &B, want: &str) {
-    let told = tells(rt, rt.alloc(), form, want);
-    same(rt, &told, &Ok(()));
+    let reported = tells(rt, rt.alloc(), form, want);
+    same(rt, &reported, &Ok(()));
 }
 
 #[test]
@@ -398,15 +398,15 @@ fn tells_change<R: Abort>(
     same(
         rt,
         &(first, calls, second, limited.taken.as_str()),
-        &told(want),
+        &reported(want),
     );
     Ok(())
 }
 
 /// The same, where memory is found.
 fn check_change(rt: &(impl Abort + AllocGlobal), old: Attrs, new: Attrs, want: &str) {
-    let told = tells_change(rt, rt.alloc(), old, new, want);
-    same(rt, &told, &Ok(()));
+    let reported = tells_change(rt, rt.alloc(), old, new, want);
+    same(rt, &reported, &Ok(()));
 }
 
 fn colored(fgcolor: Color, bgcolor: Color) -> Attrs {

@@ -23,6 +23,8 @@ mod refusals;
 #[cfg(test)]
 mod report;
 #[cfg(test)]
+mod reported;
+#[cfg(test)]
 mod rows;
 #[cfg(test)]
 mod same;
@@ -30,7 +32,5 @@ mod same;
 mod shown;
 #[cfg(test)]
 mod start;
-#[cfg(test)]
-mod told;
 #[cfg(test)]
 mod updates;

@@ -53,7 +53,7 @@ impl Log {
     }
 
     /// A call that asks nothing of the screen.
-    fn told(&mut self, call: Call<'_>) {
+    fn reported(&mut self, call: Call<'_>) {
         match call {
             Call::AudibleBell => self.word("bell by a detour"),
             Call::VisualBell => self.word("flash"),
@@ -91,7 +91,7 @@ impl Callbacks for Log {
     fn call(&mut self, screen: &mut Screen, call: Call<'_>) {
         match call {
             Call::Resize(rows, cols) => self.request(screen, rows, cols),
-            call => self.told(call),
+            call => self.reported(call),
         }
         self.place(screen);
     }

@@ -189,7 +189,7 @@ fn add_cells(text: &mut String, screen: &Screen) -> Result<(), GridError> {
 
 /// What the getters that need no memory answer.
 fn add_getters(text: &mut String, screen: &Screen) -> Result<(), ScreenError> {
-    let told = (places(screen), switches(screen), choices(screen));
+    let reported = (places(screen), switches(screen), choices(screen));
     let is_live = [screen.failed(), screen.is_live()];
     if write!(text, "{told:?} {is_live:?} ").is_err() {
         return Err(ScreenError::Memory);
@@ -204,8 +204,8 @@ pub fn report(screen: &Screen, prev: &Screen, alloc: Global) -> Result<String, S
     add_getters(&mut report, screen)?;
     add_cells(&mut report, screen)?;
     for text in TEXTS {
-        let told = text_of(screen, prev, alloc, *text)?;
-        add(&mut report, told.as_str())?;
+        let reported = text_of(screen, prev, alloc, *text)?;
+        add(&mut report, reported.as_str())?;
         add(&mut report, "\n")?;
     }
     Ok(report)
@@ -220,9 +220,9 @@ pub fn check_alike<F: Fn(&Screen, &Screen) -> Result<String, ScreenError>>(
 ) -> Result<(), Fail>
     requires { F.IsAlwaysCallable report }
 {
-    let told = report(screen, copy)?;
-    let told_by_copy = report(copy, screen)?;
-    same(rt, &told.as_str(), &told_by_copy.as_str());
+    let reported = report(screen, copy)?;
+    let reported_by_copy = report(copy, screen)?;
+    same(rt, &reported.as_str(), &reported_by_copy.as_str());
     Ok(())
 }
 
@@ -235,8 +235,8 @@ pub fn check_texts<F: Fn(Text) -> Result<String, ScreenError>>(
     requires { F.IsAlwaysCallable make }
 {
     for (text, want) in texts {
-        let told = make(*text)?;
-        same_for(rt, text, &told.as_str(), want);
+        let reported = make(*text)?;
+        same_for(rt, text, &reported.as_str(), want);
     }
     Ok(())
 }

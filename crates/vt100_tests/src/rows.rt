@@ -212,13 +212,13 @@ fn a_widened_cell_keeps_its_attributes(rt: HostRuntime) -> Result<(), Fail> {
     let mut row = row_of(rt.alloc(), 3, "\u{2764}中")?;
     print(&mut row, 1, "\u{FE0F}", RED);
     check(&rt, &row, "\u{2764}\u{FE0F}_.")?;
-    let told = [
+    let reported = [
         background(&row, 0),
         background(&row, 1),
         background(&row, 2),
     ];
     let default = Some(Color::Default);
-    same(&rt, &told, &[default, default, Some(Color::Idx(1))]);
+    same(&rt, &reported, &[default, default, Some(Color::Idx(1))]);
     Ok(())
 }
 
@@ -265,8 +265,8 @@ fn cells_tell_their_attributes(rt: HostRuntime) -> Result<(), Fail> {
     let mut row = Row::new(rt.alloc(), 2)?;
     print(&mut row, 0, "a", attrs);
     let cell = *row.get(0).ok_or("no cell")?;
-    let told = (cell.attrs(), cell.fgcolor(), cell.bgcolor());
-    same(&rt, &told, &(attrs, Color::Idx(9), Color::Rgb(1, 2, 3)));
+    let reported = (cell.attrs(), cell.fgcolor(), cell.bgcolor());
+    same(&rt, &reported, &(attrs, Color::Idx(9), Color::Rgb(1, 2, 3)));
     same(&rt, &(cell.bold(), cell.dim()), &(true, false));
     same(&rt, &(cell.italic(), cell.underline()), &(true, false));
     same(&rt, &cell.inverse(), &true);

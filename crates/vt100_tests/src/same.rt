@@ -4,11 +4,16 @@ use std::fmt::Debug;
 use std::process::Abort;
 
 /// What was told is what was wanted. A test calls this in place of `assert_eq!`, whose proof is then done once.
-pub fn same<R: Abort, T: PartialEq + Debug>(rt: &R, told: &T, wanted: &T) {
-    assert_eq!(rt; told, wanted);
+pub fn same<R: Abort, T: PartialEq + Debug>(rt: &R, reported: &T, wanted: &T) {
+    assert_eq!(rt; reported, wanted);
 }
 
 /// The same, where a failure names what was asked.
-pub fn same_for<R: Abort, A: Debug, T: PartialEq + Debug>(rt: &R, asked: &A, told: &T, wanted: &T) {
-    assert_eq!(rt; told, wanted, "{asked:?}");
+pub fn same_for<R: Abort, A: Debug, T: PartialEq + Debug>(
+    rt: &R,
+    asked: &A,
+    reported: &T,
+    wanted: &T,
+) {
+    assert_eq!(rt; reported, wanted, "{asked:?}");
 }

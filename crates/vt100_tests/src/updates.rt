@@ -33,11 +33,11 @@ fn check_update(
 ) -> Result<(), Fail> {
     parser.process(stream)?;
     let copy = parser.screen().clone()?;
-    let told = (
+    let reported = (
         parser.screen().synchronized_update(),
         copy.synchronized_update(),
     );
-    same_for(rt, &stream, &told, &(is_updating, is_updating));
+    same_for(rt, &stream, &reported, &(is_updating, is_updating));
     Ok(())
 }
 
@@ -63,8 +63,8 @@ fn is_updating_at_a_size(parser: &mut Parser<()>, rows: u16) -> Result<(bool, bo
 
 fn check_sizes(rt: &impl Abort, parser: &mut Parser<()>) -> Result<(), Fail> {
     for rows in [2, 1] {
-        let told = is_updating_at_a_size(parser, rows)?;
-        same(rt, &told, &(true, false, false));
+        let reported = is_updating_at_a_size(parser, rows)?;
+        same(rt, &reported, &(true, false, false));
     }
     Ok(())
 }

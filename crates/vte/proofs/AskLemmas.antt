@@ -28,8 +28,8 @@ all_none (e ∷ es) h = rw (one_none e (All-head IsCharacter e es h)) (all_none 
 pub text_opens_none : (past : List ℕ) (b : ℕ) → ends_in_text (past ++ b ∷ []) ≡ true → opens_in past (b ∷ []) ≡ false
 text_opens_none past b h = all_none (added past (b ∷ [])) (text-tells 1024 past b h)
 
-front : (past bs : List ℕ) (m : ℕ) → m < length bs → past ++ take (suc m) bs ≡ (past ++ take m bs) ++ get_or bs m 0 ∷ []
-front past bs m lt = ap (λ xs. past ++ xs) (take-suc bs m 0 lt)
+prefix : (past bs : List ℕ) (m : ℕ) → m < length bs → past ++ take (suc m) bs ≡ (past ++ take m bs) ++ get_or bs m 0 ∷ []
+prefix past bs m lt = ap (λ xs. past ++ xs) (take-suc bs m 0 lt)
     ∙ sym (append_assoc past (take m bs) (get_or bs m 0 ∷ []))
 
 -- one byte more, of ground text
@@ -39,7 +39,7 @@ opens_in-text past bs m lt text before =
     let b = get_or bs m 0 in
     ap (opens_in past) (take-suc bs m 0 lt) ∙ (opens_in-append past (take m bs) (b ∷ [])
     ∙ (ap (λ v. v || opens_in (past ++ take m bs) (b ∷ [])) before
-    ∙ text_opens_none (past ++ take m bs) b (ap ends_in_text (sym (front past bs m lt)) ∙ text)))
+    ∙ text_opens_none (past ++ take m bs) b (ap ends_in_text (sym (prefix past bs m lt)) ∙ text)))
 
 -- if no prefix at which the parser asks opens an update, none does
 pub none_before : (past bs : List ℕ) (n : ℕ) → n ≤ length bs
@@ -57,4 +57,4 @@ none_before past bs n within asked (suc m) lt =
 pub asks_where_opened : (past bytes : List ℕ) (b : ℕ) (rest : List ℕ)
     → opens_in (past ++ bytes) (b ∷ []) ≡ true → asks_after past (bytes ++ b ∷ rest) (length bytes + 1) ≡ true
 asks_where_opened past bytes b rest h = sequences-asked 1024 past bytes b rest
-    (λ told. let no : true ≡ false = sym h ∙ all_none (added (past ++ bytes) (b ∷ [])) told in cc)
+    (λ reported. let no : true ≡ false = sym h ∙ all_none (added (past ++ bytes) (b ∷ [])) reported in cc)

@@ -10,7 +10,7 @@ use Rattle.vte.specs.Closings.{clearings}
 use Rattle.vte.specs.Hold as hold
 use Rattle.vte.specs.Hold.{closing, held_of, Settles, keeps, replays, closes, Takes}
 use Rattle.vte.specs.Advances.{Plainly, Advances, parses, begins, settles, empties}
-use Rattle.vte.specs.Standing.{StandsAt, HoldsAt, Advanced, Taken}
+use Rattle.vte.specs.Standing.{IsStateAfter, HoldsAt, Advanced, Taken}
 use Rattle.vte.proofs.RunLemmas.{Ticked-append}
 use Rattle.vte.proofs.SetLemmas.{from_clears_none, renewed, sets_some, any_openers, sets_keep, some_set, cleared_last}
 
@@ -114,8 +114,8 @@ module _ {T : Type 0} (ticking : Ticking T) (exact : IsExact ticking) where
           takes = r.takes;
           ticked = r.ticked;
         };
-        stands = record {
-          stands = subst (λ (x : List ℕ). StandsAt new a.parsed' x) r.held_is a.stands;
+        state_after = record {
+          state_after = subst (λ (x : List ℕ). IsStateAfter new a.parsed' x) r.held_is a.state_after;
           awaits = r.awaits;
         };
         goes = a.goes;

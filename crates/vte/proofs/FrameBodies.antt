@@ -36,10 +36,10 @@ chars_none [] = refl
 chars_none (c ∷ cs) = ap (λ v. v || list_any opens (map char_event cs)) (one_none _ c) ∙ chars_none cs
 
 -- the text has no ESC
-no_esc : (text front after : List ℕ) → AllByRecursion (λ b. b ≢ 0x1B) text → text ≡ front ++ 0x1B ∷ after → ⊥
-no_esc [] front after h e = absurd (omega (arith, ap length e, length-append front (0x1B ∷ after)))
+no_esc : (text prefix after : List ℕ) → AllByRecursion (λ b. b ≢ 0x1B) text → text ≡ prefix ++ 0x1B ∷ after → ⊥
+no_esc [] prefix after h e = absurd (omega (arith, ap length e, length-append prefix (0x1B ∷ after)))
 no_esc (b ∷ text) [] after h e = h.0 (let same : b ≡ 0x1B = cc in same)
-no_esc (b ∷ text) (c ∷ front) after h e = no_esc text front after h.1 (let same : text ≡ front ++ 0x1B ∷ after = cc
+no_esc (b ∷ text) (c ∷ prefix) after h e = no_esc text prefix after h.1 (let same : text ≡ prefix ++ 0x1B ∷ after = cc
     in same)
 
 -- so an end mark doesn't begin in it

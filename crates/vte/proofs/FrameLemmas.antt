@@ -10,17 +10,17 @@ use Rattle.vte_core.proofs.GroundLemmas.{ground-added}
 use Rattle.vte_types.specs.Call.{Call}
 use Rattle.vte.specs.Table.{opens}
 use Rattle.vte.specs.Timeout.{Tick}
-use Rattle.vte.specs.Marks.{start_mark, end_mark, stands_at, NoneFrom, IsFirstFrom}
+use Rattle.vte.specs.Marks.{start_mark, end_mark, is_found_at, NoneFrom, IsFirstFrom}
 use Rattle.vte.specs.Stretch.{opens_in, OpensAt}
 use Rattle.vte.specs.Hold.{limit, IsCut, Closes, Settles, keeps, replays, closes, Takes, parses, begins, settles}
 use Rattle.vte.specs.Hold.{overflows}
 use Rattle.vte.specs.Frames.{IsFrame, IsPart}
-use Rattle.vte.proofs.FrameMarks.{opens_in-parts, opens_in-later, opens_in-sooner, opens_in-front}
+use Rattle.vte.proofs.FrameMarks.{opens_in-parts, opens_in-later, opens_in-sooner, opens_in-prefix}
 use Rattle.vte.proofs.HoldLemmas.{opens_in-none}
 use Rattle.vte.proofs.LawLemmas.{contradiction}
 use Rattle.vte.proofs.MarkLemmas.{none_in_empty}
-use Rattle.vte.proofs.FrameMarks.{begun_none, front_none as begun_front, start_opens, end_none, ground_start, at_later, at_cuts}
-use Rattle.vte.proofs.FrameMarks.{contrary, end_stands, start_inside, last_is, first_is, no_first, start_stands}
+use Rattle.vte.proofs.FrameMarks.{begun_none, prefix_none as begun_prefix, start_opens, end_none, ground_start, at_later, at_cuts}
+use Rattle.vte.proofs.FrameMarks.{contrary, end_state_after, start_inside, last_is, first_is, no_first, start_state_after}
 
 -- ---- one step of the hold
 
@@ -69,10 +69,10 @@ opened (overflows _ _ _ _ _ cs ts full t) = inr (full, plainly t)
 plain_none : (q piece q' : List ℕ) (h' : Option (List ℕ)) → opens_in q piece ≡ false → Plain q piece q' h'
     → (q' ≡ q ++ piece) × (h' ≡ None)
 plain_none q piece q' h' none (inl u) = (u.1, u.2)
-plain_none q piece q' h' none (inr o) = absurd (contrary _ o.1.opened (opens_in-front q piece o.0 none))
+plain_none q piece q' h' none (inr o) = absurd (contrary _ o.1.opened (opens_in-prefix q piece o.0 none))
 
-front_none : (q a b : List ℕ) (n : ℕ) → opens_in q a ≡ false → n ≤ length a → opens_in q (take n (a ++ b)) ≡ false
-front_none q a b n none short = ap (opens_in q) (take-append-le n a b short) ∙ opens_in-front q a n none
+prefix_none : (q a b : List ℕ) (n : ℕ) → opens_in q a ≡ false → n ≤ length a → opens_in q (take n (a ++ b)) ≡ false
+prefix_none q a b n none short = ap (opens_in q) (take-append-le n a b short) ∙ opens_in-prefix q a n none
 
 part_opens : (q a b : List ℕ) (k : ℕ) → opens_in q a ≡ false
     → opens_in q (take (length a + k) (a ++ b)) ≡ opens_in (q ++ a) (take k b)
@@ -82,7 +82,7 @@ opens_later : (q a b : List ℕ) (n : ℕ) → opens_in q a ≡ false → OpensA
     → (m : ℕ) × (n ≡ length a + m) × OpensAt (q ++ a) b m
 opens_later q a b n none o =
     elim (cases_lt (length a) n) [
-      | inr short ↦ absurd (contrary _ o.opened (front_none q a b n none short))
+      | inr short ↦ absurd (contrary _ o.opened (prefix_none q a b n none short))
       | inl long ↦
           let m = n - length a in
           let is : n ≡ length a + m = omega (arith, long) in (
@@ -102,14 +102,14 @@ opens_sooner q a b m none o = record {
   within = omega (arith, o.within, length-append a b);
   opened = part_opens q a b m none ∙ o.opened;
   first = λ k low. elim (cases_lt (length a) k) [
-    | inr short ↦ front_none q a b k none short
+    | inr short ↦ prefix_none q a b k none short
     | inl long ↦ ap (λ j. opens_in q (take j (a ++ b))) (omega (arith, long))
         ∙ (part_opens q a b (k - length a) none ∙ o.first (k - length a) (omega (arith, low, long)))
   ];
 }
 
-front_is : (q a b : List ℕ) (m : ℕ) → q ++ take (length a + m) (a ++ b) ≡ (q ++ a) ++ take m b
-front_is q a b m = ap (λ xs. q ++ xs) (take-append-add a b m) ∙ sym (append_assoc q a (take m b))
+prefix_is : (q a b : List ℕ) (m : ℕ) → q ++ take (length a + m) (a ++ b) ≡ (q ++ a) ++ take m b
+prefix_is q a b m = ap (λ xs. q ++ xs) (take-append-add a b m) ∙ sym (append_assoc q a (take m b))
 
 -- bytes that open nothing may be in the piece, or be parsed before it
 skip : (q a b q' : List ℕ) (h' : Option (List ℕ)) → opens_in q a ≡ false → Plain q (a ++ b) q' h'
@@ -117,7 +117,7 @@ skip : (q a b q' : List ℕ) (h' : Option (List ℕ)) → opens_in q a ≡ false
 skip q a b q' h' none (inl u) = inl ((opens_in-parts q a b u.0).1, u.1 ∙ sym (append_assoc q a b), u.2)
 skip q a b q' h' none (inr o) =
     let (m, is, at) = opens_later q a b o.0 none o.1 in
-    inr (m, at, rw (is, front_is q a b m, drop-append-add a b m) at o.2)
+    inr (m, at, rw (is, prefix_is q a b m, drop-append-add a b m) at o.2)
 
 unskip : (q a b q' : List ℕ) (h' : Option (List ℕ)) → opens_in q a ≡ false → Plain (q ++ a) b q' h'
     → Plain q (a ++ b) q' h'
@@ -125,7 +125,7 @@ unskip q a b q' h' none (inl u) = inl (opens_in-later q a b none ∙ u.0, u.1 �
 unskip q a b q' h' none (inr o) = inr (
   length a + o.0,
   opens_sooner q a b o.0 none o.1,
-  rw (front_is q a b o.0, drop-append-add a b o.0) o.2,
+  rw (prefix_is q a b o.0, drop-append-add a b o.0) o.2,
 )
 
 -- a start mark opens an update
@@ -153,40 +153,40 @@ settled_none q all q' h' none (stays _ e f) = (e, f)
 settled_none q all q' h' none (cut n is e f) = absurd (contradiction all is.0 is.1 none)
 settled_none q all q' h' none (emptied c e f) = absurd (contradiction all c.0 c.1 none)
 
-some_end : (front back : List ℕ) → NoneFrom end_mark (front ++ (end_mark ++ back)) 0 → ⊥
-some_end front back none =
-    let here = at_later end_mark front (end_mark ++ back) 0 in
-    contrary _ here (none (length front + 0) (omega arith) (omega (arith, length-append front (end_mark ++ back))))
+some_end : (prefix back : List ℕ) → NoneFrom end_mark (prefix ++ (end_mark ++ back)) 0 → ⊥
+some_end prefix back none =
+    let here = at_later end_mark prefix (end_mark ++ back) 0 in
+    contrary _ here (none (length prefix + 0) (omega arith) (omega (arith, length-append prefix (end_mark ++ back))))
 
 -- a start mark right after the last end mark stays held
-settled_cut : (q front back q' : List ℕ) (h' : Option (List ℕ)) → NoneFrom end_mark (start_mark ++ back) 0
-    → Settled q (front ++ (end_mark ++ (start_mark ++ back))) q' h'
-    → (q' ≡ q ++ (front ++ end_mark)) × (h' ≡ Some (start_mark ++ back))
-settled_cut q front back q' h' none (stays absent e f) = absurd (some_end front (start_mark ++ back) absent)
-settled_cut q front back q' h' none (cut n is e f) =
-    let text = front ++ (end_mark ++ (start_mark ++ back)) in
-    let last = last_is front (start_mark ++ back) is.0 is.1 none in
-    let n_is : n ≡ length (front ++ end_mark) = first_is front back n
+settled_cut : (q prefix back q' : List ℕ) (h' : Option (List ℕ)) → NoneFrom end_mark (start_mark ++ back) 0
+    → Settled q (prefix ++ (end_mark ++ (start_mark ++ back))) q' h'
+    → (q' ≡ q ++ (prefix ++ end_mark)) × (h' ≡ Some (start_mark ++ back))
+settled_cut q prefix back q' h' none (stays absent e f) = absurd (some_end prefix (start_mark ++ back) absent)
+settled_cut q prefix back q' h' none (cut n is e f) =
+    let text = prefix ++ (end_mark ++ (start_mark ++ back)) in
+    let last = last_is prefix (start_mark ++ back) is.0 is.1 none in
+    let n_is : n ≡ length (prefix ++ end_mark) = first_is prefix back n
     (subst (λ (k : ℕ). IsFirstFrom start_mark text (k + 1) n) last is.2) in
-    let split : (front ++ end_mark) ++ (start_mark ++ back) ≡ text = append_assoc front end_mark (start_mark ++ back) in
-    let taken = ap (take n) (sym split) ∙ take_at (front ++ end_mark) (start_mark ++ back) n (sym n_is) in
-    let left = ap (drop n) (sym split) ∙ drop_at (front ++ end_mark) (start_mark ++ back) n (sym n_is) in
+    let split : (prefix ++ end_mark) ++ (start_mark ++ back) ≡ text = append_assoc prefix end_mark (start_mark ++ back) in
+    let taken = ap (take n) (sym split) ∙ take_at (prefix ++ end_mark) (start_mark ++ back) n (sym n_is) in
+    let left = ap (drop n) (sym split) ∙ drop_at (prefix ++ end_mark) (start_mark ++ back) n (sym n_is) in
     (e ∙ ap (λ xs. q ++ xs) taken, f ∙ ap Some left)
-settled_cut q front back q' h' none (emptied c e f) =
-    let text = front ++ (end_mark ++ (start_mark ++ back)) in
-    let last = last_is front (start_mark ++ back) c.0 c.1 none in
-    absurd (start_stands front back (subst (λ (k : ℕ). NoneFrom start_mark text (k + 1)) last c.2))
+settled_cut q prefix back q' h' none (emptied c e f) =
+    let text = prefix ++ (end_mark ++ (start_mark ++ back)) in
+    let last = last_is prefix (start_mark ++ back) c.0 c.1 none in
+    absurd (start_state_after prefix back (subst (λ (k : ℕ). NoneFrom start_mark text (k + 1)) last c.2))
 
 -- if too little follows the last end mark, all is parsed
-settled_all : (q front back q' : List ℕ) (h' : Option (List ℕ)) → NoneFrom end_mark back 0 → length back < 8
-    → Settled q (front ++ (end_mark ++ back)) q' h'
-    → (q' ≡ q ++ (front ++ (end_mark ++ back))) × (h' ≡ None)
-settled_all q front back q' h' none short (stays absent e f) = absurd (some_end front back absent)
-settled_all q front back q' h' none short (cut n is e f) =
-    let last = last_is front back is.0 is.1 none in
-    absurd (no_first front back n (subst (λ (k : ℕ). IsFirstFrom start_mark (front ++ (end_mark ++ back)) (k + 1) n)
+settled_all : (q prefix back q' : List ℕ) (h' : Option (List ℕ)) → NoneFrom end_mark back 0 → length back < 8
+    → Settled q (prefix ++ (end_mark ++ back)) q' h'
+    → (q' ≡ q ++ (prefix ++ (end_mark ++ back))) × (h' ≡ None)
+settled_all q prefix back q' h' none short (stays absent e f) = absurd (some_end prefix back absent)
+settled_all q prefix back q' h' none short (cut n is e f) =
+    let last = last_is prefix back is.0 is.1 none in
+    absurd (no_first prefix back n (subst (λ (k : ℕ). IsFirstFrom start_mark (prefix ++ (end_mark ++ back)) (k + 1) n)
     last is.2) short)
-settled_all q front back q' h' none short (emptied c e f) = (e, f)
+settled_all q prefix back q' h' none short (emptied c e f) = (e, f)
 
 -- ---- frames
 
@@ -208,9 +208,9 @@ pub record Sized (T : Type 0) (f : List ℕ) : Type 0 where
 abbrev pub Frames : Type 0 → List (List ℕ) → Type 0
 Frames T fs = AllByRecursion (Sized T) fs
 
-pub frames_front : (T : Type 0) (fs gs : List (List ℕ)) → Frames T (fs ++ gs) → Frames T fs
-frames_front T [] gs h = tt
-frames_front T (f ∷ fs) gs h = (h.0, frames_front T fs gs h.1)
+pub frames_prefix : (T : Type 0) (fs gs : List (List ℕ)) → Frames T (fs ++ gs) → Frames T fs
+frames_prefix T [] gs h = tt
+frames_prefix T (f ∷ fs) gs h = (h.0, frames_prefix T fs gs h.1)
 
 pub frames_back : (T : Type 0) (fs gs : List (List ℕ)) → Frames T (fs ++ gs) → Frames T gs
 frames_back T [] gs h = h
@@ -222,7 +222,7 @@ ends_once f before after frame e =
     let same : start_mark ++ (frame.body ++ end_mark) ≡ before ++ (end_mark ++ after) = sym frame.is ∙ e in
     elim (cases_lt (length before) 8) [
       | inl short ↦
-          let here = ap (λ xs. stands_at end_mark xs (length before)) same ∙ end_stands before after in
+          let here = ap (λ xs. is_found_at end_mark xs (length before)) same ∙ end_state_after before after in
           absurd (contrary _ here (start_inside (frame.body ++ end_mark) (length before) short))
       | inr long ↦
           let cut = cut_later start_mark (frame.body ++ end_mark) before (end_mark ++ after) same long in
@@ -230,9 +230,9 @@ ends_once f before after frame e =
     ]
 
 -- less than a frame has no whole end mark
-front_has_none : (f p left : List ℕ) → IsFrame f → f ≡ p ++ left → left ≢ [] → NoneFrom end_mark p 0
-front_has_none f p left frame e some = λ k low below.
-    elim (cases_Bool (stands_at end_mark p k)) [
+prefix_has_none : (f p left : List ℕ) → IsFrame f → f ≡ p ++ left → left ≢ [] → NoneFrom end_mark p 0
+prefix_has_none f p left frame e some = λ k low below.
+    elim (cases_Bool (is_found_at end_mark p k)) [
       | inr absent ↦ absent
       | inl found ↦
           let rest = drop 8 (drop k p) in
@@ -245,16 +245,16 @@ front_has_none f p left frame e some = λ k low below.
 
 part_has_none : (T : Type 0) (p : List ℕ) (rest : List (List ℕ)) → Frames T rest → IsPart p rest → NoneFrom end_mark p 0
 part_has_none T p [] h e = subst (λ (xs : List ℕ). NoneFrom end_mark xs 0) (sym e) none_in_empty
-part_has_none T p (f ∷ fs) h e = front_has_none f p e.0 h.0.frame e.1 e.2
+part_has_none T p (f ∷ fs) h e = prefix_has_none f p e.0 h.0.frame e.1 e.2
 
 none_behind : (all : List ℕ) → NoneFrom end_mark (start_mark ++ all) 0 → NoneFrom end_mark all 0
 none_behind all none = λ k low below. sym (at_later end_mark start_mark all k)
     ∙ none (8 + k) (omega arith) (omega (arith, below, length-append start_mark all))
 
 -- eight bytes or more of a frame begin with the start mark
-front_starts : (f p left : List ℕ) (frame : IsFrame f) → f ≡ p ++ left → 8 ≤ length p → (r : List ℕ)
+prefix_starts : (f p left : List ℕ) (frame : IsFrame f) → f ≡ p ++ left → 8 ≤ length p → (r : List ℕ)
     × (p ≡ start_mark ++ r) × (frame.body ++ end_mark ≡ r ++ left)
-front_starts f p left frame e long = cut_later start_mark (frame.body ++ end_mark) p left (sym frame.is ∙ e) long
+prefix_starts f p left frame e long = cut_later start_mark (frame.body ++ end_mark) p left (sym frame.is ∙ e) long
 
 mark_begins : (f : List ℕ) (fs : List (List ℕ)) → IsFrame f → IsPart start_mark (f ∷ fs)
 mark_begins f fs frame = (
@@ -266,20 +266,20 @@ mark_begins f fs frame = (
 part_starts : (T : Type 0) (p : List ℕ) (rest : List (List ℕ)) → Frames T rest → IsPart p rest → 8 ≤ length p
     → (r : List ℕ) × (p ≡ start_mark ++ r) × IsPart start_mark rest
 part_starts T p [] h e long = absurd (omega (arith, ap length e, long))
-part_starts T p (f ∷ fs) h e long = let at = front_starts f p e.0 h.0.frame e.1 long
+part_starts T p (f ∷ fs) h e long = let at = prefix_starts f p e.0 h.0.frame e.1 long
     in (at.0, at.1, mark_begins f fs h.0.frame)
 
 -- fewer bytes of a frame are a prefix of the start mark
-pub front_short : (f p left : List ℕ) → IsFrame f → f ≡ p ++ left → length p < 8 → (r : List ℕ) × (start_mark ≡ p ++ r)
-front_short f p left frame e short =
+pub prefix_short : (f p left : List ℕ) → IsFrame f → f ≡ p ++ left → length p < 8 → (r : List ℕ) × (start_mark ≡ p ++ r)
+prefix_short f p left frame e short =
     let later = cut_later p left start_mark (frame.body ++ end_mark) (sym e ∙ frame.is) (omega (arith, short)) in
     (later.0, later.1)
 
 part_opens_none : (T : Type 0) (q p : List ℕ) (rest : List (List ℕ)) → Frames T rest → IsPart p rest → length p < 8
     → opens_in q p ≡ false
 part_opens_none T q p [] h e short = ap (opens_in q) e ∙ opens_in-none q
-part_opens_none T q p (f ∷ fs) h e short = let at = front_short f p e.0 h.0.frame e.1 short
-    in begun_front q p at.0 at.1 short
+part_opens_none T q p (f ∷ fs) h e short = let at = prefix_short f p e.0 h.0.frame e.1 short
+    in begun_prefix q p at.0 at.1 short
 
 -- after its start mark a frame opens nothing
 body_none : (f : List ℕ) (frame : IsFrame f) (q : List ℕ) → opens_in (q ++ start_mark) (frame.body ++ end_mark) ≡ false
@@ -292,7 +292,7 @@ body_none f frame q =
 left_none : (f p left : List ℕ) → IsFrame f → f ≡ p ++ left → 8 ≤ length p → (q : List ℕ)
     → opens_in (q ++ p) left ≡ false
 left_none f p left frame e long q =
-    let at = front_starts f p left frame e long in
+    let at = prefix_starts f p left frame e long in
     let behind = opens_in-parts (q ++ start_mark) at.0 left (ap (opens_in (q ++ start_mark)) (sym at.2)
     ∙ body_none f frame q) in
     let same : q ++ p ≡ (q ++ start_mark) ++ at.0 = ap (λ xs. q ++ xs) at.1 ∙ sym (append_assoc q start_mark at.0) in
@@ -344,23 +344,23 @@ module _ (T : Type 0) (p q' : List ℕ) (h' : Option (List ℕ)) (rest : List (L
   none_in_part = part_has_none T p rest hr last
 
   -- the bytes of an open update end a frame, and part of the next follows
-  settle_ends : (q s front all w : List ℕ) → w ≡ s ++ (front ++ end_mark) → s ++ all ≡ w ++ p
+  settle_ends : (q s prefix all w : List ℕ) → w ≡ s ++ (prefix ++ end_mark) → s ++ all ≡ w ++ p
       → Settled (q ++ s) all q' h' → RestsBy T (q ++ w) p q' h'
-  settle_ends q s front all w w_is e st =
-      let is = append_assoc q s (front ++ end_mark) ∙ ap (λ xs. q ++ xs) (sym w_is) in
-      let all_is = append_cancel_left s all (front ++ (end_mark ++ p)) (e ∙ (ap (λ xs. xs ++ p) w_is
-      ∙ (append_assoc s (front ++ end_mark) p ∙ ap (λ xs. s ++ xs) (append_assoc front end_mark p)))) in
+  settle_ends q s prefix all w w_is e st =
+      let is = append_assoc q s (prefix ++ end_mark) ∙ ap (λ xs. q ++ xs) (sym w_is) in
+      let all_is = append_cancel_left s all (prefix ++ (end_mark ++ p)) (e ∙ (ap (λ xs. xs ++ p) w_is
+      ∙ (append_assoc s (prefix ++ end_mark) p ∙ ap (λ xs. s ++ xs) (append_assoc prefix end_mark p)))) in
       let ends = subst (λ (xs : List ℕ). Settled (q ++ s) xs q' h') all_is st in
       elim (cases_lt (length p) 8) [
         | inl short ↦
-            let now = settled_all (q ++ s) front p q' h' none_in_part short ends in
-            outside (inl short) (now.0 ∙ (ap (λ xs. (q ++ s) ++ xs) (sym (append_assoc front end_mark p))
-            ∙ (sym (append_assoc (q ++ s) (front ++ end_mark) p) ∙ ap (λ xs. xs ++ p) is))) now.1
+            let now = settled_all (q ++ s) prefix p q' h' none_in_part short ends in
+            outside (inl short) (now.0 ∙ (ap (λ xs. (q ++ s) ++ xs) (sym (append_assoc prefix end_mark p))
+            ∙ (sym (append_assoc (q ++ s) (prefix ++ end_mark) p) ∙ ap (λ xs. xs ++ p) is))) now.1
         | inr long ↦
             let starts = part_starts T p rest hr last long in
-            let now = settled_cut (q ++ s) front starts.0 q' h'
+            let now = settled_cut (q ++ s) prefix starts.0 q' h'
             (subst (λ (xs : List ℕ). NoneFrom end_mark xs 0) starts.1 none_in_part)
-            (subst (λ (xs : List ℕ). Settled (q ++ s) (front ++ (end_mark ++ xs)) q' h') starts.1 ends) in
+            (subst (λ (xs : List ℕ). Settled (q ++ s) (prefix ++ (end_mark ++ xs)) q' h') starts.1 ends) in
             before long (now.0 ∙ is) (now.1 ∙ ap Some (sym starts.1))
       ]
 
@@ -373,7 +373,7 @@ module _ (T : Type 0) (p q' : List ℕ) (h' : Option (List ℕ)) (rest : List (L
       let s = settled_none (q ++ start_mark) all q' h' none st in
       inside all (sym e) (s.0 ∙ ap (λ xs. xs ++ start_mark) (sym (append-nil q))) s.1
   settle_after_start q all (f ∷ fs) h e st =
-      let ends = joined_ends T f fs (frames_front T (f ∷ fs) rest h) in
+      let ends = joined_ends T f fs (frames_prefix T (f ∷ fs) rest h) in
       settle_ends q start_mark ends.0 all (concat (f ∷ fs)) ends.1 e st
 
   -- the same where the start mark is held too
@@ -383,7 +383,7 @@ module _ (T : Type 0) (p q' : List ℕ) (h' : Option (List ℕ)) (rest : List (L
       let s = settled_none q all q' h' (subst (λ (xs : List ℕ). NoneFrom end_mark xs 0) (sym e) none_in_part) st in
       before (omega (arith, long, ap length e)) (s.0 ∙ sym (append-nil q)) (s.1 ∙ ap Some e)
   settle_from_start q all (f ∷ fs) h e long st =
-      let ends = joined_ends T f fs (frames_front T (f ∷ fs) rest h) in
+      let ends = joined_ends T f fs (frames_prefix T (f ∷ fs) rest h) in
       settle_ends q [] (start_mark ++ ends.0) all (concat (f ∷ fs)) ends.1 e
       (subst (λ (xs : List ℕ). Settled xs all q' h') (sym (append-nil q)) st)
 

@@ -23,7 +23,7 @@ use Rattle.vte_types.specs.declared.mode.PrivateMode.TheVariants.{Named}
 use Rattle.vte_types.specs.declared.mode.NamedPrivateMode.TheVariants.{SyncUpdate}
 use Rattle.vte.specs.Table.{opens}
 use Rattle.vte.specs.Performed.{calls_of_all}
-use Rattle.vte.specs.Marks.{start_mark, end_mark, stands_at, NoneFrom, IsLast, IsFirstFrom}
+use Rattle.vte.specs.Marks.{start_mark, end_mark, is_found_at, NoneFrom, IsLast, IsFirstFrom}
 use Rattle.vte.specs.Stretch.{added, last_of, calls_from, opens_in, OpensAt}
 use Rattle.vte.specs.Hold.{closing}
 use Rattle.vte.proofs.HoldLemmas.{opens_in-append, opens_in-none}
@@ -41,8 +41,8 @@ pub opens_in-sooner : (past a b : List ℕ) → opens_in past a ≡ true → ope
 opens_in-sooner past a b h = opens_in-append past a b ∙ ap (λ v. v || opens_in (past ++ a) b) h
 
 -- a prefix of bytes that open nothing opens nothing
-pub opens_in-front : (past bytes : List ℕ) (n : ℕ) → opens_in past bytes ≡ false → opens_in past (take n bytes) ≡ false
-opens_in-front past bytes n h = (opens_in-parts past (take n bytes) (drop n bytes)
+pub opens_in-prefix : (past bytes : List ℕ) (n : ℕ) → opens_in past bytes ≡ false → opens_in past (take n bytes) ≡ false
+opens_in-prefix past bytes n h = (opens_in-parts past (take n bytes) (drop n bytes)
     (ap (opens_in past) (take-append-drop n bytes) ∙ h)).0
 
 -- marks
@@ -62,11 +62,11 @@ all_cut_off_none (e ∷ es) h = rw (cut_off_none e (All-head IsCutOff e es h))
 -- the events of what ESC begins don't depend on what came before
 esc_added : (past bytes : List ℕ) → added past (27 ∷ bytes) ≡ added past (27 ∷ []) ++ events 1024 (27 ∷ bytes)
 esc_added past bytes =
-    let told = events 1024 (27 ∷ bytes) in
-    let whole : events 1024 (past ++ 27 ∷ bytes) ≡ events 1024 past ++ (added past (27 ∷ []) ++ told) =
-    esc-cut 1024 past bytes ∙ (ap (λ es. es ++ told) (events-added 1024 past (27 ∷ []))
-    ∙ append_assoc (events 1024 past) (added past (27 ∷ [])) told) in
-    sym (added-is 1024 past (27 ∷ bytes) (added past (27 ∷ []) ++ told) whole)
+    let reported = events 1024 (27 ∷ bytes) in
+    let whole : events 1024 (past ++ 27 ∷ bytes) ≡ events 1024 past ++ (added past (27 ∷ []) ++ reported) =
+    esc-cut 1024 past bytes ∙ (ap (λ es. es ++ reported) (events-added 1024 past (27 ∷ []))
+    ∙ append_assoc (events 1024 past) (added past (27 ∷ [])) reported) in
+    sym (added-is 1024 past (27 ∷ bytes) (added past (27 ∷ []) ++ reported) whole)
 
 -- nor does whether it opens an update
 esc_opens : (past bytes : List ℕ) → opens_in past (27 ∷ bytes) ≡ list_any opens (events 1024 (27 ∷ bytes))
@@ -88,8 +88,8 @@ pub begun_none : (past : List ℕ) (count : ℕ) → count < 8 → opens_in past
 begun_none past zero h = opens_in-none past
 begun_none past (suc count) h = esc_opens past (take count start_tail) ∙ tail_none count (omega arith)
 
-pub front_none : (past part left : List ℕ) → start_mark ≡ part ++ left → length part < 8 → opens_in past part ≡ false
-front_none past part left e h =
+pub prefix_none : (past part left : List ℕ) → start_mark ≡ part ++ left → length part < 8 → opens_in past part ≡ false
+prefix_none past part left e h =
     let is : take (length part) start_mark ≡ part = ap (take (length part)) e ∙ take_at part left (length part) refl in
     ap (opens_in past) (sym is) ∙ begun_none past (length part) h
 
@@ -135,8 +135,8 @@ end_calls past g = calls_alone past end_mark g
 
 -- places
 
-pub at_later : (mark front back : List ℕ) (k : ℕ) → stands_at mark (front ++ back) (length front + k) ≡ stands_at mark back k
-at_later mark front back k = ap (λ text. starts_with nat_eq text mark) (drop-append-add front back k)
+pub at_later : (mark prefix back : List ℕ) (k : ℕ) → is_found_at mark (prefix ++ back) (length prefix + k) ≡ is_found_at mark back k
+at_later mark prefix back k = ap (λ text. starts_with nat_eq text mark) (drop-append-add prefix back k)
 
 starts_short : (mark text : List ℕ) → length text < length mark → starts_with nat_eq text mark ≡ false
 starts_short [] text h = absurd (omega arith)
@@ -145,7 +145,7 @@ starts_short (y ∷ mark) (x ∷ text) h = ap (λ b. nat_eq y x && b) (starts_sh
     ∙ and_right (nat_eq y x) false refl
 
 -- too little follows for a mark to be there
-pub none_short : (mark text : List ℕ) (k : ℕ) → length text < length mark → stands_at mark text k ≡ false
+pub none_short : (mark text : List ℕ) (k : ℕ) → length text < length mark → is_found_at mark text k ≡ false
 none_short mark text k h = starts_short mark (drop k text) (omega (arith, length-drop k text, h))
 
 starts_so : (mark text : List ℕ) → starts_with nat_eq text mark ≡ true → text ≡ mark ++ drop (length mark) text
@@ -160,95 +160,95 @@ starts_so (y ∷ mark) (x ∷ text) h = elim (cases_Bool (nat_eq y x)) [
 ]
 
 -- a mark at a place cuts the text
-pub at_cuts : (mark text : List ℕ) (k : ℕ) → stands_at mark text k ≡ true
+pub at_cuts : (mark text : List ℕ) (k : ℕ) → is_found_at mark text k ≡ true
     → text ≡ take k text ++ (mark ++ drop (length mark) (drop k text))
 at_cuts mark text k h = sym (take-append-drop k text) ∙ ap (λ zs. take k text ++ zs) (starts_so mark (drop k text) h)
 
 -- no mark begins inside an end mark
-end_inside : (back : List ℕ) (k : ℕ) → 0 < k → k < 8 → (stands_at start_mark (end_mark ++ back) k ≡ false)
-    × (stands_at end_mark (end_mark ++ back) k ≡ false)
+end_inside : (back : List ℕ) (k : ℕ) → 0 < k → k < 8 → (is_found_at start_mark (end_mark ++ back) k ≡ false)
+    × (is_found_at end_mark (end_mark ++ back) k ≡ false)
 end_inside back zero low high = absurd (omega arith)
 end_inside back (suc k) low high = (
-  agree_below_at (λ j. stands_at start_mark (end_mark ++ back) (suc j)) (λ j. false) 7 k refl (omega arith),
-  agree_below_at (λ j. stands_at end_mark (end_mark ++ back) (suc j)) (λ j. false) 7 k refl (omega arith),
+  agree_below_at (λ j. is_found_at start_mark (end_mark ++ back) (suc j)) (λ j. false) 7 k refl (omega arith),
+  agree_below_at (λ j. is_found_at end_mark (end_mark ++ back) (suc j)) (λ j. false) 7 k refl (omega arith),
 )
 
 -- no end mark begins inside a start mark
-pub start_inside : (back : List ℕ) (k : ℕ) → k < 8 → stands_at end_mark (start_mark ++ back) k ≡ false
-start_inside back k h = agree_below_at (stands_at end_mark (start_mark ++ back)) (λ j. false) 8 k refl h
+pub start_inside : (back : List ℕ) (k : ℕ) → k < 8 → is_found_at end_mark (start_mark ++ back) k ≡ false
+start_inside back k h = agree_below_at (is_found_at end_mark (start_mark ++ back)) (λ j. false) 8 k refl h
 
 pub contrary : (b : Bool) → b ≡ true → b ≡ false → ⊥
 contrary b h k = let e : true ≡ false = sym h ∙ k in cc
 
-pub end_stands : (front back : List ℕ) → stands_at end_mark (front ++ (end_mark ++ back)) (length front) ≡ true
-end_stands front back = ap (λ text. starts_with nat_eq text end_mark) (drop-append_seam front (end_mark ++ back))
+pub end_state_after : (prefix back : List ℕ) → is_found_at end_mark (prefix ++ (end_mark ++ back)) (length prefix) ≡ true
+end_state_after prefix back = ap (λ text. starts_with nat_eq text end_mark) (drop-append_seam prefix (end_mark ++ back))
 
 -- a place after the end mark's first byte is after its last, for a mark that doesn't begin inside it
-past_end : (mark front back : List ℕ) (n : ℕ)
-    → ((k : ℕ) → 0 < k → k < 8 → stands_at mark (end_mark ++ back) k ≡ false) → length front < n
-    → stands_at mark (front ++ (end_mark ++ back)) n ≡ true
-    → (length front + 8 ≤ n) × (stands_at mark back (n - length front - 8) ≡ true)
-past_end mark front back n none low at =
-    let d = n - length front in
-    let there : stands_at mark (end_mark ++ back) d ≡ true = sym (at_later mark front (end_mark ++ back) d)
-    ∙ (ap (stands_at mark (front ++ (end_mark ++ back))) (omega (arith, low)) ∙ at) in
+past_end : (mark prefix back : List ℕ) (n : ℕ)
+    → ((k : ℕ) → 0 < k → k < 8 → is_found_at mark (end_mark ++ back) k ≡ false) → length prefix < n
+    → is_found_at mark (prefix ++ (end_mark ++ back)) n ≡ true
+    → (length prefix + 8 ≤ n) × (is_found_at mark back (n - length prefix - 8) ≡ true)
+past_end mark prefix back n none low at =
+    let d = n - length prefix in
+    let there : is_found_at mark (end_mark ++ back) d ≡ true = sym (at_later mark prefix (end_mark ++ back) d)
+    ∙ (ap (is_found_at mark (prefix ++ (end_mark ++ back))) (omega (arith, low)) ∙ at) in
     elim (cases_lt d 8) [
       | inl inside ↦ absurd (contrary _ there (none d (omega (arith, low)) inside))
       | inr past ↦ (
         omega (arith, past),
         sym (at_later mark end_mark back (d - 8))
-            ∙ (ap (stands_at mark (end_mark ++ back)) (omega (arith, past)) ∙ there),
+            ∙ (ap (is_found_at mark (end_mark ++ back)) (omega (arith, past)) ∙ there),
       )
     ]
 
 -- the last end mark, if none follows it
-pub last_is : (front back : List ℕ) (e : ℕ) → IsLast end_mark (front ++ (end_mark ++ back)) e
-    → NoneFrom end_mark back 0 → e ≡ length front
-last_is front back e last none =
-    let text = front ++ (end_mark ++ back) in
-    let long : length text ≡ length front + length (end_mark ++ back) = length-append front (end_mark ++ back) in
-    elim (cases_lt e (length front)) [
-      | inl sooner ↦ absurd (contrary _ (end_stands front back)
-          (last.2 (length front) (omega (arith, sooner)) (omega (arith, long))))
-      | inr later ↦ elim (cases_lt (length front) e) [
+pub last_is : (prefix back : List ℕ) (e : ℕ) → IsLast end_mark (prefix ++ (end_mark ++ back)) e
+    → NoneFrom end_mark back 0 → e ≡ length prefix
+last_is prefix back e last none =
+    let text = prefix ++ (end_mark ++ back) in
+    let long : length text ≡ length prefix + length (end_mark ++ back) = length-append prefix (end_mark ++ back) in
+    elim (cases_lt e (length prefix)) [
+      | inl sooner ↦ absurd (contrary _ (end_state_after prefix back)
+          (last.2 (length prefix) (omega (arith, sooner)) (omega (arith, long))))
+      | inr later ↦ elim (cases_lt (length prefix) e) [
         | inr same ↦ omega (arith, later, same)
         | inl behind ↦
-            let past = past_end end_mark front back e (λ k low high. (end_inside back k low high).1) behind last.1 in
-            absurd (contrary _ past.1 (none (e - length front - 8) (omega arith)
+            let past = past_end end_mark prefix back e (λ k low high. (end_inside back k low high).1) behind last.1 in
+            absurd (contrary _ past.1 (none (e - length prefix - 8) (omega arith)
             (omega (arith, long, last.0, length-append end_mark back, past.0))))
       ]
     ]
 
 -- the first start mark after that end mark, if one follows right after it
-pub first_is : (front back : List ℕ) (n : ℕ) → IsFirstFrom start_mark (front
-    ++ (end_mark ++ (start_mark ++ back))) (length front + 1) n → n ≡ length (front ++ end_mark)
-first_is front back n first =
+pub first_is : (prefix back : List ℕ) (n : ℕ) → IsFirstFrom start_mark (prefix
+    ++ (end_mark ++ (start_mark ++ back))) (length prefix + 1) n → n ≡ length (prefix ++ end_mark)
+first_is prefix back n first =
     let rest = start_mark ++ back in
-    let text = front ++ (end_mark ++ rest) in
-    let here : stands_at start_mark text (length front + 8) ≡ true = at_later start_mark front (end_mark ++ rest) 8 in
-    let size : length (front ++ end_mark) ≡ length front + 8 = length-append front end_mark in
-    elim (cases_lt n (length front + 8)) [
+    let text = prefix ++ (end_mark ++ rest) in
+    let here : is_found_at start_mark text (length prefix + 8) ≡ true = at_later start_mark prefix (end_mark ++ rest) 8 in
+    let size : length (prefix ++ end_mark) ≡ length prefix + 8 = length-append prefix end_mark in
+    elim (cases_lt n (length prefix + 8)) [
       | inl sooner ↦
-          let past = past_end start_mark front rest n (λ k low high. (end_inside rest k low high).0)
+          let past = past_end start_mark prefix rest n (λ k low high. (end_inside rest k low high).0)
           (omega (arith, first.0)) first.2 in
           absurd (omega (arith, past.0, sooner))
-      | inr later ↦ elim (cases_lt (length front + 8) n) [
-        | inl behind ↦ absurd (contrary _ here (first.3 (length front + 8) (omega arith) behind))
+      | inr later ↦ elim (cases_lt (length prefix + 8) n) [
+        | inl behind ↦ absurd (contrary _ here (first.3 (length prefix + 8) (omega arith) behind))
         | inr same ↦ omega (arith, later, same, size)
       ]
     ]
 
 -- there is none if too little follows the end mark
-pub no_first : (front back : List ℕ) (n : ℕ) → IsFirstFrom start_mark (front
-    ++ (end_mark ++ back)) (length front + 1) n → length back < 8 → ⊥
-no_first front back n first short =
-    let past = past_end start_mark front back n (λ k low high. (end_inside back k low high).0)
+pub no_first : (prefix back : List ℕ) (n : ℕ) → IsFirstFrom start_mark (prefix
+    ++ (end_mark ++ back)) (length prefix + 1) n → length back < 8 → ⊥
+no_first prefix back n first short =
+    let past = past_end start_mark prefix back n (λ k low high. (end_inside back k low high).0)
     (omega (arith, first.0)) first.2 in
     contrary _ past.1 (none_short start_mark back _ short)
 
-pub start_stands : (front back : List ℕ) → NoneFrom start_mark (front
-    ++ (end_mark ++ (start_mark ++ back))) (length front + 1) → ⊥
-start_stands front back none =
-    let here = at_later start_mark front (end_mark ++ (start_mark ++ back)) 8 in
-    let long = length-append front (end_mark ++ (start_mark ++ back)) in
-    contrary _ here (none (length front + 8) (omega arith) (omega (arith, long)))
+pub start_state_after : (prefix back : List ℕ) → NoneFrom start_mark (prefix
+    ++ (end_mark ++ (start_mark ++ back))) (length prefix + 1) → ⊥
+start_state_after prefix back none =
+    let here = at_later start_mark prefix (end_mark ++ (start_mark ++ back)) 8 in
+    let long = length-append prefix (end_mark ++ (start_mark ++ back)) in
+    contrary _ here (none (length prefix + 8) (omega arith) (omega (arith, long)))

@@ -12,9 +12,9 @@ use Rattle.vte.specs.Timeout.{Tick}
 use Rattle.vte.specs.Marks.{start_mark, end_mark}
 use Rattle.vte.specs.Hold.{limit, held_of, Takes}
 use Rattle.vte.specs.Moves.{Move, Gives, Stops, given}
-use Rattle.vte.specs.Frames.{IsFrame, IsPart, IsFront, Drives, ends, gives, stops, Rests, closed, opened, kept, IsUntorn}
+use Rattle.vte.specs.Frames.{IsFrame, IsPart, IsPrefix, Drives, ends, gives, stops, Rests, closed, opened, kept, IsUntorn}
 use Rattle.vte.proofs.FrameMarks.{ground_end}
-use Rattle.vte.proofs.FrameLemmas.{cut_later, Frames, frames_back, front_short, RestsBy, outside, inside}
+use Rattle.vte.proofs.FrameLemmas.{cut_later, Frames, frames_back, prefix_short, RestsBy, outside, inside}
 use Rattle.vte.proofs.FrameLemmas.{before, piece_rests}
 
 -- a prefix of frames is whole frames and part of the next
@@ -52,8 +52,8 @@ cut_frames (f ∷ fs) xs beyond e =
 
 -- the parsed and held bytes after bytes of frames
 record Untorn (T : Type 0) (frames : List (List ℕ)) (past bytes parsed : List ℕ) (hold : Option (List ℕ)) : Type 0 where
-  front : IsFront frames bytes
-  rests : RestsBy T (past ++ concat front.whole) front.part parsed hold
+  prefix : IsPrefix frames bytes
+  rests : RestsBy T (past ++ concat prefix.whole) prefix.part parsed hold
 
 -- one more piece
 more : {T : Type 0} {frames : List (List ℕ)} {past bytes piece parsed parsed' : List ℕ} {hold hold' : Option (List ℕ)}
@@ -61,29 +61,29 @@ more : {T : Type 0} {frames : List (List ℕ)} {past bytes piece parsed parsed' 
     → Frames T frames → (bytes ++ piece) ++ beyond ≡ concat frames → Untorn T frames past bytes parsed hold
     → Takes parsed hold piece parsed' hold' calls ticks → Untorn T frames past (bytes ++ piece) parsed' hold'
 more {T} {frames} {past} {bytes} {piece} {parsed} {parsed'} {hold} {hold'} beyond fs e r t =
-    let at = ap (λ zs. zs ++ piece) r.front.bytes_are ∙ append_assoc (concat r.front.whole) r.front.part piece in
-    let all = sym (append_assoc (concat r.front.whole) (r.front.part ++ piece) beyond)
-    ∙ (ap (λ zs. zs ++ beyond) (sym at) ∙ (e ∙ (ap concat r.front.frames_are ∙ concat-append r.front.whole r.front.rest))) in
-    let (front, rest, part, are, is, is_part) = cut_frames r.front.rest (r.front.part ++ piece) beyond
-    (append_cancel_left (concat r.front.whole) ((r.front.part ++ piece) ++ beyond) (concat r.front.rest) all) in
-    let here : Frames T r.front.rest = frames_back T r.front.whole r.front.rest
-    (subst (λ (gs : List (List ℕ)). Frames T gs) r.front.frames_are fs) in
-    let next = piece_rests T (past ++ concat r.front.whole) r.front.part part piece parsed parsed' front rest r.rests
+    let at = ap (λ zs. zs ++ piece) r.prefix.bytes_are ∙ append_assoc (concat r.prefix.whole) r.prefix.part piece in
+    let all = sym (append_assoc (concat r.prefix.whole) (r.prefix.part ++ piece) beyond)
+    ∙ (ap (λ zs. zs ++ beyond) (sym at) ∙ (e ∙ (ap concat r.prefix.frames_are ∙ concat-append r.prefix.whole r.prefix.rest))) in
+    let (prefix, rest, part, are, is, is_part) = cut_frames r.prefix.rest (r.prefix.part ++ piece) beyond
+    (append_cancel_left (concat r.prefix.whole) ((r.prefix.part ++ piece) ++ beyond) (concat r.prefix.rest) all) in
+    let here : Frames T r.prefix.rest = frames_back T r.prefix.whole r.prefix.rest
+    (subst (λ (gs : List (List ℕ)). Frames T gs) r.prefix.frames_are fs) in
+    let next = piece_rests T (past ++ concat r.prefix.whole) r.prefix.part part piece parsed parsed' prefix rest r.rests
     (subst (λ (gs : List (List ℕ)). Frames T gs) are here)
-    (subst (λ (gs : List (List ℕ)). IsPart r.front.part gs) are r.front.is_part) is is_part t in
-    let whole : concat (r.front.whole ++ front) ≡ concat r.front.whole ++ concat front = concat-append r.front.whole front in
+    (subst (λ (gs : List (List ℕ)). IsPart r.prefix.part gs) are r.prefix.is_part) is is_part t in
+    let whole : concat (r.prefix.whole ++ prefix) ≡ concat r.prefix.whole ++ concat prefix = concat-append r.prefix.whole prefix in
     record {
-      front = record {
-        whole = r.front.whole ++ front;
+      prefix = record {
+        whole = r.prefix.whole ++ prefix;
         rest = rest;
         part = part;
-        frames_are = r.front.frames_are ∙ (ap (λ zs. r.front.whole ++ zs) are ∙ sym (append_assoc r.front.whole front rest));
-        bytes_are = at ∙ (ap (λ zs. concat r.front.whole ++ zs) is
-            ∙ (sym (append_assoc (concat r.front.whole) (concat front) part) ∙ ap (λ zs. zs ++ part) (sym whole)));
+        frames_are = r.prefix.frames_are ∙ (ap (λ zs. r.prefix.whole ++ zs) are ∙ sym (append_assoc r.prefix.whole prefix rest));
+        bytes_are = at ∙ (ap (λ zs. concat r.prefix.whole ++ zs) is
+            ∙ (sym (append_assoc (concat r.prefix.whole) (concat prefix) part) ∙ ap (λ zs. zs ++ part) (sym whole)));
         is_part = is_part;
       };
       rests = subst (λ (w : List ℕ). RestsBy T w part parsed' hold')
-          (append_assoc past (concat r.front.whole) (concat front) ∙ ap (λ zs. past ++ zs) (sym whole)) next;
+          (append_assoc past (concat r.prefix.whole) (concat prefix) ∙ ap (λ zs. past ++ zs) (sym whole)) next;
     }
 
 -- the update is stopped
@@ -99,7 +99,7 @@ stopped_rests {part = part} {parsed = parsed} t (before long at is) =
 
 stopped : {T : Type 0} {frames : List (List ℕ)} {past bytes parsed : List ℕ} {hold : Option (List ℕ)} → T
     → Untorn T frames past bytes parsed hold → Untorn T frames past bytes (parsed ++ held_of hold) None
-stopped t r = record { front = r.front; rests = stopped_rests t r.rests }
+stopped t r = record { prefix = r.prefix; rests = stopped_rests t r.rests }
 
 -- the moves stop an update only if T is true
 abbrev pub StopsBy : Type 0 → List Move → Type 0
@@ -128,7 +128,7 @@ none_part T (f ∷ frames) fs = (f, refl, λ none. absurd (omega (arith, ap leng
 -- before the first frame
 at_first : (T : Type 0) (frames : List (List ℕ)) (past : List ℕ) → Frames T frames → Untorn T frames past [] past None
 at_first T frames past fs = record {
-  front = record {
+  prefix = record {
     whole = [];
     rest = frames;
     part = [];
@@ -187,13 +187,13 @@ pub whole_are_parsed : (frames : List (List ℕ)) (moves : List Move) (past pars
 whole_are_parsed frames moves past parsed hold all e l =
     let fs = loose frames (recursion_from_All IsFrame frames all) in
     let r = follow [] fs (any_stops moves) (append-nil (given moves) ∙ e) (at_first (Unit {0}) frames past fs) l in
-    let here : Frames (Unit {0}) r.front.rest = frames_back (Unit {0}) r.front.whole r.front.rest
-    (subst (λ (gs : List (List ℕ)). Frames (Unit {0}) gs) r.front.frames_are fs) in
-    let left = nothing_left (Unit {0}) r.front.whole r.front.rest r.front.part here r.front.is_part (ap concat (sym r.front.frames_are)
-    ∙ (sym e ∙ r.front.bytes_are)) in
+    let here : Frames (Unit {0}) r.prefix.rest = frames_back (Unit {0}) r.prefix.whole r.prefix.rest
+    (subst (λ (gs : List (List ℕ)). Frames (Unit {0}) gs) r.prefix.frames_are fs) in
+    let left = nothing_left (Unit {0}) r.prefix.whole r.prefix.rest r.prefix.part here r.prefix.is_part (ap concat (sym r.prefix.frames_are)
+    ∙ (sym e ∙ r.prefix.bytes_are)) in
     let s = whole_rests left.1 r.rests in
-    let whole : r.front.whole ≡ frames = sym (append-nil r.front.whole)
-    ∙ (ap (λ gs. r.front.whole ++ gs) (sym left.0) ∙ sym r.front.frames_are) in
+    let whole : r.prefix.whole ≡ frames = sym (append-nil r.prefix.whole)
+    ∙ (ap (λ gs. r.prefix.whole ++ gs) (sym left.0) ∙ sym r.prefix.frames_are) in
     (s.0 ∙ ap (λ gs. past ++ concat gs) whole, s.1)
 
 tight : (frames : List (List ℕ)) → AllByRecursion IsFrame frames → AllByRecursion (λ f. length f < limit) frames
@@ -226,13 +226,13 @@ never_torn frames pieces beyond past parsed hold all small e l =
     let all_given : given moves ++ beyond ≡ concat frames = ap (λ xs. xs ++ beyond) (given_pieces pieces) ∙ e in
     let r = follow beyond fs (no_stops pieces) all_given (at_first ⊥ frames past fs) l in
     record {
-      front = record {
-        whole = r.front.whole;
-        rest = r.front.rest;
-        part = r.front.part;
-        frames_are = r.front.frames_are;
-        bytes_are = sym (given_pieces pieces) ∙ r.front.bytes_are;
-        is_part = r.front.is_part;
+      prefix = record {
+        whole = r.prefix.whole;
+        rest = r.prefix.rest;
+        part = r.prefix.part;
+        frames_are = r.prefix.frames_are;
+        bytes_are = sym (given_pieces pieces) ∙ r.prefix.bytes_are;
+        is_part = r.prefix.is_part;
       };
       rests = rests_so r.rests;
     }
@@ -241,7 +241,7 @@ part_of_start : (part : List ℕ) (rest : List (List ℕ)) → AllByRecursion Is
     → length part < 8 → take (length part) start_mark ≡ part
 part_of_start part [] h e short = ap (λ xs. take (length xs) start_mark) e ∙ sym e
 part_of_start part (f ∷ rest) h e short =
-    let at = front_short f part e.0 h.0 e.1 short in
+    let at = prefix_short f part e.0 h.0 e.1 short in
     ap (take (length part)) at.1 ∙ take_at part at.0 (length part) refl
 
 pub mark_begun : (whole part parsed : List ℕ) (hold : Option (List ℕ)) (rest : List (List ℕ))
@@ -256,9 +256,9 @@ pub frames_ground : (frames : List (List ℕ)) (past : List ℕ) → AllByRecurs
     → AtGround 1024 (past ++ concat frames)
 frames_ground [] past h g = subst (λ (xs : List ℕ). AtGround 1024 xs) (sym (append-nil past)) g
 frames_ground (f ∷ frames) past h g =
-    let front = past ++ (start_mark ++ h.0.body) in
-    let is : front ++ end_mark ≡ past ++ f = append_assoc past (start_mark ++ h.0.body) end_mark
+    let prefix = past ++ (start_mark ++ h.0.body) in
+    let is : prefix ++ end_mark ≡ past ++ f = append_assoc past (start_mark ++ h.0.body) end_mark
     ∙ ap (λ xs. past ++ xs) (append_assoc start_mark h.0.body end_mark ∙ sym h.0.is) in
-    let here : AtGround 1024 (past ++ f) = subst (λ (xs : List ℕ). AtGround 1024 xs) is (ground_end front) in
+    let here : AtGround 1024 (past ++ f) = subst (λ (xs : List ℕ). AtGround 1024 xs) is (ground_end prefix) in
     subst (λ (xs : List ℕ). AtGround 1024 xs) (append_assoc past f (concat frames))
     (frames_ground frames (past ++ f) h.1 here)

@@ -4,7 +4,7 @@ use Rattle.std.proofs.Common.{length, take, drop, slice_index, arith, length-dro
 use Rattle.std.proofs.lemmas.List.{drop-drop, drop-append-le, take-append-le, get_or-drop, get_or-take, take_all}
 use Rattle.std.proofs.lemmas.Bool.{cases_lt, eq-eqb, eqb-true, false_from_ne_true}
 use Rattle.memchr.specs.Find.{Nowhere, Passes, is_byte}
-use Rattle.vte.specs.Marks.{stands_at, NoneFrom, end_mark}
+use Rattle.vte.specs.Marks.{is_found_at, NoneFrom, end_mark}
 
 -- if no mark begins at a place or later, none is in the text from there on
 pub none_after : (n : ℕ) (text : List ℕ) → NoneFrom end_mark text n → NoneFrom end_mark (drop n text) 0
@@ -16,9 +16,9 @@ pub none_in_empty : NoneFrom end_mark [] 0
 none_in_empty k low below = absurd (omega arith)
 
 -- A mark that is whole in the prefix is there without the rest too.
-same_in_front : (held piece : List ℕ) (k : ℕ) → k + 8 ≤ length held
-    → stands_at end_mark (held ++ piece) k ≡ stands_at end_mark held k
-same_in_front held piece k fits =
+same_in_prefix : (held piece : List ℕ) (k : ℕ) → k + 8 ≤ length held
+    → is_found_at end_mark (held ++ piece) k ≡ is_found_at end_mark held k
+same_in_prefix held piece k fits =
     let low : k ≤ length held = omega arith in
     let whole : 8 ≤ length (drop k held) = omega (arith, length-drop k held) in
     rw (drop-append-le, take-append-le) refl
@@ -30,13 +30,13 @@ pub none_from_seen : (held piece : List ℕ) (seen : ℕ) → seen ≤ length he
 none_from_seen held piece seen close old new k low below =
     elim (cases_lt k seen) [
       | inl sooner ↦ let fits : k + 8 ≤ length held = omega (arith, close, sooner)
-          in same_in_front held piece k fits ∙ old k low (omega arith)
+          in same_in_prefix held piece k fits ∙ old k low (omega arith)
       | inr later ↦ new k later below
     ]
 
 -- where the first byte of a mark isn't, the mark isn't
 not_first : (mark text : List ℕ) (k : ℕ) → 0 < length mark → k < length text
-    → ¬ Passes (is_byte (slice_index mark 0)) text k → stands_at mark text k ≡ false
+    → ¬ Passes (is_byte (slice_index mark 0)) text k → is_found_at mark text k ≡ false
 not_first [] text k some below other = absurd (omega arith)
 not_first (m ∷ mark) [] k some below other = absurd (omega arith)
 not_first (m ∷ mark) (t ∷ text) zero some below other =
@@ -46,7 +46,7 @@ not_first (m ∷ mark) (t ∷ text) (suc k) some below other = not_first (m ∷ 
 -- the same of a stretch of a part of the text, `n` bytes from `from` on
 pub none_in_part : (mark text : List ℕ) (from n i j : ℕ) → 0 < length mark → from + n ≤ length text → j ≤ n
     → Nowhere (Passes (is_byte (slice_index mark 0)) (take n (drop from text))) i j → (k : ℕ) → from + i ≤ k
-    → k < from + j → stands_at mark text k ≡ false
+    → k < from + j → is_found_at mark text k ≡ false
 none_in_part mark text from n i j some fits inside nowhere k low high =
     let place : from + (k - from) ≡ k = omega (arith, low) in
     let reads : slice_index (take n (drop from text)) (k - from) ≡ slice_index text k =

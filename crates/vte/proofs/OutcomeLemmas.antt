@@ -5,26 +5,26 @@ use Rattle.std.specs.List.{starts_with}
 use Rattle.std.proofs.lemmas.Bool.{cases_lt}
 use Rattle.std.proofs.lemmas.List.{drop_all}
 use Rattle.vte_types.specs.Call.{Call}
-use Rattle.vte.specs.Marks.{start_mark, end_mark, stands_at, NoneFrom, IsLast, IsFirstFrom}
+use Rattle.vte.specs.Marks.{start_mark, end_mark, is_found_at, NoneFrom, IsLast, IsFirstFrom}
 use Rattle.vte.specs.Timeout.{Tick, Sets, Clears}
 use Rattle.vte.specs.Stretch.{calls_from, ticks_from, opens_in, OpensAt}
 use Rattle.vte.specs.Hold.{closing, limit, IsCut, Closes, unseen, Renews, again, quiet, Settles, keeps, replays, closes}
 use Rattle.vte.specs.Hold.{Takes, parses, begins, settles, overflows}
 use Rattle.vte.specs.Laws.{SameOutcome, TakesOneWay}
-use Rattle.vte.proofs.FrameMarks.{contrary, opens_in-front}
+use Rattle.vte.proofs.FrameMarks.{contrary, opens_in-prefix}
 
 -- a start mark is inside the text
-inside : (text : List ℕ) (k : ℕ) → stands_at start_mark text k ≡ true → k < length text
+inside : (text : List ℕ) (k : ℕ) → is_found_at start_mark text k ≡ true → k < length text
 inside text k at = elim (cases_lt k (length text)) [
   | inl within ↦ within
   | inr past ↦
-      let none : stands_at start_mark text k ≡ false =
+      let none : is_found_at start_mark text k ≡ false =
       ap (λ (rest : List ℕ). starts_with nat_eq rest start_mark) (drop_all k text past) in
       absurd (contrary _ at none)
 ]
 
 again-only : {text : List ℕ} {from : ℕ} {ticks : List Tick} → Renews text from ticks → (k : ℕ) → from ≤ k
-    → stands_at start_mark text k ≡ true → Sets ∷ [] ≡ ticks
+    → is_found_at start_mark text k ≡ true → Sets ∷ [] ≡ ticks
 again-only (again j low at) k low' at' = refl
 again-only {text} (quiet none) k low' at' = absurd (contrary _ at' (none k low' (inside text k at')))
 
@@ -83,9 +83,9 @@ keeps-only (closes parsed held piece t r c) s renews no_end = absurd (kept-no_en
 
 replays-only : {parsed held piece q : List ℕ} {k : Option (List ℕ)} {d : List Call} {t : List Tick}
     → Settles parsed held piece q k d t → (s : List Tick) → Renews (held ++ piece) (unseen held) s
-    → (n : ℕ) → IsCut (held ++ piece) n → let front = take n (held ++ piece) in
-    SameOutcome (parsed ++ front) (Some (drop n (held ++ piece))) (calls_from parsed front)
-    (s ++ ticks_from parsed front) q k d t
+    → (n : ℕ) → IsCut (held ++ piece) n → let prefix = take n (held ++ piece) in
+    SameOutcome (parsed ++ prefix) (Some (drop n (held ++ piece))) (calls_from parsed prefix)
+    (s ++ ticks_from parsed prefix) q k d t
 replays-only (keeps parsed held piece t r none) s renews n cut =
     absurd (kept-no_end (held ++ piece) cut.0 none cut.1)
 replays-only (replays parsed held piece t r m cut') s renews n cut =
@@ -127,7 +127,7 @@ parses-only : {parsed : List ℕ} {hold : Option (List ℕ)} {piece q : List ℕ
     → SameOutcome (parsed ++ piece) None (calls_from parsed piece) [] q k d t
 parses-only (parses parsed piece none) e closed = (refl, refl, refl, refl)
 parses-only (begins parsed piece n q k d t at y) e closed =
-    absurd (contrary _ at.opened (opens_in-front parsed piece n closed))
+    absurd (contrary _ at.opened (opens_in-prefix parsed piece n closed))
 parses-only (settles parsed held piece q k d t fits y) e closed = absurd (cc)
 parses-only (overflows parsed held piece q k d t full y) e closed = absurd (cc)
 
@@ -140,7 +140,7 @@ begins-only : {parsed : List ℕ} {hold : Option (List ℕ)} {piece q : List ℕ
     → Takes (parsed ++ take n piece) (Some []) (drop n piece) q k d t → SameOutcome p h c s q k d t)
     → SameOutcome p h (calls_from parsed (take n piece) ++ c) (ticks_from parsed (take n piece) ++ s) q k d t
 begins-only (parses parsed piece none) e n at p h c s rest =
-    absurd (contrary _ at.opened (opens_in-front parsed piece n none))
+    absurd (contrary _ at.opened (opens_in-prefix parsed piece n none))
 begins-only (begins parsed piece m q k d t at' y) e n at p h c s rest =
     let same : m ≡ n = opening-one parsed piece m n at' at in
     let more = rest q k d t (subst (λ (i : ℕ). Takes (parsed ++ take i piece) (Some []) (drop i piece) q k d t) same y) in (

@@ -54,12 +54,12 @@ pub last-is : (before : Option ℕ) (cs : List ℕ) (c : ℕ) (ds : List ℕ) �
 last-is before cs c ds is = last-more before cs c ∙ ap (λ xs. last_after_all before (map Print xs)) (sym is)
 
 -- the last character of a text that ends with one
-pub last-read : (before : Option ℕ) (bs front : List ℕ) (c : ℕ) → IsUtf8 bs → IsScalar c → bs ≡ front ++ encode_utf8 c
+pub last-read : (before : Option ℕ) (bs prefix : List ℕ) (c : ℕ) → IsUtf8 bs → IsScalar c → bs ≡ prefix ++ encode_utf8 c
     → Some c ≡ last_after_all before (map Print (chars bs))
-last-read before bs front c utf8 scalar e =
+last-read before bs prefix c utf8 scalar e =
     let one = IsUtf8-encode c scalar in
-    let whole = subst IsUtf8 (ap (take (length front)) e ∙ take-append_seam front (encode_utf8 c))
-    (IsUtf8-take bs (length front) utf8 (IsCharBoundary-at_seam bs front (encode_utf8 c) e one)) in
-    last-is before (chars front) c (chars bs) (ap chars e ∙ chars-append front (encode_utf8 c) whole
-    ∙ ap (λ xs. chars front ++ xs) (chars_past_char (encode_utf8 c) [] c one (sym (append-nil (encode_utf8 c)))
+    let whole = subst IsUtf8 (ap (take (length prefix)) e ∙ take-append_seam prefix (encode_utf8 c))
+    (IsUtf8-take bs (length prefix) utf8 (IsCharBoundary-at_seam bs prefix (encode_utf8 c) e one)) in
+    last-is before (chars prefix) c (chars bs) (ap chars e ∙ chars-append prefix (encode_utf8 c) whole
+    ∙ ap (λ xs. chars prefix ++ xs) (chars_past_char (encode_utf8 c) [] c one (sym (append-nil (encode_utf8 c)))
     ∙ ap (λ xs. c ∷ xs) chars-nil))

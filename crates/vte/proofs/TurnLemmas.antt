@@ -7,7 +7,7 @@ use Rattle.vte.specs.declared.processor.Processor.{Processor}
 use Rattle.vte.specs.Stretch.{calls_from}
 use Rattle.vte.specs.Hold.{limit, closing, held_of}
 use Rattle.vte.specs.Advances.{Plainly, IsEmptied, parses, begins, settles, empties}
-use Rattle.vte.specs.Standing.{timeout_of, StandsAt, Advanced, Emptied, Held, Begun, Unopened, GoesOn}
+use Rattle.vte.specs.Standing.{timeout_of, IsStateAfter, Advanced, Emptied, Held, Begun, Unopened, GoesOn}
 use Rattle.vte_types.proofs.CallLemmas.{Calls-append}
 
 module _ {T A H : Type 0} {ticking : Ticking T} {step : H → Call → H → Type 0} where
@@ -20,7 +20,7 @@ module _ {T A H : Type 0} {ticking : Ticking T} {step : H → Call → H → Typ
     held' = [];
     calls = calls_from parsed piece;
     advances = rw (u.same) (parses closed (timeout_of old) parsed piece plain u.none);
-    stands = u.stands;
+    state_after = u.state_after;
     goes = u.goes;
   }
 
@@ -32,7 +32,7 @@ module _ {T A H : Type 0} {ticking : Ticking T} {step : H → Call → H → Typ
     parsed' = parsed ++ take n piece;
     held' = [];
     calls = calls_from parsed (take n piece);
-    stands = b.parsed_so.stands;
+    state_after = b.parsed_so.state_after;
     goes = b.parsed_so.goes;
     further = λ t q k cs. begins false (timeout_of old) parsed piece n (timeout_of new) t q k cs plain b.opens
         b.parsed_so.ticked;
@@ -49,15 +49,15 @@ module _ {T A H : Type 0} {ticking : Ticking T} {step : H → Call → H → Typ
     calls = k.calls;
     advances = settles (timeout_of old) parsed held piece (timeout_of new) k.parsed' k.hold' k.calls k.ticks open_ fits
         k.settles k.ticked;
-    stands = k.stands;
+    state_after = k.state_after;
     goes = k.goes;
   }
 
   -- nothing of a piece was taken yet
-  pub goes_on_at_start : {p : Processor T A} {parsed held piece : List ℕ} {h : H} → StandsAt p parsed held
+  pub goes_on_at_start : {p : Processor T A} {parsed held piece : List ℕ} {h : H} → IsStateAfter p parsed held
       → GoesOn ticking step p parsed held piece piece h p h
   goes_on_at_start {parsed = parsed} {held} s =
-      record { parsed' = parsed; held' = held; calls = []; stands = s; goes = refl; further = λ t q k cs a. a }
+      record { parsed' = parsed; held' = held; calls = []; state_after = s; goes = refl; further = λ t q k cs a. a }
 
   module _ {old mid new : Processor T A} {parsed held piece rest : List ℕ} {h h1 h' : H}
       (so_far : GoesOn ticking step old parsed held piece rest h mid h1) where
@@ -68,7 +68,7 @@ module _ {T A H : Type 0} {ticking : Ticking T} {step : H → Call → H → Typ
       parsed' = a.parsed';
       held' = a.held';
       calls = so_far.calls ++ a.calls;
-      stands = a.stands;
+      state_after = a.state_after;
       goes = Calls-append step h h1 h' so_far.calls a.calls so_far.goes a.goes;
       further = λ t q k cs f. rw (append_assoc so_far.calls a.calls cs)
           (so_far.further t q k (a.calls ++ cs) (a.further t q k cs f));
@@ -82,7 +82,7 @@ module _ {T A H : Type 0} {ticking : Ticking T} {step : H → Call → H → Typ
       held' = a.held';
       calls = so_far.calls ++ a.calls;
       advances = so_far.further (timeout_of new) a.parsed' a.held' a.calls a.advances;
-      stands = a.stands;
+      state_after = a.state_after;
       goes = Calls-append step h h1 h' so_far.calls a.calls so_far.goes a.goes;
     }
 
@@ -113,7 +113,7 @@ module _ {T A H : Type 0} (ticking : Ticking T) (step : H → Call → H → Typ
         calls = (calls_from parsed held ++ closing) ++ a.calls;
         advances = empties (timeout_of old) parsed held piece is_open (timeout_of mid) (timeout_of new) a.parsed'
             a.held' a.calls asked must emptied.ticked a.advances;
-        stands = a.stands;
+        state_after = a.state_after;
         goes = Calls-append step h h1 h' (calls_from parsed held ++ closing) a.calls emptied.goes a.goes;
       }
   turn_after old mid parsed held piece h h1 is_open asked must emptied new h' (Some n) b =
@@ -122,7 +122,7 @@ module _ {T A H : Type 0} (ticking : Ticking T) (step : H → Call → H → Typ
         parsed' = (parsed ++ held) ++ take n piece;
         held' = [];
         calls = (calls_from parsed held ++ closing) ++ calls;
-        stands = b.parsed_so.stands;
+        state_after = b.parsed_so.state_after;
         goes = Calls-append step h h1 h' (calls_from parsed held ++ closing) calls emptied.goes b.parsed_so.goes;
         further = λ t q k cs a. rw (append_assoc (calls_from parsed held ++ closing) calls cs)
             (empties (timeout_of old) parsed held piece is_open (timeout_of mid) t q k (calls

@@ -49,7 +49,7 @@ IsPart part [] = part ≡ []
 IsPart part (frame ∷ frames) = (left : List ℕ) × (frame ≡ part ++ left) × (left ≢ [])
 
 -- the bytes are some of the first frames, and a prefix of the next one, which isn't all of it
-pub record IsFront (frames : List (List ℕ)) (bytes : List ℕ) : Type 0 where
+pub record IsPrefix (frames : List (List ℕ)) (bytes : List ℕ) : Type 0 where
   pub whole : List (List ℕ)
   pub rest : List (List ℕ)
   pub part : List ℕ
@@ -69,8 +69,8 @@ pub data Rests (whole part parsed : List ℕ) (hold : Option (List ℕ)) : Type 
 
 -- exactly the frames that were given whole are parsed, and of the next one at most its start mark
 pub record IsUntorn (frames : List (List ℕ)) (past bytes parsed : List ℕ) (hold : Option (List ℕ)) : Type 0 where
-  pub front : IsFront frames bytes
-  pub rests : Rests (past ++ concat front.whole) front.part parsed hold
+  pub prefix : IsPrefix frames bytes
+  pub rests : Rests (past ++ concat prefix.whole) prefix.part parsed hold
 
 -- frames below the hold's limit are never torn, however a prefix of them is cut into pieces
 abbrev pub FramesAreNeverTorn : Type 0

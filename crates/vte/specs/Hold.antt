@@ -4,7 +4,7 @@ use Rattle.std.specs.Prelude.{drop, length}
 use Rattle.vte_types.specs.Call.{Call, unset_private_mode}
 use Rattle.vte_types.specs.declared.mode.PrivateMode.TheVariants.{Named}
 use Rattle.vte_types.specs.declared.mode.NamedPrivateMode.TheVariants.{SyncUpdate}
-use Rattle.vte.specs.Marks.{start_mark, end_mark, stands_at, NoneFrom, IsLast, IsFirstFrom}
+use Rattle.vte.specs.Marks.{start_mark, end_mark, is_found_at, NoneFrom, IsLast, IsFirstFrom}
 use Rattle.vte.specs.Timeout.{Ticking, Tick, Sets, Clears, Ticked}
 use Rattle.vte.specs.Stretch.{calls_from, ticks_from, opens_in, OpensAt}
 
@@ -30,7 +30,7 @@ unseen held = length held - 7
 
 -- the timeout is set again if the piece completes a start mark
 pub data Renews (text : List ℕ) (from : ℕ) : List Tick → Type 0 where
-  again : (k : ℕ) → from ≤ k → stands_at start_mark text k ≡ true → Renews text from (Sets ∷ [])
+  again : (k : ℕ) → from ≤ k → is_found_at start_mark text k ≡ true → Renews text from (Sets ∷ [])
   quiet : NoneFrom start_mark text from → Renews text from []
 
 pub record Renewed {T : Type 0} (ticking : Ticking T) (old : T) (text : List ℕ) (from : ℕ) (new : T) : Type 0 where

@@ -32,17 +32,17 @@ pub struct Processor<T, A: Allocator> {
 impl<T: Timeout + Drop, A: Allocator> Processor<T, A> {
     ghost use Rattle.vte.specs.Timeout.{IsExact, Awaits};
     ghost use Rattle.vte.specs.Hold.{limit, held_of};
-    ghost use Rattle.vte_core.specs.Standing.{Stands};
+    ghost use Rattle.vte_core.specs.Standing.{IsAfter};
     ghost use Rattle.vte.specs.Marks.{end_mark, NoneFrom};
     ghost use Rattle.vte.specs.Stretch.{last_of};
-    ghost use Rattle.vte.specs.Standing.{timeout_of, StandsAt, HoldsAt, Advanced, Taken, Emptied, Held, Parsed, Begun};
+    ghost use Rattle.vte.specs.Standing.{timeout_of, IsStateAfter, HoldsAt, Advanced, Taken, Emptied, Held, Parsed, Begun};
     ghost use Rattle.vte.specs.Standing.{Unopened, GoesOn};
     ghost use Rattle.std.specs.Prelude.{None, Some, true, false, take};
 
     /// A processor that has read nothing. It reserves 2,097,150 bytes for held bytes, so that no later call needs
     /// memory. Fails only if that allocation fails.
     pub fn new(alloc: A, timeout: T) -> Result<Self, OutOfMemory>
-        ensures stands { IfOk result (λ p. StandsAt p [] []) }
+        ensures state_after { IfOk result (λ p. IsStateAfter p [] []) }
         ensures exact { IfOk result (λ p. Awaits T.ticking timeout false → HoldsAt T.ticking p [] None) }
         ensures timeout { IfOk result (λ p. timeout_of p ≡ timeout) }
     {
@@ -66,7 +66,7 @@ impl<T: Timeout + Drop, A: Allocator> Processor<T, A> {
 
     /// How many bytes are held, at most 2,097,150.
     pub fn sync_bytes_count(&self) -> usize
-        ensures count { (parsed held : List ℕ) → StandsAt self.now parsed held → result ≡ length held }
+        ensures count { (parsed held : List ℕ) → IsStateAfter self.now parsed held → result ≡ length held }
         ensures most { result ≤ 2_097_150 }
     {
         self.held.len()
@@ -75,7 +75,7 @@ impl<T: Timeout + Drop, A: Allocator> Processor<T, A> {
     /// Reads the next piece of the stream. Held bytes are parsed before later ones. The hold is emptied first, as by
     /// `stop_sync`, if the piece doesn't fit, or if bytes are held and the timeout is no longer pending.
     pub fn advance<H: Handler>(&mut self, handler: &mut H, bytes: &[u8])
-        ensures advanced { (parsed held : List ℕ) → StandsAt self.old parsed held
+        ensures advanced { (parsed held : List ℕ) → IsStateAfter self.old parsed held
             → Advanced T.ticking H.step false self.old parsed held bytes.now handler.old self.new handler.new }
         ensures exact { (parsed : List ℕ) (hold : Option (List ℕ)) → IsExact T.ticking
             → HoldsAt T.ticking self.old parsed hold
@@ -89,7 +89,7 @@ impl<T: Timeout + Drop, A: Allocator> Processor<T, A> {
 
     /// Parses all held bytes, closes the update (`unset_private_mode` of `SyncUpdate`), and clears the timeout.
     pub fn stop_sync<H: Handler>(&mut self, handler: &mut H)
-        ensures emptied { (parsed held : List ℕ) → StandsAt self.old parsed held
+        ensures emptied { (parsed held : List ℕ) → IsStateAfter self.old parsed held
             → Emptied T.ticking H.step self.old parsed held handler.old self.new handler.new }
         ensures exact { (parsed : List ℕ) (hold : Option (List ℕ)) → IsExact T.ticking
             → HoldsAt T.ticking self.old parsed hold
@@ -101,7 +101,7 @@ impl<T: Timeout + Drop, A: Allocator> Processor<T, A> {
     /// Reads a piece up to the byte that opens an update, and returns how many bytes that was. Or reads all of it, and
     /// returns `None`.
     fn turn<H: Handler>(&mut self, handler: &mut H, piece: &[u8]) -> Option<usize>
-        ensures led { (parsed held : List ℕ) → StandsAt self.old parsed held → MatchOption result
+        ensures led { (parsed held : List ℕ) → IsStateAfter self.old parsed held → MatchOption result
             (Advanced T.ticking H.step false self.old parsed held piece.now handler.old self.new
             handler.new)
             (λ n. GoesOn T.ticking H.step self.old parsed held piece.now (drop n piece.now) handler.old
@@ -124,7 +124,7 @@ impl<T: Timeout + Drop, A: Allocator> Processor<T, A> {
     /// Parses a piece while no update is open, up to the byte that opens one. Returns how many bytes that was, if one
     /// is opened.
     fn begin<H: Handler>(&mut self, handler: &mut H, piece: &[u8]) -> Option<usize>
-        ensures led { (parsed held : List ℕ) → StandsAt self.old parsed held → MatchOption result
+        ensures led { (parsed held : List ℕ) → IsStateAfter self.old parsed held → MatchOption result
             (Unopened T.ticking H.step self.old parsed held piece.now handler.old self.new handler.new)
             (λ n. Begun T.ticking H.step self.old parsed held piece.now n handler.old self.new handler.new) }
         ensures progress { IfSome result (λ n. (0 < n) × (n ≤ length piece.now)) }
@@ -136,7 +136,7 @@ impl<T: Timeout + Drop, A: Allocator> Processor<T, A> {
     /// Reads a piece that fits into the hold, while an update is open.
     fn hold<H: Handler>(&mut self, handler: &mut H, piece: &[u8])
         requires { vec_len self.old.held + length piece.now < limit }
-        ensures { (parsed held : List ℕ) → StandsAt self.old parsed held
+        ensures { (parsed held : List ℕ) → IsStateAfter self.old parsed held
             → Held T.ticking H.step self.old parsed held piece.now handler.old self.new handler.new }
     {
         // A mark may begin in the last 7 held bytes. One that began sooner would be whole in them.
@@ -155,7 +155,7 @@ impl<T: Timeout + Drop, A: Allocator> Processor<T, A> {
     /// Parses the first `n` held bytes, and keeps the rest.
     fn release<H: Handler>(&mut self, handler: &mut H, n: usize)
         requires { n ≤ vec_len self.old.held }
-        ensures { (parsed held : List ℕ) → Stands 1024 self.old.parser parsed
+        ensures { (parsed held : List ℕ) → IsAfter 1024 self.old.parser parsed
             → self.old.state.preceding_char ≡ last_of parsed → self.old.held.items ≡ held → NoneFrom end_mark held n
             → Parsed T.ticking H.step self.old parsed (take n held) (drop n held) handler.old self.new
             handler.new }
@@ -166,12 +166,12 @@ impl<T: Timeout + Drop, A: Allocator> Processor<T, A> {
             handler,
             &self.held.as_slice()[..n],
         );
-        drop_front(&mut self.held, n);
+        drop_prefix(&mut self.held, n);
     }
 
     /// Parses all held bytes, and closes the update.
     fn empty<H: Handler>(&mut self, handler: &mut H)
-        ensures { (parsed held : List ℕ) → Stands 1024 self.old.parser parsed
+        ensures { (parsed held : List ℕ) → IsAfter 1024 self.old.parser parsed
             → self.old.state.preceding_char ≡ last_of parsed → self.old.held.items ≡ held
             → Emptied T.ticking H.step self.old parsed held handler.old self.new handler.new }
     {
@@ -207,7 +207,7 @@ fn take_in<A: Allocator>(held: &mut Vec<u8, A>, piece: &[u8])
 }
 
 /// Removes the first `n` bytes.
-fn drop_front<A: Allocator>(held: &mut Vec<u8, A>, n: usize)
+fn drop_prefix<A: Allocator>(held: &mut Vec<u8, A>, n: usize)
     requires { n ≤ vec_len held.old }
     ensures items { held.new.items ≡ drop n held.old.items }
     ensures capacity { vec_capacity held.new ≡ vec_capacity held.old }

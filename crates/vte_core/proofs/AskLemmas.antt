@@ -41,8 +41,8 @@ sequences-asked n past bytes b rest more = elim (bool_cases (ends_in_text ((past
 
 pub runs-unasked : AsksOutsideRuns
 runs-unasked past bytes b rest some text other =
-    let front : take (length bytes) (bytes ++ b ∷ rest) ≡ bytes = take-append_seam bytes (b ∷ rest) in
+    let prefix : take (length bytes) (bytes ++ b ∷ rest) ≡ bytes = take-append_seam bytes (b ∷ rest) in
     let back : drop (length bytes) (bytes ++ b ∷ rest) ≡ b ∷ rest = drop-append_seam bytes (b ∷ rest) in
     let begun : (length bytes == 0) ≡ false = ne_eqb (length bytes) 0 (λ e. absurd (omega (arith, some, e))) in
     let goes_on : (b == 0x1B) ≡ false = ne_eqb b 0x1B other in
-    rw (begun, front, back, text, goes_on) refl
+    rw (begun, prefix, back, text, goes_on) refl

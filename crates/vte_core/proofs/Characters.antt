@@ -7,9 +7,9 @@ use Rattle.std.proofs.lemmas.Bool.Decides.{nat_tests}
 use Rattle.std.proofs.Math.Seq.{take-append-add}
 use Rattle.std.specs.Int.{is_in_range}
 use Rattle.vte_core.specs.Event.{Event, Print}
-use Rattle.vte_core.specs.Text.{text, text_after, front_len, front_event, char_len, second_min, second_max, tail_len}
+use Rattle.vte_core.specs.Text.{text, text_after, prefix_len, prefix_event, char_len, second_min, second_max, tail_len}
 use Rattle.vte_core.specs.Text.{first_bits, joined, char_event, malformed_event}
-use Rattle.vte_core.specs.Pending.{goes_on, begun, begun_rest, text_told, text_rest, IsUnfinished, closed, InText}
+use Rattle.vte_core.specs.Pending.{goes_on, begun, begun_rest, text_reported, text_rest, IsUnfinished, closed, InText}
 
 -- what holds of both of its branches holds of an `if`
 pub if_holds : {A : Type 0} (P : A → Type 0) (v : Bool) (x y : A) → P x → P y → P (if v then x else y)
@@ -113,34 +113,34 @@ pub malformed-high : (n a : ℕ) → is_in_range 0x80 0x9F a ≡ false → malfo
 malformed-high n a h = elim (bool_cases (n == 1)) [ inl e ↦ rw (e, h) refl | inr e ↦ rw e refl ]
 
 -- what the front tells, by its length
-pub front-whole : (cut : Bool) (a n : ℕ) (bs : List ℕ) → front_len a bs ≡ n → n ≡ char_len a
-    → front_event cut a bs ≡ char_event (joined (first_bits a) (take (n - 1) bs)) ∷ []
-front-whole cut a n bs f e = let t : (n == char_len a) ≡ true = eq-eqb n (char_len a) e in rw (f, t) refl
+pub prefix-whole : (cut : Bool) (a n : ℕ) (bs : List ℕ) → prefix_len a bs ≡ n → n ≡ char_len a
+    → prefix_event cut a bs ≡ char_event (joined (first_bits a) (take (n - 1) bs)) ∷ []
+prefix-whole cut a n bs f e = let t : (n == char_len a) ≡ true = eq-eqb n (char_len a) e in rw (f, t) refl
 
-front-malformed : (cut : Bool) (a n : ℕ) (bs : List ℕ) → front_len a bs ≡ n → n < char_len a → 1 < char_len a
-    → n ≤ length bs → front_event cut a bs ≡ Print 0xFFFD ∷ []
-front-malformed cut a n bs f lt some long =
+prefix-malformed : (cut : Bool) (a n : ℕ) (bs : List ℕ) → prefix_len a bs ≡ n → n < char_len a → 1 < char_len a
+    → n ≤ length bs → prefix_event cut a bs ≡ Print 0xFFFD ∷ []
+prefix-malformed cut a n bs f lt some long =
     let t : (n == char_len a) ≡ false = grind (arith, nat_tests) in
     let u : nat_lt 0 (char_len a) ≡ true = lt-ltb 0 (char_len a) (omega arith) in
     let v : nat_lt (length bs) n ≡ false = grind (arith, nat_tests) in
     rw (f, t, u, v) (ap (λ e. e ∷ []) (malformed-high n a (lead-high a some)))
 
-front-cut : (cut : Bool) (a n : ℕ) (bs : List ℕ) → front_len a bs ≡ n → n < char_len a → length bs < n
-    → front_event cut a bs ≡ (if cut then Print 0xFFFD ∷ [] else [])
-front-cut cut a n bs f lt short =
+prefix-cut : (cut : Bool) (a n : ℕ) (bs : List ℕ) → prefix_len a bs ≡ n → n < char_len a → length bs < n
+    → prefix_event cut a bs ≡ (if cut then Print 0xFFFD ∷ [] else [])
+prefix-cut cut a n bs f lt short =
     let t : (n == char_len a) ≡ false = grind (arith, nat_tests) in
     let u : nat_lt 0 (char_len a) ≡ true = lt-ltb 0 (char_len a) (omega arith) in
     let v : nat_lt (length bs) n ≡ true = lt-ltb (length bs) n short in
     rw (f, t, u, v) refl
 
-pub text-front : (cut : Bool) (a n : ℕ) (bs : List ℕ) (es : List Event) → front_len a bs ≡ suc n
-    → front_event cut a bs ≡ es → text cut (a ∷ bs) ≡ es ++ text_after n cut bs
-text-front cut a n bs es f e =
-    let m : front_len a bs - 1 ≡ n = omega (arith, f) in
-    ap (λ xs. xs ++ text_after (front_len a bs - 1) cut bs) e ∙ ap (λ k. es ++ text_after k cut bs) m
+pub text-prefix : (cut : Bool) (a n : ℕ) (bs : List ℕ) (es : List Event) → prefix_len a bs ≡ suc n
+    → prefix_event cut a bs ≡ es → text cut (a ∷ bs) ≡ es ++ text_after n cut bs
+text-prefix cut a n bs es f e =
+    let m : prefix_len a bs - 1 ≡ n = omega (arith, f) in
+    ap (λ xs. xs ++ text_after (prefix_len a bs - 1) cut bs) e ∙ ap (λ k. es ++ text_after k cut bs) m
 
 text-pending : (cut : Bool) (a : ℕ) (t : List ℕ) (b : ℕ) (s : List ℕ) → IsUnfinished (a ∷ t)
-    → text cut ((a ∷ t) ++ b ∷ s) ≡ text_told (a ∷ t) b ++ text cut (text_rest (a ∷ t) b ++ s)
+    → text cut ((a ∷ t) ++ b ∷ s) ≡ text_reported (a ∷ t) b ++ text cut (text_rest (a ∷ t) b ++ s)
 text-pending cut a t b s h =
     let len : length (t ++ b ∷ s) ≡ length t + suc (length s) = length-append t (b ∷ s) in
     let some : 1 < char_len a = omega (arith, h.1) in
@@ -153,35 +153,35 @@ text-pending cut a t b s h =
             | inl w ↦
                 let is : length t + 2 ≡ char_len a = eqb-true (length t + 2) (char_len a) w in
                 let none : char_len a - 1 - suc (length t) ≡ 0 = omega (arith, is) in
-                let f : front_len a (t ++ b ∷ s) ≡ suc (suc (length t)) =
+                let f : prefix_len a (t ++ b ∷ s) ≡ suc (suc (length t)) =
                 ap suc (grown ∙ ap (λ k. suc (length t) + tail_len k 0x80 0xBF s) none ∙ omega arith) in
                 let taken : take (suc (suc (length t)) - 1) (t ++ b ∷ s) ≡ t ++ b ∷ [] =
                 ap (λ k. take k (t ++ b ∷ s)) (omega arith) ∙ take-append-add t (b ∷ s) 1 in
-                let ev : front_event cut a (t ++ b ∷ s) ≡ char_event (joined (first_bits a) (t ++ b ∷ [])) ∷ [] =
-                front-whole cut a (suc (suc (length t))) (t ++ b ∷ s) f (omega (arith, is))
+                let ev : prefix_event cut a (t ++ b ∷ s) ≡ char_event (joined (first_bits a) (t ++ b ∷ [])) ∷ [] =
+                prefix-whole cut a (suc (suc (length t))) (t ++ b ∷ s) f (omega (arith, is))
                 ∙ ap (λ xs. char_event (joined (first_bits a) xs) ∷ []) taken in
                 let skip : text_after (suc (length t)) cut (t ++ b ∷ s) ≡ text cut s =
                 ap (λ k. text_after k cut (t ++ b ∷ s)) (omega (arith, length-append t (b ∷ [])))
                 ∙ ap (λ xs. text_after (length (t ++ b ∷ [])) cut xs) (sym (append_assoc t (b ∷ []) s))
                 ∙ text-skip cut (t ++ b ∷ []) s in
-                text-front cut a (suc (length t)) (t ++ b ∷ s) _ f ev
+                text-prefix cut a (suc (length t)) (t ++ b ∷ s) _ f ev
                 ∙ rw (e, w) (ap (λ xs. char_event (joined (first_bits a) (t ++ b ∷ [])) ∷ xs) skip)
             | inr w ↦ rw (e, w) (ap (λ r. text cut (a ∷ r)) (sym (append_assoc t (b ∷ []) s)))
           ]
       | inr e ↦
           let no : tail_goes_on (second_min a) (second_max a) t b ≡ false = sym (goes_on-tail a t b) ∙ e in
-          let f : front_len a (t ++ b ∷ s) ≡ suc (length t) =
+          let f : prefix_len a (t ++ b ∷ s) ≡ suc (length t) =
           ap suc (tails-no (char_len a - 1) (second_min a) (second_max a) t b s h.0 no) in
-          let ev : front_event cut a (t ++ b ∷ s) ≡ Print 0xFFFD ∷ [] =
-          front-malformed cut a (suc (length t)) (t ++ b ∷ s) f (omega (arith, h.1)) some (omega (arith, len))
+          let ev : prefix_event cut a (t ++ b ∷ s) ≡ Print 0xFFFD ∷ [] =
+          prefix-malformed cut a (suc (length t)) (t ++ b ∷ s) f (omega (arith, h.1)) some (omega (arith, len))
           in
-          text-front cut a (length t) (t ++ b ∷ s) _ f ev
+          text-prefix cut a (length t) (t ++ b ∷ s) _ f ev
           ∙ rw e (ap (λ xs. Print 0xFFFD ∷ xs) (text-skip cut t (b ∷ s) ∙ text-begun cut b s))
     ]
 
 -- a byte of text
 pub text-byte : (cut : Bool) (u : List ℕ) (b : ℕ) (s : List ℕ) → IsUnfinished u
-    → text cut (u ++ b ∷ s) ≡ text_told u b ++ text cut (text_rest u b ++ s)
+    → text cut (u ++ b ∷ s) ≡ text_reported u b ++ text cut (text_rest u b ++ s)
 text-byte cut [] b s h = text-begun cut b s
 text-byte cut (a ∷ t) b s h = text-pending cut a t b s h
 
@@ -194,9 +194,9 @@ pub text-end : (n : ℕ) (cut : Bool) (u : List ℕ) → IsUnfinished u
     → text cut u ≡ (if cut then closed n (InText u) else [])
 text-end n cut [] h = either_way cut []
 text-end n cut (a ∷ t) h =
-    let f : front_len a t ≡ suc (length t) = ap suc h.0 in
-    let ev = front-cut cut a (suc (length t)) t f (omega (arith, h.1)) (omega arith) in
-    text-front cut a (length t) t _ f ev ∙ (ap (λ xs. (if cut then Print 0xFFFD ∷ [] else [])
+    let f : prefix_len a t ≡ suc (length t) = ap suc h.0 in
+    let ev = prefix-cut cut a (suc (length t)) t f (omega (arith, h.1)) (omega arith) in
+    text-prefix cut a (length t) t _ f ev ∙ (ap (λ xs. (if cut then Print 0xFFFD ∷ [] else [])
     ++ xs) (text-skip_all cut t)
     ∙ append-nil (if cut then Print 0xFFFD ∷ [] else []))
 

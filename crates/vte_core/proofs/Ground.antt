@@ -8,7 +8,7 @@ use Rattle.vte_core.specs.Event.{Event, Print, Execute}
 use Rattle.vte_core.specs.Bytes.{each, is_esc, is_c0, is_plain}
 use Rattle.vte_core.specs.Text.{char_event}
 use Rattle.vte_core.specs.Shapes.{before}
-use Rattle.vte_core.specs.Runs.{run_told, run_rest, has_no_esc, printed_len}
+use Rattle.vte_core.specs.Runs.{run_reported, run_rest, has_no_esc, printed_len}
 use Rattle.vte_core.proofs.Characters.{bool_cases}
 use Rattle.vte_core.proofs.PhaseLemmas.{each-first}
 use Rattle.vte_core.proofs.Runs.{one, printed-both, no_esc-both}
@@ -20,7 +20,7 @@ no_esc-append (x ∷ xs) ys h k = let g = no_esc-both x xs h in rw g.0 (no_esc-a
 -- ASCII without ESC tells what its characters are, one by one
 ascii-run : (p : ℕ → Bool) (f : ℕ → Event)
     → ((b : ℕ) → p b ≡ true → (b < 128) × (is_esc b ≡ false) × (char_event b ≡ f b))
-    → (xs : List ℕ) → each p xs ≡ true → (run_told [] xs ≡ map f xs) × (run_rest [] xs ≡ [])
+    → (xs : List ℕ) → each p xs ≡ true → (run_reported [] xs ≡ map f xs) × (run_rest [] xs ≡ [])
     × (has_no_esc xs ≡ true)
 ascii-run p f is [] h = (refl, refl, refl)
 ascii-run p f is (b ∷ xs) h =
@@ -28,20 +28,20 @@ ascii-run p f is (b ∷ xs) h =
     let (low, esc, event) = is b g.0 in
     let first = one b xs low in
     let more = ascii-run p f is xs g.1 in (
-      first.0 ∙ (ap (λ (e : Event). e ∷ run_told [] xs) event ∙ ap (λ (es : List Event). f b ∷ es) more.0),
+      first.0 ∙ (ap (λ (e : Event). e ∷ run_reported [] xs) event ∙ ap (λ (es : List Event). f b ∷ es) more.0),
       first.1 ∙ more.1,
       rw esc more.2,
     )
 
 -- controls are executed, one by one
-pub c0-run : (xs : List ℕ) → each is_c0 xs ≡ true → (run_told [] xs ≡ map Execute xs) × (run_rest [] xs ≡ [])
+pub c0-run : (xs : List ℕ) → each is_c0 xs ≡ true → (run_reported [] xs ≡ map Execute xs) × (run_rest [] xs ≡ [])
     × (has_no_esc xs ≡ true)
 c0-run = ascii-run is_c0 Execute (λ b h.
     let control : nat_lt b 0x20 ≡ true = grind (arith, nat_tests) in
     (grind (arith, nat_tests), grind (arith, nat_tests), rw control refl))
 
 -- characters of ASCII are printed, one by one
-pub plain-run : (xs : List ℕ) → each is_plain xs ≡ true → (run_told [] xs ≡ map Print xs) × (run_rest [] xs ≡ [])
+pub plain-run : (xs : List ℕ) → each is_plain xs ≡ true → (run_reported [] xs ≡ map Print xs) × (run_rest [] xs ≡ [])
     × (has_no_esc xs ≡ true)
 plain-run = ascii-run is_plain Print (λ b h.
     let control : nat_lt b 0x20 ≡ false = grind (arith, nat_tests) in

@@ -12,11 +12,11 @@ use Rattle.vte_core.specs.Bytes.{ends_escape}
 use Rattle.vte_core.specs.Text.{char_event}
 use Rattle.vte_core.specs.Shapes.{events}
 use Rattle.vte_core.specs.Added.{added}
-use Rattle.vte_core.specs.Pending.{Pending, InText, InEscape, InCsi, pending, final_told}
+use Rattle.vte_core.specs.Pending.{Pending, InText, InEscape, InCsi, pending, final_reported}
 use Rattle.vte_core.specs.Pending.{final_rest, events_of_byte, after_byte, after_bytes, events_from}
 use Rattle.vte_core.specs.Runs.{has_no_esc}
 use Rattle.vte_core.specs.Ground.{AtGround, is_introducer, IsEscape, IsSequence, IsText, header_event}
-use Rattle.vte_core.proofs.Machine.{events-past, events-told, events_from-append, after_bytes-append}
+use Rattle.vte_core.proofs.Machine.{events-past, events-reported, events_from-append, after_bytes-append}
 use Rattle.vte_core.proofs.Quiet.{Keeps, all_kept, header-csi}
 use Rattle.vte_core.proofs.LawLemmas.{esc-cut, abort-cut}
 use Rattle.vte_core.proofs.AddedLemmas.{added-is}
@@ -48,7 +48,7 @@ ground-abort b h n past = λ more. ap (events n) (append_assoc past (b ∷ []) m
 pub ground-pending : (n : ℕ) (past : List ℕ) → pending past ≡ InText [] → AtGround n past
 ground-pending n past e = λ bytes.
     events-past n past bytes ∙ ap (λ (es : List Event). events n past
-    ++ es) (ap (λ (q : Pending). events_from n q bytes) e ∙ sym (events-told n bytes))
+    ++ es) (ap (λ (q : Pending). events_from n q bytes) e ∙ sym (events-reported n bytes))
 
 -- escapes
 
@@ -76,7 +76,7 @@ kept-then n f p xs b keeps h =
 abbrev esc_event : List ℕ → ℕ → List Event
 esc_event q b = Esc (take 2 q) (nat_lt 2 (length q)) b ∷ []
 
-final-plain : (b : ℕ) → is_introducer b ≡ false → (final_told [] b ≡ esc_event [] b) × (final_rest [] b ≡ InText [])
+final-plain : (b : ℕ) → is_introducer b ≡ false → (final_reported [] b ≡ esc_event [] b) × (final_rest [] b ≡ InText [])
 final-plain b h =
     let csi = or_parts (b == 0x5B) (b == 0x5D || (b == 0x50 || (b == 0x58 || (b == 0x5E || b == 0x5F)))) h in
     let osc = or_parts (b == 0x5D) (b == 0x50 || (b == 0x58 || (b == 0x5E || b == 0x5F))) csi.1 in
@@ -84,7 +84,7 @@ final-plain b h =
     rw (csi.0, osc.0, dcs.0, dcs.1) (refl, refl)
 
 final-escape : (q : List ℕ) (b : ℕ) → (q ≡ [] → is_introducer b ≡ false)
-    → (final_told q b ≡ esc_event q b) × (final_rest q b ≡ InText [])
+    → (final_reported q b ≡ esc_event q b) × (final_rest q b ≡ InText [])
 final-escape [] b h = final-plain b (h refl)
 final-escape (i ∷ q) b h = let e : (length (i ∷ q) == 0) ≡ false = grind (arith, nat_tests) in rw e (refl, refl)
 
@@ -132,14 +132,14 @@ ground-text n text h = ground-pending n text
 
 pub escape-tells : (n : ℕ) (between : List ℕ) (b : ℕ) → IsEscape between b
     → events n (0x1B ∷ (between ++ b ∷ [])) ≡ esc_event between b
-escape-tells n between b h = events-told n (0x1B ∷ (between ++ b ∷ []))
+escape-tells n between b h = events-reported n (0x1B ∷ (between ++ b ∷ []))
     ∙ ((kept-then n InEscape is_intermediate between b (intermediate-kept n) h.0).0
     ∙ (final-ends n between b h.1 h.2).0)
 
 pub sequence-tells : (n : ℕ) (header : List ℕ) (b : ℕ) → IsSequence header b
     → events n (0x1B ∷ 0x5B ∷ (header ++ b ∷ [])) ≡ header_event header b
-sequence-tells n header b h = events-told n (0x1B ∷ 0x5B ∷ (header ++ b ∷ []))
+sequence-tells n header b h = events-reported n (0x1B ∷ 0x5B ∷ (header ++ b ∷ []))
     ∙ ((kept-then n InCsi is_header header b (header-csi n) h.0).0 ∙ (header-ends n header b h.1).0)
 
 pub text-tells : (n : ℕ) (text : List ℕ) → IsText text → events n text ≡ map char_event (chars text)
-text-tells n text h = events-told n text ∙ ((run-events n [] text (without_esc text h.1)).0 ∙ (run-text text h.0).0)
+text-tells n text h = events-reported n text ∙ ((run-events n [] text (without_esc text h.1)).0 ∙ (run-text text h.0).0)

@@ -159,6 +159,6 @@ of_byte_are n InSwallowed b h = cc
 pub text-tells : TellsCharacters
 text-tells n past b h =
     let q = pending past in
-    let told : All IsCharacter (events_of_byte n q b) = of_byte_are n q b (sym (ends_in_text-last past b) ∙ h) in
+    let reported : All IsCharacter (events_of_byte n q b) = of_byte_are n q b (sym (ends_in_text-last past b) ∙ h) in
     subst (λ (es : List Event). All IsCharacter es)
-    (sym (added-from n past (b ∷ []) ∙ append-nil (events_of_byte n q b))) told
+    (sym (added-from n past (b ∷ []) ∙ append-nil (events_of_byte n q b))) reported

@@ -12,11 +12,11 @@ use Rattle.vte_core.specs.Text.{char_len, first_bits, joined, char_event, malfor
 use Rattle.vte_core.specs.Header.{is_well_formed}
 use Rattle.vte_core.specs.Shapes.{events, first_bytes, osc_pieces}
 use Rattle.vte_core.specs.Pending.{Pending, InText, InEscape, InCsi, InOsc, InHook, InDevice, InSwallowed, pending}
-use Rattle.vte_core.specs.Pending.{told, goes_on, begun, text_told, closed, final_told, byte_told, events_of_byte}
+use Rattle.vte_core.specs.Pending.{reported, goes_on, begun, text_reported, closed, final_reported, byte_reported, events_of_byte}
 use Rattle.vte_core.specs.Pending.{after_byte, events_from}
 use Rattle.vte_core.specs.Laws.{Fits}
 use Rattle.vte_core.proofs.Characters.{if_holds}
-use Rattle.vte_core.proofs.Machine.{events-past, events-told, after_bytes-append}
+use Rattle.vte_core.proofs.Machine.{events-past, events-reported, after_bytes-append}
 
 -- ESC
 
@@ -28,7 +28,7 @@ cut-after n s b t = ap (events n) (sym (append_assoc s (b ∷ []) t)) ∙ (event
 
 pub esc-cut : (n : ℕ) (s t : List ℕ) → events n (s ++ 0x1B ∷ t) ≡ events n (s ++ 0x1B ∷ []) ++ events n (0x1B ∷ t)
 esc-cut n s t = cut-after n s 0x1B t
-    ∙ ap (λ (es : List Event). events n (s ++ 0x1B ∷ []) ++ es) (sym (events-told n (0x1B ∷ t)))
+    ∙ ap (λ (es : List Event). events n (s ++ 0x1B ∷ []) ++ es) (sym (events-reported n (0x1B ∷ t)))
 
 -- CAN and SUB
 
@@ -56,7 +56,7 @@ after-abort InSwallowed b h = rw (abort-not_esc b h, h) refl
 pub abort-cut : (b : ℕ) → is_abort b ≡ true → (n : ℕ) (s t : List ℕ)
     → events n (s ++ b ∷ t) ≡ events n (s ++ b ∷ []) ++ events n t
 abort-cut b h n s t = cut-after n s b t
-    ∙ rw (after-abort (pending s) b h) (ap (λ (es : List Event). events n (s ++ b ∷ []) ++ es) (sym (events-told n t)))
+    ∙ rw (after-abort (pending s) b h) (ap (λ (es : List Event). events n (s ++ b ∷ []) ++ es) (sym (events-reported n t)))
 
 -- the pieces of an operating system command
 
@@ -99,7 +99,7 @@ begun_holds P print execute b =
     (all_one P (malformed_event 1 b) (if_holds P _ _ _ (execute b) (print 0xFFFD))) (All-nil P))
 
 pub text_holds : (P : Event → Type 0) → ((c : ℕ) → P (Print c)) → ((b : ℕ) → P (Execute b)) → (u : List ℕ) (b : ℕ)
-    → All P (text_told u b)
+    → All P (text_reported u b)
 text_holds P print execute [] b = begun_holds P print execute b
 text_holds P print execute (a ∷ t) b =
     if_holds (All P) (goes_on a t b) _ _
@@ -111,8 +111,8 @@ fits_if : (n : ℕ) (v : Bool) (es ds : List Event) → All (Fits n) es → All 
     → All (Fits n) (if v then es else ds)
 fits_if n = if_holds (All (Fits n))
 
-told-fits : (n : ℕ) (p : ℕ → Bool) (f : ℕ → Event) (b : ℕ) → Fits n (f b) → All (Fits n) (told p f b)
-told-fits n p f b h = fits_if n (p b) _ _ (all_one (Fits n) (f b) h) (All-nil (Fits n))
+reported-fits : (n : ℕ) (p : ℕ → Bool) (f : ℕ → Event) (b : ℕ) → Fits n (f b) → All (Fits n) (reported p f b)
+reported-fits n p f b h = fits_if n (p b) _ _ (all_one (Fits n) (f b) h) (All-nil (Fits n))
 
 closed-fits : (n : ℕ) (q : Pending) → All (Fits n) (closed n q)
 closed-fits n (InText []) = All-nil (Fits n)
@@ -124,33 +124,33 @@ closed-fits n (InHook x) = All-nil (Fits n)
 closed-fits n InDevice = all_one (Fits n) Unhook tt
 closed-fits n InSwallowed = All-nil (Fits n)
 
-final-fits : (n : ℕ) (is : List ℕ) (b : ℕ) → All (Fits n) (final_told is b)
+final-fits : (n : ℕ) (is : List ℕ) (b : ℕ) → All (Fits n) (final_reported is b)
 final-fits n is b =
     let none = All-nil (Fits n) in
     fits_if n (length is == 0 && b == 0x5B) _ _ none (fits_if n (length is == 0 && b == 0x5D) _ _ none
     (fits_if n (length is == 0 && b == 0x50) _ _ none
     (fits_if n (length is == 0 && (b == 0x58 || (b == 0x5E || b == 0x5F))) _ _ none (all_one (Fits n) (Esc _ _ b) tt))))
 
-byte-fits : (n : ℕ) (q : Pending) (b : ℕ) → All (Fits n) (byte_told n q b)
+byte-fits : (n : ℕ) (q : Pending) (b : ℕ) → All (Fits n) (byte_reported n q b)
 byte-fits n (InText u) b = text_holds (Fits n) (λ c. tt) (λ c. tt) u b
 byte-fits n (InEscape is) b =
     fits_if n (ends_escape b) _ _ (fits_if n (is_abort b) _ _ (all_one (Fits n) (Execute b) tt) (final-fits n is b))
-    (told-fits n is_control Execute b tt)
+    (reported-fits n is_control Execute b tt)
 byte-fits n (InCsi x) b =
     fits_if n (ends_header b) _ _ (fits_if n (is_abort b) _ _ (all_one (Fits n) (Execute b) tt)
     (fits_if n (is_well_formed x) _ _ (all_one (Fits n) (Csi _ _ _ b) tt) (All-nil (Fits n))))
-    (told-fits n is_control Execute b tt)
+    (reported-fits n is_control Execute b tt)
 byte-fits n (InOsc s) b =
-    fits_if n (ends_osc b) _ _ (All-cons (Fits n) (Osc (osc_pieces n s) (b == 0x07)) (told is_abort Execute b)
-    (pieces-fit n s (b == 0x07)) (told-fits n is_abort Execute b tt)) (All-nil (Fits n))
+    fits_if n (ends_osc b) _ _ (All-cons (Fits n) (Osc (osc_pieces n s) (b == 0x07)) (reported is_abort Execute b)
+    (pieces-fit n s (b == 0x07)) (reported-fits n is_abort Execute b tt)) (All-nil (Fits n))
 byte-fits n (InHook x) b =
     fits_if n (ends_header b) _ _ (fits_if n (is_abort b) _ _ (all_one (Fits n) (Execute b) tt)
     (fits_if n (is_well_formed x) _ _ (all_one (Fits n) (Hook _ _ _ b) tt) (All-nil (Fits n)))) (All-nil (Fits n))
 byte-fits n InDevice b =
     fits_if n (ends_device b) _ _
-    (All-cons (Fits n) Unhook (told is_abort Execute b) tt (told-fits n is_abort Execute b tt))
-    (told-fits n is_put Put b tt)
-byte-fits n InSwallowed b = told-fits n is_abort Execute b tt
+    (All-cons (Fits n) Unhook (reported is_abort Execute b) tt (reported-fits n is_abort Execute b tt))
+    (reported-fits n is_put Put b tt)
+byte-fits n InSwallowed b = reported-fits n is_abort Execute b tt
 
 of_byte-fits : (n : ℕ) (q : Pending) (b : ℕ) → All (Fits n) (events_of_byte n q b)
 of_byte-fits n q b = fits_if n (is_esc b) _ _ (closed-fits n q) (byte-fits n q b)

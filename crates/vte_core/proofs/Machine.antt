@@ -11,8 +11,8 @@ use Rattle.vte_core.specs.Shapes.{before, from, executed, swallowed, device_end,
 use Rattle.vte_core.specs.Shapes.{introduced, escape_end, escape, cut_at_esc, segments, events}
 use Rattle.vte_core.proofs.Characters.{bool_cases, if_holds, both_ifs_agree, either_way, text-byte, text-end}
 use Rattle.vte_core.proofs.Characters.{IsUnfinished-rest}
-use Rattle.vte_core.specs.Pending.{Pending, InText, InEscape, InCsi, InOsc, InHook, InDevice, InSwallowed, kept, told}
-use Rattle.vte_core.specs.Pending.{closed, final_told, final_rest, byte_told, byte_rest, events_of_byte, after_byte}
+use Rattle.vte_core.specs.Pending.{Pending, InText, InEscape, InCsi, InOsc, InHook, InDevice, InSwallowed, kept, reported}
+use Rattle.vte_core.specs.Pending.{closed, final_reported, final_rest, byte_reported, byte_rest, events_of_byte, after_byte}
 use Rattle.vte_core.specs.Pending.{events_from, after_bytes, pending, IsSound}
 
 -- the rest of the definition, read from what is pending
@@ -27,9 +27,9 @@ go_on n (InHook h) cut s = hook_end cut (h ++ filter is_header (before ends_head
 go_on n InDevice cut s = device cut s
 go_on n InSwallowed cut s = swallowed cut s
 
-filter-told : (r : ℕ → Bool) (f : ℕ → Event) (b : ℕ) (s : List ℕ)
-    → map f (filter r (b ∷ s)) ≡ told r f b ++ map f (filter r s)
-filter-told r f b s =
+filter-reported : (r : ℕ → Bool) (f : ℕ → Event) (b : ℕ) (s : List ℕ)
+    → map f (filter r (b ∷ s)) ≡ reported r f b ++ map f (filter r s)
+filter-reported r f b s =
     elim (r b) as (λ v. map f (cond v (b ∷ filter r s) (filter r s)) ≡ cond v (f b ∷ []) []
     ++ map f (filter r s)) [ true ↦ refl | false ↦ refl ]
 
@@ -40,12 +40,12 @@ filter-kept keep h b s =
     [ true ↦ sym (append_assoc h (b ∷ []) (filter keep s)) | false ↦ ap (λ k. k ++ filter keep s) (sym (append-nil h)) ]
 
 -- a byte that doesn't end the shape
-skip-told : (p r keep : ℕ → Bool) (f : ℕ → Event) (fin : List ℕ → List ℕ
+skip-reported : (p r keep : ℕ → Bool) (f : ℕ → Event) (fin : List ℕ → List ℕ
     → List Event) (h : List ℕ) (b : ℕ) (s : List ℕ) → p b ≡ false
     → map f (filter r (before p (b ∷ s))) ++ fin (h ++ filter keep (before p (b ∷ s))) (from p (b ∷ s))
-    ≡ told r f b ++ (map f (filter r (before p s)) ++ fin ((h ++ kept keep b) ++ filter keep (before p s)) (from p s))
-skip-told p r keep f fin h b s e =
-    rw (e, filter-told r f b (before p s), filter-kept keep h b (before p s)) (append_assoc (told r f b) _ _)
+    ≡ reported r f b ++ (map f (filter r (before p s)) ++ fin ((h ++ kept keep b) ++ filter keep (before p s)) (from p s))
+skip-reported p r keep f fin h b s e =
+    rw (e, filter-reported r f b (before p s), filter-kept keep h b (before p s)) (append_assoc (reported r f b) _ _)
 
 skip-kept : (p keep : ℕ → Bool) (fin : List ℕ → List ℕ → List Event) (h : List ℕ) (b : ℕ) (s : List ℕ) → p b ≡ false
     → fin (h ++ filter keep (before p (b ∷ s))) (from p (b ∷ s))
@@ -53,10 +53,10 @@ skip-kept : (p keep : ℕ → Bool) (fin : List ℕ → List ℕ → List Event)
 skip-kept p keep fin h b s e = rw (e, filter-kept keep h b (before p s)) refl
 
 -- the byte that ends it
-stop-told : (p r keep : ℕ → Bool) (f : ℕ → Event) (fin : List ℕ → List ℕ
+stop-reported : (p r keep : ℕ → Bool) (f : ℕ → Event) (fin : List ℕ → List ℕ
     → List Event) (h : List ℕ) (b : ℕ) (s : List ℕ) → p b ≡ true
     → map f (filter r (before p (b ∷ s))) ++ fin (h ++ filter keep (before p (b ∷ s))) (from p (b ∷ s)) ≡ fin h (b ∷ s)
-stop-told p r keep f fin h b s e = rw (e, append-nil h) refl
+stop-reported p r keep f fin h b s e = rw (e, append-nil h) refl
 
 stop-kept : (p keep : ℕ → Bool) (fin : List ℕ → List ℕ → List Event) (h : List ℕ) (b : ℕ) (s : List ℕ) → p b ≡ true
     → fin (h ++ filter keep (before p (b ∷ s))) (from p (b ∷ s)) ≡ fin h (b ∷ s)
@@ -65,19 +65,19 @@ stop-kept p keep fin h b s e = rw (e, append-nil h) refl
 -- the local equations of a byte that isn't ESC
 
 csi-byte : (n : ℕ) (h : List ℕ) (cut : Bool) (b : ℕ) (s : List ℕ)
-    → go_on n (InCsi h) cut (b ∷ s) ≡ byte_told n (InCsi h) b ++ go_on n (byte_rest (InCsi h) b) cut s
+    → go_on n (InCsi h) cut (b ∷ s) ≡ byte_reported n (InCsi h) b ++ go_on n (byte_rest (InCsi h) b) cut s
 csi-byte n h cut b s =
     elim (bool_cases (ends_header b)) [
-      | inl e ↦ stop-told ends_header is_control is_header Execute (csi_end cut) h b s e ∙ rw e (
+      | inl e ↦ stop-reported ends_header is_control is_header Execute (csi_end cut) h b s e ∙ rw e (
           elim (bool_cases (is_abort b)) [
             | inl a ↦ rw a refl
             | inr a ↦ rw a (elim (bool_cases (is_well_formed h)) [ inl w ↦ rw w refl | inr w ↦ rw w refl ])
           ])
-      | inr e ↦ skip-told ends_header is_control is_header Execute (csi_end cut) h b s e ∙ rw e refl
+      | inr e ↦ skip-reported ends_header is_control is_header Execute (csi_end cut) h b s e ∙ rw e refl
     ]
 
 introduced-byte : (n : ℕ) (cut : Bool) (is : List ℕ) (b : ℕ) (s : List ℕ)
-    → introduced n cut is b s ≡ final_told is b ++ go_on n (final_rest is b) cut s
+    → introduced n cut is b s ≡ final_reported is b ++ go_on n (final_rest is b) cut s
 introduced-byte n cut is b s =
     let on = λ (es : List Event) (q : Pending). es ++ go_on n q cut s in
     both_ifs_agree on (length is == 0 && b == 0x5B) refl (both_ifs_agree on (length is == 0 && b == 0x5D) refl
@@ -85,16 +85,16 @@ introduced-byte n cut is b s =
     (both_ifs_agree on (length is == 0 && (b == 0x58 || (b == 0x5E || b == 0x5F))) refl refl)))
 
 escape-byte : (n : ℕ) (is : List ℕ) (cut : Bool) (b : ℕ) (s : List ℕ)
-    → go_on n (InEscape is) cut (b ∷ s) ≡ byte_told n (InEscape is) b ++ go_on n (byte_rest (InEscape is) b) cut s
+    → go_on n (InEscape is) cut (b ∷ s) ≡ byte_reported n (InEscape is) b ++ go_on n (byte_rest (InEscape is) b) cut s
 escape-byte n is cut b s =
     elim (bool_cases (ends_escape b)) [
-      | inl e ↦ stop-told ends_escape is_control is_intermediate Execute (escape_end n cut) is b s e ∙ rw e (
+      | inl e ↦ stop-reported ends_escape is_control is_intermediate Execute (escape_end n cut) is b s e ∙ rw e (
           elim (bool_cases (is_abort b)) [ inl a ↦ rw a refl | inr a ↦ rw a (introduced-byte n cut is b s) ])
-      | inr e ↦ skip-told ends_escape is_control is_intermediate Execute (escape_end n cut) is b s e ∙ rw e refl
+      | inr e ↦ skip-reported ends_escape is_control is_intermediate Execute (escape_end n cut) is b s e ∙ rw e refl
     ]
 
 osc-byte : (n : ℕ) (d : List ℕ) (cut : Bool) (b : ℕ) (s : List ℕ)
-    → go_on n (InOsc d) cut (b ∷ s) ≡ byte_told n (InOsc d) b ++ go_on n (byte_rest (InOsc d) b) cut s
+    → go_on n (InOsc d) cut (b ∷ s) ≡ byte_reported n (InOsc d) b ++ go_on n (byte_rest (InOsc d) b) cut s
 osc-byte n d cut b s =
     elim (bool_cases (ends_osc b)) [
       | inl e ↦ stop-kept ends_osc (λ c. not (is_control c)) (osc_end n cut) d b s e ∙ rw e (
@@ -103,7 +103,7 @@ osc-byte n d cut b s =
     ]
 
 hook-byte : (n : ℕ) (h : List ℕ) (cut : Bool) (b : ℕ) (s : List ℕ)
-    → go_on n (InHook h) cut (b ∷ s) ≡ byte_told n (InHook h) b ++ go_on n (byte_rest (InHook h) b) cut s
+    → go_on n (InHook h) cut (b ∷ s) ≡ byte_reported n (InHook h) b ++ go_on n (byte_rest (InHook h) b) cut s
 hook-byte n h cut b s =
     elim (bool_cases (ends_header b)) [
       | inl e ↦ stop-kept ends_header is_header (hook_end cut) h b s e ∙ rw e (
@@ -115,16 +115,16 @@ hook-byte n h cut b s =
     ]
 
 device-byte : (n : ℕ) (cut : Bool) (b : ℕ) (s : List ℕ)
-    → go_on n InDevice cut (b ∷ s) ≡ byte_told n InDevice b ++ go_on n (byte_rest InDevice b) cut s
+    → go_on n InDevice cut (b ∷ s) ≡ byte_reported n InDevice b ++ go_on n (byte_rest InDevice b) cut s
 device-byte n cut b s =
     elim (bool_cases (ends_device b)) [
-      | inl e ↦ stop-told ends_device is_put is_put Put (λ h r. device_end cut r) [] b s e ∙ rw e (
+      | inl e ↦ stop-reported ends_device is_put is_put Put (λ h r. device_end cut r) [] b s e ∙ rw e (
           elim (bool_cases (is_abort b)) [ inl a ↦ rw a refl | inr a ↦ rw a refl ])
-      | inr e ↦ skip-told ends_device is_put is_put Put (λ h r. device_end cut r) [] b s e ∙ rw e refl
+      | inr e ↦ skip-reported ends_device is_put is_put Put (λ h r. device_end cut r) [] b s e ∙ rw e refl
     ]
 
 swallowed-byte : (n : ℕ) (cut : Bool) (b : ℕ) (s : List ℕ)
-    → go_on n InSwallowed cut (b ∷ s) ≡ byte_told n InSwallowed b ++ go_on n (byte_rest InSwallowed b) cut s
+    → go_on n InSwallowed cut (b ∷ s) ≡ byte_reported n InSwallowed b ++ go_on n (byte_rest InSwallowed b) cut s
 swallowed-byte n cut b s = elim (bool_cases (is_abort b)) [ inl e ↦ rw e refl | inr e ↦ rw e refl ]
 
 -- the cut before each ESC
@@ -134,10 +134,10 @@ segments-shift : (n : ℕ) (f : Bool → List ℕ → List Event) (b : ℕ) (s :
 segments-shift n f b s [] = refl
 segments-shift n f b s (t ∷ ts) = refl
 
-segments-told : (n : ℕ) (f g : Bool → List ℕ → List Event) (es : List Event) (s : List ℕ) (ts : List (List ℕ))
+segments-reported : (n : ℕ) (f g : Bool → List ℕ → List Event) (es : List Event) (s : List ℕ) (ts : List (List ℕ))
     → ((cut : Bool) → f cut s ≡ es ++ g cut s) → segments n f s ts ≡ es ++ segments n g s ts
-segments-told n f g es s [] same = same false
-segments-told n f g es s (t ∷ ts) same = ap (λ xs. xs ++ segments n (escape n) t ts) (same true)
+segments-reported n f g es s [] same = same false
+segments-reported n f g es s (t ∷ ts) same = ap (λ xs. xs ++ segments n (escape n) t ts) (same true)
     ∙ append_assoc es (g true s) (segments n (escape n) t ts)
 
 -- the events from what is pending on, by the definition
@@ -153,7 +153,7 @@ going_on-byte : (n : ℕ) (q r : Pending) (es : List Event) (b : ℕ) (bs : List
     → going_on n q (b ∷ bs) ≡ es ++ going_on n r bs
 going_on-byte n q r es b bs e same =
     rw e (segments-shift n (go_on n q) b (cut_at_esc bs).0 (cut_at_esc bs).1
-    ∙ segments-told n (λ cut s. go_on n q cut (b ∷ s)) (go_on n r) es (cut_at_esc bs).0 (cut_at_esc bs).1
+    ∙ segments-reported n (λ cut s. go_on n q cut (b ∷ s)) (go_on n r) es (cut_at_esc bs).0 (cut_at_esc bs).1
     (λ cut. same cut (cut_at_esc bs).0))
 
 -- ESC, and the end
@@ -168,7 +168,7 @@ go_on-cut n InSwallowed cut h = either_way cut []
 
 -- a byte other than ESC
 go_on-byte : (n : ℕ) (q : Pending) (cut : Bool) (b : ℕ) (s : List ℕ) → IsSound q
-    → go_on n q cut (b ∷ s) ≡ byte_told n q b ++ go_on n (byte_rest q b) cut s
+    → go_on n q cut (b ∷ s) ≡ byte_reported n q b ++ go_on n (byte_rest q b) cut s
 go_on-byte n (InText u) cut b s h = text-byte cut u b s h
 go_on-byte n (InEscape is) cut b s h = escape-byte n is cut b s
 go_on-byte n (InCsi h) cut b s k = csi-byte n h cut b s
@@ -199,20 +199,20 @@ IsSound-byte InDevice b h = sound_if (is_esc b) _ _ tt (sound_if (ends_device b)
 IsSound-byte InSwallowed b h = sound_if (is_esc b) _ _ tt (sound_if (is_abort b) _ _ tt tt)
 
 -- the definition, told byte by byte from what is pending
-pub going_on-told : (n : ℕ) (q : Pending) (bs : List ℕ) → IsSound q → going_on n q bs ≡ events_from n q bs
-going_on-told n q [] h = go_on-cut n q false h
-going_on-told n q (b ∷ bs) h =
-    let more = going_on-told n (after_byte q b) bs (IsSound-byte q b h) in
+pub going_on-reported : (n : ℕ) (q : Pending) (bs : List ℕ) → IsSound q → going_on n q bs ≡ events_from n q bs
+going_on-reported n q [] h = go_on-cut n q false h
+going_on-reported n q (b ∷ bs) h =
+    let more = going_on-reported n (after_byte q b) bs (IsSound-byte q b h) in
     elim (bool_cases (is_esc b)) [
       | inl e ↦ going_on-esc n q b bs e ∙ (ap (λ xs. xs ++ going_on n (InEscape []) bs) (go_on-cut n q true h)
           ∙ rw e (ap (λ xs. closed n q ++ xs) (rw e at more)))
-      | inr e ↦ going_on-byte n q (byte_rest q b) (byte_told n q b) b bs e (λ cut s. go_on-byte n q cut b s h)
-          ∙ rw e (ap (λ xs. byte_told n q b ++ xs) (rw e at more))
+      | inr e ↦ going_on-byte n q (byte_rest q b) (byte_reported n q b) b bs e (λ cut s. go_on-byte n q cut b s h)
+          ∙ rw e (ap (λ xs. byte_reported n q b ++ xs) (rw e at more))
     ]
 
 -- the events of the bytes are those told byte by byte
-pub events-told : (n : ℕ) (bs : List ℕ) → events n bs ≡ events_from n (InText []) bs
-events-told n bs = going_on-told n (InText []) bs tt
+pub events-reported : (n : ℕ) (bs : List ℕ) → events n bs ≡ events_from n (InText []) bs
+events-reported n bs = going_on-reported n (InText []) bs tt
 
 pub events_from-append : (n : ℕ) (q : Pending) (xs ys : List ℕ)
     → events_from n q (xs ++ ys) ≡ events_from n q xs ++ events_from n (after_bytes q xs) ys
@@ -229,5 +229,5 @@ after_bytes-append q (x ∷ xs) ys = after_bytes-append (after_byte q x) xs ys
 -- the events of a past and what follows it are those of the past, and then those that follow from what is pending
 pub events-past : (n : ℕ) (past bs : List ℕ) → events n (past ++ bs) ≡ events n past ++ events_from n (pending past) bs
 events-past n past bs =
-    events-told n (past ++ bs) ∙ (events_from-append n (InText []) past bs
-    ∙ ap (λ es. es ++ events_from n (pending past) bs) (sym (events-told n past)))
+    events-reported n (past ++ bs) ∙ (events_from-append n (InText []) past bs
+    ∙ ap (λ es. es ++ events_from n (pending past) bs) (sym (events-reported n past)))

@@ -49,7 +49,7 @@ module _ {S : Type 0} {step : S → Event → S → Type 0} {n : ℕ} {p r : Par
       → ((q : Pending) → IsAt n p q → IsAt n r q)
       → step old (Csi r.header.numbers.params [] false (get_or bs (k + 2) 0)) new
       → ReadsStep step n p old bs (k + 3) r new
-  plain_step bs k ground begins stands told =
+  plain_step bs k ground begins state_after reported =
       let i : ℕ = 2 + k in
       let f = get_or bs (k + 2) 0 in
       let h : List ℕ = take k (drop 2 bs) in
@@ -74,11 +74,11 @@ module _ {S : Type 0} {step : S → Event → S → Type 0} {n : ℕ} {p r : Par
         some = omega arith;
         reads = record {
           within = omega (arith, less);
-          stands = λ q at. rw (cut, after_bytes-append q (take (2 + k) bs) (f ∷ []), (begun q at).1, ev.1)
-              (stands (InText []) (ground, begins.whole));
-          told = record {
-            told = Csi numbers [] false f ∷ [];
-            performed = (new, told, refl);
+          state_after = λ q at. rw (cut, after_bytes-append q (take (2 + k) bs) (f ∷ []), (begun q at).1, ev.1)
+              (state_after (InText []) (ground, begins.whole));
+          reported = record {
+            reported = Csi numbers [] false f ∷ [];
+            performed = (new, reported, refl);
             added = λ q at. rw (
               cut,
               events_from-append n q (take (2 + k) bs) (f ∷ []),
@@ -100,11 +100,11 @@ from_same bs k same s = record {
   some = s.some;
   reads = record {
     within = s.reads.within;
-    stands = λ q at. s.reads.stands q (same q at);
-    told = record {
-      told = s.reads.told.told;
-      performed = s.reads.told.performed;
-      added = λ q at. s.reads.told.added q (same q at);
+    state_after = λ q at. s.reads.state_after q (same q at);
+    reported = record {
+      reported = s.reads.reported.reported;
+      performed = s.reads.reported.performed;
+      added = λ q at. s.reads.reported.added q (same q at);
     };
   };
   is_step = λ q at. s.is_step q (same q at);

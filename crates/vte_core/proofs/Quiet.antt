@@ -236,17 +236,17 @@ first_two (x ∷ []) a b h e f = absurd (omega (arith, h))
 first_two (x ∷ y ∷ xs) a b h e f = let first : x ≡ a = e in let second : y ≡ b = f in rw (first, second) refl
 
 -- some of a header, after the bytes at the front that begin it
-begun-header : (n : ℕ) (q : Pending) (f : List ℕ → Pending) (bs front : List ℕ) (j k : ℕ)
-    → ((b : ℕ) → is_header b ≡ true → Keeps n f b) → take j bs ≡ front → events_from n q front ≡ []
-    → after_bytes q front ≡ f [] → each is_header (take k (take (length bs - j) (drop j bs))) ≡ true
+begun-header : (n : ℕ) (q : Pending) (f : List ℕ → Pending) (bs prefix : List ℕ) (j k : ℕ)
+    → ((b : ℕ) → is_header b ≡ true → Keeps n f b) → take j bs ≡ prefix → events_from n q prefix ≡ []
+    → after_bytes q prefix ≡ f [] → each is_header (take k (take (length bs - j) (drop j bs))) ≡ true
     → (events_from n q (take (j + k) bs) ≡ [])
     × (after_bytes q (take (j + k) bs) ≡ f (take k (take (length bs - j) (drop j bs))))
-begun-header n q f bs front j k keeps is quiet begun header =
+begun-header n q f bs prefix j k keeps is quiet begun header =
     rw (
       read_more bs j k,
       is,
-      events_from-append n q front (take k (take (length bs - j) (drop j bs))),
-      after_bytes-append q front (take k (take (length bs - j) (drop j bs))),
+      events_from-append n q prefix (take k (take (length bs - j) (drop j bs))),
+      after_bytes-append q prefix (take k (take (length bs - j) (drop j bs))),
       quiet,
       begun,
     ) (all_kept n f is_header [] (take k (take (length bs - j) (drop j bs))) keeps header)

@@ -14,9 +14,9 @@ use Rattle.vte_core.specs.Event.{Event, Performs, Print}
 use Rattle.vte_core.specs.Bytes.{is_esc}
 use Rattle.vte_core.specs.Text.{char_len, second_min, second_max, first_bits, char_event}
 use Rattle.vte_core.specs.Shapes.{before, from}
-use Rattle.vte_core.specs.Pending.{Pending, InText, text_told, text_rest, events_of_byte, events_from, after_byte}
+use Rattle.vte_core.specs.Pending.{Pending, InText, text_reported, text_rest, events_of_byte, events_from, after_byte}
 use Rattle.vte_core.specs.Pending.{after_bytes}
-use Rattle.vte_core.specs.Runs.{run_told, run_rest, has_no_esc, is_one_step, is_printed, printed_len}
+use Rattle.vte_core.specs.Runs.{run_reported, run_rest, has_no_esc, is_one_step, is_printed, printed_len}
 use Rattle.vte_core.specs.Standing.{IsAt, state_is_text}
 use Rattle.vte_core.specs.declared.parser.Parser.{Parser}
 use Rattle.vte_core.specs.declared.parser.State.TheVariants.{Ground}
@@ -29,31 +29,31 @@ use Rattle.vte_core.proofs.StopLemmas.{whole_rest, is_text-at}
 
 -- a character of one byte, of two, three and four
 
-pub one : (c : ℕ) (rest : List ℕ) → c < 128 → (run_told [] (c ∷ rest) ≡ char_event c ∷ run_told [] rest)
+pub one : (c : ℕ) (rest : List ℕ) → c < 128 → (run_reported [] (c ∷ rest) ≡ char_event c ∷ run_reported [] rest)
     × (run_rest [] (c ∷ rest) ≡ run_rest [] rest)
 one c rest h =
     let n : char_len c ≡ 1 = grind (arith, nat_tests) in
     let e : first_bits c ≡ c = grind (arith, nat_tests) in
-    (rw n (ap (λ x. char_event x ∷ run_told [] rest) e), rw n refl)
+    (rw n (ap (λ x. char_event x ∷ run_reported [] rest) e), rw n refl)
 
 pub two : (a b c : ℕ) (rest : List ℕ) → char_len a ≡ 2 → is_in_range (second_min a) (second_max a) b ≡ true
     → first_bits a * 64 + (b - 128) ≡ c
-    → (run_told [] (a ∷ b ∷ rest) ≡ char_event c ∷ run_told [] rest) × (run_rest [] (a ∷ b ∷ rest) ≡ run_rest [] rest)
-two a b c rest n s e = (rw (n, s, n) (ap (λ x. char_event x ∷ run_told [] rest) e), rw (n, s, n) refl)
+    → (run_reported [] (a ∷ b ∷ rest) ≡ char_event c ∷ run_reported [] rest) × (run_rest [] (a ∷ b ∷ rest) ≡ run_rest [] rest)
+two a b c rest n s e = (rw (n, s, n) (ap (λ x. char_event x ∷ run_reported [] rest) e), rw (n, s, n) refl)
 
 pub three : (a b d c : ℕ) (rest : List ℕ) → char_len a ≡ 3 → is_in_range (second_min a) (second_max a) b ≡ true
     → is_in_range 0x80 0xBF d ≡ true
     → (first_bits a * 64 + (b - 128)) * 64 + (d - 128) ≡ c
-    → (run_told [] (a ∷ b ∷ d ∷ rest) ≡ char_event c ∷ run_told [] rest)
+    → (run_reported [] (a ∷ b ∷ d ∷ rest) ≡ char_event c ∷ run_reported [] rest)
     × (run_rest [] (a ∷ b ∷ d ∷ rest) ≡ run_rest [] rest)
-three a b d c rest n s t e = (rw (n, s, n, t, n) (ap (λ x. char_event x ∷ run_told [] rest) e), rw (n, s, n, t, n) refl)
+three a b d c rest n s t e = (rw (n, s, n, t, n) (ap (λ x. char_event x ∷ run_reported [] rest) e), rw (n, s, n, t, n) refl)
 
 pub four : (a b d e c : ℕ) (rest : List ℕ) → char_len a ≡ 4 → is_in_range (second_min a) (second_max a) b ≡ true
     → is_in_range 0x80 0xBF d ≡ true → is_in_range 0x80 0xBF e ≡ true
     → ((first_bits a * 64 + (b - 128)) * 64 + (d - 128)) * 64 + (e - 128) ≡ c
-    → (run_told [] (a ∷ b ∷ d ∷ e ∷ rest) ≡ char_event c ∷ run_told [] rest)
+    → (run_reported [] (a ∷ b ∷ d ∷ e ∷ rest) ≡ char_event c ∷ run_reported [] rest)
     × (run_rest [] (a ∷ b ∷ d ∷ e ∷ rest) ≡ run_rest [] rest)
-four a b d e c rest n s t u is = rw (n, s, n, t, n, u, n) (ap (λ x. char_event x ∷ run_told [] rest) is, refl)
+four a b d e c rest n s t u is = rw (n, s, n, t, n, u, n) (ap (λ x. char_event x ∷ run_reported [] rest) is, refl)
 
 encode-two : (c : ℕ) → 128 ≤ c → c < 2048 → (char_len (192 + c / 64) ≡ 2)
     × (is_in_range (second_min (192 + c / 64)) (second_max (192 + c / 64)) (128 + c % 64) ≡ true)
@@ -97,8 +97,8 @@ nat_not : (a b : ℕ) → nat_lt a b ≡ false → b ≤ a
 nat_not a b h = grind (arith, nat_tests)
 
 -- a whole character tells itself, and leaves nothing
-run-char : (c : ℕ) (rest : List ℕ) → IsScalar c → (run_told [] (encode_utf8 c ++ rest) ≡ char_event c
-    ∷ run_told [] rest) × (run_rest [] (encode_utf8 c ++ rest) ≡ run_rest [] rest)
+run-char : (c : ℕ) (rest : List ℕ) → IsScalar c → (run_reported [] (encode_utf8 c ++ rest) ≡ char_event c
+    ∷ run_reported [] rest) × (run_rest [] (encode_utf8 c ++ rest) ≡ run_rest [] rest)
 unfolding encode_utf8
 run-char c rest h =
     elim (bool_cases (nat_lt c 128)) [
@@ -121,7 +121,7 @@ run-char c rest h =
       ]
     ]
 
-run-chars : (cs : List ℕ) → all_scalars cs ≡ true → (run_told [] (encode_utf8_all cs) ≡ map char_event cs)
+run-chars : (cs : List ℕ) → all_scalars cs ≡ true → (run_reported [] (encode_utf8_all cs) ≡ map char_event cs)
     × (run_rest [] (encode_utf8_all cs) ≡ [])
 run-chars [] h = (refl, refl)
 run-chars (c ∷ cs) h =
@@ -131,17 +131,17 @@ run-chars (c ∷ cs) h =
     (first.0 ∙ ap (λ es. char_event c ∷ es) more.0, first.1 ∙ more.1)
 
 -- a text tells its characters, and leaves nothing
-pub run-text : (bs : List ℕ) → IsUtf8 bs → (run_told [] bs ≡ map char_event (chars bs)) × (run_rest [] bs ≡ [])
+pub run-text : (bs : List ℕ) → IsUtf8 bs → (run_reported [] bs ≡ map char_event (chars bs)) × (run_rest [] bs ≡ [])
 run-text bs h =
     let all = run-chars (chars bs) (scalars-chars bs h) in
     let same = encodes-chars bs h in
-    (ap (run_told []) (sym same) ∙ all.0, ap (run_rest []) (sym same) ∙ all.1)
+    (ap (run_reported []) (sym same) ∙ all.0, ap (run_rest []) (sym same) ∙ all.1)
 
-pub run_told-append : (u xs ys : List ℕ) → run_told u (xs ++ ys) ≡ run_told u xs ++ run_told (run_rest u xs) ys
-run_told-append u [] ys = refl
-run_told-append u (x ∷ xs) ys =
-    ap (λ es. text_told u x ++ es) (run_told-append (text_rest u x) xs ys)
-    ∙ sym (append_assoc (text_told u x) (run_told (text_rest u x) xs) (run_told (run_rest (text_rest u x) xs) ys))
+pub run_reported-append : (u xs ys : List ℕ) → run_reported u (xs ++ ys) ≡ run_reported u xs ++ run_reported (run_rest u xs) ys
+run_reported-append u [] ys = refl
+run_reported-append u (x ∷ xs) ys =
+    ap (λ es. text_reported u x ++ es) (run_reported-append (text_rest u x) xs ys)
+    ∙ sym (append_assoc (text_reported u x) (run_reported (text_rest u x) xs) (run_reported (run_rest (text_rest u x) xs) ys))
 
 pub run_rest-append : (u xs ys : List ℕ) → run_rest u (xs ++ ys) ≡ run_rest (run_rest u xs) ys
 run_rest-append u [] ys = refl
@@ -156,14 +156,14 @@ no_esc-both b bs h = elim (bool_cases (is_esc b)) [
   | inr e ↦ (e, let g = rw e at h in g)
 ]
 
-pub run-events : (n : ℕ) (u bs : List ℕ) → has_no_esc bs ≡ true → (events_from n (InText u) bs ≡ run_told u bs)
+pub run-events : (n : ℕ) (u bs : List ℕ) → has_no_esc bs ≡ true → (events_from n (InText u) bs ≡ run_reported u bs)
     × (after_bytes (InText u) bs ≡ InText (run_rest u bs))
 run-events n u [] h = (refl, refl)
 run-events n u (b ∷ bs) h =
     let g = no_esc-both b bs h in
     let e : is_esc b ≡ false = g.0 in
     let more = run-events n (text_rest u b) bs g.1 in
-    (rw e (ap (λ es. text_told u b ++ es) more.0), rw e more.1)
+    (rw e (ap (λ es. text_reported u b ++ es) more.0), rw e more.1)
 
 pub no_esc-before : (s : List ℕ) → has_no_esc (before is_esc s) ≡ true
 no_esc-before [] = refl
@@ -266,7 +266,7 @@ text-byte false b h = cc
 -- a run of ground text, from where the parser stands
 pub run-at : (n : ℕ) (p : Parser n) (bs : List ℕ) (k : ℕ) (q : Pending) → 0 < length bs
     → (state_is_text p.state && not (is_esc (get_or bs 0 0))) ≡ true → k ≡ length (before is_esc bs) → IsAt n p q
-    → (events_from n q (take k bs) ≡ run_told p.unfinished (take k bs))
+    → (events_from n q (take k bs) ≡ run_reported p.unfinished (take k bs))
     × (after_bytes q (take k bs) ≡ InText (run_rest p.unfinished (take k bs)))
     × (is_one_step q (take k bs) (drop k bs) ≡ true) × (p.state ≡ Ground)
 run-at n p bs k q some is len h =
@@ -275,7 +275,7 @@ run-at n p bs k q some is len h =
     let here = rw q_is at h in
     let r = run-events n u (before is_esc bs) (no_esc-before bs) in
     rw (len, take-before bs, drop-before bs, q_is) (
-      r.0 ∙ ap (λ (v : List ℕ). run_told v (before is_esc bs)) (sym here.1),
+      r.0 ∙ ap (λ (v : List ℕ). run_reported v (before is_esc bs)) (sym here.1),
       r.1 ∙ ap (λ (v : List ℕ). InText (run_rest v (before is_esc bs))) (sym here.1),
       step-run u bs (some-before bs some e.1),
       here.0,
@@ -346,12 +346,12 @@ all_printed-drop zero bs h = h
 all_printed-drop (suc n) [] h = refl
 all_printed-drop (suc n) (b ∷ bs) h = all_printed-drop n bs (printed-both b bs h).1
 
-pub printed-front : (bs : List ℕ) → printed_len (take (printed_len bs) bs) ≡ length (take (printed_len bs) bs)
-printed-front [] = refl
-printed-front (b ∷ bs) =
+pub printed-prefix : (bs : List ℕ) → printed_len (take (printed_len bs) bs) ≡ length (take (printed_len bs) bs)
+printed-prefix [] = refl
+printed-prefix (b ∷ bs) =
     elim (bool_cases (is_printed b bs)) [
       | inl e ↦ let f : is_printed b (take (printed_len bs) bs) ≡ true = printed-take b (printed_len bs) bs e
-          in rw e (rw f (ap suc (printed-front bs)))
+          in rw e (rw f (ap suc (printed-prefix bs)))
       | inr e ↦ rw e refl
     ]
 
@@ -431,7 +431,7 @@ printed-chars (c ∷ cs) h p =
     ap (λ (e : Event). e ∷ map char_event cs) k.0 ∙ ap (λ (es : List Event). Print c ∷ es) (printed-chars cs g.1 k.1)
 
 -- a text without controls tells that its characters are printed
-pub printed-text : (bs : List ℕ) → IsUtf8 bs → printed_len bs ≡ length bs → run_told [] bs ≡ map Print (chars bs)
+pub printed-text : (bs : List ℕ) → IsUtf8 bs → printed_len bs ≡ length bs → run_reported [] bs ≡ map Print (chars bs)
 printed-text bs h p =
     let same = encodes-chars bs h in
     (run-text bs h).0 ∙ printed-chars (chars bs) (scalars-chars bs h) (ap printed_len same ∙ (p ∙ ap length (sym same)))
@@ -457,6 +457,6 @@ pub block_more : (bs : List ℕ) (i : ℕ) → i + 16 ≤ length bs
     → i + printed_len (drop i bs) ≡ printed_len bs → i + 16 + printed_len (drop (i + 16) bs) ≡ printed_len bs
 block_more bs i within block so_far =
     let rest : take (length bs - i) (drop i bs) ≡ drop i bs = whole_rest bs i in
-    let front : 16 + printed_len (drop 16 (drop i bs)) ≡ printed_len (drop i bs) = rw rest at block in
+    let prefix : 16 + printed_len (drop 16 (drop i bs)) ≡ printed_len (drop i bs) = rw rest at block in
     let more : drop (i + 16) bs ≡ drop 16 (drop i bs) = sym (drop-drop 16 i bs) in
-    omega (arith, so_far, front, ap printed_len more)
+    omega (arith, so_far, prefix, ap printed_len more)

@@ -88,8 +88,8 @@ abbrev pub IsStore : List ℕ → List ℕ → ℕ → ℕ → Type 0
 IsStore numbers ends len groups = EndsFit 0 (take groups ends) (take len numbers) × (len ≤ 32) × (groups ≤ 32)
     × (length numbers ≡ 32) × (length ends ≡ 32)
 
-length_front : (xs : List ℕ) (k : ℕ) → length xs ≡ 32 → k ≤ 32 → length (take k xs) ≡ k
-length_front xs k h l = grind (arith, common_steps)
+length_prefix : (xs : List ℕ) (k : ℕ) → length xs ≡ 32 → k ≤ 32 → length (take k xs) ≡ k
+length_prefix xs k h l = grind (arith, common_steps)
 
 -- such stores, and the groups that they hold
 module _ (numbers ends : List ℕ) (len groups : ℕ) (old : List (List ℕ)) (s : IsStore numbers ends len groups)
@@ -98,7 +98,7 @@ module _ (numbers ends : List ℕ) (len groups : ℕ) (old : List (List ℕ)) (s
   total-store = ap total (sym v) ∙ omega (
     arith,
     total-cut 0 (take groups ends) (take len numbers) s.0,
-    length_front numbers len s.3 s.1,
+    length_prefix numbers len s.3 s.1,
   )
 
   pub numbers_below : total old < 32 → len < 32
@@ -111,13 +111,13 @@ module _ (numbers ends : List ℕ) (len groups : ℕ) (old : List (List ℕ)) (s
         total-store,
         h,
         ends_below 0 (take groups ends) (take len numbers) s.0,
-        length_front numbers len s.3 s.1,
-        length_front ends groups s.4 s.2,
+        length_prefix numbers len s.3 s.1,
+        length_prefix ends groups s.4 s.2,
       )
 
   groups_count : length old ≡ groups
   groups_count = ap length (sym v) ∙ (length-cut 0 (take groups ends) (take len numbers)
-      ∙ length_front ends groups s.4 s.2)
+      ∙ length_prefix ends groups s.4 s.2)
 
   pub groups_few : length old ≤ 32
   groups_few = omega (arith, s.2, groups_count)
@@ -126,7 +126,7 @@ module _ (numbers ends : List ℕ) (len groups : ℕ) (old : List (List ℕ)) (s
   one_more n h = take_more_set numbers len n (omega (arith, s.3, numbers_below h))
 
   size_more : (n : ℕ) → len + 1 ≡ length (take len numbers ++ n ∷ [])
-  size_more n = omega (arith, length-append (take len numbers) (n ∷ []), length_front numbers len s.3 s.1)
+  size_more n = omega (arith, length-append (take len numbers) (n ∷ []), length_prefix numbers len s.3 s.1)
 
   pub pushed_one : (n : ℕ) → total old < 32
       → (cut_at 0 (take (groups + 1) (set ends groups (len + 1))) (take (len + 1) (set numbers len n))
@@ -156,19 +156,19 @@ module _ (numbers ends : List ℕ) (len groups : ℕ) (old : List (List ℕ)) (s
       let below = numbers_below h in
       let one : 0 < groups = omega (arith, some, groups_count) in
       let last : groups - 1 + 1 ≡ groups = omega (arith, one) in
-      let front = take (groups - 1) ends in
+      let prefix = take (groups - 1) ends in
       let end = get_or ends (groups - 1) 0 in
-      let was : take groups ends ≡ front ++ end ∷ [] =
+      let was : take groups ends ≡ prefix ++ end ∷ [] =
       ap (λ k. take k ends) (sym last) ∙ take_more ends (groups - 1) 0 (omega (arith, s.4, s.2, one)) in
-      let ends_are : take groups (set ends (groups - 1) (len + 1)) ≡ front ++ length (take len numbers ++ n ∷ []) ∷ [] =
+      let ends_are : take groups (set ends (groups - 1) (len + 1)) ≡ prefix ++ length (take len numbers ++ n ∷ []) ∷ [] =
       ap (λ k. take k (set ends (groups - 1) (len + 1))) (sym last)
       ∙ (take_more_set ends (groups - 1) (len + 1) (omega (arith, s.4, s.2, one))
-      ∙ ap (λ k. front ++ k ∷ []) (size_more n)) in
+      ∙ ap (λ k. prefix ++ k ∷ []) (size_more n)) in
       let fits = subst (λ ys. EndsFit 0 ys (take len numbers)) was s.0 in (
-        rw (ends_are, one_more n h) (cut-extend 0 front end (take len numbers) n fits
+        rw (ends_are, one_more n h) (cut-extend 0 prefix end (take len numbers) n fits
             ∙ ap (onto_last n) (ap (λ ys. cut_at 0 ys (take len numbers)) (sym was) ∙ v)),
         (
-          rw (ends_are, one_more n h) (fit-extend 0 front end (take len numbers) n fits),
+          rw (ends_are, one_more n h) (fit-extend 0 prefix end (take len numbers) n fits),
           omega (arith, below),
           s.2,
           length-set numbers len n ∙ s.3,

@@ -37,5 +37,5 @@ pub tells_next : {S : Type 0} {step : S → Event → S → Type 0} {p : ℕ →
 tells_next {S} {step} {p} {f} {old} {mid} {new} {bs} {i} so less passes one = record {
   within = omega (arith, less);
   all = rw (take_more bs i 0 less) (each-more p (take i bs) (get_or bs i 0) so.all passes);
-  told = performs-next step f bs i old mid new less so.told one;
+  reported = performs-next step f bs i old mid new less so.reported one;
 }

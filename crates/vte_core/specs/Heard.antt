@@ -2,7 +2,7 @@
 use Rattle.std.specs.Prelude.{ℕ, Bool, false, ◌||◌, ◌&&◌, List, [], ◌∷◌, length, ◌==◌, if◌then◌else◌}
 use Rattle.vte_core.specs.Event.{Event, Print, Execute, Hook, Unhook, Osc, Csi, Esc}
 use Rattle.vte_core.specs.Bytes.{is_esc, is_abort, is_control, ends_header, ends_escape, ends_osc}
-use Rattle.vte_core.specs.Pending.{InDevice, InSwallowed, byte_told, text_told, told}
+use Rattle.vte_core.specs.Pending.{InDevice, InSwallowed, byte_reported, text_reported, reported}
 use Rattle.vte_core.specs.Phases.{is_kept}
 use Rattle.vte_core.specs.Store.{cut_at}
 use Rattle.vte_core.specs.declared.header.Header.{Header}
@@ -44,21 +44,21 @@ closed_heard n s.DcsPassthrough old new = Unhook ∷ []
 closed_heard n s.SosPmApcString old new = []
 
 abbrev pub byte_heard : (n : ℕ) → State → Parser n → Parser n → ℕ → List Event
-byte_heard n s.Ground old new b = text_told old.unfinished b
+byte_heard n s.Ground old new b = text_reported old.unfinished b
 byte_heard n s.Escape old new b =
     if ends_escape b then (if is_abort b then Execute b ∷ [] else final_heard old.intermediates b)
-    else told is_control Execute b
+    else reported is_control Execute b
 byte_heard n s.Csi old new b =
     if ends_header b then (if is_abort b then Execute b ∷ []
     else (if is_kept old.header.phase then csi_event new.header b ∷ [] else []))
-    else told is_control Execute b
-byte_heard n s.OscString old new b = if ends_osc b then osc_event new.osc (b == 0x07) ∷ told is_abort Execute b else []
+    else reported is_control Execute b
+byte_heard n s.OscString old new b = if ends_osc b then osc_event new.osc (b == 0x07) ∷ reported is_abort Execute b else []
 byte_heard n s.DcsHeader old new b =
     if ends_header b then (if is_abort b then Execute b ∷ []
     else (if is_kept old.header.phase then hook_event new.header b ∷ [] else []))
     else []
-byte_heard n s.DcsPassthrough old new b = byte_told n InDevice b
-byte_heard n s.SosPmApcString old new b = byte_told n InSwallowed b
+byte_heard n s.DcsPassthrough old new b = byte_reported n InDevice b
+byte_heard n s.SosPmApcString old new b = byte_reported n InSwallowed b
 
 abbrev pub heard : (n : ℕ) → Parser n → Parser n → ℕ → List Event
 heard n old new b = if is_esc b then closed_heard n old.state old new else byte_heard n old.state old new b

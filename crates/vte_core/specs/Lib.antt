@@ -17,7 +17,7 @@ pub mod Stopping
 pub mod Heard
 pub mod Byte
 pub mod Laws
-pub mod Told
+pub mod Reported
 pub mod Runs
 pub mod Reads
 pub mod Steps

@@ -29,8 +29,8 @@ pub data Pending : Type 0 where
 abbrev pub kept : (ℕ → Bool) → ℕ → List ℕ
 kept p b = if p b then b ∷ [] else []
 
-abbrev pub told : (ℕ → Bool) → (ℕ → Event) → ℕ → List Event
-told p f b = if p b then f b ∷ [] else []
+abbrev pub reported : (ℕ → Bool) → (ℕ → Event) → ℕ → List Event
+reported p f b = if p b then f b ∷ [] else []
 
 -- b goes on the character that a ∷ t begins
 abbrev pub goes_on : ℕ → List ℕ → ℕ → Bool
@@ -45,9 +45,9 @@ begun b = if char_len b == 1 then char_event (first_bits b) ∷ []
 abbrev pub begun_rest : ℕ → List ℕ
 begun_rest b = if char_len b == 1 then [] else (if char_len b == 0 then [] else b ∷ [])
 
-abbrev pub text_told : List ℕ → ℕ → List Event
-text_told [] b = begun b
-text_told (a ∷ t) b =
+abbrev pub text_reported : List ℕ → ℕ → List Event
+text_reported [] b = begun b
+text_reported (a ∷ t) b =
     if goes_on a t b then (if length t + 2 == char_len a then char_event (joined (first_bits a) (t ++ b ∷ [])) ∷ []
     else [])
     else Print 0xFFFD ∷ begun b
@@ -70,8 +70,8 @@ closed n InDevice = Unhook ∷ []
 closed n InSwallowed = []
 
 -- what the final byte of an escape does, and begins
-abbrev pub final_told : List ℕ → ℕ → List Event
-final_told is b =
+abbrev pub final_reported : List ℕ → ℕ → List Event
+final_reported is b =
     if length is == 0 && b == 0x5B then []
     else (if length is == 0 && b == 0x5D then []
     else (if length is == 0 && b == 0x50 then []
@@ -87,23 +87,23 @@ final_rest is b =
     else InText [])))
 
 -- a byte other than ESC: its events, and what is pending after it
-abbrev pub byte_told : ℕ → Pending → ℕ → List Event
-byte_told n (InText u) b = text_told u b
-byte_told n (InEscape is) b =
-    if ends_escape b then (if is_abort b then Execute b ∷ [] else final_told is b) else told is_control Execute b
-byte_told n (InCsi h) b =
+abbrev pub byte_reported : ℕ → Pending → ℕ → List Event
+byte_reported n (InText u) b = text_reported u b
+byte_reported n (InEscape is) b =
+    if ends_escape b then (if is_abort b then Execute b ∷ [] else final_reported is b) else reported is_control Execute b
+byte_reported n (InCsi h) b =
     if ends_header b then (if is_abort b then Execute b ∷ []
     else (if is_well_formed h then Csi (kept_groups h) (kept_intermediates h) (overflows h) b ∷ [] else []))
-    else told is_control Execute b
-byte_told n (InOsc s) b =
-    if ends_osc b then Osc (osc_pieces n s) (b == 0x07) ∷ told is_abort Execute b else []
-byte_told n (InHook h) b =
+    else reported is_control Execute b
+byte_reported n (InOsc s) b =
+    if ends_osc b then Osc (osc_pieces n s) (b == 0x07) ∷ reported is_abort Execute b else []
+byte_reported n (InHook h) b =
     if ends_header b then (if is_abort b then Execute b ∷ []
     else (if is_well_formed h then Hook (kept_groups h) (kept_intermediates h) (overflows h) b ∷ [] else []))
     else []
-byte_told n InDevice b =
-    if ends_device b then Unhook ∷ told is_abort Execute b else told is_put Put b
-byte_told n InSwallowed b = told is_abort Execute b
+byte_reported n InDevice b =
+    if ends_device b then Unhook ∷ reported is_abort Execute b else reported is_put Put b
+byte_reported n InSwallowed b = reported is_abort Execute b
 
 abbrev pub byte_rest : Pending → ℕ → Pending
 byte_rest (InText u) b = InText (text_rest u b)
@@ -120,7 +120,7 @@ byte_rest InSwallowed b = if is_abort b then InText [] else InSwallowed
 
 -- the events of a byte, and what is pending after it
 abbrev pub events_of_byte : ℕ → Pending → ℕ → List Event
-events_of_byte n q b = if is_esc b then closed n q else byte_told n q b
+events_of_byte n q b = if is_esc b then closed n q else byte_reported n q b
 
 abbrev pub after_byte : Pending → ℕ → Pending
 after_byte q b = if is_esc b then InEscape [] else byte_rest q b

@@ -17,8 +17,8 @@ pub record BeginsWithEsc (bs : List ℕ) : Type 0 where
 pub record Reads {S : Type 0} (step : S → Event → S
     → Type 0) (n : ℕ) (p : Parser n) (old : S) (bs : List ℕ) (k : ℕ) (r : Parser n) (new : S) : Type 0 where
   pub within : k ≤ length bs
-  pub stands : (q : Pending) → IsAt n p q → IsAt n r (after_bytes q (take k bs))
-  pub told : Tells step n p old (take k bs) new
+  pub state_after : (q : Pending) → IsAt n p q → IsAt n r (after_bytes q (take k bs))
+  pub reported : Tells step n p old (take k bs) new
 
 -- the same, and there are some
 pub record ReadsSome {S : Type 0} (step : S → Event → S
@@ -36,7 +36,7 @@ pub record ReadsStep {S : Type 0} (step : S → Event → S
 -- they tell nothing
 pub record ReadsQuietly (n : ℕ) (p : Parser n) (bs : List ℕ) (k : ℕ) (r : Parser n) : Type 0 where
   pub within : k ≤ length bs
-  pub stands : (q : Pending) → IsAt n p q → IsAt n r (after_bytes q (take k bs))
+  pub state_after : (q : Pending) → IsAt n p q → IsAt n r (after_bytes q (take k bs))
   pub quiet : (q : Pending) → IsAt n p q → events_from n q (take k bs) ≡ []
 
 -- A plain control sequence stands at the front, after whole ground text: `ESC [`, then these numbers in k bytes, and a

@@ -4,16 +4,16 @@ use Rattle.std.specs.Prelude.{length, drop, map, nat_lt, ◌==◌, if◌then◌e
 use Rattle.std.specs.Int.{is_in_range}
 use Rattle.vte_core.specs.Event.{Event, Performs}
 use Rattle.vte_core.specs.Bytes.{each, is_esc}
-use Rattle.vte_core.specs.Pending.{Pending, text_told, text_rest, after_byte, after_bytes, events_from}
+use Rattle.vte_core.specs.Pending.{Pending, text_reported, text_rest, after_byte, after_bytes, events_from}
 use Rattle.vte_core.specs.Shapes.{before}
 use Rattle.vte_core.specs.Standing.{IsAt}
 use Rattle.vte_core.specs.declared.parser.Parser.{Parser}
 use Rattle.vte_core.specs.Stopping.{runs_on}
 
 -- the events of the bytes, after the unfinished bytes u of a character
-abbrev pub run_told : List ℕ → List ℕ → List Event
-run_told u [] = []
-run_told u (b ∷ bs) = text_told u b ++ run_told (text_rest u b) bs
+abbrev pub run_reported : List ℕ → List ℕ → List Event
+run_reported u [] = []
+run_reported u (b ∷ bs) = text_reported u b ++ run_reported (text_rest u b) bs
 
 -- and what they leave unfinished
 abbrev pub run_rest : List ℕ → List ℕ → List ℕ
@@ -31,9 +31,9 @@ pub record ReadsText {S : Type 0} (step : S → Event → S
   pub some : 0 < k
   pub within : k ≤ length bs
   pub no_esc : has_no_esc (take k bs) ≡ true
-  pub told : List Event
-  pub performed : Performs step old told new
-  pub added : run_told u (before is_esc bs) ≡ told ++ run_told v (drop k (before is_esc bs))
+  pub reported : List Event
+  pub performed : Performs step old reported new
+  pub added : run_reported u (before is_esc bs) ≡ reported ++ run_reported v (drop k (before is_esc bs))
   pub rest : run_rest u (before is_esc bs) ≡ run_rest v (drop k (before is_esc bs))
 
 -- the performer is asked after the bytes, and not between them
@@ -53,16 +53,16 @@ pub record IsStep (n : ℕ) (q : Pending) (bs rest : List ℕ) : Type 0 where
 -- the performer has gone through some events, and they are those of the bytes, whatever is pending
 pub record Tells {S : Type 0} (step : S → Event → S
     → Type 0) (n : ℕ) (parser : Parser n) (old : S) (bytes : List ℕ) (new : S) : Type 0 where
-  pub told : List Event
-  pub performed : Performs step old told new
-  pub added : (q : Pending) → IsAt n parser q → told ≡ events_from n q bytes
+  pub reported : List Event
+  pub performed : Performs step old reported new
+  pub added : (q : Pending) → IsAt n parser q → reported ≡ events_from n q bytes
 
 -- the first k bytes pass the test p, and the performer has gone through the event f of each of them
 pub record TellsEach {S : Type 0} (step : S → Event → S
     → Type 0) (p : ℕ → Bool) (f : ℕ → Event) (old : S) (bs : List ℕ) (k : ℕ) (new : S) : Type 0 where
   pub within : k ≤ length bs
   pub all : each p (take k bs) ≡ true
-  pub told : Performs step old (map f (take k bs)) new
+  pub reported : Performs step old (map f (take k bs)) new
 
 -- the bytes after 0xC2 are the second byte of a control from U+0080 to U+009F
 abbrev pub begins_c1 : List ℕ → Bool

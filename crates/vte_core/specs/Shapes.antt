@@ -45,10 +45,10 @@ device cut s = map Put (filter is_put (before ends_device s)) ++ device_end cut 
 -- The header h of a sequence, and what ends it: one that is well formed is told, and goes on so; else the rest is ignored.
 abbrev pub header_end : (List (List ℕ) → List ℕ → Bool → ℕ → Event) → (Bool → List ℕ → List Event)
     → (Bool → List ℕ → List Event) → Bool → List ℕ → List ℕ → List Event
-header_end told after ignored cut h [] = []
-header_end told after ignored cut h (b ∷ rest) =
+header_end reported after ignored cut h [] = []
+header_end reported after ignored cut h (b ∷ rest) =
     if is_abort b then aborted cut b rest
-    else (if is_well_formed h then told (kept_groups h) (kept_intermediates h) (overflows h) b ∷ after cut rest
+    else (if is_well_formed h then reported (kept_groups h) (kept_intermediates h) (overflows h) b ∷ after cut rest
     else ignored cut rest)
 
 -- a device string's

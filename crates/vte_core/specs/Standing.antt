@@ -1,4 +1,4 @@
--- Where a parser stands. A caller carries `Stands` from one call to the next, and needs nothing of what it says: what a
+-- Where a parser stands. A caller carries `IsAfter` from one call to the next, and needs nothing of what it says: what a
 -- call tells is said of the bytes alone (Shapes, Added).
 use Rattle.std.specs.Prelude.{◌≡◌, ℕ, Bool, true, false, List, []}
 use Rattle.vte_core.specs.declared.parser.State.{State}
@@ -21,8 +21,8 @@ IsAt n p InDevice = (p.state ≡ DcsPassthrough) × (p.unfinished ≡ [])
 IsAt n p InSwallowed = (p.state ≡ SosPmApcString) × (p.unfinished ≡ [])
 
 -- the parser has read these bytes
-abbrev pub Stands : (n : ℕ) → Parser n → List ℕ → Type 0
-Stands n p past = IsAt n p (pending past)
+abbrev pub IsAfter : (n : ℕ) → Parser n → List ℕ → Type 0
+IsAfter n p past = IsAt n p (pending past)
 
 abbrev pub state_is_text : State → Bool
 state_is_text Ground = true

@@ -26,8 +26,8 @@ tail_len (suc k) lo hi [] = 0
 tail_len (suc k) lo hi (b ∷ bs) = if is_in_range lo hi b then suc (tail_len k 0x80 0xBF bs) else 0
 
 -- the length of the longest front that also begins a well-formed character with the first byte a, at least one byte
-abbrev pub front_len : ℕ → List ℕ → ℕ
-front_len a bs = suc (tail_len (char_len a - 1) (second_min a) (second_max a) bs)
+abbrev pub prefix_len : ℕ → List ℕ → ℕ
+prefix_len a bs = suc (tail_len (char_len a - 1) (second_min a) (second_max a) bs)
 
 -- the bits of the first byte, and the number that the bytes of a character spell
 abbrev pub first_bits : ℕ → ℕ
@@ -48,9 +48,9 @@ malformed_event n a = if n == 1 && is_in_range 0x80 0x9F a then Execute a else P
 
 -- the event of the character or of the malformed sequence at the front; an unfinished character at the end gives one
 -- only where ESC cuts it off
-abbrev pub front_event : Bool → ℕ → List ℕ → List Event
-front_event cut a bs =
-    let n = front_len a bs in
+abbrev pub prefix_event : Bool → ℕ → List ℕ → List Event
+prefix_event cut a bs =
+    let n = prefix_len a bs in
     if n == char_len a then char_event (joined (first_bits a) (take (n - 1) bs)) ∷ []
     else (if nat_lt 0 (char_len a) && nat_lt (length bs) n then (if cut then Print 0xFFFD ∷ [] else [])
     else malformed_event n a ∷ [])
@@ -59,7 +59,7 @@ front_event cut a bs =
 abbrev pub text_after : ℕ → Bool → List ℕ → List Event
 text_after skip cut [] = []
 text_after (suc skip) cut (b ∷ bs) = text_after skip cut bs
-text_after zero cut (b ∷ bs) = front_event cut b bs ++ text_after (front_len b bs - 1) cut bs
+text_after zero cut (b ∷ bs) = prefix_event cut b bs ++ text_after (prefix_len b bs - 1) cut bs
 
 abbrev pub text : Bool → List ℕ → List Event
 text = text_after 0

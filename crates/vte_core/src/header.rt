@@ -170,8 +170,8 @@ impl Header {
 
     /// The final byte of a control sequence.
     pub fn csi<P: Perform>(&mut self, performer: &mut P, byte: u8)
-        ensures told { P.step performer.old (csi_event self.new byte) performer.new }
-        ensures is_told { (h : List ℕ) → ReadsHeader self.old h
+        ensures reported { P.step performer.old (csi_event self.new byte) performer.new }
+        ensures is_reported { (h : List ℕ) → ReadsHeader self.old h
             → csi_event self.new byte ≡ Csi (kept_groups h) (kept_intermediates h) (overflows h) byte }
     {
         self.numbers.finish();
@@ -188,8 +188,8 @@ impl Header {
 
     /// The final byte of a device control string's header.
     pub fn hook<P: Perform>(&mut self, performer: &mut P, byte: u8)
-        ensures told { P.step performer.old (hook_event self.new byte) performer.new }
-        ensures is_told { (h : List ℕ) → ReadsHeader self.old h
+        ensures reported { P.step performer.old (hook_event self.new byte) performer.new }
+        ensures is_reported { (h : List ℕ) → ReadsHeader self.old h
             → hook_event self.new byte ≡ Hook (kept_groups h) (kept_intermediates h) (overflows h) byte }
     {
         self.numbers.finish();

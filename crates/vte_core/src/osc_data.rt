@@ -104,8 +104,8 @@ impl<const N: usize> OscData<N> {
 
     /// The command ends.
     pub fn dispatch<P: Perform>(&mut self, performer: &mut P, bell_terminated: bool)
-        ensures told { P.step performer.old (osc_event self.new bell_terminated) performer.new }
-        ensures is_told { (s : List ℕ) → ReadsOsc N self.old s → cut_at 0 self.new.1 self.new.0 ≡ osc_pieces N s }
+        ensures reported { P.step performer.old (osc_event self.new bell_terminated) performer.new }
+        ensures is_reported { (s : List ℕ) → ReadsOsc N self.old s → cut_at 0 self.new.1 self.new.0 ≡ osc_pieces N s }
     {
         self.end_piece();
         tell(

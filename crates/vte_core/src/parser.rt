@@ -8,12 +8,12 @@ ghost use Rattle.vte_core.specs.Bytes.{each, is_device_data, is_esc, is_swallowe
 ghost use Rattle.vte_core.specs.Event as e;
 ghost use Rattle.vte_core.specs.Event.{Performs};
 ghost use Rattle.vte_core.specs.Heard.{final_heard};
-ghost use Rattle.vte_core.specs.Pending.{Pending, InEscape, final_rest, final_told};
+ghost use Rattle.vte_core.specs.Pending.{Pending, InEscape, final_rest, final_reported};
 ghost use Rattle.vte_core.specs.Reads.{BeginsPlain, BeginsWithEsc, Reads, ReadsSome, ReadsStep, ReadsQuietly};
 ghost use Rattle.vte_core.specs.Runs.{TellsEach};
-ghost use Rattle.vte_core.specs.Standing.{IsAt, Stands, state_is_text};
+ghost use Rattle.vte_core.specs.Standing.{IsAt, IsAfter, state_is_text};
 ghost use Rattle.vte_core.specs.Stopping.{Stops};
-ghost use Rattle.vte_core.specs.Told.{Told};
+ghost use Rattle.vte_core.specs.Reported.{Reported};
 
 use crate::header::Header;
 use crate::intermediates::Intermediates;
@@ -53,14 +53,14 @@ pub struct Parser<const N: usize> {
 impl Parser<1024> {
     /// A parser that keeps 1,024 bytes of an operating system command's data.
     pub fn new() -> Self
-        ensures { Stands 1024 result [] }
+        ensures { IsAfter 1024 result [] }
     {
         Parser::new_with_size()
     }
 }
 
 impl<const N: usize> Default for Parser<N> {
-    ghost is_default = { λ parser. Stands N parser [] };
+    ghost is_default = { λ parser. IsAfter N parser [] };
 
     fn default() -> Self {
         Parser::new_with_size()
@@ -70,7 +70,7 @@ impl<const N: usize> Default for Parser<N> {
 impl<const N: usize> Parser<N> {
     /// A parser that keeps N bytes of an operating system command's data.
     pub fn new_with_size() -> Self
-        ensures { Stands N result [] }
+        ensures { IsAfter N result [] }
     {
         Parser {
             state: State::Ground,
@@ -123,10 +123,10 @@ impl<const N: usize> Parser<N> {
     /// The final byte of an escape sequence: it begins a control sequence or a string, or is told.
     fn end_escape<P: Perform>(&mut self, performer: &mut P, byte: u8)
         requires { self.old.state ≡ State.Escape }
-        ensures stands { (is : List ℕ) → IsAt N self.old (InEscape is) → IsAt N self.new (final_rest is byte) }
-        ensures told { Performs P.step performer.old (final_heard self.old.intermediates byte) performer.new }
-        ensures is_told { (is : List ℕ) → IsAt N self.old (InEscape is)
-            → final_heard self.old.intermediates byte ≡ final_told is byte }
+        ensures state_after { (is : List ℕ) → IsAt N self.old (InEscape is) → IsAt N self.new (final_rest is byte) }
+        ensures reported { Performs P.step performer.old (final_heard self.old.intermediates byte) performer.new }
+        ensures is_reported { (is : List ℕ) → IsAt N self.old (InEscape is)
+            → final_heard self.old.intermediates byte ≡ final_reported is byte }
     {
         let plain = self.intermediates.kept.is_empty();
         match byte {
@@ -419,7 +419,7 @@ impl<const N: usize> Parser<N> {
     #[inline(always)]
     fn read_plain(&mut self, bytes: &[u8]) -> Option<usize>
         requires { self.old.state ≡ State.Ground }
-        ensures stands { (q : Pending) → IsAt N self.old q → IsAt N self.new q }
+        ensures state_after { (q : Pending) → IsAt N self.old q → IsAt N self.new q }
         ensures ground { self.new.state ≡ State.Ground }
         ensures begins { IfSome result (λ k. BeginsPlain N self.old bytes.now k self.new) }
     {
@@ -592,8 +592,8 @@ impl<const N: usize> Parser<N> {
     /// Reads the next bytes of the stream, and tells the performer of their events, in order. A character or a sequence
     /// that the bytes leave unfinished is kept for the next call.
     pub fn advance<P: Perform>(&mut self, performer: &mut P, bytes: &[u8])
-        ensures stands { (past : List ℕ) → Stands N self.old past → Stands N self.new (past ++ bytes.now) }
-        ensures told { Told P.step N self.old performer.old bytes.now performer.new }
+        ensures state_after { (past : List ℕ) → IsAfter N self.old past → IsAfter N self.new (past ++ bytes.now) }
+        ensures reported { Reported P.step N self.old performer.old bytes.now performer.new }
     {
         let mut read = 0;
         while read < bytes.len() {
@@ -607,9 +607,9 @@ impl<const N: usize> Parser<N> {
     /// nothing.
     pub fn advance_until_terminated<P: Perform>(&mut self, performer: &mut P, bytes: &[u8]) -> usize
         ensures within { result ≤ length bytes.now }
-        ensures stands { (past : List ℕ) → Stands N self.old past → Stands N self.new (past ++ take result bytes.now) }
-        ensures told { Told P.step N self.old performer.old (take result bytes.now) performer.new }
-        ensures stops { (past : List ℕ) → Stands N self.old past
+        ensures state_after { (past : List ℕ) → IsAfter N self.old past → IsAfter N self.new (past ++ take result bytes.now) }
+        ensures reported { Reported P.step N self.old performer.old (take result bytes.now) performer.new }
+        ensures stops { (past : List ℕ) → IsAfter N self.old past
             → Stops P.step P.is_terminated N past bytes.now performer.old result performer.new }
         ensures ended { result < length bytes.now → IsTrue (P.is_terminated performer.new) }
         ensures already { IsTrue (P.is_terminated performer.old) → (result ≡ 0) × (performer.new ≡ performer.old)

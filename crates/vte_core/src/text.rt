@@ -9,12 +9,12 @@ ghost use Rattle.std.specs.Prelude.{◌≡◌, ◌==◌, ◌+◌, ◌-◌, ◌<�
 ghost use Rattle.std.specs.Prelude.{IsTrue, true, false, slice_index, take};
 ghost use Rattle.std.specs.Str.{IsUtf8};
 ghost use Rattle.vte_core.specs.Bytes.{each, is_c0, is_esc, is_plain};
-ghost use Rattle.vte_core.specs.Runs.{ReadsText, TellsEach, run_told, run_rest, is_printed, printed_len};
+ghost use Rattle.vte_core.specs.Runs.{ReadsText, TellsEach, run_reported, run_rest, is_printed, printed_len};
 ghost use Rattle.vte_core.specs.Shapes.{before};
 ghost use Rattle.vte_core.specs.Event.{Event, Print, Execute, Performs};
 ghost use Rattle.vte_core.specs.Text.{char_len, second_min, second_max, first_bits, joined, char_event};
 ghost use Rattle.vte_core.specs.Text.{malformed_event};
-ghost use Rattle.vte_core.specs.Pending.{IsUnfinished, begun, begun_rest, text_told, text_rest, goes_on, whole_goes_on};
+ghost use Rattle.vte_core.specs.Pending.{IsUnfinished, begun, begun_rest, text_reported, text_rest, goes_on, whole_goes_on};
 ghost use Rattle.vte_core.specs.Pending.{IsWhole, BeginsLong, code_of};
 ghost use Rattle.std.specs.Char.{InScalarRange};
 ghost use Rattle.std.specs.Int.{is_in_range};
@@ -122,7 +122,7 @@ fn tell_malformed<P: Perform>(performer: &mut P, byte: u8)
 /// Reads a byte after whole characters: it begins a character, is one, or is malformed.
 fn begin<P: Perform>(unfinished: &mut ArrayVec<u8, 4>, performer: &mut P, byte: u8)
     requires { unfinished.old.items ≡ [] }
-    ensures told { Performs P.step performer.old (begun byte) performer.new }
+    ensures reported { Performs P.step performer.old (begun byte) performer.new }
     ensures rest { unfinished.new.items ≡ begun_rest byte }
 {
     match char_len(byte) {
@@ -136,7 +136,7 @@ fn begin<P: Perform>(unfinished: &mut ArrayVec<u8, 4>, performer: &mut P, byte: 
 #[inline(always)]
 fn text_byte<P: Perform>(unfinished: &mut ArrayVec<u8, 4>, performer: &mut P, byte: u8)
     requires { IsUnfinished unfinished.old.items }
-    ensures told { Performs P.step performer.old (text_told unfinished.old.items byte) performer.new }
+    ensures reported { Performs P.step performer.old (text_reported unfinished.old.items byte) performer.new }
     ensures rest { unfinished.new.items ≡ text_rest unfinished.old.items byte }
 {
     if unfinished.is_empty() {
@@ -199,7 +199,7 @@ impl Unfinished {
     /// Reads a byte of ground text, other than ESC.
     #[inline(always)]
     pub fn read_byte<P: Perform>(&mut self, performer: &mut P, byte: u8)
-        ensures told { Performs P.step performer.old (text_told self.old byte) performer.new }
+        ensures reported { Performs P.step performer.old (text_reported self.old byte) performer.new }
         ensures rest { self.new ≡ text_rest self.old byte }
     {
         text_byte(&mut self.bytes, performer, byte);
@@ -445,9 +445,9 @@ fn execute_controls<P: Perform>(performer: &mut P, bytes: &[u8]) -> usize
 }
 
 /// The longest text at the front of the bytes.
-fn text_front(bytes: &[u8]) -> &str
+fn text_prefix(bytes: &[u8]) -> &str
     ensures text { IsUtf8 result.now }
-    ensures front { result.now ≡ take (length result.now) bytes.now }
+    ensures prefix { result.now ≡ take (length result.now) bytes.now }
     ensures within { length result.now ≤ length bytes.now }
 {
     match from_utf8(bytes) {
@@ -458,16 +458,16 @@ fn text_front(bytes: &[u8]) -> &str
 
 impl Unfinished {
     /// Reads the text at the front of bytes without controls, or else one byte, and returns how many it read.
-    fn read_front<P: Perform>(&mut self, performer: &mut P, bytes: &[u8]) -> usize
+    fn read_prefix<P: Perform>(&mut self, performer: &mut P, bytes: &[u8]) -> usize
         requires not_empty { 0 < length bytes.now }
         requires printed { printed_len bytes.now ≡ length bytes.now }
         ensures some { 0 < result }
         ensures within { result ≤ length bytes.now }
-        ensures told { Performs P.step performer.old (run_told self.old (take result bytes.now)) performer.new }
+        ensures reported { Performs P.step performer.old (run_reported self.old (take result bytes.now)) performer.new }
         ensures rest { self.new ≡ run_rest self.old (take result bytes.now) }
     {
         if self.is_empty() && begins_whole(bytes) {
-            let text = text_front(bytes);
+            let text = text_prefix(bytes);
             if !text.is_empty() {
                 performer.print_str(text);
                 return text.len();
@@ -480,12 +480,12 @@ impl Unfinished {
     /// Reads ground text without controls.
     fn read_printed<P: Perform>(&mut self, performer: &mut P, bytes: &[u8])
         requires { printed_len bytes.now ≡ length bytes.now }
-        ensures told { Performs P.step performer.old (run_told self.old bytes.now) performer.new }
+        ensures reported { Performs P.step performer.old (run_reported self.old bytes.now) performer.new }
         ensures rest { self.new ≡ run_rest self.old bytes.now }
     {
         let mut read = 0;
         while read < bytes.len() {
-            read += self.read_front(performer, &bytes[read..]);
+            read += self.read_prefix(performer, &bytes[read..]);
         }
     }
 
@@ -503,7 +503,7 @@ impl Unfinished {
             return 1;
         }
         if len <= LINE_LEN {
-            return self.read_front(performer, &bytes[..len]);
+            return self.read_prefix(performer, &bytes[..len]);
         }
         self.read_printed(performer, &bytes[..len]);
         len
@@ -675,7 +675,7 @@ impl Unfinished {
     #[inline(always)]
     pub fn read<P: Perform>(&mut self, performer: &mut P, bytes: &[u8]) -> usize
         ensures len { result ≡ length (before is_esc bytes.now) }
-        ensures told { Performs P.step performer.old (run_told self.old (take result bytes.now)) performer.new }
+        ensures reported { Performs P.step performer.old (run_reported self.old (take result bytes.now)) performer.new }
         ensures rest { self.new ≡ run_rest self.old (take result bytes.now) }
     {
         let mut read = 0;

@@ -11,6 +11,6 @@ Calls-append {S} step s m t (c ∷ a) b h k = (h.0, h.1, Calls-append step h.0 m
 -- one more character is passed to the handler
 pub input-more : {H : Type 0} (step : H → Call → H → Type 0) (s m t : H) (cs : List ℕ) (c : ℕ) (ds : List ℕ)
     → ds ≡ cs ++ c ∷ [] → Calls step s (map input cs) m → step m (input c) t → Calls step s (map input ds) t
-input-more step s m t cs c ds is before told =
+input-more step s m t cs c ds is before reported =
     subst (λ (xs : List Call). Calls step s xs t) (sym (map-append input cs (c ∷ [])) ∙ ap (map input) (sym is))
-    (Calls-append step s m t (map input cs) (input c ∷ []) before (t, told, refl))
+    (Calls-append step s m t (map input cs) (input c ∷ []) before (t, reported, refl))

@@ -42,19 +42,19 @@ impl Write for Note {
 
 /// A command ends with this status, unless memory is refused. It says so then, and nothing else.
 fn check(rt: &(impl Abort + AllocGlobal), words: &[&str], status: u8) {
-    let mut told = Note::new();
+    let mut reported = Note::new();
     let mut left = CAST;
-    let answer = command(rt.alloc(), words, &mut left, &mut io::sink(), &mut told);
+    let answer = command(rt.alloc(), words, &mut left, &mut io::sink(), &mut reported);
     if answer == 1 {
         same(
             rt,
             &words,
-            &told.kept.starts_with(b"screentext: memory\n\0"),
+            &reported.kept.starts_with(b"screentext: memory\n\0"),
             &true,
         );
     } else {
         same(rt, &words, &answer, &status);
-        same(rt, &words, &(told.len == 0), &(status == 0));
+        same(rt, &words, &(reported.len == 0), &(status == 0));
     }
 }
 

@@ -94,7 +94,7 @@ fn narrow(alloc: Global) -> Result<Narrow, AllocError> {
 }
 
 /// The answer was the refusal for memory, and only a front of the text was written.
-fn check_front(rt: &impl Abort, answer: Result<(), RelayError>, kept: &[u8], text: &[u8]) {
+fn check_prefix(rt: &impl Abort, answer: Result<(), RelayError>, kept: &[u8], text: &[u8]) {
     let found = (answer, text.starts_with(kept));
     same_for(rt, &text, &found, &(Err(RelayError::Memory), true));
 }
@@ -106,7 +106,7 @@ fn relay_hi(alloc: Global, output: &mut Narrow) -> Result<(), RelayError> {
 fn check_relay(rt: &(impl Abort + AllocGlobal), output: &mut Narrow) {
     let mut answer = relay_hi(rt.alloc(), output);
     if answer.is_err() {
-        check_front(rt, answer, &output.kept, HI);
+        check_prefix(rt, answer, &output.kept, HI);
         output.kept.clear();
         answer = relay_hi(rt.alloc(), output);
     }
@@ -128,7 +128,7 @@ fn show_hi(alloc: Global, output: &mut Narrow) -> Result<(), RelayError> {
 fn check_show(rt: &(impl Abort + AllocGlobal), output: &mut Narrow) {
     let mut answer = show_hi(rt.alloc(), output);
     if answer.is_err() {
-        check_front(rt, answer, &output.kept, b"");
+        check_prefix(rt, answer, &output.kept, b"");
         answer = show_hi(rt.alloc(), output);
     }
     let found = (answer, output.kept.as_slice());

@@ -64,9 +64,9 @@ fn check_fault(
     wanted: Option<ErrorKind>,
 ) {
     let kind = view.row_text(0, slow).err().map(|error| error.kind());
-    let front = b"hi".get(..slow.limit.0);
+    let prefix = b"hi".get(..slow.limit.0);
     let found = (kind, Some(slow.kept.as_slice()));
-    same_for(rt, &slow.limit, &found, &(wanted, front));
+    same_for(rt, &slow.limit, &found, &(wanted, prefix));
 }
 
 fn check_faults(rt: &(impl Abort + AllocGlobal), view: &View<UntilCleared>) -> Result<(), Fail> {

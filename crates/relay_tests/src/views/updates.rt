@@ -109,8 +109,8 @@ fn check_cut<F: FnOnce(&mut View<UntilCleared>) -> Result<(), Fail>>(
 ) -> Result<(), Fail>
     requires { F.IsAlwaysCallable act }
 {
-    let (front, rest) = FRAME.split_at(cut.min(FRAME.len()));
-    feed(view, front);
+    let (prefix, rest) = FRAME.split_at(cut.min(FRAME.len()));
+    feed(view, prefix);
     act(view)?;
     feed(view, rest);
     check_shown(rt, &cut, view, "hi../..../ 0 2", 0)

@@ -4,8 +4,8 @@ ghost use Rattle.vt100_core.specs.Grid.{IsGrid, IsAllocated};
 ghost use Rattle.vt100_core.specs.Scroll.{scrollback_erased};
 ghost use Rattle.vt100_core.specs.Resize.{KeepsNoMore, resized};
 ghost use Rattle.screen_model.specs.Step.{reports_of};
-ghost use Rattle.screen_model.specs.Call.{Hears};
-ghost use Rattle.vt100.specs.Tries.{HearsFront};
+ghost use Rattle.screen_model.specs.Call.{Receives};
+ghost use Rattle.vt100.specs.Tries.{ReceivesPrefix};
 ghost use Rattle.vt100.specs.Draws.{IsDrawable, Draws, drawn, printed_by};
 
 use crate::callbacks::Callbacks;
@@ -89,7 +89,7 @@ pub(super) fn erase_kept<CB: Callbacks>(grid: &mut Grid, reporter: &mut Reporter
     requires { IsAllocated grid.old }
     ensures grid { grid.new ≡ scrollback_erased grid.old }
     ensures same { reporter.new.callbacks.ghost_name ≡ reporter.old.callbacks.ghost_name }
-    ensures hears { Hears CB.scrolls reporter.old.callbacks.now
+    ensures receives { Receives CB.scrolls reporter.old.callbacks.now
         (reports_of reporter.old.alternate_screen grid.old.kept.rows) reporter.new.callbacks.now }
     ensures allocated { IsAllocated grid.new }
 {
@@ -105,7 +105,7 @@ fn resize<CB: Callbacks>(
 ) -> Result<(), GridError>
     ensures grid { OnOk result (grid.new ≡ (resized grid.old size.rows.value size.cols.value).grid) }
     ensures same { reporter.new.callbacks.ghost_name ≡ reporter.old.callbacks.ghost_name }
-    ensures hears { Hears CB.scrolls reporter.old.callbacks.now
+    ensures receives { Receives CB.scrolls reporter.old.callbacks.now
         (reports_of reporter.old.alternate_screen (resized grid.old size.rows.value size.cols.value).sunk)
         reporter.new.callbacks.now }
     ensures rows { OnOk result (grid.new.height ≡ size.rows.value) }
@@ -121,7 +121,7 @@ fn resize<CB: Callbacks>(
 }
 
 /// Another size of the main sheet, and then of the alternate one.
-#[tactic(auto, using(crate::proofs::HearLemmas::hears_append))]
+#[tactic(auto, using(crate::proofs::HearLemmas::receives_append))]
 pub(super) fn resize_both<CB: Callbacks>(
     main: &mut Grid,
     alternate: &mut Grid,
@@ -130,11 +130,11 @@ pub(super) fn resize_both<CB: Callbacks>(
 ) -> Result<(), GridError>
     ensures main { OnOk result (main.new ≡ (resized main.old size.rows.value size.cols.value).grid) }
     ensures alternate { OnOk result (alternate.new ≡ (resized alternate.old size.rows.value size.cols.value).grid) }
-    ensures hears { OnOk result (Hears CB.scrolls callbacks.old
+    ensures receives { OnOk result (Receives CB.scrolls callbacks.old
         (reports_of false (resized main.old size.rows.value size.cols.value).sunk
         ++ reports_of true (resized alternate.old size.rows.value size.cols.value).sunk)
         callbacks.new) }
-    ensures told { OnErr result (HearsFront CB.scrolls callbacks.old
+    ensures reported { OnErr result (ReceivesPrefix CB.scrolls callbacks.old
         (reports_of false (resized main.old size.rows.value size.cols.value).sunk
         ++ reports_of true (resized alternate.old size.rows.value size.cols.value).sunk)
         callbacks.new) }

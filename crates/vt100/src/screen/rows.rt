@@ -2,7 +2,7 @@
 ghost use Rattle.std.specs.Prelude.{◌≡◌, ◌+◌, ◌<◌, ◌^◌, length, false, None, string_bytes, encode_utf8_all};
 ghost use Rattle.std.specs.Iterator.{item_count};
 ghost use Rattle.vt100_forms.specs.Attrs.{default_attrs};
-ghost use Rattle.vt100_forms.specs.Form.{spell};
+ghost use Rattle.vt100_forms.specs.Form.{bytes_of};
 ghost use Rattle.vt100_rows.specs.Forms.{formatted, differing};
 ghost use Rattle.vt100_rows.specs.Text.{row_text};
 ghost use Rattle.vt100.specs.Rows.{each_row};
@@ -121,7 +121,7 @@ fn formatted_of(
     i: u16,
     wrapping: bool,
 ) -> Result<String, ScreenError>
-    ensures { Gives (spell (formatted row.now start width i wrapping None None).forms) result }
+    ensures { Gives (bytes_of (formatted row.now start width i wrapping None None).forms) result }
 {
     let mut contents = String::new(alloc);
     row.write_contents_formatted(&mut contents, start, width, i, wrapping, None, None)?;
@@ -137,7 +137,7 @@ fn difference_of(
     width: u16,
     i: u16,
 ) -> Result<String, ScreenError>
-    ensures { Gives (spell (differing row.now prev.now start width i false false (record { row = i; col = start })
+    ensures { Gives (bytes_of (differing row.now prev.now start width i false false (record { row = i; col = start })
         default_attrs).forms) result }
 {
     let mut contents = String::new(alloc);

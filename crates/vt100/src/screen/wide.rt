@@ -2,7 +2,7 @@
 ghost use Rattle.std.specs.Prelude.{◌≡◌, ◌<◌, ◌≤◌, ◌+◌, ◌++◌, ◌∷◌, [], IfSome, IfNone, IsTrue, All, length};
 ghost use Rattle.std.specs.Str.{chars};
 ghost use Rattle.vt100_core.specs.Text.{IsWide};
-ghost use Rattle.vt100.specs.Runs.{IsHandled, PrintsFront};
+ghost use Rattle.vt100.specs.Runs.{IsHandled, PrintsPrefix};
 
 use crate::callbacks::Callbacks;
 use crate::screen::WrappedScreen;
@@ -18,7 +18,7 @@ impl<CB: Callbacks> WrappedScreen<CB> {
     /// there is none, or no room for one in a row, nothing is done.
     pub(crate) fn print_wide<'a>(&mut self, text: &'a str) -> Option<&'a str>
         ensures shorter { IfSome result (λ rest. length rest.now < length text.now) }
-        ensures printed { IfSome result (λ rest. PrintsFront CB.step CB.scrolls text.now rest.now self.old.callbacks
+        ensures printed { IfSome result (λ rest. PrintsPrefix CB.step CB.scrolls text.now rest.now self.old.callbacks
             self.old.screen self.new.callbacks self.new.screen) }
         ensures none { IfNone result (self.new ≡ self.old) }
     {

@@ -1,6 +1,6 @@
 //! What a screen shows, as forms for a terminal.
 ghost use Rattle.std.specs.Prelude.{◌≡◌, [], OnErr, IfOk, IsOk, Err, string_bytes, if◌then◌else◌};
-ghost use Rattle.vt100_forms.specs.Form.{spell};
+ghost use Rattle.vt100_forms.specs.Form.{bytes_of};
 ghost use Rattle.vt100_cells.specs.Cell.{bool_eq};
 ghost use Rattle.screen_drawing.specs.Modes.{input_mode_formatted, input_mode_diff, attributes_formatted};
 ghost use Rattle.screen_drawing.specs.Screen as picture;
@@ -107,7 +107,7 @@ impl Screen {
 
     fn write_contents_diff(&self, contents: &mut String, prev: &Self) -> Result<(), GridError>
         ensures text { Writes (contents_diff prev.now.state self.now.state) contents.old result contents.new }
-        ensures empty { spell (contents_diff prev.now.state self.now.state) ≡ [] → IsOk result }
+        ensures empty { bytes_of (contents_diff prev.now.state self.now.state) ≡ [] → IsOk result }
     {
         let hiding = HideCursor::new(self.hide_cursor);
         write_change(contents, prev.hide_cursor, self.hide_cursor, &hiding)?;
@@ -171,7 +171,7 @@ impl Screen {
     fn write_input_mode_diff(&self, contents: &mut String, prev: &Self) -> Result<(), GridError>
         ensures text { Writes (input_mode_diff (shown_state prev.now.state) (shown_state self.now.state)) contents.old
             result contents.new }
-        ensures empty { spell (input_mode_diff (shown_state prev.now.state) (shown_state self.now.state)) ≡ []
+        ensures empty { bytes_of (input_mode_diff (shown_state prev.now.state) (shown_state self.now.state)) ≡ []
             → IsOk result }
     {
         let keypad = ApplicationKeypad::new(self.application_keypad);
@@ -202,7 +202,7 @@ impl Screen {
 
     /// The escape sequences that set the attributes with which a terminal draws, whatever they were before.
     pub fn attributes_formatted(&self) -> Result<String, ScreenError>
-        ensures { Gives (spell (attributes_formatted (shown_state self.now.state))) result }
+        ensures { Gives (bytes_of (attributes_formatted (shown_state self.now.state))) result }
     {
         let mut contents = String::new(self.alloc);
         self.write_attributes_formatted(&mut contents)?;
@@ -221,9 +221,9 @@ impl Screen {
     /// afterwards.
     pub fn cursor_state_formatted(&self) -> Result<String, ScreenError>
         ensures text { IfOk result (λ contents. string_bytes contents
-            ≡ spell (cursor_state_formatted self.now.state)) }
+            ≡ bytes_of (cursor_state_formatted self.now.state)) }
         ensures shown { IsUnscrolled self.now.state → IfOk result (λ contents. string_bytes contents
-            ≡ spell (picture.cursor_state_formatted (grid_size self.now.state.shown) (shown_state self.now.state))) }
+            ≡ bytes_of (picture.cursor_state_formatted (grid_size self.now.state.shown) (shown_state self.now.state))) }
         ensures memory { OnErr result (result ≡ Err Memory) }
     {
         let mut contents = String::new(self.alloc);
@@ -248,7 +248,7 @@ fn write_change<F: BufWrite>(
     form: &F,
 ) -> Result<(), GridError>
     ensures text { Writes (if bool_eq now prev then [] else F.forms form.now) contents.old result contents.new }
-    ensures empty { spell (if bool_eq now prev then [] else F.forms form.now) ≡ [] → IsOk result }
+    ensures empty { bytes_of (if bool_eq now prev then [] else F.forms form.now) ≡ [] → IsOk result }
 {
     if now == prev {
         return Ok(());

@@ -1,6 +1,6 @@
 //! Escape sequences that set attributes (SGR: ECMA-48, and xterm's for colours).
 ghost use Rattle.std.specs.Prelude.{◌≡◌, ◌≤◌, ◌<◌, ◌+◌, ◌*◌, length, List, [], ◌∷◌, ◌++◌};
-ghost use Rattle.vt100_forms.specs.Form.{Form, spell};
+ghost use Rattle.vt100_forms.specs.Form.{Form, bytes_of};
 ghost use Rattle.vt100_forms.specs.Form.{changed_color, changed_intensity, changed_flag, color_part, flag_part};
 ghost use Rattle.vt100_forms.specs.Form.{further_numbers};
 ghost use Rattle.arrayvec.specs.ArrayVec.{array_vec_len};
@@ -208,7 +208,7 @@ impl Attrs {
     #[inline(always)]
     pub(crate) fn push_to(&self, run: &mut TextRun)
         requires { length run.old + 58 ≤ 128 }
-        ensures bytes { run.new ≡ run.old ++ spell (Form.Sgr self.now ∷ []) }
+        ensures bytes { run.new ≡ run.old ++ bytes_of (Form.Sgr self.now ∷ []) }
         ensures len { length run.new ≤ length run.old + 58 }
     {
         let mut numbers = Numbers::new();

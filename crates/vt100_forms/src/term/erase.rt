@@ -1,6 +1,6 @@
 //! Escape sequences that erase (ECMA-48).
 ghost use Rattle.std.specs.Prelude.{◌≡◌, List, [], ◌∷◌};
-ghost use Rattle.vt100_forms.specs.Form.{Form, spell};
+ghost use Rattle.vt100_forms.specs.Form.{Form, bytes_of};
 
 use super::{BufWrite, FormText, counted};
 use std::marker::Model;

@@ -1,6 +1,6 @@
 //! Escape sequences that set the terminal's modes, hide the cursor and set its style (the VT100's and xterm's).
 ghost use Rattle.std.specs.Prelude.{◌≡◌, List, [], ◌∷◌};
-ghost use Rattle.vt100_forms.specs.Form.{Form, spell};
+ghost use Rattle.vt100_forms.specs.Form.{Form, bytes_of};
 ghost use Rattle.vt100_forms.specs.Form.{mouse_number, encoding_number, style_number, mode_change};
 
 use super::{BufWrite, FormText};

@@ -1,6 +1,6 @@
 //! Escape sequences that move, save and restore the cursor (ECMA-48, the VT100's).
 ghost use Rattle.std.specs.Prelude.{◌≡◌, ◌≤◌, ◌+◌, length, List, [], ◌∷◌, ◌++◌};
-ghost use Rattle.vt100_forms.specs.Form.{Form, spell};
+ghost use Rattle.vt100_forms.specs.Form.{Form, bytes_of};
 
 use super::{BufWrite, FormText, counted, push_count, push_counted};
 use crate::error::GridError;
@@ -85,7 +85,7 @@ impl MoveTo {
     /// Appends the escape sequence's bytes to `run`.
     fn push_to(&self, run: &mut TextRun)
         requires { length run.old + 14 ≤ 128 }
-        ensures bytes { run.new ≡ run.old ++ spell (self.now ∷ []) }
+        ensures bytes { run.new ≡ run.old ++ bytes_of (self.now ∷ []) }
         ensures len { length run.new ≤ length run.old + 14 }
     {
         run.push_ascii(b'\x1b');
@@ -180,7 +180,7 @@ impl MoveFromTo {
     #[doc(hidden)]
     pub fn push_to(&self, run: &mut TextRun)
         requires { length run.old + 14 ≤ 128 }
-        ensures bytes { run.new ≡ run.old ++ spell self.now }
+        ensures bytes { run.new ≡ run.old ++ bytes_of self.now }
         ensures len { length run.new ≤ length run.old + 14 }
     {
         if u32::from(self.to.row) == u32::from(self.from.row) + 1 && self.to.col == 0 {

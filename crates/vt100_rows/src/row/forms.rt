@@ -1,7 +1,7 @@
 //! A row as forms.
 ghost use Rattle.std.specs.Prelude.{◌≡◌, ◌+◌, ◌<◌, ◌++◌, length, is_ok, OnOk, IfOk, OnErr};
 ghost use Rattle.std.specs.Prelude.{string_bytes, string_len, string_capacity};
-ghost use Rattle.vt100_forms.specs.Form.{spell};
+ghost use Rattle.vt100_forms.specs.Form.{bytes_of};
 ghost use Rattle.row_drawing.specs.Writes.{Writes};
 ghost use Rattle.vt100_rows.specs.Forms.{redraw, pen_before, formatted, difference, differing};
 ghost use Rattle.row_drawing.specs.Writes.{IsBegun};
@@ -34,16 +34,16 @@ impl Row {
         prev_attrs: Option<Attrs>,
     ) -> Result<(Pos, Attrs), GridError>
         ensures text { OnOk result (string_bytes contents.new ≡ string_bytes contents.old
-            ++ spell (formatted self.now start width row wrapping prev_pos prev_attrs).forms) }
+            ++ bytes_of (formatted self.now start width row wrapping prev_pos prev_attrs).forms) }
         ensures pos { IfOk result (λ answer. answer.0
             ≡ (formatted self.now start width row wrapping prev_pos prev_attrs).pen.pos) }
         ensures attrs { IfOk result (λ answer. answer.1
             ≡ (formatted self.now start width row wrapping prev_pos prev_attrs).pen.attrs) }
         ensures begun { OnErr result (IsBegun (string_bytes contents.old)
-            (spell (formatted self.now start width row wrapping prev_pos prev_attrs).forms)
+            (bytes_of (formatted self.now start width row wrapping prev_pos prev_attrs).forms)
             (string_bytes contents.new)) }
         ensures full { OnErr result (string_capacity contents.old < string_len contents.old
-            + length (spell (formatted self.now start width row wrapping prev_pos prev_attrs).forms)) }
+            + length (bytes_of (formatted self.now start width row wrapping prev_pos prev_attrs).forms)) }
     {
         let mut pen = self.pen_at(start, row, wrapping, prev_pos, prev_attrs);
         self.redraw(contents, &mut pen, start, width, row, wrapping)?;
@@ -73,16 +73,16 @@ impl Row {
         prev_pos: Pos,
         prev_attrs: Attrs,
     ) -> Result<(Pos, Attrs), GridError>
-        ensures text { OnOk result (string_bytes contents.new ≡ string_bytes contents.old ++ spell
+        ensures text { OnOk result (string_bytes contents.new ≡ string_bytes contents.old ++ bytes_of
             (differing self.now prev.now start width row wrapping prev_wrapping prev_pos prev_attrs).forms) }
         ensures pos { IfOk result (λ answer. answer.0
             ≡ (differing self.now prev.now start width row wrapping prev_wrapping prev_pos prev_attrs).pen.pos) }
         ensures attrs { IfOk result (λ answer. answer.1
             ≡ (differing self.now prev.now start width row wrapping prev_wrapping prev_pos prev_attrs).pen.attrs) }
-        ensures begun { OnErr result (IsBegun (string_bytes contents.old) (spell
+        ensures begun { OnErr result (IsBegun (string_bytes contents.old) (bytes_of
             (differing self.now prev.now start width row wrapping prev_wrapping prev_pos prev_attrs).forms)
             (string_bytes contents.new)) }
-        ensures full { OnErr result (string_capacity contents.old < string_len contents.old + length (spell
+        ensures full { OnErr result (string_capacity contents.old < string_len contents.old + length (bytes_of
             (differing self.now prev.now start width row wrapping prev_wrapping prev_pos prev_attrs).forms)) }
     {
         let mut pen = Pen {

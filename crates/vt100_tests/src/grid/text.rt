@@ -70,7 +70,7 @@ fn printed(grid: &mut Grid, c: char) -> Option<Printed>
 #[test]
 fn tells_what_was_printed(rt: HostRuntime) -> Result<(), Fail> {
     let mut grid = grid(rt.alloc(), (1, 3, None))?;
-    let told = [
+    let reported = [
         printed(&mut grid, '\u{301}'),
         printed(&mut grid, 'e'),
         printed(&mut grid, '\u{301}'),
@@ -79,7 +79,7 @@ fn tells_what_was_printed(rt: HostRuntime) -> Result<(), Fail> {
     let (nothing, spacing, joined) = (Printed::Nothing, Printed::Spacing, Printed::Joined);
     same(
         &rt,
-        &told,
+        &reported,
         &[Some(nothing), Some(spacing), Some(joined), Some(nothing)],
     );
     check(&rt, &grid, "e\u{301}../ 0 1")

@@ -39,8 +39,8 @@ fn blank_cells(row: &Row) -> u32 {
 fn rows_of_any_width_are_made(rt: HostRuntime) -> Result<(), Fail> {
     for cols in [0, 1, 80, 4_096, 65_535] {
         let row = retried_row(rt.alloc(), cols, "")?;
-        let told = (row.cols(), blank_cells(&row), row.wrapped());
-        same(&rt, &told, &(cols, u32::from(cols), false));
+        let reported = (row.cols(), blank_cells(&row), row.wrapped());
+        same(&rt, &reported, &(cols, u32::from(cols), false));
     }
     Ok(())
 }
@@ -131,8 +131,8 @@ fn rows_become_as_long_as_can_be(rt: HostRuntime) -> Result<(), Fail> {
     for edit in [Edit::Grow(65_535), Edit::Resize(65_535)] {
         let mut row = wrapped_row(rt.alloc(), 2, "ab")?;
         retried_edit(&rt, &mut row, edit, "ab>")?;
-        let told = (row.cols(), blank_cells(&row), row.wrapped());
-        same(&rt, &told, &(65_535, 65_533, false));
+        let reported = (row.cols(), blank_cells(&row), row.wrapped());
+        same(&rt, &reported, &(65_535, 65_533, false));
     }
     Ok(())
 }

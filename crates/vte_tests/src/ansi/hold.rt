@@ -132,8 +132,8 @@ const SET_AGAIN: &[(Piece, usize)] = &[
 
 fn check_sets(rt: &(impl Abort + AllocGlobal), processor: &mut Processor, log: &mut Log) {
     for (piece, sets) in SET_AGAIN {
-        let told = takes(rt, processor, log, *piece);
-        same(rt, &told, sets);
+        let reported = takes(rt, processor, log, *piece);
+        same(rt, &reported, sets);
     }
     same(rt, &processor.sync_timeout().pending, &true);
 }
@@ -237,13 +237,17 @@ fn keeps_the_time_of_an_update(rt: HostRuntime) -> Result<(), Fail> {
     let timeout = StdSyncHandler::new(Still(Duration::from_secs(1)));
     let mut processor = ansi::Processor::new(rt.alloc(), timeout)?;
     for (piece, wanted, count) in HELD {
-        let told = time_after(&mut processor, &mut log, piece);
+        let reported = time_after(&mut processor, &mut log, piece);
         let end = if *count > 0 {
             Some(Duration::from_millis(1150))
         } else {
             None
         };
-        same(&rt, &(told, log.text.as_str()), &((*count, end), *wanted));
+        same(
+            &rt,
+            &(reported, log.text.as_str()),
+            &((*count, end), *wanted),
+        );
     }
     Ok(())
 }

@@ -14,7 +14,7 @@ type Row = (&'static [u8], &'static str);
 /// The front in one piece and the rest in pieces of so many bytes have these calls, and nothing is held.
 fn gives(
     rt: &(impl Abort + AllocGlobal),
-    front: &[u8],
+    prefix: &[u8],
     rest: &[u8],
     len: usize,
     wanted: &str,
@@ -23,13 +23,13 @@ fn gives(
 {
     let mut log = Log::new(rt);
     let mut processor = processor(rt.alloc())?;
-    feed(&mut processor, &mut log, front);
+    feed(&mut processor, &mut log, prefix);
     feed_all(&mut processor, &mut log, rest, len);
     let held = processor.sync_bytes_count();
     same(
         rt,
-        &(front, rest, log.failed, held, log.text.as_str()),
-        &(front, rest, false, 0, wanted),
+        &(prefix, rest, log.failed, held, log.text.as_str()),
+        &(prefix, rest, false, 0, wanted),
     );
     Ok(())
 }

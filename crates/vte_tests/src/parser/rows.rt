@@ -15,17 +15,17 @@ type Row = (&'static [u8], &'static str);
 fn reads<const N: usize>(
     rt: &(impl Abort + AllocGlobal),
     parser: &mut Parser<N>,
-    front: &[u8],
+    prefix: &[u8],
     back: &[u8],
     wanted: &str,
 ) {
     let mut log = Log::new(rt, Until::Never);
-    parser.advance(&mut log, front);
+    parser.advance(&mut log, prefix);
     parser.advance(&mut log, back);
     same(
         rt,
-        &(front, log.failed, log.text.as_str()),
-        &(front, false, wanted),
+        &(prefix, log.failed, log.text.as_str()),
+        &(prefix, false, wanted),
     );
 }
 

@@ -290,19 +290,19 @@ impl Reading {
 }
 
 /// The events that the parser gives.
-fn parsed(rt: &impl AllocGlobal, front: &[u8], byte: u8, end: &[u8]) -> Log {
+fn parsed(rt: &impl AllocGlobal, prefix: &[u8], byte: u8, end: &[u8]) -> Log {
     let mut log = Log::new(rt, Until::Never);
     let mut parser = Parser::new();
-    parser.advance(&mut log, front);
+    parser.advance(&mut log, prefix);
     parser.advance(&mut log, &[byte]);
     parser.advance(&mut log, end);
     log
 }
 
 /// The events that the table gives.
-fn read(rt: &impl AllocGlobal, front: &[u8], byte: u8, end: &[u8]) -> Log {
+fn read(rt: &impl AllocGlobal, prefix: &[u8], byte: u8, end: &[u8]) -> Log {
     let mut reading = Reading::new(rt);
-    reading.bytes(front);
+    reading.bytes(prefix);
     reading.byte(byte);
     reading.bytes(end);
     reading.log.failed |= reading.content.failed;
@@ -310,9 +310,9 @@ fn read(rt: &impl AllocGlobal, front: &[u8], byte: u8, end: &[u8]) -> Log {
 }
 
 /// The parser and the table give the same events.
-fn reads_alike(rt: &(impl Abort + AllocGlobal), front: &[u8], byte: u8, end: &[u8]) {
-    let log = parsed(rt, front, byte, end);
-    let wanted = read(rt, front, byte, end);
+fn reads_alike(rt: &(impl Abort + AllocGlobal), prefix: &[u8], byte: u8, end: &[u8]) {
+    let log = parsed(rt, prefix, byte, end);
+    let wanted = read(rt, prefix, byte, end);
     same(
         rt,
         &(byte, log.failed || wanted.failed, log.text.as_str()),
@@ -353,10 +353,10 @@ const FRONTS: &[&[u8]] = &[
 
 #[test]
 fn every_byte_in_every_state(rt: HostRuntime) {
-    for front in FRONTS {
+    for prefix in FRONTS {
         for byte in 0..=255u8 {
-            reads_alike(&rt, front, byte, b"7mx\x18y");
-            reads_alike(&rt, front, byte, b"?mx\x1bc");
+            reads_alike(&rt, prefix, byte, b"7mx\x18y");
+            reads_alike(&rt, prefix, byte, b"?mx\x1bc");
         }
     }
 }

@@ -44,8 +44,8 @@ fn events(log: &mut Log, bytes: &[u8]) {
     let mut rest = bytes;
     for _ in 0..=bytes.len() {
         let (valid, error_len) = parts_of(rest);
-        let front = rest.get(..valid).unwrap_or(&[]);
-        characters(log, str::from_utf8(front).unwrap_or(""));
+        let prefix = rest.get(..valid).unwrap_or(&[]);
+        characters(log, str::from_utf8(prefix).unwrap_or(""));
         let Some(len) = error_len else {
             return;
         };
@@ -56,22 +56,22 @@ fn events(log: &mut Log, bytes: &[u8]) {
 }
 
 /// The events of bytes in two pieces.
-fn parsed(rt: &impl AllocGlobal, front: &[u8], back: &[u8]) -> Log {
+fn parsed(rt: &impl AllocGlobal, prefix: &[u8], back: &[u8]) -> Log {
     let mut log = Log::new(rt, Until::Never);
     let mut parser = Parser::new();
-    parser.advance(&mut log, front);
+    parser.advance(&mut log, prefix);
     parser.advance(&mut log, back);
     log
 }
 
 /// The bytes in two pieces have the events that were wanted of them.
-fn agrees_cut(rt: &(impl Abort + AllocGlobal), front: &[u8], back: &[u8], wanted: &Log) {
-    let log = parsed(rt, front, back);
+fn agrees_cut(rt: &(impl Abort + AllocGlobal), prefix: &[u8], back: &[u8], wanted: &Log) {
+    let log = parsed(rt, prefix, back);
     let failed = log.failed || wanted.failed;
     same(
         rt,
-        &(front, failed, log.text.as_str()),
-        &(front, false, wanted.text.as_str()),
+        &(prefix, failed, log.text.as_str()),
+        &(prefix, false, wanted.text.as_str()),
     );
 }
 

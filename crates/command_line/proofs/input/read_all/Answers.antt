@@ -40,16 +40,16 @@ returns-then-ne-clause-faults g c =
 
 pub returns-then-ne-clause-lost : goal.returns-then-ne-clause-lost
 returns-then-ne-clause-lost g c =
-    let told = returns-then-ne-clause-faults g c in
-    (told.0, taken g.S.Source.left g.met.S.Source.tells c.args.input.now c.give.new.self (2 ^ 40) told.0 _ told.1)
+    let reported = returns-then-ne-clause-faults g c in
+    (reported.0, taken g.S.Source.left g.met.S.Source.tells c.args.input.now c.give.new.self (2 ^ 40) reported.0 _ reported.1)
 
 pub returns-clause-faults : goal.returns-clause-faults
 returns-clause-faults g c = (_, at_most c.reads.invariant.goes_on (omega (arith, c.reads-test.false)))
 
 pub returns-clause-lost : goal.returns-clause-lost
 returns-clause-lost g c =
-    let told = returns-clause-faults g c in
-    (told.0, taken g.S.Source.left g.met.S.Source.tells c.args.input.now c.reads.input (2 ^ 40) told.0 _ told.1)
+    let reported = returns-clause-faults g c in
+    (reported.0, taken g.S.Source.left g.met.S.Source.tells c.args.input.now c.reads.input (2 ^ 40) reported.0 _ reported.1)
 
 pub returns-in_err-extend_from_slice-in-Ok-clause-faults : goal.returns-in_err-extend_from_slice-in-Ok-clause-faults
 returns-in_err-extend_from_slice-in-Ok-clause-faults g c =
@@ -70,10 +70,10 @@ returns-in_err-extend_from_slice-in-Ok-clause-lost g c =
     × Drains g.S.Source.gives 65536 c.args.input.now (2 ^ 40) lost (Err e) c.give.new.self)
     → IfErr r (λ e. (lost : List ℕ)
     × Consumes (g.S.Source.left c.args.input.now) (g.S.Source.left c.give.new.self) lost)) [
-      | Ok x ↦ λ told. tt
-      | Err e ↦ λ told.
+      | Ok x ↦ λ reported. tt
+      | Err e ↦ λ reported.
           let read = taken g.S.Source.left g.met.S.Source.tells c.args.input.now c.give.new.self (2 ^ 40) in
-          (told.0, read told.0 (Err e) told.1)
+          (reported.0, read reported.0 (Err e) reported.1)
     ] (returns-in_err-extend_from_slice-in-Ok-clause-faults g c)
 
 pub reads-preserved : goal.reads-preserved

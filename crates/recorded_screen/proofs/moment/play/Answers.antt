@@ -1,6 +1,6 @@
 use Rattle.std.proofs.Common.{◌≡◌, ◌++◌, ◌+◌, ◌∷◌, [], sym, ap, ◌∙◌, append_assoc, take, subst}
 use Rattle.std.proofs.lemmas.List.{take_more}
-use Rattle.vt100.specs.Parsing.{ParserStandsAt}
+use Rattle.vt100.specs.Parsing.{ParserIsAfter}
 use Rattle.recorded_screen.specs.Moment.{acts_until}
 use Rattle.recorded_screen.proofs.MomentLemmas.{acts_until-append}
 use Rattle.recorded_screen.proofs.moment.play.Goals as goal
@@ -8,7 +8,7 @@ use Rattle.recorded_screen.proofs.moment.play.Goals as goal
 pub loop-event-preserved : goal.loop-event-preserved
 loop-event-preserved c = record {
   live = c.in_ok-step.ensures.live;
-  shows = λ rows cols capacity acts stands.
+  shows = λ rows cols capacity acts state_after.
       let es = c.args.events.now in
       let i = c.loop-event.event-index in
       let m = c.args.moment in
@@ -18,7 +18,7 @@ loop-event-preserved c = record {
       let joined : acts ++ acts_until m (take (i + 1) es) ≡ (acts ++ acts_until m (take i es)) ++ acts_until m (e ∷ []) =
       ap (λ xs. acts ++ acts_until m xs) more ∙ ap (λ ys. acts ++ ys) (acts_until-append m (take i es) (e ∷ []))
       ∙ sym (append_assoc acts (acts_until m (take i es)) (acts_until m (e ∷ []))) in
-      subst (λ xs. ParserStandsAt c.step.new.parser rows cols capacity xs) (sym joined)
+      subst (λ xs. ParserIsAfter c.step.new.parser rows cols capacity xs) (sym joined)
       (c.in_ok-step.ensures.shows rows cols capacity (acts ++ acts_until m (take i es))
-      (c.loop-event.invariant.shows rows cols capacity acts stands));
+      (c.loop-event.invariant.shows rows cols capacity acts state_after));
 }

@@ -1,5 +1,5 @@
 use Rattle.std.proofs.Common.{◌≡◌, ◌++◌, ℕ, false, List, take}
-use Rattle.vt100.specs.Parsing.{ParserStandsAt}
+use Rattle.vt100.specs.Parsing.{ParserIsAfter}
 use Rattle.screen_model.specs.Made.{Act}
 use Rattle.recorded_screen.specs.Moment.{acts_until}
 use Rattle.recorded_screen.proofs.moment.play.Given as goal
@@ -8,6 +8,6 @@ use Rattle.recorded_screen.proofs.moment.play.Given as goal
 abbrev pub invariant-loop-event : goal.invariant-loop-event
 invariant-loop-event l = record {
   live : l.parser.screen.failed ≡ false;
-  shows : (rows cols capacity : ℕ) (acts : List Act) → ParserStandsAt l.fn.parser rows cols capacity acts
-      → ParserStandsAt l.parser rows cols capacity (acts ++ acts_until l.moment (take l.event-index l.events));
+  shows : (rows cols capacity : ℕ) (acts : List Act) → ParserIsAfter l.fn.parser rows cols capacity acts
+      → ParserIsAfter l.parser rows cols capacity (acts ++ acts_until l.moment (take l.event-index l.events));
 }

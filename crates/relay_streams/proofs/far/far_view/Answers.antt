@@ -4,7 +4,7 @@ use Rattle.std.proofs.lemmas.Option.{slice_get_past, slice_get-get_or}
 use Rattle.termrelay.specs.Calls.{call_of}
 use Rattle.termrelay.specs.Log.{LogView, SessionView, MadeAll, empty_log}
 use Rattle.termrelay.specs.declared.call.Reply.{Reply}
-use Rattle.relay_theorem.specs.Isolation.{is_starved}
+use Rattle.relay_theorem.specs.Isolation.{is_out_of_memory}
 use Rattle.relay_streams.proofs.FarLemmas.{none-found, one-found, shows-judged}
 use Rattle.relay_streams.proofs.far.far_view.Goals as goal
 
@@ -16,9 +16,9 @@ returns-clause-view c =
     let calls = map call_of c.args.calls.now in
     let ran : MadeAll h empty_log calls g m =
     subst (λ (l : LogView). MadeAll h l calls g m) c.new-log.ensures c.in_ok-run.ensures in
-    let fed : list_any is_starved m.replies ≡ false =
-    ap (λ (rs : List Reply). list_any is_starved rs) (sym c.replies.ensures)
-    ∙ sym c.has_starved.ensures ∙ c.if-has_starved.false in
+    let fed : list_any is_out_of_memory m.replies ≡ false =
+    ap (λ (rs : List Reply). list_any is_out_of_memory rs) (sym c.replies.ensures)
+    ∙ sym c.ran_out_of_memory.ensures ∙ c.if-ran_out_of_memory.false in
     let is : slice_get m.sessions c.args.session ≡ None =
     ap (λ (xs : List SessionView). slice_get xs c.args.session) (sym c.sessions.ensures)
     ∙ slice_get_past c.sessions.result.now c.args.session c.in-None.ensures.lookup.3 in
@@ -35,9 +35,9 @@ returns-in-Some c =
     let v = c.in_ok-view_session-in-Some.field-0 in
     let ran : MadeAll h empty_log calls g m =
     subst (λ (l : LogView). MadeAll h l calls g m) c.new-log.ensures c.in_ok-run.ensures in
-    let fed : list_any is_starved m.replies ≡ false =
-    ap (λ (rs : List Reply). list_any is_starved rs) (sym c.replies.ensures)
-    ∙ sym c.has_starved.ensures ∙ c.if-has_starved.false in
+    let fed : list_any is_out_of_memory m.replies ≡ false =
+    ap (λ (rs : List Reply). list_any is_out_of_memory rs) (sym c.replies.ensures)
+    ∙ sym c.ran_out_of_memory.ensures ∙ c.if-ran_out_of_memory.false in
     let lookup = c.in-Some.ensures.lookup in
     let is : slice_get m.sessions c.args.session ≡ Some s =
     ap (λ (xs : List SessionView). slice_get xs c.args.session) (sym c.sessions.ensures)

@@ -2,7 +2,7 @@ use Rattle.std.proofs.Common.{◌≡◌, ◌∙◌, ap, Err, arith, rules}
 use Rattle.relay_streams.specs.declared.error.RelayError.TheVariants.{Memory}
 use Rattle.relay_streams.specs.Live.{RelaysLive, refused, streamed}
 use Rattle.relay_streams.specs.Turns.{fault_of}
-use Rattle.relay_streams.proofs.LiveLemmas.{live-told}
+use Rattle.relay_streams.proofs.LiveLemmas.{live-reported}
 use Rattle.relay_streams.proofs.StreamLemmas.{attach-refused}
 use Rattle.relay_streams.proofs.TurnLemmas.{first-attached}
 use Rattle.relay_streams.proofs.live.relay_live.Goals as goal
@@ -10,12 +10,12 @@ use Rattle.relay_streams.proofs.live.relay_live.Goals as goal
 pub returns-in_err-hub : goal.returns-in_err-hub
 returns-in_err-hub g c =
     let is : c.from_residual.result ≡ Err Memory = search rules in
-    let r : RelaysLive g.S.Source.gives g.W.Taker.takes g.W.Sink.flushes c.args.rows.value c.args.cols.value
+    let r : RelaysLive g.S.Source.gives g.W.ByteSink.takes g.W.FlushSink.flushes c.args.rows.value c.args.cols.value
     c.args.input.now c.args.output.now c.from_residual.result c.args.input.now c.args.output.now = rw is refused in
-    let told = live-told g.row.S.Denot g.row.W.Denot g.S.Source.gives g.W.Taker.takes g.W.Sink.flushes
-    g.W.Sink.contents g.S.Source.left g.met.S.Source.tells g.met.W.Sink.tells g.met.W.Sink.keeps c.args.rows.value
+    let reported = live-reported g.row.S.Denot g.row.W.Denot g.S.Source.gives g.W.ByteSink.takes g.W.FlushSink.flushes
+    g.W.FlushSink.contents g.S.Source.left g.met.S.Source.tells g.met.W.FlushSink.tells g.met.W.FlushSink.keeps c.args.rows.value
     c.args.cols.value _ _ _ _ _ (c.args.rows.ok, omega arith) (c.args.cols.ok, omega arith) r in
-    record { relays = r; text = told.0; front = told.1 }
+    record { relays = r; text = reported.0; prefix = reported.1 }
 
 pub returns-in_err-client : goal.returns-in_err-client
 returns-in_err-client g c =
@@ -23,13 +23,13 @@ returns-in_err-client g c =
     let none = attach-refused c.in_ok-hub.hub c.attach.new.self e c.in_err-client.ensures in
     let fault : c.from_residual-in_err-client.result ≡ Err (fault_of e) = search rules in
     let is : c.from_residual-in_err-client.result ≡ Err Memory = fault ∙ ap Err none in
-    let r : RelaysLive g.S.Source.gives g.W.Taker.takes g.W.Sink.flushes c.args.rows.value c.args.cols.value
+    let r : RelaysLive g.S.Source.gives g.W.ByteSink.takes g.W.FlushSink.flushes c.args.rows.value c.args.cols.value
     c.args.input.now c.args.output.now c.from_residual-in_err-client.result c.args.input.now c.args.output.now =
     rw is refused in
-    let told = live-told g.row.S.Denot g.row.W.Denot g.S.Source.gives g.W.Taker.takes g.W.Sink.flushes
-    g.W.Sink.contents g.S.Source.left g.met.S.Source.tells g.met.W.Sink.tells g.met.W.Sink.keeps c.args.rows.value
+    let reported = live-reported g.row.S.Denot g.row.W.Denot g.S.Source.gives g.W.ByteSink.takes g.W.FlushSink.flushes
+    g.W.FlushSink.contents g.S.Source.left g.met.S.Source.tells g.met.W.FlushSink.tells g.met.W.FlushSink.keeps c.args.rows.value
     c.args.cols.value _ _ _ _ _ (c.args.rows.ok, omega arith) (c.args.cols.ok, omega arith) r in
-    record { relays = r; text = told.0; front = told.1 }
+    record { relays = r; text = reported.0; prefix = reported.1 }
 
 pub returns : goal.returns
 returns g c =
@@ -37,7 +37,7 @@ returns g c =
     c.attach.new.self (c.args.rows.ok, omega arith) (c.args.cols.ok, omega arith) c.in_ok-hub.ensures.new
     c.in_ok-client.ensures in
     let r = streamed (c.relay_reads.ensures c.args.rows.value c.args.cols.value at) in
-    let told = live-told g.row.S.Denot g.row.W.Denot g.S.Source.gives g.W.Taker.takes g.W.Sink.flushes
-    g.W.Sink.contents g.S.Source.left g.met.S.Source.tells g.met.W.Sink.tells g.met.W.Sink.keeps c.args.rows.value
+    let reported = live-reported g.row.S.Denot g.row.W.Denot g.S.Source.gives g.W.ByteSink.takes g.W.FlushSink.flushes
+    g.W.FlushSink.contents g.S.Source.left g.met.S.Source.tells g.met.W.FlushSink.tells g.met.W.FlushSink.keeps c.args.rows.value
     c.args.cols.value _ _ _ _ _ (c.args.rows.ok, omega arith) (c.args.cols.ok, omega arith) r in
-    record { relays = r; text = told.0; front = told.1 }
+    record { relays = r; text = reported.0; prefix = reported.1 }

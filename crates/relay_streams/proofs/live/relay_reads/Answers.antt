@@ -49,7 +49,7 @@ returns-in_err-turn g c = λ rows cols at.
     let fault = c.in_err-turn.field-0.0 in
     let is : c.from_residual-in_err-turn.result ≡ Err fault = search rules in
     let read = listens-on c.read_some.ensures whole n c.in_ok-n.was (omega arith) c.read_some.auto.room so_far.read in
-    rw is (live-faults g.row.S.Denot g.row.W.Denot g.S.Source.gives g.W.Taker.takes g.W.Sink.flushes rows cols
+    rw is (live-faults g.row.S.Denot g.row.W.Denot g.S.Source.gives g.W.ByteSink.takes g.W.FlushSink.flushes rows cols
     so_far.past piece c.args.client c.turn.new.hub c.args.input.now c.read_some.new.input c.args.output.now
     c.reads.output c.turn.new.output c.read_some.new.reads fault at.height at.width read (so_far.fits rows cols at)
     (so_far.sent rows cols at)
@@ -63,7 +63,7 @@ returns-in-Err g c = λ rows cols at.
     let piece : List ℕ = take n c.read_some.new.room in
     let pieces : List (List ℕ) = so_far.past ++ piece ∷ [] in
     let read = listens-on c.read_some.ensures whole n c.in_ok-n.was (omega arith) c.read_some.auto.room so_far.read in
-    let goes = live-goes g.row.S.Denot g.row.W.Denot g.S.Source.gives g.W.Taker.takes g.W.Sink.flushes rows cols
+    let goes = live-goes g.row.S.Denot g.row.W.Denot g.S.Source.gives g.W.ByteSink.takes g.W.FlushSink.flushes rows cols
     so_far.past piece c.args.client c.turn.new.hub c.args.output.now c.reads.output c.turn.new.output
     c.finish.new.self (Err c.in-Err.field-0) (so_far.fits rows cols at) (so_far.sent rows cols at)
     (c.in_ok-turn.ensures rows cols so_far.past (base_of rows cols so_far.past) (so_far.at rows cols at))
@@ -78,7 +78,7 @@ reads-preserved g c =
     let n = c.in_ok-n.n in
     let piece : List ℕ = take n c.read_some.new.room in
     let goes = λ (rows cols : ℕ) (at : Relaying rows cols [] None c.args.hub.now c.args.client).
-    live-goes g.row.S.Denot g.row.W.Denot g.S.Source.gives g.W.Taker.takes g.W.Sink.flushes rows cols
+    live-goes g.row.S.Denot g.row.W.Denot g.S.Source.gives g.W.ByteSink.takes g.W.FlushSink.flushes rows cols
     so_far.past piece c.args.client c.turn.new.hub c.args.output.now c.reads.output c.turn.new.output
     c.finish.new.self (Ok tt) (so_far.fits rows cols at) (so_far.sent rows cols at)
     (c.in_ok-turn.ensures rows cols so_far.past (base_of rows cols so_far.past) (so_far.at rows cols at))

@@ -18,7 +18,7 @@ invariant-reads g l = record {
   fits : (rows cols : ℕ) → Relaying rows cols [] None l.fn.hub l.fn.client
       → list_any is_overlong (answers_of rows cols past) ≡ false;
   sent : (rows cols : ℕ) → Relaying rows cols [] None l.fn.hub l.fn.client
-      → SendsFlushed g.W.Taker.takes g.W.Sink.flushes l.fn.output (frames_of rows cols past) (Ok tt) l.output;
+      → SendsFlushed g.W.ByteSink.takes g.W.FlushSink.flushes l.fn.output (frames_of rows cols past) (Ok tt) l.output;
 }
 
 abbrev pub decreases-reads : goal.decreases-reads

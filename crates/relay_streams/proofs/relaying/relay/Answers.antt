@@ -2,7 +2,7 @@ use Rattle.std.proofs.Common.{◌≡◌, Ok, Err, ap, ◌∙◌, rules, arith}
 use Rattle.relay_streams.specs.declared.error.RelayError.TheVariants.{Memory}
 use Rattle.relay_streams.specs.Relayed.{Relays, refused, broken, unflushed, written}
 use Rattle.relay_streams.specs.Turns.{fault_of}
-use Rattle.relay_streams.proofs.OutcomeLemmas.{relays-told}
+use Rattle.relay_streams.proofs.OutcomeLemmas.{relays-reported}
 use Rattle.relay_streams.proofs.StreamLemmas.{attach-refused}
 use Rattle.relay_streams.proofs.TurnLemmas.{first-attached}
 use Rattle.relay_streams.proofs.relaying.relay.Goals as goal
@@ -16,14 +16,14 @@ pub returns-in_err-client : goal.returns-in_err-client
 returns-in_err-client g c =
     let e = c.in_err-client.field-0.0 in
     let none = attach-refused c.in_ok-hub.hub c.attach.new.self e c.in_err-client.ensures in
-    let told : c.from_residual-in_err-client.result ≡ Err (fault_of e) = search rules in
-    let is : c.from_residual-in_err-client.result ≡ Err Memory = told ∙ ap Err none in
-    let r : Relays g.S.Source.gives g.W.Taker.takes g.W.Sink.flushes c.args.rows.value c.args.cols.value
+    let reported : c.from_residual-in_err-client.result ≡ Err (fault_of e) = search rules in
+    let is : c.from_residual-in_err-client.result ≡ Err Memory = reported ∙ ap Err none in
+    let r : Relays g.S.Source.gives g.W.ByteSink.takes g.W.FlushSink.flushes c.args.rows.value c.args.cols.value
     c.args.input.now c.args.output.now c.from_residual-in_err-client.result c.args.input.now c.args.output.now =
     rw is refused in
-    let told = relays-told g.row.S.Denot g.row.W.Denot g.S.Source.gives g.W.Taker.takes g.W.Sink.flushes
-    g.W.Sink.contents g.S.Source.left g.met.S.Source.tells g.met.W.Sink.tells g.met.W.Sink.keeps _ _ _ _ _ _ _ r in
-    record { relays = r; text = told.0; front = told.1; too_long = told.2 }
+    let reported = relays-reported g.row.S.Denot g.row.W.Denot g.S.Source.gives g.W.ByteSink.takes g.W.FlushSink.flushes
+    g.W.FlushSink.contents g.S.Source.left g.met.S.Source.tells g.met.W.FlushSink.tells g.met.W.FlushSink.keeps _ _ _ _ _ _ _ r in
+    record { relays = r; text = reported.0; prefix = reported.1; too_long = reported.2 }
 
 pub returns-in_err-relay_pieces : goal.returns-in_err-relay_pieces
 returns-in_err-relay_pieces g c =
@@ -32,26 +32,26 @@ returns-in_err-relay_pieces g c =
     c.attach.new.self (c.args.rows.ok, omega arith) (c.args.cols.ok, omega arith) c.in_ok-hub.ensures.new
     c.in_ok-client.ensures in
     let is : c.from_residual-in_err-relay_pieces.result ≡ Err e = search rules in
-    let r : Relays g.S.Source.gives g.W.Taker.takes g.W.Sink.flushes c.args.rows.value c.args.cols.value
+    let r : Relays g.S.Source.gives g.W.ByteSink.takes g.W.FlushSink.flushes c.args.rows.value c.args.cols.value
     c.args.input.now c.args.output.now c.from_residual-in_err-relay_pieces.result c.relay_pieces.new.input
     c.relay_pieces.new.output =
     rw is (broken e (c.in_err-relay_pieces.ensures c.args.rows.value c.args.cols.value at)) in
-    let told = relays-told g.row.S.Denot g.row.W.Denot g.S.Source.gives g.W.Taker.takes g.W.Sink.flushes
-    g.W.Sink.contents g.S.Source.left g.met.S.Source.tells g.met.W.Sink.tells g.met.W.Sink.keeps _ _ _ _ _ _ _ r in
-    record { relays = r; text = told.0; front = told.1; too_long = told.2 }
+    let reported = relays-reported g.row.S.Denot g.row.W.Denot g.S.Source.gives g.W.ByteSink.takes g.W.FlushSink.flushes
+    g.W.FlushSink.contents g.S.Source.left g.met.S.Source.tells g.met.W.FlushSink.tells g.met.W.FlushSink.keeps _ _ _ _ _ _ _ r in
+    record { relays = r; text = reported.0; prefix = reported.1; too_long = reported.2 }
 
 pub returns-in-Ok : goal.returns-in-Ok
 returns-in-Ok g c =
     let at = first-attached c.args.rows.value c.args.cols.value c.in_ok-client.client c.in_ok-hub.hub
     c.attach.new.self (c.args.rows.ok, omega arith) (c.args.cols.ok, omega arith) c.in_ok-hub.ensures.new
     c.in_ok-client.ensures in
-    let r : Relays g.S.Source.gives g.W.Taker.takes g.W.Sink.flushes c.args.rows.value c.args.cols.value
+    let r : Relays g.S.Source.gives g.W.ByteSink.takes g.W.FlushSink.flushes c.args.rows.value c.args.cols.value
     c.args.input.now c.args.output.now (Ok tt) c.relay_pieces.new.input c.finish.new.self =
     written c.relay_pieces.new.output
     (c.in_ok-relay_pieces.ensures c.args.rows.value c.args.cols.value at) c.in-Ok.ensures.flushes in
-    let told = relays-told g.row.S.Denot g.row.W.Denot g.S.Source.gives g.W.Taker.takes g.W.Sink.flushes
-    g.W.Sink.contents g.S.Source.left g.met.S.Source.tells g.met.W.Sink.tells g.met.W.Sink.keeps _ _ _ _ _ _ _ r in
-    record { relays = r; text = told.0; front = told.1; too_long = told.2 }
+    let reported = relays-reported g.row.S.Denot g.row.W.Denot g.S.Source.gives g.W.ByteSink.takes g.W.FlushSink.flushes
+    g.W.FlushSink.contents g.S.Source.left g.met.S.Source.tells g.met.W.FlushSink.tells g.met.W.FlushSink.keeps _ _ _ _ _ _ _ r in
+    record { relays = r; text = reported.0; prefix = reported.1; too_long = reported.2 }
 
 pub returns : goal.returns
 returns g c =
@@ -61,6 +61,6 @@ returns g c =
     let r =
     unflushed c.relay_pieces.new.output c.in-Err.field-0
     (c.in_ok-relay_pieces.ensures c.args.rows.value c.args.cols.value at) c.in-Err.ensures.flushes in
-    let told = relays-told g.row.S.Denot g.row.W.Denot g.S.Source.gives g.W.Taker.takes g.W.Sink.flushes
-    g.W.Sink.contents g.S.Source.left g.met.S.Source.tells g.met.W.Sink.tells g.met.W.Sink.keeps _ _ _ _ _ _ _ r in
-    record { relays = r; text = told.0; front = told.1; too_long = told.2 }
+    let reported = relays-reported g.row.S.Denot g.row.W.Denot g.S.Source.gives g.W.ByteSink.takes g.W.FlushSink.flushes
+    g.W.FlushSink.contents g.S.Source.left g.met.S.Source.tells g.met.W.FlushSink.tells g.met.W.FlushSink.keeps _ _ _ _ _ _ _ r in
+    record { relays = r; text = reported.0; prefix = reported.1; too_long = reported.2 }

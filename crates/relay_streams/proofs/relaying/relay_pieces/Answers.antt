@@ -2,7 +2,7 @@ use Rattle.std.proofs.Common.{◌≡◌, ℕ, List, [], ◌∷◌, ◌++◌, tak
 use Rattle.relay_streams.specs.Turns.{Relaying}
 use Rattle.relay_streams.specs.Pieces.{piece_len}
 use Rattle.relay_streams.specs.Relayed.{unread, sent}
-use Rattle.takers.specs.Sent.{none}
+use Rattle.byte_sinks.specs.Sent.{none}
 use Rattle.relay_streams.proofs.FrameLists.{frames_of, base_of}
 use Rattle.relay_streams.proofs.SessionLemmas.{frames-are-relayed}
 use Rattle.relay_streams.proofs.PieceLemmas.{none_read, filled_most, filled_on, filled_last, filled_fault}
@@ -40,7 +40,7 @@ returns-in_err-turn g c = λ rows cols at.
     let fault = c.in_err-turn.field-0.0 in
     let is : c.from_residual-in_err-turn.result ≡ Err fault = search rules in
     let begun = filled_begun c.fill.ensures whole so_far.most n c.in_ok-n.was so_far.read in
-    rw is (turn-faults g.row.S.Denot g.row.W.Denot g.S.Source.gives g.W.Taker.takes rows cols so_far.past piece
+    rw is (turn-faults g.row.S.Denot g.row.W.Denot g.S.Source.gives g.W.ByteSink.takes rows cols so_far.past piece
     c.args.client c.turn.new.hub c.args.input.now c.fill.new.input c.args.output.now c.pieces.output
     c.turn.new.output fault at.height at.width begun (so_far.fits rows cols at) (so_far.sent rows cols at)
     (c.in_err-turn.ensures rows cols so_far.past (base_of rows cols so_far.past) (so_far.at rows cols at)))
@@ -52,7 +52,7 @@ returns-then-n-lt-PIECE_LEN g c = λ rows cols at.
     let n = c.in_ok-n.n in
     let piece : List ℕ = take n c.fill.new.piece in
     let pieces : List (List ℕ) = so_far.past ++ piece ∷ [] in
-    let goes = turn-goes g.row.S.Denot g.row.W.Denot g.S.Source.gives g.W.Taker.takes rows cols so_far.past piece
+    let goes = turn-goes g.row.S.Denot g.row.W.Denot g.S.Source.gives g.W.ByteSink.takes rows cols so_far.past piece
     c.args.client c.turn.new.hub c.args.output.now c.pieces.output c.turn.new.output (so_far.fits rows cols at)
     (so_far.sent rows cols at)
     (c.in_ok-turn.ensures rows cols so_far.past (base_of rows cols so_far.past) (so_far.at rows cols at)) in
@@ -67,7 +67,7 @@ pieces-preserved g c =
     let n = c.in_ok-n.n in
     let piece : List ℕ = take n c.fill.new.piece in
     let goes = λ (rows cols : ℕ) (at : Relaying rows cols [] None c.args.hub.now c.args.client).
-    turn-goes g.row.S.Denot g.row.W.Denot g.S.Source.gives g.W.Taker.takes rows cols so_far.past piece c.args.client
+    turn-goes g.row.S.Denot g.row.W.Denot g.S.Source.gives g.W.ByteSink.takes rows cols so_far.past piece c.args.client
     c.turn.new.hub c.args.output.now c.pieces.output c.turn.new.output (so_far.fits rows cols at)
     (so_far.sent rows cols at)
     (c.in_ok-turn.ensures rows cols so_far.past (base_of rows cols so_far.past) (so_far.at rows cols at)) in

@@ -3,7 +3,7 @@ use Rattle.std.specs.List.{list_any}
 use Rattle.relay_streams.specs.Fill.{max_reads}
 use Rattle.relay_streams.specs.Frames.{is_overlong}
 use Rattle.relay_streams.specs.Pieces.{piece_len}
-use Rattle.takers.specs.Sent.{Sends}
+use Rattle.byte_sinks.specs.Sent.{Sends}
 use Rattle.relay_streams.specs.Turns.{Relaying}
 use Rattle.relay_streams.proofs.FrameLists.{frames_of, answers_of, base_of}
 use Rattle.relay_streams.proofs.PieceLemmas.{DrainsOn}
@@ -20,7 +20,7 @@ invariant-pieces g l = record {
   fits : (rows cols : ℕ) → Relaying rows cols [] None l.fn.hub l.fn.client
       → list_any is_overlong (answers_of rows cols past) ≡ false;
   sent : (rows cols : ℕ) → Relaying rows cols [] None l.fn.hub l.fn.client
-      → Sends g.W.Taker.takes l.fn.output (frames_of rows cols past) (Ok tt) l.output;
+      → Sends g.W.ByteSink.takes l.fn.output (frames_of rows cols past) (Ok tt) l.output;
 }
 
 abbrev pub decreases-pieces : goal.decreases-pieces

@@ -15,12 +15,12 @@ returns-in_err-pump g c = λ rows cols past base at.
     c.in_ok-answer.ensures.frames in
     let e = c.in_err-pump.field-0.0 in
     let is : c.from_residual-in_err-pump.result ≡ Err (fault_of e) = search rules in
-    rw is (turn-breaks g.row.W.Denot g.W.Taker.takes c.pump.new.self c.args.output.now c.pump.new.to e asked
+    rw is (turn-breaks g.row.W.Denot g.W.ByteSink.takes c.pump.new.self c.args.output.now c.pump.new.to e asked
     (sym c.is_overlong.ensures ∙ c.if-is_overlong.false) c.in_err-pump.ensures)
 
 pub returns : goal.returns
 returns g c = λ rows cols past base at.
     let asked = asks at c.args.piece.now c.feed.new.self c.frame.new.self c.in_ok-answer.answer c.in_ok-feed.ensures
     c.in_ok-answer.ensures.frames in
-    turn-ends g.row.W.Denot g.W.Taker.takes c.pump.new.self c.args.output.now c.pump.new.to asked
+    turn-ends g.row.W.Denot g.W.ByteSink.takes c.pump.new.self c.args.output.now c.pump.new.to asked
     (sym c.is_overlong.ensures ∙ c.if-is_overlong.false) c.in_ok-pump.ensures

@@ -1,5 +1,5 @@
 use Rattle.std.proofs.Common.{◌≡◌, [], ◌∷◌, Ok, Err, refl, rules}
-use Rattle.takers.proofs.SendLemmas.{text-more, text-broken}
+use Rattle.byte_sinks.proofs.SendLemmas.{text-more, text-broken}
 use Rattle.relay_streams.proofs.OutputLemmas.{text-one}
 use Rattle.relay_streams.proofs.showing.write_row.Goals as goal
 
@@ -7,11 +7,11 @@ pub returns-in_err-row_text : goal.returns-in_err-row_text
 returns-in_err-row_text g c =
     let e = c.in_err-row_text.field-0.0 in
     let is : c.from_residual.result ≡ Err e = search rules in
-    rw is (text-broken g.row.T.Denot g.T.Taker.takes _ _ _ (0x0A ∷ []) (Err e) e c.in_err-row_text.ensures refl)
+    rw is (text-broken g.row.T.Denot g.T.ByteSink.takes _ _ _ (0x0A ∷ []) (Err e) e c.in_err-row_text.ensures refl)
 
 pub returns : goal.returns
 returns g c =
-    text-more g.row.T.Denot g.T.Taker.takes _ c.row_text.new.to _ _ (0x0A ∷ []) (Ok tt) c.pump.result.1
+    text-more g.row.T.Denot g.T.ByteSink.takes _ c.row_text.new.to _ _ (0x0A ∷ []) (Ok tt) c.pump.result.1
     c.in_ok-row_text.ensures refl
-    (text-one g.row.T.Denot g.T.Taker.takes c.row_text.new.to c.pump.new.to (0x0A ∷ []) c.pump.result.1 c.pump.result.0
+    (text-one g.row.T.Denot g.T.ByteSink.takes c.row_text.new.to c.pump.new.to (0x0A ∷ []) c.pump.result.1 c.pump.result.0
     c.pump.ensures)

@@ -1,6 +1,6 @@
 use Rattle.std.proofs.Common.{ℕ, List, ap, subst, ◌≡◌, ◌++◌, ◌+◌, ◌-◌, ◌∙◌, [], Ok, Err, append_assoc, append-nil, arith, sym, refl, rules}
-use Rattle.takers.specs.Sent.{SendsText, done}
-use Rattle.takers.proofs.SendLemmas.{text-more, text-broken}
+use Rattle.byte_sinks.specs.Sent.{SendsText, done}
+use Rattle.byte_sinks.proofs.SendLemmas.{text-more, text-broken}
 use Rattle.termview.specs.Standing.{shown_by, view_size}
 use Rattle.relay_streams.specs.Shown.{row_line, rows_text, screen_text}
 use Rattle.relay_streams.proofs.OutputLemmas.{rows-next}
@@ -19,9 +19,9 @@ returns-in_err-write_row g c =
     let next = rows-next z t so_far.written row (end - row) (end - (row + 1)) so_far.follows (omega arith) in
     let e = c.in_err-write_row.field-0.0 in
     let is : c.from_residual.result ≡ Err e = search rules in
-    rw (next, is) (text-more g.row.T.Denot g.T.Taker.takes _ _ _ so_far.written
+    rw (next, is) (text-more g.row.T.Denot g.T.ByteSink.takes _ _ _ so_far.written
     (row_line z t row ++ rows_text z t (row + 1) (end - (row + 1))) (Ok tt) (Err e) so_far.sent refl
-    (text-broken g.row.T.Denot g.T.Taker.takes _ _ (row_line z t row) (rows_text z t (row + 1) (end - (row + 1)))
+    (text-broken g.row.T.Denot g.T.ByteSink.takes _ _ (row_line z t row) (rows_text z t (row + 1) (end - (row + 1)))
     (Err e) e c.in_err-write_row.ensures refl))
 
 pub loop-row-preserved : goal.loop-row-preserved
@@ -34,7 +34,7 @@ loop-row-preserved g c =
     let next = rows-next z t so_far.written row (end - row) (end - (row + 1)) so_far.follows (omega arith) in
     record {
       written = so_far.written ++ row_line z t row;
-      sent = text-more g.row.T.Denot g.T.Taker.takes _ _ _ so_far.written (row_line z t row) (Ok tt) (Ok tt)
+      sent = text-more g.row.T.Denot g.T.ByteSink.takes _ _ _ so_far.written (row_line z t row) (Ok tt) (Ok tt)
           so_far.sent refl c.in_ok-write_row.ensures;
       follows = next ∙ sym (append_assoc so_far.written (row_line z t row) (rows_text z t (row + 1) (end - (row + 1))));
     }
@@ -50,5 +50,5 @@ returns g c =
     let empty : rows_text z t row (end - row) ≡ [] = ap (rows_text z t row) none in
     let whole : screen_text z t ≡ so_far.written =
     so_far.follows ∙ ap (λ (xs : List ℕ). so_far.written ++ xs) empty ∙ append-nil so_far.written in
-    subst (λ (xs : List ℕ). SendsText g.T.Taker.takes c.args.output.now xs (Ok tt) c.loop-row.output) (sym whole)
+    subst (λ (xs : List ℕ). SendsText g.T.ByteSink.takes c.args.output.now xs (Ok tt) c.loop-row.output) (sym whole)
     so_far.sent

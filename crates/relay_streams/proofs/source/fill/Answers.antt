@@ -4,7 +4,7 @@ use Rattle.std.specs.declared.io.ErrorKind.TheVariants.{Interrupted}
 use borrow.Rule.Slice.PartMut.{same_len_mid}
 use Rattle.std.proofs.lemmas.List.{length-take-le}
 use Rattle.relay_streams.specs.Fill.{Fills, Full, full, stopped, ended, failed}
-use Rattle.relay_streams.proofs.FillLemmas.{take_put, front_put, front_put-len, front_is, window, begun, once_more}
+use Rattle.relay_streams.proofs.FillLemmas.{take_put, prefix_put, prefix_put-len, prefix_is, window, begun, once_more}
 use Rattle.relay_streams.proofs.FillLemmas.{some_more, filled}
 use Rattle.relay_streams.proofs.source.fill.Goals as goal
 
@@ -23,7 +23,7 @@ returns-then-reads-ge-MAX_READS g c =
     let inv = c.reading.invariant in
     let piece = c.reading.piece in
     filled inv.goes_on c.reading.input c.args.reads.now c.reading.reads piece _ (stopped (omega arith))
-    (front_is piece c.reading.len inv.within) (omega (arith, inv.counted))
+    (prefix_is piece c.reading.len inv.within) (omega (arith, inv.counted))
     (λ few. omega (arith, inv.most few)) (λ many. omega (arith, inv.spent many)) refl
 
 pub returns-in-Ok-eq0 : goal.returns-in-Ok-eq0
@@ -33,7 +33,7 @@ returns-in-Ok-eq0 g c =
     let len = c.reading.len in
     let read = rw (window piece len, c.in-Ok-eq0.field-0-test) at c.in-Ok-eq0.ensures.gives in
     filled inv.goes_on c.give.new.self c.args.reads.now (c.reading.reads + 1) _ _ (ended (omega arith) read)
-    (front_put piece c.give.new.room len _) (omega (arith, inv.counted))
+    (prefix_put piece c.give.new.room len _) (omega (arith, inv.counted))
     (λ few. omega arith) (λ many. omega (arith, inv.counted, many))
     (ap Ok (sym (length-take-le len piece inv.within)))
 
@@ -67,7 +67,7 @@ returns-then-ne g c =
     let len = c.reading.len in
     let read = rw (window piece len) at c.in-Err.ensures.gives in
     filled inv.goes_on c.give.new.self c.args.reads.now (c.reading.reads + 1) _ _
-    (failed (omega arith) read (search rules)) (front_put piece c.give.new.room len _) (omega (arith, inv.counted))
+    (failed (omega arith) read (search rules)) (prefix_put piece c.give.new.room len _) (omega (arith, inv.counted))
     (λ few. omega arith) (λ many. omega (arith, inv.counted, many)) refl
 
 pub reading-preserved : goal.reading-preserved
@@ -85,7 +85,7 @@ reading-preserved g c =
       most = λ few. omega arith;
       spent = λ many. omega (arith, inv.counted, many);
       counted = omega (arith, inv.counted);
-      goes_on = rw (same, front_put-len piece room len (length piece - len) inv.within)
+      goes_on = rw (same, prefix_put-len piece room len (length piece - len) inv.within)
           (once_more inv.goes_on c.give.new.self c.in-Err.error (omega arith) read is);
     }
 
@@ -97,6 +97,6 @@ returns g c =
     let none : length piece - len ≡ 0 = omega arith in
     let last : Fills g.S.Source.gives c.reading.input (length piece - len) 0 [] Full c.reading.input = rw none full in
     filled inv.goes_on c.reading.input c.args.reads.now c.reading.reads piece _ last
-    (front_is piece len inv.within) (omega (arith, inv.counted))
+    (prefix_is piece len inv.within) (omega (arith, inv.counted))
     (λ few. omega (arith, inv.most few)) (λ many. omega (arith, inv.spent many))
     (ap Ok (sym (length-take-le len piece inv.within)))

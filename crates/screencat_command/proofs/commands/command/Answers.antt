@@ -8,5 +8,5 @@ pub returns-in-Ok-clause-done : goal.returns-in-Ok-clause-done
 returns-in-Ok-clause-done g c = λ is.
     subst (λ (o : Option Sides). IfSome o (λ z. IfSome (g.S.Source.left c.args.input.now) (λ bytes. (text : List ℕ)
     × IsFarText z.rows z.cols bytes text
-    × Appends (g.W.Sink.contents c.args.output.now) (g.W.Sink.contents c.print_far_screen.new.output) text)))
+    × Appends (g.W.FlushSink.contents c.args.output.now) (g.W.FlushSink.contents c.print_far_screen.new.output) text)))
     c.in-Some.ensures c.in-Ok.ensures.text

@@ -17,8 +17,8 @@ pub returns-in_err-client-clause-prints : goal.returns-in_err-client-clause-prin
 returns-in_err-client-clause-prints g c =
     let e = c.in_err-client.field-0.0 in
     let none = attach-refused c.in_ok-hub.hub c.attach.new.self e c.in_err-client.ensures in
-    let told : c.from_residual-in_err-client.result ≡ Err (fault_of e) = search rules in
-    let is : c.from_residual-in_err-client.result ≡ Err Memory = told ∙ ap Err none in
+    let reported : c.from_residual-in_err-client.result ≡ Err (fault_of e) = search rules in
+    let is : c.from_residual-in_err-client.result ≡ Err Memory = reported ∙ ap Err none in
     rw is refused
 
 pub returns-in_err-view-clause-prints : goal.returns-in_err-view-clause-prints
@@ -47,12 +47,12 @@ returns g c =
     let carried = read.2 in
     let fresh = c.in_ok-view.ensures.exact (λ b e. e ∙ c.new-2.ensures) in
     let size = size_is _ _ _ c.in_ok-view.ensures.rows c.in_ok-view.ensures.cols in
-    let r : PrintsFar g.S.Source.gives g.W.Taker.takes g.W.Sink.flushes rows cols c.args.input.now c.args.output.now
+    let r : PrintsFar g.S.Source.gives g.W.ByteSink.takes g.W.FlushSink.flushes rows cols c.args.input.now c.args.output.now
     c.print_view.result c.carry_frames.new.input c.print_view.new.output =
     printed read.0 carried.pieces _ read.1 carried.joined (shown_so _ _ _ carried.pieces fresh size carried.led)
     c.print_view.ensures in
     record {
       prints = r;
-      text = far-text g.row.S.Denot g.row.W.Denot g.S.Source.gives g.W.Taker.takes g.W.Sink.flushes g.W.Sink.contents
-          g.S.Source.left g.met.S.Source.tells g.met.W.Sink.tells g.met.W.Sink.keeps rows cols _ _ _ _ _ r;
+      text = far-text g.row.S.Denot g.row.W.Denot g.S.Source.gives g.W.ByteSink.takes g.W.FlushSink.flushes g.W.FlushSink.contents
+          g.S.Source.left g.met.S.Source.tells g.met.W.FlushSink.tells g.met.W.FlushSink.keeps rows cols _ _ _ _ _ r;
     }

@@ -10,9 +10,9 @@ returns-in-Ok-clause-done g c = λ is.
     let order = c.in-Some.order in
     subst (λ (o : Option Order). IfSome o (λ p. IfSome (g.S.Source.left c.args.input.now) (λ bytes. (text : List ℕ)
     × Wants p bytes text
-    × Appends (g.W.Sink.contents c.args.output.now) (g.W.Sink.contents c.carry_out.new.output) text)))
+    × Appends (g.W.FlushSink.contents c.args.output.now) (g.W.FlushSink.contents c.carry_out.new.output) text)))
     c.in-Some.ensures
-    (does-text g.row.S.Denot g.row.W.Denot g.S.Source.gives g.W.Taker.takes g.W.Sink.flushes g.W.Sink.contents
-    g.S.Source.left g.met.S.Source.tells g.met.W.Sink.tells g.met.W.Sink.keeps
+    (does-text g.row.S.Denot g.row.W.Denot g.S.Source.gives g.W.ByteSink.takes g.W.FlushSink.flushes g.W.FlushSink.contents
+    g.S.Source.left g.met.S.Source.tells g.met.W.FlushSink.tells g.met.W.FlushSink.keeps
     order.job order.rows.value order.cols.value c.args.input.now c.args.output.now (Ok tt) c.carry_out.new.input
     c.carry_out.new.output c.in-Ok.ensures)

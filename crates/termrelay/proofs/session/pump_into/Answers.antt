@@ -1,6 +1,6 @@
 use Rattle.std.proofs.Common.{◌≡◌, ◌++◌, length, ap, refl, arith, length-drop}
 use Rattle.termrelay.specs.Hub.{clients_in}
-use Rattle.termrelay.proofs.ScriptLemmas.{IsPumped, pumped-by, front-kept}
+use Rattle.termrelay.proofs.ScriptLemmas.{IsPumped, pumped-by, prefix-kept}
 use Rattle.termrelay.proofs.session.pump_into.Goals as goal
 use Rattle.termrelay.proofs.session.pump_into.Goals.{After-owed_count}
 
@@ -26,4 +26,4 @@ returns-clause-bytes c =
     let both = c.extend_from_slice.new.self in
     let whole : both.items ≡ bytes ++ owed = c.in_ok-extend_from_slice.ensures.items in
     let count : c.len.result ≡ length (bytes ++ owed) = omega (arith, c.len.ensures, both.ok.0, ap length whole) in
-    rw (c.truncate.ensures.items, count, whole, front-kept bytes owed p.count left p.rest, p.bytes)
+    rw (c.truncate.ensures.items, count, whole, prefix-kept bytes owed p.count left p.rest, p.bytes)

@@ -1,6 +1,6 @@
 use Rattle.std.proofs.Common.{◌≡◌, ◌∙◌, rules}
 use mathlib.Core.Bool.{beq}
-use Rattle.termrelay.proofs.ShownLemmas.{attrs_asked, attrs-told}
+use Rattle.termrelay.proofs.ShownLemmas.{attrs_asked, attrs-reported}
 use Rattle.termrelay.proofs.shown.same_attributes.Goals.{then-eq, else-eq, then-eq-2, else-eq-2, then-bold, else-bold}
 use Rattle.termrelay.proofs.shown.same_attributes.Goals.{then-dim, else-dim, then-italic, else-italic}
 use Rattle.termrelay.proofs.shown.same_attributes.Goals as goal
@@ -10,7 +10,7 @@ returns-then-underline c =
     let s = c.args.screen.now.state in
     let a = c.args.other.now.state.attrs in
     let asked : beq c.inverse.result c.inverse-then-underline.result ≡ attrs_asked s.attrs a = search rules in
-    asked ∙ attrs-told s.attrs a c.requires.state.attrs c.requires.other_state.attrs
+    asked ∙ attrs-reported s.attrs a c.requires.state.attrs c.requires.other_state.attrs
 
 pub returns-else-underline : goal.returns-else-underline
 returns-else-underline c =
@@ -29,4 +29,4 @@ returns-else-underline c =
         ]
       ]
     ] in
-    asked ∙ attrs-told s.attrs a c.requires.state.attrs c.requires.other_state.attrs
+    asked ∙ attrs-reported s.attrs a c.requires.state.attrs c.requires.other_state.attrs

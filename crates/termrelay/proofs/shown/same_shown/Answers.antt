@@ -1,7 +1,7 @@
 use Rattle.std.proofs.Common.{◌≡◌, ◌∙◌, rules}
 use Rattle.vt100_core.specs.Picture.{grid_size}
 use Rattle.screen_model.specs.Shown.{shown_state}
-use Rattle.termrelay.proofs.ShownLemmas.{shown_asked, shown-told}
+use Rattle.termrelay.proofs.ShownLemmas.{shown_asked, shown-reported}
 use Rattle.termrelay.proofs.shown.same_shown.Goals.{then-eq, else-eq, then-hide_cursor, else-hide_cursor}
 use Rattle.termrelay.proofs.shown.same_shown.Goals.{then-eq-2, else-eq-2, then-same_modes, else-same_modes}
 use Rattle.termrelay.proofs.shown.same_shown.Goals.{then-same_attributes, else-same_attributes}
@@ -13,7 +13,7 @@ returns-then-same_wraps c =
     let s = shown_state c.args.screen.now.state in
     let t = shown_state c.args.other.now.state in
     let asked : c.same_cells.result ≡ shown_asked z s t = search rules in
-    asked ∙ shown-told z s t
+    asked ∙ shown-reported z s t
 
 pub returns-else-same_wraps : goal.returns-else-same_wraps
 returns-else-same_wraps c =
@@ -33,4 +33,4 @@ returns-else-same_wraps c =
         ]
       ]
     ] in
-    asked ∙ shown-told z s t
+    asked ∙ shown-reported z s t

@@ -4,8 +4,8 @@ use Rattle.std.specs.declared.io.Error.{Error}
 use Rattle.vt100_cells.specs.Cell.{CellView}
 use Rattle.vt100_cells.specs.Cells.{cell_at}
 use Rattle.vt100_rows.specs.Text.{line_text}
-use Rattle.takers.specs.Pump.{Pumps}
-use Rattle.takers.specs.Sent.{done}
+use Rattle.byte_sinks.specs.Pump.{Pumps}
+use Rattle.byte_sinks.specs.Sent.{done}
 use Rattle.termview.specs.Writing.{cell_text}
 use Rattle.termview.proofs.WriteLemmas.{sent-more, sent-broken}
 use Rattle.termview.proofs.text.write_cells.Goals as goal
@@ -20,8 +20,8 @@ returns-in_err-pump g c =
     let is : c.from_residual.result ≡ Err e = search rules in
     let failed : c.pump.result.1 ≡ Err e = search rules in
     let fails = subst (λ (r : Result (Unit {0}) Error).
-    Pumps g.T.Taker.takes c.loop-col.to c.as_bytes.result.now r c.pump.result.0 c.pump.new.to) failed c.pump.ensures in
-    rw is (sent-broken g.row.T.Denot g.T.Taker.takes c.args.to.now c.loop-col.to c.pump.new.to (cell_at c.args.cells.now)
+    Pumps g.T.ByteSink.takes c.loop-col.to c.as_bytes.result.now r c.pump.result.0 c.pump.new.to) failed c.pump.ensures in
+    rw is (sent-broken g.row.T.Denot g.T.ByteSink.takes c.args.to.now c.loop-col.to c.pump.new.to (cell_at c.args.cells.now)
     n c.text_len-col-end.result c.pump.result.0 c.as_bytes.result.now
     (line_text (cell_at c.args.cells.now) 0 (length c.args.cells.now)) e (omega arith)
     (c.as_bytes.ensures.value ∙ c.cell_text.ensures ∙ ap (λ (x : CellView).
@@ -33,8 +33,8 @@ loop-col-preserved g c =
     let n = c.loop-col.col in
     let well : c.pump.result.1 ≡ Ok tt = search rules in
     let sends = subst (λ (r : Result (Unit {0}) Error).
-    Pumps g.T.Taker.takes c.loop-col.to c.as_bytes.result.now r c.pump.result.0 c.pump.new.to) well c.pump.ensures in
-    sent-more g.row.T.Denot g.T.Taker.takes c.args.to.now c.loop-col.to c.pump.new.to (cell_at c.args.cells.now) n (n + 1)
+    Pumps g.T.ByteSink.takes c.loop-col.to c.as_bytes.result.now r c.pump.result.0 c.pump.new.to) well c.pump.ensures in
+    sent-more g.row.T.Denot g.T.ByteSink.takes c.args.to.now c.loop-col.to c.pump.new.to (cell_at c.args.cells.now) n (n + 1)
     c.pump.result.0 c.as_bytes.result.now refl
     (c.as_bytes.ensures.value ∙ c.cell_text.ensures ∙ ap (λ (x : CellView).
     encode_utf8_all (cell_text x (n == 0))) c.at.ensures)

@@ -2,15 +2,15 @@ use Rattle.std.proofs.Common.{◌≡◌, ◌<◌, ◌≤◌, ◌+◌, ◌-◌, �
 use Rattle.std.proofs.Common.{length-drop, length-take, slice_index}
 use Rattle.std.proofs.lemmas.Bool.{cases_lt}
 use Rattle.memchr.specs.Find.{Nowhere, Passes, is_byte}
-use Rattle.vte.specs.Marks.{stands_at}
+use Rattle.vte.specs.Marks.{is_found_at}
 use Rattle.vte.proofs.MarkLemmas.{none_in_part, part_in, rest_is}
 use Rattle.vte.proofs.marks.first_mark.Goals as goal
 
 -- no mark begins before a place, and its first byte is nowhere in so many bytes from there on
 none_before : (mark text : List ℕ) (from next at : ℕ) → 0 < length mark → next + at ≤ length text
-    → ((k : ℕ) → from ≤ k → k < next → stands_at mark text k ≡ false)
+    → ((k : ℕ) → from ≤ k → k < next → is_found_at mark text k ≡ false)
     → Nowhere (Passes (is_byte (slice_index mark 0)) (take (length text - next) (drop next text))) 0 at
-    → (k : ℕ) → from ≤ k → k < next + at → stands_at mark text k ≡ false
+    → (k : ℕ) → from ≤ k → k < next + at → is_found_at mark text k ≡ false
 none_before mark text from next at some inside before nowhere k low below = elim (cases_lt k next) [
   | inl sooner ↦ before k low sooner
   | inr later ↦ none_in_part mark text next (length text - next) 0 at some (omega (arith, inside))
@@ -25,7 +25,7 @@ returns-then-starts_with c =
       omega (arith, c.loop-at.invariant.above),
       inside,
       sym (rw (rest_is text (c.loop-at.next + c.in-Some.at)) at c.starts_with.ensures.value) ∙ c.if-starts_with.true,
-      none_before c.args.mark.now text _ c.loop-at.next c.in-Some.at (omega (arith, c.told-mark))
+      none_before c.args.mark.now text _ c.loop-at.next c.in-Some.at (omega (arith, c.reported-mark))
           (omega (arith, inside)) c.loop-at.invariant.none found.before,
     )
 
@@ -40,9 +40,9 @@ loop-at-preserved c =
       within = omega (arith, inside);
       above = omega (arith, c.loop-at.invariant.above);
       none = λ k low below. elim (cases_lt k place) [
-        | inl before ↦ none_before c.args.mark.now text _ c.loop-at.next c.in-Some.at (omega (arith, c.told-mark))
+        | inl before ↦ none_before c.args.mark.now text _ c.loop-at.next c.in-Some.at (omega (arith, c.reported-mark))
             (omega (arith, inside)) c.loop-at.invariant.none found.before k low before
-        | inr from ↦ subst (λ (i : ℕ). stands_at c.args.mark.now text i ≡ false) (let here : place ≡ k =
+        | inr from ↦ subst (λ (i : ℕ). is_found_at c.args.mark.now text i ≡ false) (let here : place ≡ k =
             omega (arith, below, from) in here) no
       ];
     }
@@ -53,6 +53,6 @@ returns c k low below =
     let next = c.loop-at.next in
     let rest : length (take (length text - next) (drop next text)) ≡ length text - next =
     omega (arith, length-take (length text - next) (drop next text), length-drop next text) in
-    none_before c.args.mark.now text c.args.from next (length text - next) (omega (arith, c.told-mark))
+    none_before c.args.mark.now text c.args.from next (length text - next) (omega (arith, c.reported-mark))
     (omega (arith, c.loop-at.invariant.within)) c.loop-at.invariant.none (rw rest at c.in_default.ensures) k low
     (omega (arith, c.loop-at.invariant.within, below))

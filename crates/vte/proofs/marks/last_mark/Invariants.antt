@@ -1,12 +1,12 @@
 use Rattle.std.proofs.Common.{◌≡◌, ◌≤◌, ◌<◌, ℕ, false, length}
-use Rattle.vte.specs.Marks.{stands_at}
+use Rattle.vte.specs.Marks.{is_found_at}
 use Rattle.vte.proofs.marks.last_mark.Given as goal
 
 abbrev pub invariant-loop-at : goal.invariant-loop-at
 invariant-loop-at l = record {
   within : l.end ≤ length l.text;
   above : l.from ≤ l.end;
-  none : (k : ℕ) → l.end ≤ k → k < length l.text → stands_at l.mark l.text k ≡ false;
+  none : (k : ℕ) → l.end ≤ k → k < length l.text → is_found_at l.mark l.text k ≡ false;
 }
 
 abbrev pub decreases-loop-at : goal.decreases-loop-at

@@ -25,10 +25,10 @@ loop-read-preserved g c =
       within = within;
       all = ap (each is_c0) more
           ∙ each-append is_c0 (take i bs) block inv.all (c.are_controls.ensures c.if-are_controls.true);
-      told = same_events g.P.Perform.step c.args.performer.now c.execute_all.new.performer (es ++ ds)
+      reported = same_events g.P.Perform.step c.args.performer.now c.execute_all.new.performer (es ++ ds)
           (map Execute (take (i + 16) bs)) (sym (map-append Execute (take i bs) block) ∙ ap (map Execute) (sym more))
           (performs-append g.P.Perform.step c.args.performer.now c.loop-read.performer c.execute_all.new.performer
-          es ds inv.told c.execute_all.ensures);
+          es ds inv.reported c.execute_all.ensures);
     }
 
 pub loop-read-2-preserved : goal.loop-read-2-preserved

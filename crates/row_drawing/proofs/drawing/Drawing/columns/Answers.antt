@@ -1,6 +1,6 @@
 use Rattle.std.proofs.Common.{◌≡◌, ◌+◌, ◌≤◌, ap, arith, append-nil, subst, sym, ◌∙◌, ◌++◌, refl}
 use Rattle.std.specs.Prelude.{string_bytes, string_capacity}
-use Rattle.vt100_forms.specs.Form.{spell}
+use Rattle.vt100_forms.specs.Form.{bytes_of}
 use Rattle.vt100_cells.specs.Cell.{CellView}
 use Rattle.row_drawing.specs.Drawing.{job_of, AreQuiet}
 use Rattle.row_drawing.specs.RowWriter.{columns}
@@ -44,7 +44,7 @@ returns-in_err-move_to c =
     let inv = c.loop-n.invariant in
     refused _ {f = columns j c.args.count} (columns j c.args.count) c.args.pen.now _
     c.from_residual-in_err-move_to.ensures.0 refl (record {
-      begun = subst (λ t. IsBegun (string_bytes c.args.contents.now) (spell (columns j c.args.count c.args.pen.now).forms) t)
+      begun = subst (λ t. IsBegun (string_bytes c.args.contents.now) (bytes_of (columns j c.args.count c.args.pen.now).forms) t)
           (sym c.in_err-move_to.ensures.bytes) inv.begun.is;
       full = full_within c.args.contents.now c.loop-n.contents c.loop-n.run _ inv.capacity c.in_err-move_to.ensures.full
           (began_columns_all j _ c.args.count inv.within inv.drawn).is;
@@ -111,7 +111,7 @@ returns-in_err-move_to-2 c =
     let inv = c.loop-n.invariant in
     refused _ {f = columns j c.args.count} (columns j c.args.count) c.args.pen.now _
     c.from_residual-in_err-move_to-2.ensures.0 refl (record {
-      begun = subst (λ t. IsBegun (string_bytes c.args.contents.now) (spell (columns j c.args.count c.args.pen.now).forms) t)
+      begun = subst (λ t. IsBegun (string_bytes c.args.contents.now) (bytes_of (columns j c.args.count c.args.pen.now).forms) t)
           (sym c.in_err-move_to-2.ensures.bytes) inv.begun.is;
       full = full_within c.args.contents.now c.loop-n.contents c.loop-n.run _ inv.capacity c.in_err-move_to-2.ensures.full
           (began_columns_all j _ c.args.count inv.within inv.drawn).is;

@@ -23,7 +23,7 @@ use Rattle.termrelay.specs.Hub.{OwesOneFrame, OwesLocalFrame}
 use Rattle.termrelay.proofs.MadeLemmas.{made-unscrolled}
 use Rattle.termrelay.proofs.AnswerLemmas.{wanted-due, wanted-none, answer-none, answer-long, answer-short, text-long}
 use Rattle.termrelay.proofs.AnswerLemmas.{answer-memory, never-wanted, text-fits}
-use Rattle.termrelay.proofs.SureBases.{unsure-told}
+use Rattle.termrelay.proofs.SureBases.{unsure-reported}
 use Rattle.termrelay.proofs.HubLemmas.{found-served}
 use Rattle.termrelay.proofs.ScriptLemmas.{put-there}
 use Rattle.termrelay.proofs.LocalFrames.{due-short, due-local}
@@ -220,7 +220,7 @@ owe-requires-clause-unsure c =
     let is_base : c.in_ok-base.base.value ≡ screen =
     c.in_ok-base.ensures.base ∙ ap (λ (h : HubState as_kept). h.parser.screen) (sym c.self.view_is) in
     c.eq.ensures
-    ∙ unsure-told screen.state client.base client.owed c.answer-answer.result d.asked.wanted d.frame
+    ∙ unsure-reported screen.state client.base client.owed c.answer-answer.result d.asked.wanted d.frame
     ∙ ap is_unsure_screen (sym is_base)
 
 pub owe-requires-clause-short : goal.owe-requires-clause-short

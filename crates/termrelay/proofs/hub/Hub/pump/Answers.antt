@@ -4,7 +4,7 @@ use Rattle.std.specs.declared.io.Error.{Error}
 use Rattle.slab.specs.Slab.{Slab, get, with_value}
 use Rattle.vt100.specs.Parsing.{ParserView}
 use Rattle.termrelay.specs.declared.error.HubError.TheVariants.{UnknownClient}
-use Rattle.takers.specs.Pump.{Pumps}
+use Rattle.byte_sinks.specs.Pump.{Pumps}
 use Rattle.termrelay.specs.Record.{RecordView, client_of}
 use Rattle.termrelay.specs.Hub.{PumpsClient, pump_answer}
 use Rattle.termrelay.specs.HubFields.{IsHub}
@@ -26,7 +26,7 @@ module _ {S : Type 0} (step : S → List ℕ → Result ℕ Error → S → Type
 
 pub returns : goal.returns
 returns g c =
-    let step = g.T.Taker.takes in
+    let step = g.T.ByteSink.takes in
     let p = c.self.inside.parser in
     let s = c.self.inside.clients in
     let key = c.key.result in

@@ -1,4 +1,4 @@
-use Rattle.vt100_forms.specs.Form.{spell}
+use Rattle.vt100_forms.specs.Form.{bytes_of}
 use Rattle.vt100_core.specs.Picture.{grid_size}
 use Rattle.screen_model.specs.Shown.{shown_state}
 use Rattle.termrelay.specs.Frame.{start_mark, end_mark, body_forms}
@@ -9,7 +9,7 @@ use Rattle.termrelay.proofs.record.Record.frame_text.Goals as goal
 pub returns-clause-text : goal.returns-clause-text
 returns-clause-text c =
     let now = c.args.now.now.state in
-    let body = spell (body_forms (grid_size now.shown) (client_of c.args.self.now).base (shown_state now)) in
+    let body = bytes_of (body_forms (grid_size now.shown) (client_of c.args.self.now).base (shown_state now)) in
     text-joined c.new-text.result.items c.extend_from_slice.new.self.items c.push_body.new.text.items
     c.extend_from_slice-2.new.self.items start_mark body end_mark c.new-text.ensures.items
     c.in_ok-extend_from_slice.ensures.items c.in_ok-push_body.ensures.text c.in_ok-extend_from_slice-2.ensures.items

@@ -1,6 +1,6 @@
 use Rattle.std.proofs.Common.{◌≡◌, ◌∙◌, ℕ, ◌+◌, ◌≤◌, List, ap, sym, arith, drop, length, length-drop}
 use Rattle.termrelay.specs.Record.{RecordView}
-use Rattle.takers.proofs.PumpLemmas.{pumps-within}
+use Rattle.byte_sinks.proofs.PumpLemmas.{pumps-within}
 use Rattle.termrelay.proofs.record.Record.pump.Goals as goal
 
 -- what is taken of what is left is part of the text
@@ -10,7 +10,7 @@ left-within text owed taken n len count is within start = omega (arith, length-d
 
 pub overflow_add-self : goal.overflow_add-self
 overflow_add-self g c =
-    let within = pumps-within g.row.T.Denot g.T.Taker.takes _ _ _ _ _ c.pump-taken.ensures in
+    let within = pumps-within g.row.T.Denot g.T.ByteSink.takes _ _ _ _ _ c.pump-taken.ensures in
     let is = c.owed.ensures ∙ ap (λ (r : RecordView). r.owed) (sym c.self.view_is) in
     let text = c.self.inside.text in
     let count : text.len ≡ length text.items = omega (arith, text.ok.0) in
@@ -18,7 +18,7 @@ overflow_add-self g c =
 
 pub invariant_of-self : goal.invariant_of-self
 invariant_of-self g c =
-    let within = pumps-within g.row.T.Denot g.T.Taker.takes _ _ _ _ _ c.pump-taken.ensures in
+    let within = pumps-within g.row.T.Denot g.T.ByteSink.takes _ _ _ _ _ c.pump-taken.ensures in
     let is = c.owed.ensures ∙ ap (λ (r : RecordView). r.owed) (sym c.self.view_is) in
     let text = c.self.inside.text in
     let count : text.len ≡ length text.items = omega (arith, text.ok.0) in

@@ -16,22 +16,22 @@ returns-clause-advanced g c = λ parsed held s.
       held' = a.held';
       calls = a.calls;
       advances = a.advances;
-      stands = record { reads = a.stands; shows = n.1 };
+      state_after = record { reads = a.state_after; shows = n.1 };
       size = n.0;
     }
 
 pub returns-clause-exact : goal.returns-clause-exact
 returns-clause-exact g c = λ parsed hold exact h.
-    let a = c.advance.ensures.exact parsed hold exact (record { stands = h.stands.reads; awaits = h.awaits }) in
+    let a = c.advance.ensures.exact parsed hold exact (record { state_after = h.state_after.reads; awaits = h.awaits }) in
     let l = a.leads in
     let p = taken_parsed parsed hold _ l.parsed' l.hold' l.calls l.ticks l.takes in
     let n = goes-on c.args.self.now.picture c.advance.new.handler parsed l.parsed' (clearings l.ticks) l.calls
-    h.stands.shows p a.goes in
+    h.state_after.shows p a.goes in
     record {
       leads = l;
-      stands = record {
-        stands = record { reads = a.stands.stands; shows = n.1 };
-        awaits = a.stands.awaits;
+      state_after = record {
+        state_after = record { reads = a.state_after.state_after; shows = n.1 };
+        awaits = a.state_after.awaits;
       };
       size = n.0;
     }

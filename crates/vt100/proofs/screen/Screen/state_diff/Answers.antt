@@ -1,7 +1,7 @@
 use Rattle.std.proofs.Common.{◌∙◌, rules, [], ap, refl, subst, sym}
 use Rattle.vt100_forms.specs.Attrs.{HasByteColors}
 use Rattle.std.proofs.lemmas.Bool.{false≢true}
-use Rattle.vt100_forms.specs.Form.{spell}
+use Rattle.vt100_forms.specs.Form.{bytes_of}
 use Rattle.vt100.specs.FormLists.{IsShortText}
 use Rattle.vt100.specs.Writers.{contents_diff}
 use Rattle.screen_drawing.specs.Modes.{input_mode_diff}
@@ -10,7 +10,7 @@ use Rattle.vt100.proofs.WriteLemmas.{none-joined}
 use Rattle.vt100.proofs.ShownLemmas.{difference-of_shown}
 use Rattle.vt100.proofs.FormLists.{differences-local}
 use Rattle.vt100.proofs.ShortLists.{screen-short}
-use Rattle.vt100_core.proofs.WriterLemmas.{spelled_then}
+use Rattle.vt100_core.proofs.WriterLemmas.{bytes_then}
 use Rattle.vt100.proofs.screen.Screen.state_diff.Goals as goal
 
 pub returns-in_err-write_contents_diff : goal.returns-in_err-write_contents_diff
@@ -46,13 +46,13 @@ returns c =
     let old = c.args.prev.now.state in
     let new = c.args.self.now.state in
     let first = rw c.new-contents.ensures.bytes at c.in_ok-write_contents_diff.ensures.text in
-    let is = spelled_then (contents_diff old new) _ [] _ _ first c.in_ok-write_input_mode_diff.ensures.text in
+    let is = bytes_then (contents_diff old new) _ [] _ _ first c.in_ok-write_input_mode_diff.ensures.text in
     let colors : HasByteColors old.attrs = rw (← c.prev.view_is) c.prev.invariant.attrs.colors in
     record {
       text = is;
-      shown = λ o h e. is ∙ ap spell (difference-of_shown old new o h e).state;
+      shown = λ o h e. is ∙ ap bytes_of (difference-of_shown old new o h e).state;
       short = λ h. subst (IsShortText _ 1008) (sym is) (screen-short old new colors h).state_diff;
-      local = λ o h e plain. record { spelled = is; touches = (differences-local old new o h e plain).1 };
+      local = λ o h e plain. record { written = is; touches = (differences-local old new o h e plain).1 };
       memory = search rules;
       empty = λ none. refl;
     }

@@ -1,6 +1,6 @@
 use Rattle.std.proofs.Common.{◌≡◌, [], ◌∷◌, subst, sym}
 use Rattle.std.proofs.lemmas.Bool.{false≢true}
-use Rattle.vt100_forms.specs.Form.{spell}
+use Rattle.vt100_forms.specs.Form.{bytes_of}
 use Rattle.screen_drawing.specs.Modes.{input_mode_diff}
 use Rattle.screen_model.specs.Shown.{shown_state}
 use Rattle.vt100.specs.ScreenFields.{screen_inside}
@@ -31,7 +31,7 @@ returns-in_err-write_change-clause-empty c =
     let x = (screen_inside c.prev.inside).state in
     let y = (screen_inside c.self.inside).state in
     rw (← c.self.view_is, ← c.prev.view_is) (λ none. absurd (false≢true (c.in_err-write_change.ensures.empty
-    (subst (λ f. spell (where_changed x.modes.keypad y.modes.keypad f) ≡ []) (sym c.new-keypad.ensures)
+    (subst (λ f. bytes_of (where_changed x.modes.keypad y.modes.keypad f) ≡ []) (sym c.new-keypad.ensures)
     (no-changes (shown_state x) (shown_state y) none).keypad))))
 
 pub returns-in_err-write_change-2-clause-empty : goal.returns-in_err-write_change-2-clause-empty
@@ -39,7 +39,7 @@ returns-in_err-write_change-2-clause-empty c =
     let x = (screen_inside c.prev.inside).state in
     let y = (screen_inside c.self.inside).state in
     rw (← c.self.view_is, ← c.prev.view_is) (λ none. absurd (false≢true (c.in_err-write_change-2.ensures.empty
-    (subst (λ f. spell (where_changed x.modes.cursor_keys y.modes.cursor_keys f) ≡ []) (sym c.new-cursor_keys.ensures)
+    (subst (λ f. bytes_of (where_changed x.modes.cursor_keys y.modes.cursor_keys f) ≡ []) (sym c.new-cursor_keys.ensures)
     (no-changes (shown_state x) (shown_state y) none).cursor_keys))))
 
 pub returns-in_err-write_change-3-clause-empty : goal.returns-in_err-write_change-3-clause-empty
@@ -47,29 +47,29 @@ returns-in_err-write_change-3-clause-empty c =
     let x = (screen_inside c.prev.inside).state in
     let y = (screen_inside c.self.inside).state in
     rw (← c.self.view_is, ← c.prev.view_is) (λ none. absurd (false≢true (c.in_err-write_change-3.ensures.empty
-    (subst (λ f. spell (where_changed x.modes.paste y.modes.paste f) ≡ []) (sym c.new-paste.ensures)
+    (subst (λ f. bytes_of (where_changed x.modes.paste y.modes.paste f) ≡ []) (sym c.new-paste.ensures)
     (no-changes (shown_state x) (shown_state y) none).paste))))
 
 pub returns-in_err-write_buf-clause-empty : goal.returns-in_err-write_buf-clause-empty
 returns-in_err-write_buf-clause-empty c =
     let x = (screen_inside c.prev.inside).state in
     let y = (screen_inside c.self.inside).state in
-    rw (← c.self.view_is, ← c.prev.view_is) (λ none. absurd (some-full c.write_change-3.new.contents (spell (c.new.result ∷ []))
-    c.in_err-write_buf.ensures.full (subst (λ f. spell (f ∷ []) ≡ []) (sym c.new.ensures)
+    rw (← c.self.view_is, ← c.prev.view_is) (λ none. absurd (some-full c.write_change-3.new.contents (bytes_of (c.new.result ∷ []))
+    c.in_err-write_buf.ensures.full (subst (λ f. bytes_of (f ∷ []) ≡ []) (sym c.new.ensures)
     (no-changes (shown_state x) (shown_state y) none).mouse)))
 
 pub returns-in_err-write_buf-2-clause-empty : goal.returns-in_err-write_buf-2-clause-empty
 returns-in_err-write_buf-2-clause-empty c =
     let x = (screen_inside c.prev.inside).state in
     let y = (screen_inside c.self.inside).state in
-    rw (← c.self.view_is, ← c.prev.view_is) (λ none. absurd (some-full c.write_buf.new.buf (spell (c.new-2.result ∷ []))
-    c.in_err-write_buf-2.ensures.full (subst (λ f. spell (f ∷ []) ≡ []) (sym c.new-2.ensures)
+    rw (← c.self.view_is, ← c.prev.view_is) (λ none. absurd (some-full c.write_buf.new.buf (bytes_of (c.new-2.result ∷ []))
+    c.in_err-write_buf-2.ensures.full (subst (λ f. bytes_of (f ∷ []) ≡ []) (sym c.new-2.ensures)
     (no-changes (shown_state x) (shown_state y) none).encoding)))
 
 pub returns-clause-empty : goal.returns-clause-empty
 returns-clause-empty c =
     let x = (screen_inside c.prev.inside).state in
     let y = (screen_inside c.self.inside).state in
-    rw (← c.self.view_is, ← c.prev.view_is) (λ none. fits-ok c.write_buf-3.result c.write_buf-2.new.buf (spell (c.new-3.result ∷ []))
-    c.write_buf-3.ensures.full (subst (λ f. spell (f ∷ []) ≡ []) (sym c.new-3.ensures)
+    rw (← c.self.view_is, ← c.prev.view_is) (λ none. fits-ok c.write_buf-3.result c.write_buf-2.new.buf (bytes_of (c.new-3.result ∷ []))
+    c.write_buf-3.ensures.full (subst (λ f. bytes_of (f ∷ []) ≡ []) (sym c.new-3.ensures)
     (no-changes (shown_state x) (shown_state y) none).style))

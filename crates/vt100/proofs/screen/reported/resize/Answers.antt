@@ -1,8 +1,8 @@
-use Rattle.vt100.proofs.HearLemmas.{hears_all}
+use Rattle.vt100.proofs.HearLemmas.{receives_all}
 use Rattle.vt100.proofs.screen.reported.resize.Goals as goal
 
 pub returns-clause-same : goal.returns-clause-same
-returns-clause-same g c = (hears_all g.CB.Callbacks.scrolls _ _ _ c.set_size.ensures.sink).1
+returns-clause-same g c = (receives_all g.CB.Callbacks.scrolls _ _ _ c.set_size.ensures.sink).1
 
-pub returns-clause-hears : goal.returns-clause-hears
-returns-clause-hears g c = (hears_all g.CB.Callbacks.scrolls _ _ _ c.set_size.ensures.sink).0
+pub returns-clause-receives : goal.returns-clause-receives
+returns-clause-receives g c = (receives_all g.CB.Callbacks.scrolls _ _ _ c.set_size.ensures.sink).0

@@ -5,7 +5,7 @@ use Rattle.screen_drawing.specs.Cursor.{arriving, place, replaced}
 use Rattle.vt100_rows.specs.Picture.{lines_of}
 use Rattle.vt100_core.specs.Grid.{GridView}
 use Rattle.vt100_core.specs.Picture.{grid_size}
-use Rattle.vt100_core.proofs.WriterLemmas.{appends_rest, form_appends, none_appends, refused_front, wait_on_empty-is}
+use Rattle.vt100_core.proofs.WriterLemmas.{appends_rest, form_appends, none_appends, refused_prefix, wait_on_empty-is}
 use Rattle.vt100_core.proofs.grid.Grid.wait_on_empty.Goals as goal
 
 pub returns-in_err-arrive : goal.returns-in_err-arrive
@@ -13,7 +13,7 @@ returns-in_err-arrive c =
     let g = c.args.self.now in
     let width = c.cols.ensures ∙ ap (λ (v : GridView). v.width) c.self.view_is in
     let x = lines_of g.rows g.row (g.width - 1) in
-    refused_front c.from_residual.result (arriving c.args.prev_pos (place c.self.inside.pos.row (c.cols.result - 1)))
+    refused_prefix c.from_residual.result (arriving c.args.prev_pos (place c.self.inside.pos.row (c.cols.result - 1)))
     (Text (32 ∷ []) ∷ replaced c.args.attrs x.attrs) _ _ _ c.from_residual.ensures.0
     (wait_on_empty-is (grid_size g) c.args.prev_pos c.args.attrs g.row x _ _ _
     (ap (λ (v : GridView). v.row) c.self.view_is) (ap (λ n. n - 1) width) refl) c.in_err-arrive.ensures

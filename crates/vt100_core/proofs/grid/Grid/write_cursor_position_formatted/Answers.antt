@@ -7,7 +7,7 @@ use Rattle.vt100_core.specs.Grid.{GridView}
 use Rattle.vt100_core.specs.Picture.{grid_size}
 use Rattle.vt100_core.specs.Writers.{Appends, cursor_position_formatted}
 use Rattle.vt100_core.proofs.WriterLemmas.{appends_as, appends_nothing, appends_rest, cursor-behind, cursor-inside, cursor-on_empty}
-use Rattle.vt100_core.proofs.WriterLemmas.{cursor-there, refused_front}
+use Rattle.vt100_core.proofs.WriterLemmas.{cursor-there, refused_prefix}
 use Rattle.vt100_core.proofs.grid.Grid.write_cursor_position_formatted.Goals as goal
 
 pub returns-then-self-cols : goal.returns-then-self-cols
@@ -41,7 +41,7 @@ returns-in_err-wait_behind-in-Some c =
     let off = ap (λ (v : GridView). is_pen_at p (place v.row v.col)) (sym c.self.view_is) ∙ sym c.is_at.ensures
     ∙ c.if-is_at.false in
     let attrs = c.unwrap_or-prev_attrs.ensures ∙ ap (unwrap_or c.args.prev_attrs) c.new.ensures in
-    refused_front c.from_residual.result
+    refused_prefix c.from_residual.result
     (wait_behind (grid_size g) (lines_of g.rows) p c.unwrap_or-prev_attrs.result c.in-Some.row)
     (replicate (g.row - c.in-Some.row) Lf) _ _ _ c.from_residual.ensures.0
     (cursor-behind g p c.args.prev_attrs _ attrs past off c.in-Some.row c.in-Some.ensures.value)

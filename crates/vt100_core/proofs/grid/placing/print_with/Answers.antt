@@ -1,6 +1,6 @@
 use Rattle.std.proofs.Common.{ap, refl, ◌∙◌, ◌∷◌, ◌++◌, append-nil, subst, sym, length, [], ◌+◌, ◌<◌}
 use Rattle.std.specs.Prelude.{string_bytes, encode_utf8_all, string_len, string_capacity}
-use Rattle.vt100_forms.specs.Form.{Text, change, spell}
+use Rattle.vt100_forms.specs.Form.{Text, change, bytes_of}
 use Rattle.screen_drawing.specs.Cursor.{printed_with}
 use Rattle.vt100_core.proofs.WriterLemmas.{appended, appends_rest, none_appends}
 use Rattle.vt100_core.proofs.grid.placing.print_with.Goals as goal
@@ -10,7 +10,7 @@ returns-in_err-write_escape_code_diff c =
     let x = c.args.cell.now in
     let a = c.args.attrs in
     let full = subst (λ b. string_capacity c.args.contents.now
-    < string_len c.args.contents.now + length (spell (change a b))) c.attrs.ensures
+    < string_len c.args.contents.now + length (bytes_of (change a b))) c.attrs.ensures
     c.in_err-write_escape_code_diff.ensures.full in
     none_appends c.from_residual.result (change a x.attrs) (Text x.text ∷ change x.attrs a) (printed_with a x) _ _
     c.from_residual.ensures.0 refl c.in_err-write_escape_code_diff.ensures.bytes full
@@ -25,7 +25,7 @@ returns-in_err-push_str c =
     < string_len c.write_escape_code_diff.new.contents + length bs) text c.in_err-push_str.ensures.full in
     appends_rest (change a x.attrs) rest (printed_with a x) _ _ _ _ refl
     (appended c.write_escape_code_diff.new.contents (c.in_ok-write_escape_code_diff.ensures.bytes
-    ∙ ap (λ b. string_bytes c.args.contents.now ++ spell (change a b)) c.attrs.ensures)
+    ∙ ap (λ b. string_bytes c.args.contents.now ++ bytes_of (change a b)) c.attrs.ensures)
     c.in_ok-write_escape_code_diff.ensures.capacity)
     (none_appends c.from_residual-in_err-push_str.result (Text x.text ∷ []) (change x.attrs a) rest _ _
     c.from_residual-in_err-push_str.ensures.0 refl c.in_err-push_str.ensures.bytes full)

@@ -1,7 +1,7 @@
 use Rattle.std.proofs.Common.{ap, is_ok, refl, ◌∙◌, List, [], ◌∷◌, ◌++◌, ◌+◌, ◌<◌, length, subst}
 use Rattle.std.specs.Prelude.{string_bytes, string_len, string_capacity}
 use Rattle.vt100_forms.specs.declared.attrs.Attrs.{Attrs}
-use Rattle.vt100_forms.specs.Form.{Form, Backspace, EraseChar, RestoreCursor, SaveCursor, change, spell}
+use Rattle.vt100_forms.specs.Form.{Form, Backspace, EraseChar, RestoreCursor, SaveCursor, change, bytes_of}
 use Rattle.screen_drawing.specs.Cursor.{replaced}
 use Rattle.vt100_core.proofs.WriterLemmas.{appends_rest, last_appends, begun_none, begun_rest, refused, appended}
 use Rattle.vt100_core.proofs.grid.placing.replace_space.Goals as goal
@@ -55,7 +55,7 @@ returns-in_err-write_buf-3 c =
     (begun_rest (Backspace ∷ []) (from_erase a b) _ _ _ (appended c.write_buf-2.new.buf c.in_ok-write_buf-2.ensures.bytes c.in_ok-write_buf-2.ensures.capacity)
     (begun_none (EraseChar 1 ∷ []) (from_restore a b) (from_erase a b) _ _ refl c.in_err-write_buf-3.ensures.bytes
     (subst (λ f. string_capacity c.write_buf-2.new.buf
-    < string_len c.write_buf-2.new.buf + length (spell (f ∷ []))) c.new.ensures c.in_err-write_buf-3.ensures.full)))))
+    < string_len c.write_buf-2.new.buf + length (bytes_of (f ∷ []))) c.new.ensures c.in_err-write_buf-3.ensures.full)))))
 
 pub returns-in_err-write_buf-4 : goal.returns-in_err-write_buf-4
 returns-in_err-write_buf-4 c =
@@ -66,7 +66,7 @@ returns-in_err-write_buf-4 c =
     (begun_rest (SaveCursor ∷ []) (from_backspace a b) _ _ _ (appended c.write_buf.new.buf c.in_ok-write_buf.ensures.bytes c.in_ok-write_buf.ensures.capacity)
     (begun_rest (Backspace ∷ []) (from_erase a b) _ _ _ (appended c.write_buf-2.new.buf c.in_ok-write_buf-2.ensures.bytes c.in_ok-write_buf-2.ensures.capacity)
     (begun_rest (EraseChar 1 ∷ []) (from_restore a b) _ _ _
-    (appended c.write_buf-3.new.buf (c.in_ok-write_buf-3.ensures.bytes ∙ ap (λ f. string_bytes c.write_buf-2.new.buf ++ spell (f ∷ []))
+    (appended c.write_buf-3.new.buf (c.in_ok-write_buf-3.ensures.bytes ∙ ap (λ f. string_bytes c.write_buf-2.new.buf ++ bytes_of (f ∷ []))
     c.new.ensures) c.in_ok-write_buf-3.ensures.capacity)
     (begun_none (RestoreCursor ∷ []) (change b a) (from_restore a b) _ _ refl c.in_err-write_buf-4.ensures.bytes
     c.in_err-write_buf-4.ensures.full)))))
@@ -82,7 +82,7 @@ returns c =
     (appends_rest (Backspace ∷ []) (from_erase a b) (from_backspace a b) _ _ ok _ refl
     (appended c.write_buf-2.new.buf c.in_ok-write_buf-2.ensures.bytes c.in_ok-write_buf-2.ensures.capacity)
     (appends_rest (EraseChar 1 ∷ []) (from_restore a b) (from_erase a b) _ _ ok _ refl
-    (appended c.write_buf-3.new.buf (c.in_ok-write_buf-3.ensures.bytes ∙ ap (λ f. string_bytes c.write_buf-2.new.buf ++ spell (f ∷ []))
+    (appended c.write_buf-3.new.buf (c.in_ok-write_buf-3.ensures.bytes ∙ ap (λ f. string_bytes c.write_buf-2.new.buf ++ bytes_of (f ∷ []))
     c.new.ensures) c.in_ok-write_buf-3.ensures.capacity)
     (appends_rest (RestoreCursor ∷ []) (change b a) (from_restore a b) _ _ ok _ refl
     (appended c.write_buf-4.new.buf c.in_ok-write_buf-4.ensures.bytes c.in_ok-write_buf-4.ensures.capacity)

@@ -6,8 +6,8 @@ use Rattle.vt100_rows.proofs.RowLemmas.{IsRow-blank}
 use Rattle.vt100_rows.proofs.BlankLemmas.{fields-at, blank-min, blank-new}
 use Rattle.vt100_rows.proofs.row.Row.reset.Goals as goal
 
-pub reset_front-requires-clause-blank : goal.reset_front-requires-clause-blank
-reset_front-requires-clause-blank c =
+pub reset_prefix-requires-clause-blank : goal.reset_prefix-requires-clause-blank
+reset_prefix-requires-clause-blank c =
     let m : c.min-end.result ≡ min c.self.inside.filled (length c.self.inside.cells.items) =
     omega (arith, c.min-end.ensures, c.from.ensures, c.len.ensures, c.self.inside.cells.ok.0) in
     subst (λ (xs : List CellView). IsBlankFrom xs c.min-end.result) (sym c.deref_mut.ensures.value)

@@ -1,12 +1,12 @@
 use Rattle.std.proofs.Common.{◌≤◌, ◌-◌, arith, length, min}
-use Rattle.vt100_rows.proofs.FilledLemmas.{blank-later, paired-front, removes-filled, removes-none}
+use Rattle.vt100_rows.proofs.FilledLemmas.{blank-later, paired-prefix, removes-filled, removes-none}
 use Rattle.vt100_rows.proofs.row.filled.remove_filled.Goals as goal
 
 pub remove-requires-clause-paired : goal.remove-requires-clause-paired
 remove-requires-clause-paired c =
     let xs = c.args.cells.now in
     let later : min c.args.filled (length xs) ≤ c.min-end.result = omega (arith, c.min-end.ensures, c.max.ensures) in
-    paired-front xs c.min-end.result (blank-later xs c.args.filled c.min-end.result c.requires.blank later)
+    paired-prefix xs c.min-end.result (blank-later xs c.args.filled c.min-end.result c.requires.blank later)
     c.requires.paired
 
 pub returns-then-s-filled : goal.returns-then-s-filled

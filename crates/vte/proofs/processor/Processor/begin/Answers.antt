@@ -26,8 +26,8 @@ returns-then-opened-clause-led g c parsed held at =
         first = none_before parsed c.args.piece.now n p.within (p.first parsed at.has_read);
       };
       parsed_so = record {
-        stands = record {
-          has_read = p.stands parsed at.has_read;
+        state_after = record {
+          has_read = p.state_after parsed at.has_read;
           printed = printed_after parsed (take n c.args.piece.now) at.printed run.printed;
           holds = at.holds;
           no_end = at.no_end;
@@ -51,8 +51,8 @@ returns-else-opened-clause-led g c parsed held at =
     record {
       none = none;
       same = rw quiet at run.ticked;
-      stands = record {
-        has_read = rw all at (p.stands parsed at.has_read);
+      state_after = record {
+        has_read = rw all at (p.state_after parsed at.has_read);
         printed = printed_after parsed c.args.piece.now at.printed run.printed;
         holds = at.holds;
         no_end = at.no_end;

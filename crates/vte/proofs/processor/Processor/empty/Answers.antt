@@ -11,8 +11,8 @@ returns g c parsed held reads printed items =
     let is : c.as_slice.result.now ≡ held = c.as_slice.ensures.value ∙ items in
     let run = rw is at (c.parse.ensures.performed parsed reads) in
     record {
-      stands = record {
-        has_read = rw is at (c.parse.ensures.stands parsed reads);
+      state_after = record {
+        has_read = rw is at (c.parse.ensures.state_after parsed reads);
         printed = printed_after parsed held printed run.printed;
         holds = c.clear.ensures.items;
         no_end = none_in_empty;

@@ -20,7 +20,7 @@ returns-in_default g c parsed held at =
       calls = [];
       ticks = again.ticks;
       settles = keeps parsed held c.args.piece.now again.ticks again.renews none;
-      stands = record { has_read = at.has_read; printed = at.printed; holds = all; no_end = none };
+      state_after = record { has_read = at.has_read; printed = at.printed; holds = all; no_end = none };
       ticked = again.ticked;
       goes = refl;
     }
@@ -43,7 +43,7 @@ returns-in-Some-first_mark g c parsed held at =
       ticks = _;
       settles = replays parsed held c.args.piece.now again.ticks again.renews c.in-Some-first_mark.start
           (c.in-Some.end, last, first);
-      stands = after.stands;
+      state_after = after.state_after;
       ticked = Ticked-append g.T.Timeout.ticking _ _ _ again.ticks _ again.ticked after.ticked;
       goes = after.goes;
     }
@@ -64,7 +64,7 @@ returns-in-None g c parsed held at =
       calls = _;
       ticks = _;
       settles = closes parsed held c.args.piece.now again.ticks again.renews (c.in-Some.end, last, none);
-      stands = after.stands;
+      state_after = after.state_after;
       ticked = Ticked-append g.T.Timeout.ticking _ _ _ again.ticks _ again.ticked after.ticked;
       goes = after.goes;
     }

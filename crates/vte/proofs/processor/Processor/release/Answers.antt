@@ -9,10 +9,10 @@ returns g c parsed held reads printed items none =
     let is : c.as_slice.result.now ≡ held = c.as_slice.ensures.value ∙ items in
     let run = rw is at (c.parse.ensures.performed parsed reads) in
     record {
-      stands = record {
-        has_read = rw is at (c.parse.ensures.stands parsed reads);
+      state_after = record {
+        has_read = rw is at (c.parse.ensures.state_after parsed reads);
         printed = printed_after parsed (take n held) printed run.printed;
-        holds = c.drop_front.ensures.items ∙ ap (drop n) items;
+        holds = c.drop_prefix.ensures.items ∙ ap (drop n) items;
         no_end = none_after n held none;
       };
       ticked = run.ticked;

@@ -63,4 +63,4 @@ returns-clause-led g c parsed held at =
     ] in
     turn_after g.T.Timeout.ticking g.H.Handler.step _ _ parsed held
     c.args.piece.now _ _ c.pending_timeout.result c.pending_timeout.ensures why emptied _ _ c.begin-2.result
-    (c.begin-2.ensures.led (parsed ++ held) [] emptied.stands)
+    (c.begin-2.ensures.led (parsed ++ held) [] emptied.state_after)

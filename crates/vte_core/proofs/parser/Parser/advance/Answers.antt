@@ -1,6 +1,6 @@
 use Rattle.std.proofs.Common.{◌≡◌, arith, ap, take, length, refl}
 use Rattle.std.proofs.lemmas.List.{take_all}
-use Rattle.vte_core.proofs.ReadsLemmas.{reads_none, reads_on, stands_past, told_past}
+use Rattle.vte_core.proofs.ReadsLemmas.{reads_none, reads_on, state_after_past, reported_past}
 use Rattle.vte_core.proofs.parser.Parser.advance.Goals as goal
 
 pub loop-read-init : goal.loop-read-init
@@ -20,7 +20,7 @@ returns g c =
     let inv = c.loop-read.invariant in
     let all : take i bs ≡ bs = take_all i bs c.loop-read-test.false in
     record {
-      stands = rw all at (stands_past bs i inv.reads);
-      told = rw all at (told_past bs i inv.reads
+      state_after = rw all at (state_after_past bs i inv.reads);
+      reported = rw all at (reported_past bs i inv.reads
           (λ h. inv.none (omega (arith, ap length h, ap length all, c.loop-read-test.false))));
     }

@@ -6,7 +6,7 @@ use Rattle.vte_core.proofs.parser.Parser.advance.Given as goal
 abbrev pub invariant-loop-read : goal.invariant-loop-read
 invariant-loop-read g l = record {
   reads : Reads g.P.Perform.step g.row.N l.initial.self l.initial.performer l.bytes l.read l.self l.performer;
-  none : l.read ≡ 0 → reads.told.told ≡ [];
+  none : l.read ≡ 0 → reads.reported.reported ≡ [];
 }
 
 abbrev pub decreases-loop-read : goal.decreases-loop-read

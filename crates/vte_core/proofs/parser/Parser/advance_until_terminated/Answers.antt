@@ -5,7 +5,7 @@ use Rattle.std.proofs.Math.Nat.{zero-add}
 use Rattle.vte_core.specs.Pending.{pending, after_bytes, events_from}
 use Rattle.vte_core.proofs.StopLemmas.{stop_now, stop_end, stops-said}
 use Rattle.vte_core.proofs.Runs.{read_more, piece_and_rest}
-use Rattle.vte_core.proofs.ReadsLemmas.{reads_none, reads_on, stands_past, told_past}
+use Rattle.vte_core.proofs.ReadsLemmas.{reads_none, reads_on, state_after_past, reported_past}
 use Rattle.vte_core.proofs.Quiet.{step_stops}
 use Rattle.vte_core.proofs.Telling.{same_events}
 use Rattle.vte_core.proofs.Machine.{after_bytes-append}
@@ -26,7 +26,7 @@ loop-read-preserved g c =
     let k = c.read_some-read.result in
     let inv = c.loop-read.invariant in
     let read = c.read_some-read.ensures in
-    let tells = read.reads.told in
+    let tells = read.reads.reported in
     let piece : List ℕ = take k (take (length bs - i) (drop i bs)) in
     let quiet : g.P.Perform.is_terminated c.loop-read.performer ≡ false =
     sym c.terminated.ensures ∙ c.if-terminated.false in
@@ -35,11 +35,11 @@ loop-read-preserved g c =
       none = λ h. absurd (omega (arith, h, read.some));
       stops = λ q h j new r.
           let now = after_bytes q (take i bs) in
-          let at = inv.reads.stands q h in
+          let at = inv.reads.state_after q h in
           let rest : List ℕ = drop k (take (length bs - i) (drop i bs)) in
           let parts = piece_and_rest bs i k read.reads.within in
           let left = rw (parts.2, read_more bs i k, after_bytes-append q (take i bs) piece) at r in
-          let gone = same_events g.P.Perform.step c.loop-read.performer c.read_some-read.new.performer tells.told
+          let gone = same_events g.P.Perform.step c.loop-read.performer c.read_some-read.new.performer tells.reported
           (events_from g.row.N now piece) (tells.added now at) tells.performed in
           let whole = step_stops g.P.Perform.step g.P.Perform.is_terminated g.row.N now piece rest
           c.loop-read.performer c.read_some-read.new.performer j new (read.is_step now at) quiet gone left in
@@ -48,15 +48,15 @@ loop-read-preserved g c =
       already = λ t. let stopped = ap g.P.Perform.is_terminated (inv.already t).1 ∙ t in cc (quiet, stopped);
     }
 
-pub returns-then-terminated-clause-stands : goal.returns-then-terminated-clause-stands
-returns-then-terminated-clause-stands g c = stands_past c.args.bytes.now c.loop-read.read c.loop-read.invariant.reads
+pub returns-then-terminated-clause-state_after : goal.returns-then-terminated-clause-state_after
+returns-then-terminated-clause-state_after g c = state_after_past c.args.bytes.now c.loop-read.read c.loop-read.invariant.reads
 
-pub returns-then-terminated-clause-told : goal.returns-then-terminated-clause-told
-returns-then-terminated-clause-told g c =
+pub returns-then-terminated-clause-reported : goal.returns-then-terminated-clause-reported
+returns-then-terminated-clause-reported g c =
     let bs = c.args.bytes.now in
     let i = c.loop-read.read in
     let inv = c.loop-read.invariant in
-    told_past bs i inv.reads (λ h. inv.none (omega (arith, ap length h, length-take i bs, inv.reads.within)))
+    reported_past bs i inv.reads (λ h. inv.none (omega (arith, ap length h, length-take i bs, inv.reads.within)))
 
 pub returns-then-terminated-clause-stops : goal.returns-then-terminated-clause-stops
 returns-then-terminated-clause-stops g c = λ past h.
@@ -69,19 +69,19 @@ returns-then-terminated-clause-stops g c = λ past h.
 take_all : (xs : List ℕ) (i : ℕ) → length xs ≤ i → take i xs ≡ take (length xs) xs
 take_all xs i h = grind (arith, common_steps)
 
-pub returns-clause-stands : goal.returns-clause-stands
-returns-clause-stands g c =
+pub returns-clause-state_after : goal.returns-clause-state_after
+returns-clause-state_after g c =
     let bs = c.args.bytes.now in
     rw (sym (take_all bs c.loop-read.read c.loop-read-test.false))
-    (stands_past bs c.loop-read.read c.loop-read.invariant.reads)
+    (state_after_past bs c.loop-read.read c.loop-read.invariant.reads)
 
-pub returns-clause-told : goal.returns-clause-told
-returns-clause-told g c =
+pub returns-clause-reported : goal.returns-clause-reported
+returns-clause-reported g c =
     let bs = c.args.bytes.now in
     let i = c.loop-read.read in
     let inv = c.loop-read.invariant in
     rw (sym (take_all bs i c.loop-read-test.false))
-    (told_past bs i inv.reads (λ h. inv.none (omega (arith, ap length h, length-take i bs, inv.reads.within))))
+    (reported_past bs i inv.reads (λ h. inv.none (omega (arith, ap length h, length-take i bs, inv.reads.within))))
 
 pub returns-clause-stops : goal.returns-clause-stops
 returns-clause-stops g c = λ past h.

@@ -10,7 +10,7 @@ use Rattle.vte_core.proofs.parser.Parser.advance_until_terminated.Given as goal
 abbrev pub invariant-loop-read : goal.invariant-loop-read
 invariant-loop-read g l = record {
   reads : Reads g.P.Perform.step g.row.N l.initial.self l.initial.performer l.bytes l.read l.self l.performer;
-  none : l.read ≡ 0 → reads.told.told ≡ [];
+  none : l.read ≡ 0 → reads.reported.reported ≡ [];
   stops : (q : Pending) → IsAt g.row.N l.initial.self q → (k : ℕ) (new : _)
       → StopsAt g.P.Perform.step g.P.Perform.is_terminated g.row.N (after_bytes q (take l.read l.bytes)) true
       (drop l.read l.bytes) l.performer k new

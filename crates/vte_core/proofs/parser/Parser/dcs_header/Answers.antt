@@ -34,12 +34,12 @@ returns-then-is_kept g c =
     let ends = final-ends c.args.byte (rw c.in-Dispatch.is at c.step_of-action.ensures.action) in
     let hooked = rw c.in-Dispatch.is at c.step_of-action.ensures.next in
     let keeps = sym c.is_kept.ensures.kept ∙ c.if-is_kept.true in
-    reads_hook (hook_event c.hook.new.self c.args.byte ∷ []) (_, c.hook.ensures.told, refl) c.requires.state
+    reads_hook (hook_event c.hook.new.self c.args.byte ∷ []) (_, c.hook.ensures.reported, refl) c.requires.state
     (rw (ends.0, ends.1, keeps) refl)
     (λ h at.
     let well = sym (c.is_kept.ensures.well_formed h at.2) ∙ c.if-is_kept.true in
     rw (ends.0, ends.1, well)
-    (ap (λ (x : Event). x ∷ []) (sym (c.hook.ensures.is_told h at.2)), (hooked, at.1)))
+    (ap (λ (x : Event). x ∷ []) (sym (c.hook.ensures.is_reported h at.2)), (hooked, at.1)))
 
 pub returns-else-is_kept : goal.returns-else-is_kept
 returns-else-is_kept g c =

@@ -13,5 +13,5 @@ returns-then-quiet-bytes g c =
       some = omega arith;
       reads = reads_next bs k c.if-quiet-bytes.true (reads_quiet bs k quiet.reads) c.end_csi.ensures;
       is_step = λ q h. quiet-byte-step g.row.N c.begin_csi-quiet.new.self q bs k c.if-quiet-bytes.true
-          (quiet.reads.quiet q h) (quiet.begun some) (quiet.reads.stands q h);
+          (quiet.reads.quiet q h) (quiet.begun some) (quiet.reads.state_after q h);
     }

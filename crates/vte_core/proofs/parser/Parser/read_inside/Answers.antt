@@ -9,10 +9,10 @@ returns-in-DcsPassthrough g c =
     let put = take c.put_front.result c.args.bytes.now in
     record {
       within = c.put_front.ensures.within;
-      stands = λ q h. (device-at g.row.N c.args.self.now q put c.in-DcsPassthrough.is c.put_front.ensures.all h).1;
-      told = record {
-        told = map Put put;
-        performed = c.put_front.ensures.told;
+      state_after = λ q h. (device-at g.row.N c.args.self.now q put c.in-DcsPassthrough.is c.put_front.ensures.all h).1;
+      reported = record {
+        reported = map Put put;
+        performed = c.put_front.ensures.reported;
         added = λ q h. sym (device-at g.row.N c.args.self.now q put c.in-DcsPassthrough.is c.put_front.ensures.all
             h).0;
       };

@@ -1,6 +1,6 @@
 use Rattle.std.proofs.Common.{◌∙◌, sym, arith, take}
 use Rattle.vte_core.specs.Pending.{Pending}
-use Rattle.vte_core.specs.Runs.{run_told}
+use Rattle.vte_core.specs.Runs.{run_reported}
 use Rattle.vte_core.specs.Standing.{IsAt}
 use Rattle.vte_core.proofs.Quiet.{one-step}
 use Rattle.vte_core.proofs.ReadsLemmas.{reads_none, reads_next}
@@ -19,10 +19,10 @@ returns-then-is_text g c =
       some = omega (arith, some, c.read.ensures.len);
       reads = record {
         within = omega (arith, c.read.ensures.len, before-len bs);
-        stands = λ q h. rw (run q h).1 ((run q h).3, c.read.ensures.rest);
-        told = record {
-          told = run_told c.args.self.now.unfinished (take k bs);
-          performed = c.read.ensures.told;
+        state_after = λ q h. rw (run q h).1 ((run q h).3, c.read.ensures.rest);
+        reported = record {
+          reported = run_reported c.args.self.now.unfinished (take k bs);
+          performed = c.read.ensures.reported;
           added = λ q h. sym (run q h).0;
         };
       };

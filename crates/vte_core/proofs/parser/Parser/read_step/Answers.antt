@@ -17,5 +17,5 @@ returns g c =
       some = omega (arith, one.some);
       reads = reads_on bs k j (reads_quiet bs k quiet) one.reads;
       is_step = λ q h. rw (read_more bs k j, rest.2) (quiet-step g.row.N q (take k bs) _ _ (quiet.quiet q h)
-          (one.is_step (after_bytes q (take k bs)) (quiet.stands q h)));
+          (one.is_step (after_bytes q (take k bs)) (quiet.state_after q h)));
     }

@@ -2,7 +2,7 @@ use Rattle.std.proofs.Common.{◌≡◌, ◌-◌, ◌++◌, arith, true, length,
 use Rattle.std.proofs.lemmas.Bool.{eq-eqb}
 use Rattle.vte_core.specs.Bytes.{is_esc}
 use Rattle.vte_core.specs.Runs.{has_no_esc}
-use Rattle.vte_core.proofs.Fronts.{reads_more, reads_all}
+use Rattle.vte_core.proofs.Prefixes.{reads_more, reads_all}
 use Rattle.vte_core.proofs.Runs.{read_more, within_more}
 use Rattle.vte_core.proofs.Ground.{no_esc-append, text_end}
 use Rattle.vte_core.proofs.Telling.{performs-append}
@@ -16,14 +16,14 @@ loop-read-preserved g c =
     let inv = c.loop-read.invariant in
     let reads = c.read_some-read.ensures in
     let more = reads_more g.P.Perform.step c.args.self.now c.loop-read.self c.loop-read.performer bs i k
-    c.read_some-read.new.performer c.read_some-read.new.self inv.told inv.within inv.no_esc inv.added inv.rest reads in
+    c.read_some-read.new.performer c.read_some-read.new.self inv.reported inv.within inv.no_esc inv.added inv.rest reads in
     record {
       within = within_more bs i k inv.within reads.within;
       no_esc = ap has_no_esc (read_more bs i k)
           ∙ no_esc-append (take i bs) (take k (take (length bs - i) (drop i bs))) inv.no_esc reads.no_esc;
-      told = inv.told ++ reads.told;
+      reported = inv.reported ++ reads.reported;
       performed = performs-append g.P.Perform.step c.args.performer.now c.loop-read.performer
-          c.read_some-read.new.performer inv.told reads.told inv.performed reads.performed;
+          c.read_some-read.new.performer inv.reported reads.reported inv.performed reads.performed;
       added = more.0;
       rest = more.1;
     }
@@ -35,8 +35,8 @@ returns-else-bytes-read-ne27 g c =
     let inv = c.loop-read.invariant in
     let esc : is_esc (get_or bs i 0) ≡ true = eq-eqb (get_or bs i 0) 0x1B (omega (arith, c.if-bytes-read-ne27.false)) in
     let len = text_end bs i inv.within inv.no_esc (λ lt. esc) in
-    let all = reads_all c.args.self.now c.loop-read.self bs i inv.told len inv.added inv.rest in
-    record { len = len; told = rw all.0 at inv.performed; rest = all.1 }
+    let all = reads_all c.args.self.now c.loop-read.self bs i inv.reported len inv.added inv.rest in
+    record { len = len; reported = rw all.0 at inv.performed; rest = all.1 }
 
 pub returns-after-loop-read : goal.returns-after-loop-read
 returns-after-loop-read g c =
@@ -44,5 +44,5 @@ returns-after-loop-read g c =
     let i = c.loop-read.read in
     let inv = c.loop-read.invariant in
     let len = text_end bs i inv.within inv.no_esc (λ lt. absurd (omega (arith, lt, c.loop-read-test.false))) in
-    let all = reads_all c.args.self.now c.loop-read.self bs i inv.told len inv.added inv.rest in
-    record { len = len; told = rw all.0 at inv.performed; rest = all.1 }
+    let all = reads_all c.args.self.now c.loop-read.self bs i inv.reported len inv.added inv.rest in
+    record { len = len; reported = rw all.0 at inv.performed; rest = all.1 }

@@ -1,7 +1,7 @@
 use Rattle.std.proofs.Common.{◌≡◌, ◌-◌, ◌≤◌, ◌++◌, true, List, length, take, drop}
 use Rattle.vte_core.specs.Bytes.{is_esc}
 use Rattle.vte_core.specs.Event.{Event, Performs}
-use Rattle.vte_core.specs.Runs.{run_told, run_rest, has_no_esc}
+use Rattle.vte_core.specs.Runs.{run_reported, run_rest, has_no_esc}
 use Rattle.vte_core.specs.Shapes.{before}
 use Rattle.vte_core.proofs.text.Unfinished.read.Given as goal
 
@@ -10,10 +10,10 @@ abbrev pub invariant-loop-read : goal.invariant-loop-read
 invariant-loop-read g l = record {
   within : l.read ≤ length l.bytes;
   no_esc : has_no_esc (take l.read l.bytes) ≡ true;
-  told : List Event;
-  performed : Performs g.P.Perform.step l.initial.performer told l.performer;
-  added : run_told l.initial.self (before is_esc l.bytes)
-      ≡ told ++ run_told l.self (drop l.read (before is_esc l.bytes));
+  reported : List Event;
+  performed : Performs g.P.Perform.step l.initial.performer reported l.performer;
+  added : run_reported l.initial.self (before is_esc l.bytes)
+      ≡ reported ++ run_reported l.self (drop l.read (before is_esc l.bytes));
   rest : run_rest l.initial.self (before is_esc l.bytes) ≡ run_rest l.self (drop l.read (before is_esc l.bytes));
 }
 

@@ -3,7 +3,7 @@ use Rattle.std.proofs.lemmas.List.{take_more}
 use Rattle.std.proofs.lemmas.Str.{chars-IsAscii}
 use Rattle.std.specs.Str.{chars}
 use Rattle.vte_core.specs.Event.{Print}
-use Rattle.vte_core.proofs.Fronts.{reads_alone}
+use Rattle.vte_core.proofs.Prefixes.{reads_alone}
 use Rattle.vte_core.proofs.Ground.{plain-run, plain-ascii}
 use Rattle.vte_core.proofs.Telling.{same_events}
 use Rattle.vte_core.proofs.text.Unfinished.read_ascii.Goals as goal
@@ -20,10 +20,10 @@ pub returns-then-ends_text : goal.returns-then-ends_text
 returns-then-ends_text g c =
     let bs = c.args.bytes.now in
     let k = c.ascii_len-len.result in
-    let front : List ℕ = take k bs in
-    let spelt : chars c.ascii_text.result.now ≡ front = ap chars c.ascii_text.ensures
-    ∙ chars-IsAscii front (plain-ascii front c.ascii_len-len.ensures.plain) in
-    rw c.requires.none (reads_alone bs front k _ (omega arith) c.ascii_len-len.ensures.within refl
-    (plain-run front c.ascii_len-len.ensures.plain)
+    let prefix : List ℕ = take k bs in
+    let spelt : chars c.ascii_text.result.now ≡ prefix = ap chars c.ascii_text.ensures
+    ∙ chars-IsAscii prefix (plain-ascii prefix c.ascii_len-len.ensures.plain) in
+    rw c.requires.none (reads_alone bs prefix k _ (omega arith) c.ascii_len-len.ensures.within refl
+    (plain-run prefix c.ascii_len-len.ensures.plain)
     (same_events g.P.Perform.step c.args.performer.now c.print_str.new.self _ _ (ap (map Print) spelt)
     c.print_str.ensures))

@@ -1,5 +1,5 @@
 use Rattle.std.proofs.Common.{◌∷◌, ap, arith, refl, [], take, ◌<◌, length, length-take}
-use Rattle.vte_core.proofs.Fronts.{reads_alone, c1-run, whole-told}
+use Rattle.vte_core.proofs.Prefixes.{reads_alone, c1-run, whole-reported}
 use Rattle.vte_core.specs.Text.{char_event}
 use Rattle.vte_core.proofs.Telling.{same_step}
 use Rattle.vte_core.proofs.text.Unfinished.read_character.Goals as goal
@@ -21,7 +21,7 @@ returns-then-ends_text g c =
       length-take k bs,
     ) in
     rw c.requires.none (reads_alone bs (take k bs) k _ (omega arith) c.begun_len-len.ensures.within refl
-    (whole-told (take k bs) (c.begun_len-len.ensures.whole (omega arith)) long) (
+    (whole-reported (take k bs) (c.begun_len-len.ensures.whole (omega arith)) long) (
       c.tell.new.performer,
       same_step g.P.Perform.step c.args.performer.now c.tell.new.performer _ _
           (ap char_event c.character.ensures) c.tell.ensures,

@@ -2,7 +2,7 @@ use Rattle.std.proofs.Common.{◌≡◌, ◌∙◌, ◌<◌, sym, refl, arith, f
 use Rattle.std.proofs.lemmas.Bool.Decides.{nat_tests}
 use Rattle.vte_core.specs.Bytes.{is_esc}
 use Rattle.vte_core.specs.Text.{char_len}
-use Rattle.vte_core.proofs.Fronts.{reads_two, reads_three, reads_byte, reads_alone, of_three, of_four, kept_three}
+use Rattle.vte_core.proofs.Prefixes.{reads_two, reads_three, reads_byte, reads_alone, of_three, of_four, kept_three}
 use Rattle.vte_core.proofs.text.Unfinished.read_malformed.Goals as goal
 
 pub returns-in-len3-up : goal.returns-in-len3-up
@@ -27,7 +27,7 @@ returns-in_default g c =
     let a = get_or c.args.bytes.now 0 0 in
     let long : 1 < char_len a = c.requires.begins.begun in
     let esc : is_esc a ≡ false = grind (arith, nat_tests, long) in
-    reads_byte c.args.bytes.now (omega (arith, c.requires.begins.some)) esc c.read_byte.ensures.told
+    reads_byte c.args.bytes.now (omega (arith, c.requires.begins.some)) esc c.read_byte.ensures.reported
     c.read_byte.ensures.rest
 
 pub keep-requires : goal.keep-requires

@@ -1,7 +1,7 @@
 use Rattle.std.proofs.Common.{◌≡◌, arith, false, get_or}
 use Rattle.std.proofs.lemmas.Bool.Decides.{nat_tests}
 use Rattle.vte_core.specs.Bytes.{is_esc}
-use Rattle.vte_core.proofs.Fronts.{reads_malformed, reads_byte}
+use Rattle.vte_core.proofs.Prefixes.{reads_malformed, reads_byte}
 use Rattle.vte_core.proofs.text.Unfinished.read_multibyte.Goals as goal
 
 pub returns-in-len2-up-2 : goal.returns-in-len2-up-2
@@ -14,4 +14,4 @@ returns-in-len2-up-2 g c =
 pub returns-in_default : goal.returns-in_default
 returns-in_default g c =
     let esc : is_esc (get_or c.args.bytes.now 0 0) ≡ false = grind (arith, nat_tests, c.requires.high) in
-    reads_byte c.args.bytes.now c.requires.some esc c.read_byte.ensures.told c.read_byte.ensures.rest
+    reads_byte c.args.bytes.now c.requires.some esc c.read_byte.ensures.reported c.read_byte.ensures.rest

@@ -1,10 +1,10 @@
 use Rattle.std.proofs.Common.{sym, ◌∙◌, ap, List, ℕ, get_or}
 use Rattle.vte_core.specs.Pending.{whole_goes_on}
-use Rattle.vte_core.proofs.Fronts.{reads_byte, reads_cut}
+use Rattle.vte_core.proofs.Prefixes.{reads_byte, reads_cut}
 use Rattle.vte_core.proofs.text.Unfinished.resume.Goals as goal
 
 pub returns-then-goes_on : goal.returns-then-goes_on
-returns-then-goes_on g c = reads_byte c.args.bytes.now c.requires.some c.requires.text c.read_byte.ensures.told
+returns-then-goes_on g c = reads_byte c.args.bytes.now c.requires.some c.requires.text c.read_byte.ensures.reported
     c.read_byte.ensures.rest
 
 pub returns : goal.returns

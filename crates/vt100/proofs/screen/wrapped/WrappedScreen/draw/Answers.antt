@@ -10,7 +10,7 @@ returns-in_err-printed g c =
     let is : c.from_residual.result ≡ Err Memory = search rules in
     let e = c.draw-drawn.ensures.drawn in
     rw is (rw (← c.self.view_is) (scroll_refused g.CB.Callbacks.scrolls (drawn_on c.args.drawing) _ c.draw-drawn.result
-    c.if-self.false c.in_err-printed.ensures.failed c.in_err-printed.ensures.refused e.told e.limits e.keeps_none
+    c.if-self.false c.in_err-printed.ensures.failed c.in_err-printed.ensures.refused e.reported e.limits e.keeps_none
     e.stays))
 
 pub invariant_of-self-2 : goal.invariant_of-self-2

@@ -1,9 +1,0 @@
-use Rattle.std.proofs.Common.{Ok, Err, refl}
-use Rattle.takers.proofs.SendLemmas.{text-appends, text-part}
-use Rattle.takers.proofs.laws.sent_texts_append.Goals as goal
-
-pub returns : goal.returns
-returns g c = λ w v text. (
-  λ sent. text-appends g.row.W.Denot g.W.Taker.takes g.W.Sink.contents g.met.W.Sink.tells w v text (Ok tt) sent refl,
-  λ e sent. text-part g.row.W.Denot g.W.Taker.takes g.W.Sink.contents g.met.W.Sink.tells w v text (Err e) e sent refl,
-)
