@@ -11,8 +11,8 @@ pub loop-i-preserved : goal.loop-i-preserved
 loop-i-preserved c =
     let xs = c.args.bytes.now in
     let ys = c.args.others.now in
-    let in_xs : c.loop-i.i < length xs = omega (arith, c.reported-bytes, c.loop-i-test.true) in
-    let in_ys : c.loop-i.i < length ys = omega (arith, c.reported-others, c.loop-i-test.true) in
+    let in_xs : c.loop-i.i < length xs = omega (arith, c.told-bytes, c.loop-i-test.true) in
+    let in_ys : c.loop-i.i < length ys = omega (arith, c.told-others, c.loop-i-test.true) in
     λ h. ap (λ b. b && nat_eq (slice_index xs c.loop-i.i) (slice_index ys c.loop-i.i)) (c.loop-i.invariant h)
     ∙ text_eq-next xs ys c.loop-i.i in_xs in_ys
 
@@ -22,4 +22,4 @@ returns c =
     let ys = c.args.others.now in
     let all : c.loop-i.i ≡ 21 = omega arith in
     λ h. c.loop-i.invariant h ∙ ap (λ n. text_eq (take n xs) (take n ys)) all
-    ∙ text_eq-all xs ys 21 c.reported-bytes c.reported-others
+    ∙ text_eq-all xs ys 21 c.told-bytes c.told-others

@@ -11,8 +11,8 @@ pub loop-i-preserved : goal.loop-i-preserved
 loop-i-preserved c =
     let xs = c.args.bytes.now in
     let ys = c.args.others.now in
-    let in_xs : c.loop-i.i < length xs = omega (arith, c.reported-bytes, c.loop-i-test.true) in
-    let in_ys : c.loop-i.i < length ys = omega (arith, c.reported-others, c.loop-i-test.true) in
+    let in_xs : c.loop-i.i < length xs = omega (arith, c.told-bytes, c.loop-i-test.true) in
+    let in_ys : c.loop-i.i < length ys = omega (arith, c.told-others, c.loop-i-test.true) in
     ap (λ b. b && nat_eq (slice_index xs c.loop-i.i) (slice_index ys c.loop-i.i)) c.loop-i.invariant
     ∙ text_eq-next xs ys c.loop-i.i in_xs in_ys
 

@@ -25,7 +25,7 @@ returns-then-starts_with c =
       omega (arith, c.loop-at.invariant.above),
       inside,
       sym (rw (rest_is text (c.loop-at.next + c.in-Some.at)) at c.starts_with.ensures.value) ∙ c.if-starts_with.true,
-      none_before c.args.mark.now text _ c.loop-at.next c.in-Some.at (omega (arith, c.reported-mark))
+      none_before c.args.mark.now text _ c.loop-at.next c.in-Some.at (omega (arith, c.told-mark))
           (omega (arith, inside)) c.loop-at.invariant.none found.before,
     )
 
@@ -40,7 +40,7 @@ loop-at-preserved c =
       within = omega (arith, inside);
       above = omega (arith, c.loop-at.invariant.above);
       none = λ k low below. elim (cases_lt k place) [
-        | inl before ↦ none_before c.args.mark.now text _ c.loop-at.next c.in-Some.at (omega (arith, c.reported-mark))
+        | inl before ↦ none_before c.args.mark.now text _ c.loop-at.next c.in-Some.at (omega (arith, c.told-mark))
             (omega (arith, inside)) c.loop-at.invariant.none found.before k low before
         | inr from ↦ subst (λ (i : ℕ). is_found_at c.args.mark.now text i ≡ false) (let here : place ≡ k =
             omega (arith, below, from) in here) no
@@ -53,6 +53,6 @@ returns c k low below =
     let next = c.loop-at.next in
     let rest : length (take (length text - next) (drop next text)) ≡ length text - next =
     omega (arith, length-take (length text - next) (drop next text), length-drop next text) in
-    none_before c.args.mark.now text c.args.from next (length text - next) (omega (arith, c.reported-mark))
+    none_before c.args.mark.now text c.args.from next (length text - next) (omega (arith, c.told-mark))
     (omega (arith, c.loop-at.invariant.within)) c.loop-at.invariant.none (rw rest at c.in_default.ensures) k low
     (omega (arith, c.loop-at.invariant.within, below))

@@ -30,7 +30,7 @@ returns-then-starts_with c =
         inside.1,
         sym (rw (rest_is text (c.args.from + c.in-Some.at)) at c.starts_with.ensures.value) ∙ c.if-starts_with.true,
         λ k low below. none_behind c.args.mark.now text c.args.from c.loop-at.end (c.in-Some.at + 1)
-            (omega (arith, c.reported-mark)) now.above now.within now.none c.in-Some.ensures.0.after k
+            (omega (arith, c.told-mark)) now.above now.within now.none c.in-Some.ensures.0.after k
             (omega (arith, low)) below,
       ),
     )
@@ -49,7 +49,7 @@ loop-at-preserved c =
         | inl here ↦ subst (λ (i : ℕ). is_found_at c.args.mark.now text i ≡ false) (let same : place ≡ k =
             omega (arith, low, here) in same) no
         | inr after ↦ none_behind c.args.mark.now text c.args.from c.loop-at.end (c.in-Some.at + 1)
-            (omega (arith, c.reported-mark)) now.above now.within now.none c.in-Some.ensures.0.after k
+            (omega (arith, c.told-mark)) now.above now.within now.none c.in-Some.ensures.0.after k
             (omega (arith, after)) below
       ];
     }
@@ -57,5 +57,5 @@ loop-at-preserved c =
 pub returns : goal.returns
 returns c k low below =
     let now = c.loop-at.invariant in
-    none_behind c.args.mark.now c.args.text.now c.args.from c.loop-at.end 0 (omega (arith, c.reported-mark)) now.above
+    none_behind c.args.mark.now c.args.text.now c.args.from c.loop-at.end 0 (omega (arith, c.told-mark)) now.above
     now.within now.none c.in_default.ensures k (omega (arith, low)) below
