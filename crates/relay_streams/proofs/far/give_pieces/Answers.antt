@@ -23,7 +23,7 @@ loop-cut-preserved c =
     let at : drop i cuts ≡ get_or cuts i 0 ∷ drop (i + 1) cuts = rw add-one (drop-cons cuts i 0 more) in
     let next : cut_by (drop i cuts) left ≡ piece ∷ cut_by (drop (i + 1) cuts) rest =
     cut-one cuts i (get_or cuts i 0) m left at c.min.ensures
-    ∙ ap (λ (zs : List ℕ). zs ∷ cut_by (drop (i + 1) cuts) (drop m left)) (sym c.split_at.ensures.prefix)
+    ∙ ap (λ (zs : List ℕ). zs ∷ cut_by (drop (i + 1) cuts) (drop m left)) (sym c.split_at.ensures.front)
     ∙ ap (λ (zs : List ℕ). piece ∷ cut_by (drop (i + 1) cuts) zs) (sym c.split_at.ensures.back) in
     record {
       past = so_far.past ++ piece ∷ [];
