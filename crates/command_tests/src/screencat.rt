@@ -46,14 +46,14 @@ fn check_command(rt: &(impl Abort + AllocGlobal), row: Row) {
 }
 
 #[test]
-fn commands(rt: HostRuntime) {
+fn prints_the_screen_or_the_usage(rt: HostRuntime) {
     for row in COMMANDS {
         check_command(&rt, *row);
     }
 }
 
 #[test]
-fn readers(rt: HostRuntime) -> Result<(), Fail> {
+fn a_read_is_retried_or_reported(rt: HostRuntime) -> Result<(), Fail> {
     let rows: [(&'static [Step], u8, &[u8], &[u8], u64); 2] = [
         (
             &[Step::Give(b"hi"), Step::Fail(ErrorKind::BrokenPipe)],
@@ -94,7 +94,7 @@ fn readers(rt: HostRuntime) -> Result<(), Fail> {
 }
 
 #[test]
-fn writers(rt: HostRuntime) -> Result<(), Fail> {
+fn a_failed_write_or_flush_is_reported(rt: HostRuntime) -> Result<(), Fail> {
     let rows: [(usize, bool, u8, usize, u64, &[u8]); 3] = [
         (1, true, 1, 1, 0, b"screencat: write\n"),
         (100, true, 0, 4, 1, b""),
@@ -127,7 +127,7 @@ fn writers(rt: HostRuntime) -> Result<(), Fail> {
 
 // A frame that would be too long: nothing is written.
 #[test]
-fn long_frames(rt: HostRuntime) -> Result<(), Fail> {
+fn a_frame_that_is_too_long_is_reported(rt: HostRuntime) -> Result<(), Fail> {
     let stream = overlong(rt.alloc())?;
     let words = ["1", "60000"];
     let written = output_of(&rt, &words, &stream, (1, b"screencat: frame too long\n"));

@@ -78,14 +78,14 @@ fn check_command(rt: &(impl Abort + AllocGlobal), row: Row) {
 }
 
 #[test]
-fn commands(rt: HostRuntime) {
+fn prints_the_state_or_the_usage(rt: HostRuntime) {
     for row in COMMANDS {
         check_command(&rt, *row);
     }
 }
 
 #[test]
-fn readers(rt: HostRuntime) {
+fn a_failed_read_is_reported(rt: HostRuntime) {
     // Want of memory in the reader is a read's fault, too.
     let rows: [(&'static [Step], &[u8]); 2] = [
         (&[Step::Fail(ErrorKind::BrokenPipe)], b"screendump: read\n"),
@@ -104,7 +104,7 @@ fn readers(rt: HostRuntime) {
 }
 
 #[test]
-fn writers(rt: HostRuntime) {
+fn a_failed_write_or_flush_is_reported(rt: HostRuntime) {
     let rows: [(&[&str], &[u8]); 2] = [(&["1", "2"], b"ab"), (&["run"], b"new 1 2 0\ndump")];
     for (room, flushes) in [(0, true), (20, true), (1000, false)] {
         for (words, input) in rows {

@@ -14,7 +14,7 @@ const HI_X: &[u8] =
 const READ: &[u8] = b"screenlive: read\n";
 
 #[test]
-fn reads(rt: HostRuntime) -> Result<(), Fail> {
+fn a_frame_is_sent_after_each_read(rt: HostRuntime) -> Result<(), Fail> {
     let rows: [(&'static [Step], u8, &[u8], &[u8], u64); 6] = [
         (&[Step::Give(b"hi"), Step::Give(b"x")], 0, HI_X, b"", 3),
         (
@@ -61,7 +61,7 @@ fn reads(rt: HostRuntime) -> Result<(), Fail> {
 
 // The words, how much a writer takes, whether a flush goes well; and then status, bytes taken, flushes, and the line.
 #[test]
-fn writers(rt: HostRuntime) -> Result<(), Fail> {
+fn a_failed_write_or_flush_is_reported(rt: HostRuntime) -> Result<(), Fail> {
     let rows: [(&[&str], usize, bool, u8, usize, u64, &[u8]); 4] = [
         (&["2", "4"], 100, true, 0, 48, 1, b""),
         (&["2", "4"], 10, true, 1, 10, 0, b"screenlive: write\n"),

@@ -103,7 +103,7 @@ fn check_command(rt: &(impl Abort + AllocGlobal), row: Row) {
 }
 
 #[test]
-fn commands(rt: HostRuntime) {
+fn relays_shows_or_prints_the_usage(rt: HostRuntime) {
     for row in COMMANDS {
         check_command(&rt, *row);
     }
@@ -117,7 +117,7 @@ const INTERRUPTED: &[Step] = &[
 ];
 
 #[test]
-fn readers(rt: HostRuntime) -> Result<(), Fail> {
+fn a_read_is_retried_or_reported(rt: HostRuntime) -> Result<(), Fail> {
     let rows: [(&str, &'static [Step], u8, &[u8], &[u8], u64); 5] = [
         (
             "relay",
@@ -166,7 +166,7 @@ fn readers(rt: HostRuntime) -> Result<(), Fail> {
 
 // A line on the error output, one byte a write, up to a write that fails. It is not flushed.
 #[test]
-fn errors(rt: HostRuntime) -> Result<(), Fail> {
+fn a_line_that_cannot_be_written_is_given_up(rt: HostRuntime) -> Result<(), Fail> {
     for (room, kept) in [(100, USAGE), (10, &USAGE[..10])] {
         let mut reported = Narrow::new(rt.alloc(), room);
         let mut written = Vec::new(rt.alloc());
@@ -193,7 +193,7 @@ fn check_session(
 
 // What `show` prints of what `relay` wrote of a session.
 #[test]
-fn examples(rt: HostRuntime) {
+fn a_relayed_session_is_shown(rt: HostRuntime) {
     check_session(&rt, ("8", "40"), EDITOR, EDITOR_SCREEN);
     check_session(&rt, ("12", "40"), BUILD, BUILD_SCREEN);
 }
@@ -213,7 +213,7 @@ fn check_letters(rt: &(impl Abort + AllocGlobal), letters: &[u8], frames: &[u8])
 
 // A frame comes after each full piece, and one at the end where more has come since.
 #[test]
-fn frames(rt: HostRuntime) -> Result<(), Fail> {
+fn a_frame_follows_each_full_piece_and_the_end(rt: HostRuntime) -> Result<(), Fail> {
     let mut frames = Vec::new(rt.alloc());
     push_frame(&mut frames)?;
     check_letters(&rt, &[b'a'; 4096], &frames);
@@ -225,7 +225,7 @@ fn frames(rt: HostRuntime) -> Result<(), Fail> {
 // A held update that is emptied in the last piece, for want of room: the second start mark ends in that piece, and
 // opens an update there. Cut as the reader gives it, the mark would be held, and the last byte shown.
 #[test]
-fn pieces(rt: HostRuntime) -> Result<(), Fail> {
+fn a_stream_is_read_in_whole_pieces(rt: HostRuntime) -> Result<(), Fail> {
     let mut stream = Vec::new(rt.alloc());
     stream.extend_from_slice(START)?;
     for _ in 0..2_097_142 {
@@ -243,7 +243,7 @@ fn pieces(rt: HostRuntime) -> Result<(), Fail> {
 }
 
 #[test]
-fn writers(rt: HostRuntime) -> Result<(), Fail> {
+fn a_failed_write_or_flush_is_reported(rt: HostRuntime) -> Result<(), Fail> {
     let rows: [(&str, &[u8], usize, bool, u8, usize, u64); 6] = [
         ("relay", b"hi", 100, true, 0, 48, 1),
         ("relay", b"hi", 10, true, 1, 10, 0),
@@ -279,7 +279,7 @@ fn writers(rt: HostRuntime) -> Result<(), Fail> {
 
 // A frame that would be too long: nothing of it is written.
 #[test]
-fn long_frames(rt: HostRuntime) -> Result<(), Fail> {
+fn a_frame_that_is_too_long_is_reported(rt: HostRuntime) -> Result<(), Fail> {
     let stream = overlong(rt.alloc())?;
     let words = ["relay", "1", "60000"];
     let written = output_of(&rt, &words, &stream, (1, b"screenrelay: frame too long\n"));
@@ -289,7 +289,7 @@ fn long_frames(rt: HostRuntime) -> Result<(), Fail> {
 
 // An input that has no end takes longer than a test, and so its line is asked for here.
 #[test]
-fn too_many_reads(rt: HostRuntime) -> Result<(), Fail> {
+fn too_many_reads_are_reported(rt: HostRuntime) -> Result<(), Fail> {
     let mut reported = Vec::new(rt.alloc());
     let answer = report_fault(&mut reported, RelayError::TooManyReads);
     let wanted = b"screenrelay: too many reads\n".as_slice();

@@ -37,7 +37,7 @@ fn check(
 
 // Options with their values in a word of their own, and behind `=`. The last of an option counts.
 #[test]
-fn moments(rt: HostRuntime) {
+fn prints_the_screen_at_a_moment(rt: HostRuntime) {
     let rows: [(&[&str], &[u8]); 10] = [
         (&[], b"a\nb\n"),
         (&["--at", "0.25"], b"a\n\n"),
@@ -56,7 +56,7 @@ fn moments(rt: HostRuntime) {
 }
 
 #[test]
-fn raw_streams(rt: HostRuntime) {
+fn prints_a_raw_stream(rt: HostRuntime) {
     let rows: [(&[&str], &[u8], &[u8]); 7] = [
         (&["1", "4"], b"hi", b"hi\n"),
         (&["1", "4"], b"\x1b(0lqk", "┌─┐\n".as_bytes()),
@@ -80,7 +80,7 @@ fn raw_streams(rt: HostRuntime) {
 }
 
 #[test]
-fn words_that_are_not_understood(rt: HostRuntime) {
+fn words_that_are_not_understood_are_refused(rt: HostRuntime) {
     let rows: [&[&str]; 16] = [
         &["1"],
         &["1", "2", "3"],
@@ -106,7 +106,7 @@ fn words_that_are_not_understood(rt: HostRuntime) {
 }
 
 #[test]
-fn lines_that_are_no_events(rt: HostRuntime) {
+fn lines_that_are_no_events_are_refused(rt: HostRuntime) {
     let rows: [(&[u8], &[u8]); 6] = [
         (
             b"{\"version\": 1, \"width\": 4, \"height\": 2}\n",
@@ -153,7 +153,7 @@ const FRAMES: &[u8] = b"\x01\x00\x00\x00\x00\x00\x00\x00\x02\x00\x00\x00hi\
 \x02\x00\x00\x00\x20\xa1\x07\x00\x01\x00\x00\x00!";
 
 #[test]
-fn kinds(rt: HostRuntime) {
+fn reads_each_kind_of_recording(rt: HostRuntime) {
     let rows: [(&[&str], &[u8], &[u8]); 9] = [
         (&[], CAST_3, b"ab\n\n\n"),
         (&["--at", "mid"], CAST_3, b"a\n\n"),
@@ -179,7 +179,7 @@ fn kinds(rt: HostRuntime) {
 }
 
 #[test]
-fn faults_of_recordings(rt: HostRuntime) {
+fn a_fault_of_a_recording_is_reported(rt: HostRuntime) {
     let rows: [(&[&str], &[u8], &[u8]); 4] = [
         (&["--at=end"], CAST_3, b"screentext: no such marker\n"),
         (
@@ -221,7 +221,7 @@ S 0.250000 SIGWINCH ROWS=2 COLS=4\nO 0.500000 1\n"
 }
 
 #[test]
-fn typescripts(rt: HostRuntime) {
+fn a_typescript_is_read_with_its_timing_file(rt: HostRuntime) {
     let rows: [(&[&str], &[u8]); 4] = [
         (&["1", "4", "--timing", "classic"], b"hi!\n"),
         (&["1", "4", "--timing", "classic", "--at=1"], b"hi\n"),
@@ -246,7 +246,7 @@ fn typescripts(rt: HostRuntime) {
 }
 
 #[test]
-fn help_and_version(rt: HostRuntime) {
+fn prints_the_help_and_the_version(rt: HostRuntime) {
     check(&rt, &["--version"], b"", 0, b"screentext 0.1\n", b"");
     check(&rt, &["-V"], b"", 0, b"screentext 0.1\n", b"");
     for word in ["--help", "-h"] {
@@ -263,7 +263,7 @@ fn help_and_version(rt: HostRuntime) {
 }
 
 #[test]
-fn readers(rt: HostRuntime) {
+fn a_read_is_retried_or_reported(rt: HostRuntime) {
     let rows: [(&'static [Step], u8, &[u8], &[u8]); 4] = [
         (
             &[Step::Give(b"h"), Step::Fail(ErrorKind::BrokenPipe)],
@@ -309,7 +309,7 @@ fn readers(rt: HostRuntime) {
 
 // One byte a read and one byte a write.
 #[test]
-fn a_byte_a_time(rt: HostRuntime) {
+fn one_byte_a_read_and_a_write_changes_nothing(rt: HostRuntime) {
     let mut input = Few::new(CAST, 1);
     let mut output = Narrow::new(rt.alloc(), 100);
     let mut reported = Narrow::new(rt.alloc(), 100);
@@ -320,7 +320,7 @@ fn a_byte_a_time(rt: HostRuntime) {
 }
 
 #[test]
-fn writers(rt: HostRuntime) {
+fn a_failed_write_or_flush_is_reported(rt: HostRuntime) {
     let rows: [(usize, bool, &[u8]); 3] = [
         (0, true, b""),
         (3, true, b"a\nb"),

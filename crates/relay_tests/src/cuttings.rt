@@ -125,7 +125,7 @@ fn check_stream(rt: &(impl Abort + AllocGlobal), stream: &[u8]) -> Result<(), Fa
 }
 
 #[test]
-fn cuttings(rt: HostRuntime) -> Result<(), Fail> {
+fn a_stream_cut_anywhere_shows_the_same(rt: HostRuntime) -> Result<(), Fail> {
     lend(Vec::new(rt.alloc()), |stream| {
         fill(stream)?;
         check_stream(&rt, stream)

@@ -37,7 +37,7 @@ fn check_held(rt: &(impl Abort + AllocGlobal), cuts: &[usize], held: usize) -> R
 }
 
 #[test]
-fn views(rt: HostRuntime) -> Result<(), Fail> {
+fn a_view_holds_an_open_update(rt: HostRuntime) -> Result<(), Fail> {
     for (cuts, held) in HELD {
         check_held(&rt, cuts, *held)?;
     }
@@ -129,7 +129,7 @@ fn check_two_frames(
 }
 
 #[test]
-fn far_views(rt: HostRuntime) -> Result<(), Fail> {
+fn the_last_whole_frame_is_shown(rt: HostRuntime) -> Result<(), Fail> {
     let key = first_key(rt.alloc())?;
     for (size, first, second, wanted) in TWO_FRAMES {
         check_two_frames(&rt, key, *size, (first, second), *wanted)?;
@@ -152,7 +152,7 @@ pub fn check_cut(
 
 // All bytes but the last one of two frames show the first of them, wherever they are cut; all of them show the second.
 #[test]
-fn far_cuts(rt: HostRuntime) -> Result<(), Fail> {
+fn two_frames_cut_anywhere_show_the_first_or_the_second(rt: HostRuntime) -> Result<(), Fail> {
     let key = first_key(rt.alloc())?;
     let calls = [
         Call::Attach,
@@ -181,7 +181,7 @@ const E: Shown = (b"abce\nx z\n", (1, 1), true);
 
 // Two clients, each of which is sent a frame of another moment.
 #[test]
-fn far_views_of_two(rt: HostRuntime) -> Result<(), Fail> {
+fn two_clients_show_frames_of_their_own(rt: HostRuntime) -> Result<(), Fail> {
     let keys = [first_key(rt.alloc())?, second_key(rt.alloc())?];
     let calls = [
         Call::Attach,
@@ -200,7 +200,7 @@ fn far_views_of_two(rt: HostRuntime) -> Result<(), Fail> {
 
 // A client ends and another one gets its key, and then all end at a resize. What each was sent stays shown.
 #[test]
-fn far_views_of_one_key(rt: HostRuntime) -> Result<(), Fail> {
+fn a_key_that_is_given_again_is_another_session(rt: HostRuntime) -> Result<(), Fail> {
     let key = first_key(rt.alloc())?;
     let calls = [
         Call::Attach,
@@ -232,7 +232,7 @@ fn far_views_of_one_key(rt: HostRuntime) -> Result<(), Fail> {
 
 // With no bytes a far view is blank, and there is none of a client that wasn't attached.
 #[test]
-fn far_views_of_nothing(rt: HostRuntime) -> Result<(), Fail> {
+fn no_bytes_show_a_blank_screen(rt: HostRuntime) -> Result<(), Fail> {
     check_far(&rt, (2, 4), &[Call::Attach], (0, 0, &[]), NOTHING)?;
     let none = far_view(rt.alloc(), count(2), count(4), &[Call::Attach], 1, 0, &[])?;
     same(&rt, &none.is_none(), &true);
@@ -241,7 +241,7 @@ fn far_views_of_nothing(rt: HostRuntime) -> Result<(), Fail> {
 
 // A client that was attached after a resize.
 #[test]
-fn far_sizes(rt: HostRuntime) -> Result<(), Fail> {
+fn a_client_after_a_resize_has_the_new_size(rt: HostRuntime) -> Result<(), Fail> {
     let key = first_key(rt.alloc())?;
     let calls = [
         Call::Feed(b"a\r\nb\r\nc"),
@@ -271,7 +271,7 @@ fn check_modes(rt: &impl Abort, view: &View<UntilCleared>) {
 
 // Modes, colours and a style.
 #[test]
-fn far_modes(rt: HostRuntime) -> Result<(), Fail> {
+fn modes_colors_and_style_are_shown(rt: HostRuntime) -> Result<(), Fail> {
     let key = first_key(rt.alloc())?;
     let calls = [
         Call::Attach,

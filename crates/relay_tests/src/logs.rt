@@ -39,7 +39,7 @@ fn check_log(rt: &impl Abort, log: &Log) {
 }
 
 #[test]
-fn a_writer_fails(rt: HostRuntime) -> Result<(), Fail> {
+fn a_failed_write_is_logged(rt: HostRuntime) -> Result<(), Fail> {
     with_log(rt.alloc(), new_hub(rt.alloc(), (24, 80)), |hub, log| {
         attach_and_fail(&rt, hub, log)?;
         check_log(&rt, log);

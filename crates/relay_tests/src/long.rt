@@ -166,7 +166,7 @@ fn check_longer_frame(rt: &(impl Abort + AllocGlobal), frame: &mut Vec<u8>) -> R
 
 /// A frame of one byte more isn't made, and the client's first one comes when it fits.
 #[test]
-fn a_longer_frame(rt: HostRuntime) -> Result<(), Fail> {
+fn a_frame_one_byte_longer_is_refused(rt: HostRuntime) -> Result<(), Fail> {
     lend(Vec::new(rt.alloc()), |frame| check_longer_frame(&rt, frame))
 }
 
@@ -276,7 +276,7 @@ fn check_many(rt: &(impl Abort + AllocGlobal), frames: &[u8]) -> Result<(), Fail
 
 /// Two thousand frames in one piece, which lacks only its last byte, show the last of them but one.
 #[test]
-fn many_frames(rt: HostRuntime) -> Result<(), Fail> {
+fn the_last_whole_frame_of_many_is_shown(rt: HostRuntime) -> Result<(), Fail> {
     lend(Vec::new(rt.alloc()), |frames| {
         many_lines(&rt, frames)?;
         check_many(&rt, frames)
@@ -285,7 +285,7 @@ fn many_frames(rt: HostRuntime) -> Result<(), Fail> {
 
 /// A screen of more than a million cells.
 #[test]
-fn many_cells(rt: HostRuntime) -> Result<(), Fail> {
+fn a_million_cells_are_relayed(rt: HostRuntime) -> Result<(), Fail> {
     with(new_view(rt.alloc(), (1_100, 1_000)), |view| {
         view.advance(b"\x1b[1100;1000Hx");
         let wanted = ("x", Color::Default, Color::Default);

@@ -69,7 +69,7 @@ fn check_number(rt: &(impl Abort + AllocGlobal), hub: &mut Hub, number: usize) -
 }
 
 #[test]
-fn clients(rt: HostRuntime) -> Result<(), Fail> {
+fn a_client_of_any_number_is_served(rt: HostRuntime) -> Result<(), Fail> {
     for number in [65, 1000] {
         with(
             new_hub(rt.alloc(), (2, 4)),
@@ -89,7 +89,7 @@ fn attach_all(rt: &impl Abort, hub: &mut Hub, number: usize) -> Result<(), Fail>
 }
 
 #[test]
-fn many_clients(rt: HostRuntime) -> Result<(), Fail> {
+fn five_thousand_clients_are_attached(rt: HostRuntime) -> Result<(), Fail> {
     with(
         new_hub(rt.alloc(), (2, 4)),
         |hub| attach_all(&rt, hub, 5000),
@@ -120,11 +120,11 @@ fn check_long_sides(rt: &(impl Abort + AllocGlobal), size: (u16, u16)) -> Result
 }
 
 #[test]
-fn long_columns(rt: HostRuntime) -> Result<(), Fail> {
+fn the_longest_column_is_relayed(rt: HostRuntime) -> Result<(), Fail> {
     check_long_sides(&rt, (65_535, 1))
 }
 
 #[test]
-fn long_rows(rt: HostRuntime) -> Result<(), Fail> {
+fn the_longest_row_is_relayed(rt: HostRuntime) -> Result<(), Fail> {
     check_long_sides(&rt, (1, 65_535))
 }

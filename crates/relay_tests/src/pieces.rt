@@ -20,7 +20,7 @@ fn check_pieces(rt: &impl Abort, view: &mut View<UntilCleared>, pieces: [&[u8]; 
 
 /// All bytes but the last show the first frame, wherever they are cut.
 #[test]
-fn two_frames(rt: HostRuntime) -> Result<(), Fail> {
+fn all_bytes_but_the_last_show_the_first_frame(rt: HostRuntime) -> Result<(), Fail> {
     let last = FRAMES.len() - 1;
     for second_cut in 0..last + 1 {
         for first_cut in 0..second_cut + 1 {

@@ -308,21 +308,21 @@ pub fn play_runs(rt: &(impl Abort + AllocGlobal), way: Way) -> Result<(), Fail> 
 }
 
 #[test]
-fn runs(rt: HostRuntime) -> Result<(), Fail> {
+fn clients_are_sent_the_screens_of_a_run(rt: HostRuntime) -> Result<(), Fail> {
     play_runs(&rt, Way::Once)
 }
 
 #[test]
-fn differences(rt: HostRuntime) -> Result<(), Fail> {
+fn a_difference_has_only_what_changed(rt: HostRuntime) -> Result<(), Fail> {
     play_differences(&rt, Way::Once)
 }
 
 #[test]
-fn first_frames(rt: HostRuntime) -> Result<(), Fail> {
+fn the_first_frame_draws_the_whole_screen(rt: HostRuntime) -> Result<(), Fail> {
     play_first_frames(&rt, Way::Once)
 }
 
 #[test]
-fn client_number_65(rt: HostRuntime) -> Result<(), Fail> {
+fn client_number_65_is_served(rt: HostRuntime) -> Result<(), Fail> {
     play_client_number_65(&rt, Way::Once)
 }

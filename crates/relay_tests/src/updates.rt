@@ -61,7 +61,7 @@ const UPDATES: &[&[Step]] = &[
 ];
 
 #[test]
-fn updates(rt: HostRuntime) -> Result<(), Fail> {
+fn an_open_update_holds_frames_back(rt: HostRuntime) -> Result<(), Fail> {
     for steps in UPDATES {
         play(&rt, Way::Once, (2, 4), steps)?;
     }

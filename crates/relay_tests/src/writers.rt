@@ -53,7 +53,7 @@ fn check_limit(rt: &(impl Abort + AllocGlobal), slow: &mut Slow, row: Row) -> Re
 }
 
 #[test]
-fn habits(rt: HostRuntime) -> Result<(), Fail> {
+fn slow_and_interrupted_writers_get_all_bytes(rt: HostRuntime) -> Result<(), Fail> {
     for row in LIMITS {
         let (limit, _, _, _) = *row;
         lend(

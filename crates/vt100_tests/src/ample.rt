@@ -156,7 +156,7 @@ fn check_capacity(
 }
 
 #[test]
-fn large_capacities(rt: HostRuntime) -> Result<(), Fail> {
+fn rows_are_kept_at_any_capacity(rt: HostRuntime) -> Result<(), Fail> {
     for (capacity, len) in CAPACITIES {
         let start = (1, 2, *capacity);
         with(fed(rt.alloc(), start, b"a\r\nb\r\nc\r\nd\r\ne"), |parser| {
@@ -232,7 +232,7 @@ const HIGH: &[(Text, &str)] = &[
 ];
 
 #[test]
-fn rows_of_one_column(rt: HostRuntime) -> Result<(), Fail> {
+fn rows_of_one_column_are_printed(rt: HostRuntime) -> Result<(), Fail> {
     with(fed(rt.alloc(), (65_535, 1, 3), b"\x1b[65535Ha"), |parser| {
         check_large_copy(&rt, parser.screen(), HIGH, ("\n", "\na"))
     })
@@ -256,7 +256,7 @@ fn check_sizes(rt: &impl Abort, parser: &mut Parser<()>) -> Result<(), Fail> {
 }
 
 #[test]
-fn sizes(rt: HostRuntime) -> Result<(), Fail> {
+fn a_screen_takes_any_size(rt: HostRuntime) -> Result<(), Fail> {
     with(
         fed(rt.alloc(), (2, 2, 3), b"a\r\nb\r\nc\x1b[?47h"),
         |parser| { check_sizes(&rt, parser) },
@@ -312,7 +312,7 @@ fn check_largest(rt: &(impl Abort + AllocGlobal), screen: &Screen) -> Result<(),
 }
 
 #[test]
-fn the_largest_texts(rt: HostRuntime) -> Result<(), Fail> {
+fn the_largest_texts_are_written(rt: HostRuntime) -> Result<(), Fail> {
     with(parser_of(rt.alloc(), DEFAULT), |parser| {
         fill(parser)?;
         check_largest(&rt, parser.screen())

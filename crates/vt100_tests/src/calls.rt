@@ -39,7 +39,7 @@ fn check_wrapped(rt: &impl Abort, screen: &Screen) -> Result<(), Fail> {
 }
 
 #[test]
-fn calls_on_a_screen(rt: HostRuntime) -> Result<(), Fail> {
+fn calls_on_a_screen_change_it(rt: HostRuntime) -> Result<(), Fail> {
     with(parser_of(rt.alloc(), (2, 3, 1)), |parser| {
         check_wrapped(&rt, parser.screen())
     })

@@ -85,7 +85,7 @@ fn check<B: BufWrite>(rt: &(impl Abort + AllocGlobal), form: &B, want: &str) {
 }
 
 #[test]
-fn clears(rt: HostRuntime) {
+fn clears_and_erases(rt: HostRuntime) {
     check(&rt, &term::ClearScreen, "\x1b[H\x1b[J");
     check(&rt, &term::ClearRowForward, "\x1b[K");
     check(&rt, &term::ClearAttrs, "\x1b[m");
@@ -134,7 +134,7 @@ fn default_changes_are_empty(rt: HostRuntime) {
 }
 
 #[test]
-fn default_values(rt: HostRuntime) {
+fn default_values_are_written(rt: HostRuntime) {
     let mouse = (MouseProtocolMode::None, MouseProtocolEncoding::Default);
     same(
         &rt,

@@ -163,7 +163,7 @@ fn check_stream(
 }
 
 #[test]
-fn streams(rt: HostRuntime) -> Result<(), Fail> {
+fn a_stream_is_read_or_refused(rt: HostRuntime) -> Result<(), Fail> {
     for (start, stream, want, kept) in STREAMS {
         with(retried_parser(rt.alloc(), *start), |parser| {
             check_stream(&rt, parser, stream, (want, *kept))
@@ -192,7 +192,7 @@ fn check_start(rt: &impl Abort, screen: &Screen, (rows, cols, capacity): Start) 
 }
 
 #[test]
-fn parsers_of_any_capacity(rt: HostRuntime) -> Result<(), Fail> {
+fn parsers_of_any_capacity_are_made_or_refused(rt: HostRuntime) -> Result<(), Fail> {
     for start in STARTS {
         with(retried_parser(rt.alloc(), *start), |parser| {
             check_start(&rt, parser.screen(), *start);
@@ -259,7 +259,7 @@ fn callbacks_that_are_refused(rt: HostRuntime) -> Result<(), Fail> {
 }
 
 #[test]
-fn default_parsers(rt: HostRuntime) -> Result<(), Fail> {
+fn a_default_parser_is_made_or_refused(rt: HostRuntime) -> Result<(), Fail> {
     let parser = retried_default(rt.alloc())?;
     check_start(&rt, parser.screen(), (24, 80, 0));
     Ok(())
@@ -356,7 +356,7 @@ fn check_two_rows(rt: &(impl Abort + AllocGlobal), parser: &mut Parser<()>) -> R
 }
 
 #[test]
-fn texts(rt: HostRuntime) -> Result<(), Fail> {
+fn a_text_is_made_or_refused(rt: HostRuntime) -> Result<(), Fail> {
     with(
         retried_parser(rt.alloc(), (2, 4, 0)),
         |parser| check_two_rows(&rt, parser),
@@ -393,7 +393,7 @@ fn check_kept_texts(rt: &(impl Abort + AllocGlobal), parser: &mut Parser<()>) ->
 }
 
 #[test]
-fn texts_with_a_kept_row(rt: HostRuntime) -> Result<(), Fail> {
+fn a_text_with_a_kept_row_is_made_or_refused(rt: HostRuntime) -> Result<(), Fail> {
     with(retried_parser(rt.alloc(), (1, 2, 3)), |parser| {
         if check_process(&rt, parser, b"a\r\nb")? {
             check_kept_texts(&rt, parser)?;
@@ -459,7 +459,7 @@ fn check_rows_diff(rt: &impl Abort, screen: &Screen, prev: &Screen) -> Result<()
 }
 
 #[test]
-fn items_of_rows(rt: HostRuntime) -> Result<(), Fail> {
+fn items_of_rows_are_made_or_refused(rt: HostRuntime) -> Result<(), Fail> {
     with(retried_parser(rt.alloc(), (3, 8, 0)), |parser| {
         parser.process(b"one\r\ntwo\r\nthree")?;
         check_rows(&rt, parser.screen())?;
@@ -475,7 +475,7 @@ fn check_differences(rt: &impl Abort, parser: &mut Parser<()>) -> Result<(), Fai
 }
 
 #[test]
-fn items_of_differences(rt: HostRuntime) -> Result<(), Fail> {
+fn items_of_differences_are_made_or_refused(rt: HostRuntime) -> Result<(), Fail> {
     with(retried_parser(rt.alloc(), (3, 8, 0)), |parser| {
         check_differences(&rt, parser)
     })
@@ -503,7 +503,7 @@ fn check_copy(rt: &impl Abort, screen: &Screen) -> Result<(), Fail> {
 }
 
 #[test]
-fn copies(rt: HostRuntime) -> Result<(), Fail> {
+fn a_copy_is_made_or_refused(rt: HostRuntime) -> Result<(), Fail> {
     with(retried_parser(rt.alloc(), (2, 2, 3)), |parser| {
         if check_process(&rt, parser, b"a\r\nb\r\nc\x1b[?47hx")? {
             check_copy(&rt, parser.screen())?;
@@ -535,7 +535,7 @@ fn check_sized(rt: &impl Abort, parser: &mut Parser<()>) -> Result<(), Fail> {
 /// Sizes of both sheets: first higher, where the kept row comes back, then lower, where the rows under the cursor are
 /// lost and those at the top are kept.
 #[test]
-fn sizes(rt: HostRuntime) -> Result<(), Fail> {
+fn a_size_is_set_or_refused(rt: HostRuntime) -> Result<(), Fail> {
     with(retried_parser(rt.alloc(), (2, 2, 3)), |parser| {
         let answer = two_sizes(parser);
         if check_answer(&rt, parser, answer)? {
@@ -558,7 +558,7 @@ fn check_kept(rt: &impl Abort, screen: &Screen) -> Result<(), Fail> {
 }
 
 #[test]
-fn kept_rows(rt: HostRuntime) -> Result<(), Fail> {
+fn kept_rows_are_shown_or_refused(rt: HostRuntime) -> Result<(), Fail> {
     with(retried_parser(rt.alloc(), (1, 2, 3)), |parser| {
         let answer = show_kept_rows(parser);
         if check_answer(&rt, parser, answer)? {
@@ -634,7 +634,7 @@ fn check_direct(
 }
 
 #[test]
-fn direct_calls(rt: HostRuntime) -> Result<(), Fail> {
+fn direct_calls_are_made_or_refused(rt: HostRuntime) -> Result<(), Fail> {
     for (direct, contents, kept) in DIRECT {
         let mut wrapped = wrapped_screen(rt.alloc())?;
         check_direct(&rt, &mut wrapped, *direct, (contents, *kept))?;
@@ -657,7 +657,7 @@ fn check_writing(rt: &impl Abort, parser: &mut Parser<()>) {
 }
 
 #[test]
-fn writing(rt: HostRuntime) -> Result<(), Fail> {
+fn a_write_is_made_or_refused(rt: HostRuntime) -> Result<(), Fail> {
     with(retried_parser(rt.alloc(), (2, 2, 3)), |parser| {
         check_writing(&rt, parser);
         Ok(())

@@ -42,7 +42,7 @@ fn check_update(
 }
 
 #[test]
-fn updates(rt: HostRuntime) -> Result<(), Fail> {
+fn an_update_is_open_or_closed(rt: HostRuntime) -> Result<(), Fail> {
     for (stream, is_updating) in STREAMS {
         with(parser_of(rt.alloc(), (2, 3, 1)), |parser| {
             check_update(&rt, parser, stream, *is_updating)

@@ -59,23 +59,23 @@ fn check(rt: &(impl Abort + AllocGlobal), words: &[&str], status: u8) {
 }
 
 #[test]
-fn text(rt: HostRuntime) {
+fn a_text_without_memory_is_refused(rt: HostRuntime) {
     check(&rt, &["2", "4", "--history=1", "--colours"], 0);
 }
 
 #[test]
-fn changes(rt: HostRuntime) {
+fn a_difference_without_memory_is_refused(rt: HostRuntime) {
     check(&rt, &["--diff", "0.25", "--joined"], 0);
 }
 
 #[test]
-fn pictures(rt: HostRuntime) {
+fn a_picture_without_memory_is_refused(rt: HostRuntime) {
     check(&rt, &["--html"], 0);
     check(&rt, &["--svg"], 0);
 }
 
 #[test]
-fn words(rt: HostRuntime) {
+fn a_message_without_memory_is_refused(rt: HostRuntime) {
     check(&rt, &["--help"], 0);
     check(&rt, &["--at=-1"], 2);
 }

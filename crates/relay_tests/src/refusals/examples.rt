@@ -7,7 +7,7 @@ use std::test::Fail;
 const WAYS: [Way; 2] = [Way::Again, Way::Logged];
 
 #[test]
-fn runs(rt: HostRuntime) -> Result<(), Fail> {
+fn runs_go_on_after_a_refused_call(rt: HostRuntime) -> Result<(), Fail> {
     for way in WAYS {
         play_runs(&rt, way)?;
     }
@@ -15,7 +15,7 @@ fn runs(rt: HostRuntime) -> Result<(), Fail> {
 }
 
 #[test]
-fn differences(rt: HostRuntime) -> Result<(), Fail> {
+fn differences_are_sent_after_a_refused_call(rt: HostRuntime) -> Result<(), Fail> {
     for way in WAYS {
         play_differences(&rt, way)?;
     }
@@ -23,7 +23,7 @@ fn differences(rt: HostRuntime) -> Result<(), Fail> {
 }
 
 #[test]
-fn first_frames(rt: HostRuntime) -> Result<(), Fail> {
+fn first_frames_are_sent_after_a_refused_call(rt: HostRuntime) -> Result<(), Fail> {
     for way in WAYS {
         play_first_frames(&rt, way)?;
     }
@@ -31,7 +31,7 @@ fn first_frames(rt: HostRuntime) -> Result<(), Fail> {
 }
 
 #[test]
-fn client_number_65(rt: HostRuntime) -> Result<(), Fail> {
+fn client_number_65_is_served_after_a_refused_call(rt: HostRuntime) -> Result<(), Fail> {
     for way in WAYS {
         play_client_number_65(&rt, way)?;
     }

@@ -64,7 +64,7 @@ fn check_feed(rt: &(impl Abort + AllocGlobal), hub: &mut Hub, bytes: &[u8]) -> R
 }
 
 #[test]
-fn an_alternate_sheet(rt: HostRuntime) -> Result<(), Fail> {
+fn an_alternate_sheet_without_memory_fails_the_hub(rt: HostRuntime) -> Result<(), Fail> {
     with(
         new_hub(rt.alloc(), (2, 4)),
         |hub| check_feed(&rt, hub, b"\x1b[?1049hz"),
@@ -92,7 +92,7 @@ fn check_resize(rt: &impl Abort, hub: &mut Hub) -> Result<(), Fail> {
 
 /// Refused, it ends no client.
 #[test]
-fn a_resize(rt: HostRuntime) -> Result<(), Fail> {
+fn a_refused_resize_ends_no_client(rt: HostRuntime) -> Result<(), Fail> {
     with(new_hub(rt.alloc(), (2, 4)), |hub| check_resize(&rt, hub))
 }
 
@@ -205,7 +205,7 @@ fn check_run(rt: &impl Abort, hub: &mut Hub, log: &mut Log) -> Result<(), Fail> 
 
 /// Where the log has no room the run ends before that call, and the rest can be made as if nothing had been.
 #[test]
-fn a_run(rt: HostRuntime) -> Result<(), Fail> {
+fn a_run_without_room_in_its_log_ends_before_the_call(rt: HostRuntime) -> Result<(), Fail> {
     with_log(
         rt.alloc(),
         new_hub(rt.alloc(), (2, 4)),

@@ -26,7 +26,7 @@ fn check_view(rt: &impl Abort, view: &View<UntilCleared>) {
 }
 
 #[test]
-fn views(rt: HostRuntime) -> Result<(), Fail> {
+fn a_view_is_made_or_refused(rt: HostRuntime) -> Result<(), Fail> {
     with(new_view(rt.alloc(), (2, 4)), |view| {
         view.advance(b"\x1b[31mhi\x1b[?2026hx");
         check_view(&rt, view);
@@ -54,7 +54,7 @@ fn new_processor(alloc: Global) -> Result<Processor<UntilCleared, Global>, OutOf
 }
 
 #[test]
-fn processors(rt: HostRuntime) -> Result<(), Fail> {
+fn a_processor_is_made_or_refused(rt: HostRuntime) -> Result<(), Fail> {
     let mut count = Count { calls: 0 };
     let mut processor = new_processor(rt.alloc())?;
     processor.advance(&mut count, b"\x1b[31mhi\x1b[?2026hx");
@@ -67,7 +67,7 @@ fn processors(rt: HostRuntime) -> Result<(), Fail> {
 const TAKEN: &[(usize, Drawn)] = &[(102, ("R", 1, (0, 16))), (103, ("G", 2, (0, 18)))];
 
 #[test]
-fn far_views(rt: HostRuntime) -> Result<(), Fail> {
+fn a_far_view_is_made_or_refused(rt: HostRuntime) -> Result<(), Fail> {
     let client = first_key(rt.alloc())?;
     let streams: (&[u8], &[u8]) = (b"this text is \x1b[31mRED\x1b[m", b"\x1b[3D\x1b[32mGREEN");
     let calls = two_frames(client, streams);
@@ -115,7 +115,7 @@ fn check_relay(rt: &(impl Abort + AllocGlobal), output: &mut Narrow) {
 }
 
 #[test]
-fn relays(rt: HostRuntime) -> Result<(), Fail> {
+fn a_relay_without_memory_is_refused(rt: HostRuntime) -> Result<(), Fail> {
     let mut output = narrow(rt.alloc())?;
     check_relay(&rt, &mut output);
     Ok(())
@@ -136,7 +136,7 @@ fn check_show(rt: &(impl Abort + AllocGlobal), output: &mut Narrow) {
 }
 
 #[test]
-fn shows(rt: HostRuntime) -> Result<(), Fail> {
+fn a_show_without_memory_is_refused(rt: HostRuntime) -> Result<(), Fail> {
     let mut output = narrow(rt.alloc())?;
     check_show(&rt, &mut output);
     Ok(())

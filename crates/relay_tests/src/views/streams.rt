@@ -33,7 +33,7 @@ const STREAMS: &[(Size, &str, &str)] = &[
 ];
 
 #[test]
-fn streams(rt: HostRuntime) -> Result<(), Fail> {
+fn a_view_shows_a_stream(rt: HostRuntime) -> Result<(), Fail> {
     for (size, stream, wanted) in STREAMS {
         with(new_view(rt.alloc(), *size), |view| {
             feed(view, stream.as_bytes());
@@ -77,7 +77,7 @@ const SETTINGS: &[(&str, &str)] = &[
 ];
 
 #[test]
-fn modes_and_attributes(rt: HostRuntime) -> Result<(), Fail> {
+fn a_view_has_modes_and_attributes(rt: HostRuntime) -> Result<(), Fail> {
     for (stream, wanted) in SETTINGS {
         with(new_view(rt.alloc(), (2, 4)), |view| {
             feed(view, stream.as_bytes());
@@ -97,7 +97,7 @@ const COLORS: &[(&str, Color)] = &[
 ];
 
 #[test]
-fn colors(rt: HostRuntime) -> Result<(), Fail> {
+fn a_view_has_colors(rt: HostRuntime) -> Result<(), Fail> {
     for (stream, wanted) in COLORS {
         with(new_view(rt.alloc(), (1, 3)), |view| {
             feed(view, stream.as_bytes());

@@ -32,7 +32,7 @@ fn check_text(
 }
 
 #[test]
-fn texts_of_rows(rt: HostRuntime) -> Result<(), Fail> {
+fn rows_are_written_as_text(rt: HostRuntime) -> Result<(), Fail> {
     for (stream, row, wanted) in TEXTS {
         with(new_view(rt.alloc(), (2, 4)), |view| {
             feed(view, stream.as_bytes());
@@ -80,7 +80,7 @@ fn check_faults(rt: &(impl Abort + AllocGlobal), view: &View<UntilCleared>) -> R
 }
 
 #[test]
-fn faults_of_writers(rt: HostRuntime) -> Result<(), Fail> {
+fn a_writer_that_fails_ends_a_row(rt: HostRuntime) -> Result<(), Fail> {
     with(new_view(rt.alloc(), (2, 4)), |view| {
         feed(view, b"hi");
         check_faults(&rt, view)

@@ -53,7 +53,7 @@ const FRAMES: &[(Size, &str, &str, &str)] = &[
 ];
 
 #[test]
-fn frames(rt: HostRuntime) -> Result<(), Fail> {
+fn a_whole_frame_is_shown(rt: HostRuntime) -> Result<(), Fail> {
     for (size, first, next, wanted) in FRAMES {
         with(new_view(rt.alloc(), *size), |view| {
             read(view, &[RESET, first, MODES]);
@@ -72,7 +72,7 @@ const PARTS: &[&str] = &[
 ];
 
 #[test]
-fn modes_of_a_frame(rt: HostRuntime) -> Result<(), Fail> {
+fn a_frame_sets_modes(rt: HostRuntime) -> Result<(), Fail> {
     with(new_view(rt.alloc(), (1, 3)), |view| {
         read(view, PARTS);
         let wanted = "kc PressRelease Sgr SteadyUnderline Idx(9) Default  ";
@@ -129,7 +129,7 @@ fn a_frame_is_never_torn(rt: HostRuntime) -> Result<(), Fail> {
 }
 
 #[test]
-fn a_stop_after_any_byte(rt: HostRuntime) -> Result<(), Fail> {
+fn an_update_is_stopped_after_any_byte(rt: HostRuntime) -> Result<(), Fail> {
     for cut in 1..FRAME.len() + 1 {
         with(new_view(rt.alloc(), (2, 4)), |view| {
             check_cut(&rt, view, cut, |view| {

@@ -26,7 +26,7 @@ const PRINTED: &[Case] = &[
 ];
 
 #[test]
-fn texts(rt: HostRuntime) -> Result<(), Fail> {
+fn writes_the_text_of_rows(rt: HostRuntime) -> Result<(), Fail> {
     check_texts(&rt, PRINTED)
 }
 
@@ -66,13 +66,13 @@ const ERASED_OR_KEPT: &[Case] = &[
 ];
 
 #[test]
-fn texts_of_erased_and_kept_rows(rt: HostRuntime) -> Result<(), Fail> {
+fn writes_the_text_of_erased_and_kept_rows(rt: HostRuntime) -> Result<(), Fail> {
     check_texts(&rt, ERASED_OR_KEPT)
 }
 
 /// What stood in the string stays, but for newlines at its end.
 #[test]
-fn appends(rt: HostRuntime) -> Result<(), Fail> {
+fn appends_to_the_string(rt: HostRuntime) -> Result<(), Fail> {
     let (mut grid, _) = run(rt.alloc(), (2, 2, None), &[Step::Print("a")])?;
     let mut text = String::from_str(rt.alloc(), "x\n")?;
     grid.write_contents(&mut text)?;

@@ -83,7 +83,7 @@ fn follow(rt: &impl Abort, grid: &mut Grid, moves: &[(Move, (u16, u16))])
 }
 
 #[test]
-fn moves(rt: HostRuntime) -> Result<(), Fail> {
+fn moves_the_cursor(rt: HostRuntime) -> Result<(), Fail> {
     let mut screen = grid(rt.alloc(), (6, 20, None))?;
     follow(&rt, &mut screen, MOVES);
     follow(&rt, &mut screen, IN_A_REGION);

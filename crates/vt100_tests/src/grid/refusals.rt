@@ -117,7 +117,7 @@ fn rows_are_allocated_at_any_capacity(rt: HostRuntime) -> Result<(), Fail> {
 }
 
 #[test]
-fn text_that_wraps_and_widens(rt: HostRuntime) -> Result<(), Fail> {
+fn text_wraps_and_widens_or_is_refused(rt: HostRuntime) -> Result<(), Fail> {
     let mut grid = retried_grid(rt.alloc(), (2, 2, Some(3)))?;
     retried_print(&rt, &mut grid, "abcd\u{2764}\u{fe0f}x")?;
     check_grid(&rt, &grid, 2, 2);
@@ -125,7 +125,7 @@ fn text_that_wraps_and_widens(rt: HostRuntime) -> Result<(), Fail> {
 }
 
 #[test]
-fn rows_that_are_kept(rt: HostRuntime) -> Result<(), Fail> {
+fn rows_are_kept_or_refused(rt: HostRuntime) -> Result<(), Fail> {
     let mut grid = retried_grid(rt.alloc(), (3, 2, Some(3)))?;
     retried_print(&rt, &mut grid, "a\r\nb\r\nc")?;
     let mut lines = grid.row_inc_scroll(2, &mut ());
@@ -139,7 +139,7 @@ fn rows_that_are_kept(rt: HostRuntime) -> Result<(), Fail> {
 }
 
 #[test]
-fn rows_that_are_shown_again(rt: HostRuntime) -> Result<(), Fail> {
+fn kept_rows_are_shown_or_refused(rt: HostRuntime) -> Result<(), Fail> {
     let mut grid = retried_grid(rt.alloc(), (1, 2, Some(3)))?;
     retried_print(&rt, &mut grid, "a\r\nb\r\nc")?;
     if grid.set_scrollback(3).is_err() {
@@ -152,7 +152,7 @@ fn rows_that_are_shown_again(rt: HostRuntime) -> Result<(), Fail> {
 }
 
 #[test]
-fn copies(rt: HostRuntime) -> Result<(), Fail> {
+fn a_copy_is_made_or_refused(rt: HostRuntime) -> Result<(), Fail> {
     let mut grid = retried_grid(rt.alloc(), (2, 2, Some(3)))?;
     retried_print(&rt, &mut grid, "a\r\nb\r\nc")?;
     let copy = match grid.clone() {
@@ -168,7 +168,7 @@ fn copies(rt: HostRuntime) -> Result<(), Fail> {
 }
 
 #[test]
-fn texts(rt: HostRuntime) -> Result<(), Fail> {
+fn a_text_is_written_or_refused(rt: HostRuntime) -> Result<(), Fail> {
     let mut grid = retried_grid(rt.alloc(), (3, 20, None))?;
     retried_print(&rt, &mut grid, "a line of text\r\n\r\nand a third")?;
     let mut text = String::new(rt.alloc());
@@ -192,7 +192,7 @@ fn retried_size<R: Abort>(rt: &R, grid: &mut Grid, rows: u16, cols: u16) -> Resu
 }
 
 #[test]
-fn sizes(rt: HostRuntime) -> Result<(), Fail> {
+fn a_size_is_set_or_refused(rt: HostRuntime) -> Result<(), Fail> {
     let mut grid = retried_grid(rt.alloc(), (2, 2, Some(3)))?;
     retried_print(&rt, &mut grid, "a\r\nb\r\nc")?;
     retried_size(&rt, &mut grid, 4, 3)?;
@@ -228,7 +228,7 @@ const SCROLLED: &[(Start, &str, u16, (&str, u16, u16), usize)] = &[
 ];
 
 #[test]
-fn lines_that_scroll_up(rt: HostRuntime) -> Result<(), Fail> {
+fn lines_scroll_up_or_are_refused(rt: HostRuntime) -> Result<(), Fail> {
     for (start, text, count, want, kept) in SCROLLED {
         let mut grid = retried_grid(rt.alloc(), *start)?;
         scrolled_grid(&rt, &mut grid, text, *count)?;
@@ -259,7 +259,7 @@ fn retried_wrap<R: Abort>(rt: &R, grid: &mut Grid, text: &str) -> Result<(), Fai
 }
 
 #[test]
-fn a_full_row_that_wraps(rt: HostRuntime) -> Result<(), Fail> {
+fn a_full_row_wraps_or_is_refused(rt: HostRuntime) -> Result<(), Fail> {
     let mut grid = retried_grid(rt.alloc(), (2, 2, Some(3)))?;
     retried_wrap(&rt, &mut grid, "a\r\nbc")?;
     check_again(&rt, &grid, ("bc>/../", 1, 0))?;
@@ -297,7 +297,7 @@ const REDRAWS: &[(Start, &str, &str, &str)] = &[
 
 /// Draws a grid.
 #[test]
-fn redraws(rt: HostRuntime) -> Result<(), Fail> {
+fn a_redraw_is_written_or_refused(rt: HostRuntime) -> Result<(), Fail> {
     for (start, printed, want, _) in REDRAWS {
         let grid = printed_grid(&rt, rt.alloc(), *start, printed)?;
         check_appended(&rt, want, |text| grid.write_contents_formatted(text))?;
@@ -307,7 +307,7 @@ fn redraws(rt: HostRuntime) -> Result<(), Fail> {
 
 /// Brings the cursor to its place.
 #[test]
-fn places_of_the_cursor(rt: HostRuntime) -> Result<(), Fail> {
+fn a_cursor_form_is_written_or_refused(rt: HostRuntime) -> Result<(), Fail> {
     for (start, printed, _, want) in REDRAWS {
         let grid = printed_grid(&rt, rt.alloc(), *start, printed)?;
         check_appended(&rt, want, |text| {
@@ -327,7 +327,7 @@ const DIFFERENCES: &[(Start, &str, &str, &str)] = &[
 
 /// Draws the difference of two grids.
 #[test]
-fn differences(rt: HostRuntime) -> Result<(), Fail> {
+fn a_difference_is_written_or_refused(rt: HostRuntime) -> Result<(), Fail> {
     for (start, earlier, later, want) in DIFFERENCES {
         let prev = printed_grid(&rt, rt.alloc(), *start, earlier)?;
         let grid = printed_grid(&rt, rt.alloc(), *start, later)?;

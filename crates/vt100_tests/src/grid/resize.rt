@@ -76,6 +76,6 @@ const CASES: &[Case] = &[
 ];
 
 #[test]
-fn sizes(rt: HostRuntime) -> Result<(), Fail> {
+fn changes_the_size(rt: HostRuntime) -> Result<(), Fail> {
     check_all(&rt, CASES)
 }

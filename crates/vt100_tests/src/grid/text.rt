@@ -41,7 +41,7 @@ const CASES: &[Case] = &[
 ];
 
 #[test]
-fn prints(rt: HostRuntime) -> Result<(), Fail> {
+fn prints_characters(rt: HostRuntime) -> Result<(), Fail> {
     check_all(&rt, CASES)
 }
 

@@ -69,7 +69,7 @@ const PRINTED: &[Redraw] = &[
 ];
 
 #[test]
-fn redraws(rt: HostRuntime) -> Result<(), Fail> {
+fn redraws_printed_rows(rt: HostRuntime) -> Result<(), Fail> {
     check_redraws(&rt, PRINTED)
 }
 
@@ -113,7 +113,7 @@ const ERASED_OR_MOVED: &[Redraw] = &[
 ];
 
 #[test]
-fn redraws_of_empty_cells(rt: HostRuntime) -> Result<(), Fail> {
+fn redraws_empty_cells(rt: HostRuntime) -> Result<(), Fail> {
     check_redraws(&rt, ERASED_OR_MOVED)
 }
 
@@ -183,7 +183,7 @@ const OF_TEXT: &[Difference] = &[
 ];
 
 #[test]
-fn differences(rt: HostRuntime) -> Result<(), Fail> {
+fn writes_differences_of_text(rt: HostRuntime) -> Result<(), Fail> {
     check_differences(&rt, OF_TEXT)
 }
 
@@ -233,6 +233,6 @@ const OF_LINES_AND_HALVES: &[Difference] = &[
 ];
 
 #[test]
-fn differences_of_lines_and_wide_characters(rt: HostRuntime) -> Result<(), Fail> {
+fn writes_differences_of_lines_and_wide_characters(rt: HostRuntime) -> Result<(), Fail> {
     check_differences(&rt, OF_LINES_AND_HALVES)
 }

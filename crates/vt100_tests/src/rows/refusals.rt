@@ -150,7 +150,7 @@ fn check_contents(
 }
 
 #[test]
-fn texts_of_columns(rt: HostRuntime) -> Result<(), Fail> {
+fn a_text_of_columns_is_made_or_refused(rt: HostRuntime) -> Result<(), Fail> {
     for (cols, printed, start, width, wrapping, want) in WRITTEN {
         let row = retried_row(rt.alloc(), *cols, printed)?;
         check_contents(&rt, &row, (*start, *width, *wrapping), want)?;
@@ -162,7 +162,7 @@ fn texts_of_columns(rt: HostRuntime) -> Result<(), Fail> {
 const LONG: &str = "one line of a text, which is rather long";
 
 #[test]
-fn long_texts(rt: HostRuntime) -> Result<(), Fail> {
+fn a_long_text_is_made_or_refused(rt: HostRuntime) -> Result<(), Fail> {
     let row = retried_row(rt.alloc(), 50, LONG)?;
     check_contents(&rt, &row, (0, 50, true), LONG)
 }
@@ -223,7 +223,7 @@ fn check_forms(
 }
 
 #[test]
-fn forms_of_rows(rt: HostRuntime) -> Result<(), Fail> {
+fn the_forms_of_a_row_are_made_or_refused(rt: HostRuntime) -> Result<(), Fail> {
     for (cols, printed, start, width, above, place, want, end) in DRAWN {
         let row = retried_row(rt.alloc(), *cols, printed)?;
         let place = place.map(pos);
@@ -258,7 +258,7 @@ fn check_diff(
 }
 
 #[test]
-fn differences_of_rows(rt: HostRuntime) -> Result<(), Fail> {
+fn a_difference_of_rows_is_made_or_refused(rt: HostRuntime) -> Result<(), Fail> {
     for (cols, earlier, later, want, end) in CHANGED {
         let prev = retried_row(rt.alloc(), *cols, earlier)?;
         let row = retried_row(rt.alloc(), *cols, later)?;

@@ -103,7 +103,7 @@ const ESCAPES: &[Row] = &[
 ];
 
 #[test]
-fn controls_and_escapes(rt: HostRuntime) -> Result<(), Fail> {
+fn controls_and_escapes_call_the_handler(rt: HostRuntime) -> Result<(), Fail> {
     for rows in [CONTROLS, ESCAPES] {
         all(&rt, rows)?;
     }
@@ -260,7 +260,7 @@ const REPORTS_AND_KEYBOARD_MODES: &[Row] = &[
 ];
 
 #[test]
-fn control_sequences(rt: HostRuntime) -> Result<(), Fail> {
+fn control_sequences_call_the_handler(rt: HostRuntime) -> Result<(), Fail> {
     for rows in [
         SEQUENCES_OF_THE_CURSOR,
         SEQUENCES_OF_THE_SCREEN,
@@ -417,7 +417,7 @@ const UNDERLINES_AND_LISTS: &[Row] = &[
 ];
 
 #[test]
-fn attributes(rt: HostRuntime) -> Result<(), Fail> {
+fn attributes_call_the_handler(rt: HostRuntime) -> Result<(), Fail> {
     for rows in [
         STYLES,
         ENDED_STYLES,
@@ -479,7 +479,7 @@ const INDEXED_AND_RGB_COLORS: &[Row] = &[
 ];
 
 #[test]
-fn colors(rt: HostRuntime) -> Result<(), Fail> {
+fn indexed_and_rgb_colors_call_the_handler(rt: HostRuntime) -> Result<(), Fail> {
     all(&rt, INDEXED_AND_RGB_COLORS)
 }
 
@@ -571,7 +571,7 @@ const RESETS: &[Row] = &[
 ];
 
 #[test]
-fn operating_system_commands(rt: HostRuntime) -> Result<(), Fail> {
+fn operating_system_commands_call_the_handler(rt: HostRuntime) -> Result<(), Fail> {
     for rows in [
         TITLES_AND_PALETTE,
         LINKS_AND_COLORS,
@@ -644,7 +644,7 @@ const POINTERS_OF_SIZES: &[Row] = &[
 ];
 
 #[test]
-fn pointers(rt: HostRuntime) -> Result<(), Fail> {
+fn pointer_shapes_call_the_handler(rt: HostRuntime) -> Result<(), Fail> {
     for rows in [POINTERS_OF_LINKS, POINTERS_OF_DRAGS, POINTERS_OF_SIZES] {
         all(&rt, rows)?;
     }
@@ -667,6 +667,6 @@ fn check_palette(rt: &(impl Abort + AllocGlobal), wanted: &mut String) -> Result
 }
 
 #[test]
-fn palette(rt: HostRuntime) -> Result<(), Fail> {
+fn palette_entries_call_the_handler(rt: HostRuntime) -> Result<(), Fail> {
     check_palette(&rt, &mut String::new(rt.alloc()))
 }

@@ -11,7 +11,7 @@ use vte::ansi::{
 };
 
 #[test]
-fn timeouts(rt: HostRuntime) {
+fn a_timeout_is_set_and_cleared(rt: HostRuntime) {
     let mut timeout = StdSyncHandler::new(Still(Duration::from_secs(1)));
     let fresh = (timeout.sync_timeout(), timeout.pending_timeout());
     timeout.set_timeout(Duration::from_millis(150));
@@ -86,14 +86,14 @@ const PRIVATE_MODES: &[(NamedPrivateMode, u16)] = &[
 ];
 
 #[test]
-fn private_modes(rt: HostRuntime) {
+fn private_modes_have_their_numbers(rt: HostRuntime) {
     for (mode, raw) in PRIVATE_MODES {
         same(&rt, &PrivateMode::from(*mode).raw(), raw);
     }
 }
 
 #[test]
-fn modes(rt: HostRuntime) {
+fn modes_have_their_numbers(rt: HostRuntime) {
     let insert = Mode::from(NamedMode::Insert).raw();
     let new_line = Mode::from(NamedMode::LineFeedNewLine).raw();
     same(&rt, &(insert, new_line), &(4, 20));
@@ -283,7 +283,7 @@ fn numbers_of_keyboard_modes(rt: HostRuntime) {
 const DRAWN: &str = " ◆▒\u{2409}\u{240C}\u{240D}\u{240A}°±\u{2424}\u{240B}┘┐┌└┼⎺⎻─⎼⎽├┤┴┬│≤≥π≠£·";
 
 #[test]
-fn line_drawing(rt: HostRuntime) {
+fn line_drawing_characters_are_mapped(rt: HostRuntime) {
     let lines = StandardCharset::SpecialCharacterAndLineDrawing;
     let mut c = b'_';
     for drawn in DRAWN.chars() {

@@ -86,7 +86,7 @@ const CONTROL_SEQUENCES: &[Row] = &[
 ];
 
 #[test]
-fn control_sequences(rt: HostRuntime) {
+fn control_sequences_are_dispatched(rt: HostRuntime) {
     all(&rt, CONTROL_SEQUENCES);
 }
 
@@ -124,12 +124,12 @@ const STRINGS: &[Row] = &[
 ];
 
 #[test]
-fn strings(rt: HostRuntime) {
+fn strings_are_dispatched(rt: HostRuntime) {
     all(&rt, STRINGS);
 }
 
 #[test]
-fn long_strings(rt: HostRuntime) {
+fn long_strings_are_cut(rt: HostRuntime) {
     tells_of_four(&rt, b"\x1b]0;abcdef\x07", "osc bell 48 | 97 98 99 | ");
     tells_of_four(&rt, b"\x1b]0;abcdef;g\x07", "osc bell 48 | 97 98 99 | | ");
 }
@@ -147,7 +147,7 @@ const CHARACTERS: &[Row] = &[
 ];
 
 #[test]
-fn characters(rt: HostRuntime) {
+fn characters_are_printed(rt: HostRuntime) {
     all(&rt, CHARACTERS);
 }
 
@@ -186,7 +186,7 @@ fn check_stop(rt: &impl Abort, parser: &mut Parser<1024>, log: &mut Log, stop: &
 }
 
 #[test]
-fn stops(rt: HostRuntime) {
+fn a_performer_stops_the_parser(rt: HostRuntime) {
     for stop in STOPS {
         let mut log = Log::new(&rt, stop.0);
         check_stop(&rt, &mut Parser::default(), &mut log, stop);
@@ -194,7 +194,7 @@ fn stops(rt: HostRuntime) {
 }
 
 #[test]
-fn no_params(rt: HostRuntime) -> Result<(), Fail> {
+fn default_params_are_empty(rt: HostRuntime) -> Result<(), Fail> {
     let params = Params::default();
     let is_over = params.iter().next().is_none();
     let text = format!(in rt.alloc(); "{params:?}")?;
@@ -207,7 +207,7 @@ fn no_params(rt: HostRuntime) -> Result<(), Fail> {
 }
 
 #[test]
-fn a_new_parser(rt: HostRuntime) {
+fn a_new_parser_reads_bytes(rt: HostRuntime) {
     let mut log = Log::new(&rt, Until::Never);
     Parser::new().advance(&mut log, b"a\x1b[1:2;3m");
     same(&rt, &log.text.as_str(), &"print 97 csi [1:2;3] | kept 109 ");
@@ -251,7 +251,7 @@ impl Perform for Texts {
 }
 
 #[test]
-fn runs_of_text(rt: HostRuntime) {
+fn text_comes_in_runs(rt: HostRuntime) {
     let mut texts = Texts {
         log: Log::new(&rt, Until::Never),
     };
@@ -266,7 +266,7 @@ fn runs_of_text(rt: HostRuntime) {
 }
 
 #[test]
-fn text_without_runs(rt: HostRuntime) {
+fn text_comes_by_characters_without_runs(rt: HostRuntime) {
     let mut log = Log::new(&rt, Until::Never);
     log.print_str("a\u{4E2D}");
     same(&rt, &log.text.as_str(), &"print 97 print 20013 ");

@@ -146,7 +146,7 @@ const OTHERS: &[u8] = &[0x07, 0x41, 0x80, 0x8F, 0x90, 0x9F, 0xA0, 0xBF, 0xC2, 0x
 const LASTS: &[u8] = &[0x41, 0x80, 0xBF, 0xF0];
 
 #[test]
-fn malformed_text(rt: HostRuntime) {
+fn malformed_text_prints_replacement_characters(rt: HostRuntime) {
     for a in FIRSTS {
         for b in OTHERS {
             for c in OTHERS {
