@@ -5,9 +5,9 @@
 #[cfg(test)]
 mod same;
 #[cfg(test)]
-mod screencat;
+mod screen_probe;
 #[cfg(test)]
-mod screendump;
+mod screencat;
 #[cfg(test)]
 mod screenlive;
 #[cfg(test)]

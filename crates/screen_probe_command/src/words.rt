@@ -4,7 +4,7 @@ ghost use Rattle.std.specs.Prelude.{◌≡◌, ◌&&◌, map, codes};
 ghost use Rattle.std.specs.Option.{is_some};
 ghost use Rattle.std.specs.Str.{bytes_eq};
 ghost use Rattle.command_line.specs.Numbers.{is_size, is_count};
-ghost use Rattle.screendump_command.specs.Words.{is_order};
+ghost use Rattle.screen_probe_command.specs.Words.{is_order};
 
 use crate::dumping::Dump;
 use command_line::{parse_count, parse_size};

@@ -1,8 +1,8 @@
 -- What a fault of the input is told as.
 use Rattle.command_line.specs.declared.input.InputError.{InputError}
 use Rattle.command_line.specs.declared.input.InputError.TheVariants as input
-use Rattle.screendump_command.specs.declared.error.DumpError.{DumpError}
-use Rattle.screendump_command.specs.declared.error.DumpError.TheVariants.{Memory, Read}
+use Rattle.screen_probe_command.specs.declared.error.DumpError.{DumpError}
+use Rattle.screen_probe_command.specs.declared.error.DumpError.TheVariants.{Memory, Read}
 
 abbrev pub input_fault : InputError → DumpError
 input_fault (input.Read e) = Read

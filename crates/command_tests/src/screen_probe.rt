@@ -1,12 +1,12 @@
 //! Whole commands, byte for byte, and faults of readers and writers.
 
 use crate::same::{Row, same, written};
-use screendump_command::command;
+use screen_probe_command::command;
 use scripted_io::{Narrow, Script, Step};
 use std::io::ErrorKind;
 use std::process::Abort;
 
-const USAGE: &[u8] = b"usage: screendump run|ROWS COLS [CAPACITY [TIMES]]\n";
+const USAGE: &[u8] = b"usage: screen_probe run|ROWS COLS [CAPACITY [TIMES]]\n";
 
 const BLANK: &[u8] = b"size 1 2\n\
 cursor 0 0 hide=0\n\
@@ -50,14 +50,14 @@ const COMMANDS: &[Row] = &[
         b"new 1 2 0\nfeed 6\n",
         1,
         b"new\n",
-        b"screendump: script\n",
+        b"screen_probe: script\n",
     ),
-    (&["run"], b"feed 6g", 1, b"", b"screendump: script\n"),
-    (&["run"], b"new 0 2 0", 1, b"", b"screendump: script\n"),
-    (&["run"], b"rows 1", 1, b"", b"screendump: script\n"),
-    (&["run"], b"rows 1 65536", 1, b"", b"screendump: script\n"),
-    (&["run"], b"dumps", 1, b"", b"screendump: script\n"),
-    (&["run"], b"\xff", 1, b"", b"screendump: script\n"),
+    (&["run"], b"feed 6g", 1, b"", b"screen_probe: script\n"),
+    (&["run"], b"new 0 2 0", 1, b"", b"screen_probe: script\n"),
+    (&["run"], b"rows 1", 1, b"", b"screen_probe: script\n"),
+    (&["run"], b"rows 1 65536", 1, b"", b"screen_probe: script\n"),
+    (&["run"], b"dumps", 1, b"", b"screen_probe: script\n"),
+    (&["run"], b"\xff", 1, b"", b"screen_probe: script\n"),
     (&["run", "1"], b"ab", 2, b"", USAGE),
     (&["0", "80"], b"ab", 2, b"", USAGE),
     (&["65536", "80"], b"ab", 2, b"", USAGE),
@@ -88,8 +88,14 @@ fn prints_the_state_or_the_usage(rt: HostRuntime) {
 fn a_failed_read_is_reported(rt: HostRuntime) {
     // Want of memory in the reader is a read's fault, too.
     let rows: [(&'static [Step], &[u8]); 2] = [
-        (&[Step::Fail(ErrorKind::BrokenPipe)], b"screendump: read\n"),
-        (&[Step::Fail(ErrorKind::OutOfMemory)], b"screendump: read\n"),
+        (
+            &[Step::Fail(ErrorKind::BrokenPipe)],
+            b"screen_probe: read\n",
+        ),
+        (
+            &[Step::Fail(ErrorKind::OutOfMemory)],
+            b"screen_probe: read\n",
+        ),
     ];
     for (steps, line) in rows {
         for words in [["1", "2"].as_slice(), ["run"].as_slice()] {
@@ -118,7 +124,7 @@ fn a_failed_write_or_flush_is_reported(rt: HostRuntime) {
                 &rt,
                 &words,
                 &reported.as_slice(),
-                &b"screendump: write\n".as_slice(),
+                &b"screen_probe: write\n".as_slice(),
             );
         }
     }

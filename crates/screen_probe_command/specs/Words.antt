@@ -13,4 +13,4 @@ is_order _ = false
 
 -- what any other command line is told
 abbrev pub usage_line : List ℕ
-usage_line = codes "usage: screendump run|ROWS COLS [CAPACITY [TIMES]]" ++ (0x0A ∷ [])
+usage_line = codes "usage: screen_probe run|ROWS COLS [CAPACITY [TIMES]]" ++ (0x0A ∷ [])

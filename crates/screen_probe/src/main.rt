@@ -2,7 +2,7 @@
 #![tactic(auto)]
 
 use command_line::run;
-use screendump_command::{DumpError, command, report_fault};
+use screen_probe_command::{DumpError, command, report_fault};
 use std::env;
 use std::process::ExitCode;
 

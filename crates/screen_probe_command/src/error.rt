@@ -1,8 +1,8 @@
 //! Why a command ended before its work was done.
 
 ghost use Rattle.std.specs.Prelude.{◌≡◌};
-ghost use Rattle.screendump_command.specs.Faults.{input_fault};
-ghost use Rattle.screendump_command.specs.declared.error.DumpError.TheVariants.{Memory};
+ghost use Rattle.screen_probe_command.specs.Faults.{input_fault};
+ghost use Rattle.screen_probe_command.specs.declared.error.DumpError.TheVariants.{Memory};
 
 use command_line::InputError;
 use std::alloc::{AllocError, AllocFailed};

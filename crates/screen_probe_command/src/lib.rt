@@ -1,5 +1,5 @@
 //! What a stream of bytes makes of a terminal's screen, as text, a fact a line, scripts of calls on a screen, and the
-//! command line of `screendump`, which asks for either.
+//! command line of `screen_probe`, which asks for either.
 #![tactic(auto)]
 
 mod commands;

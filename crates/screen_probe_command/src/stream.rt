@@ -1,7 +1,7 @@
 //! Whole output.
 
 ghost use Rattle.std.specs.Prelude.{◌≡◌, IfErr};
-ghost use Rattle.screendump_command.specs.declared.error.DumpError.TheVariants as error;
+ghost use Rattle.screen_probe_command.specs.declared.error.DumpError.TheVariants as error;
 
 use crate::error::DumpError;
 use byte_sinks::{FlushSink, pump};

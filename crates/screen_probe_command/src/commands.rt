@@ -2,7 +2,7 @@
 
 ghost use Rattle.std.specs.Prelude.{◌≡◌, ◌≤◌, map, true, false};
 ghost use Rattle.byte_sinks.specs.Pump.{Tells};
-ghost use Rattle.screendump_command.specs.Words.{is_order, usage_line};
+ghost use Rattle.screen_probe_command.specs.Words.{is_order, usage_line};
 
 use crate::dumping::dump_stream;
 use crate::error::DumpError;
@@ -15,7 +15,7 @@ use std::io::Read;
 
 /// Runs the program on the words after its name, and answers its exit status.
 ///
-/// A fault is told in a line on `errors`: `screendump: read`, `write`, `memory` or `script`. Any other command line
+/// A fault is told in a line on `errors`: `screen_probe: read`, `write`, `memory` or `script`. Any other command line
 /// than `ROWS COLS [CAPACITY [TIMES]]` and `run` gets the usage line there, and then nothing is read or written. Such a
 /// line is written whole, unless a write of it fails or takes nothing; that changes nothing else.
 pub fn command<R: Read, W: FlushSink, V: ByteSink>(
@@ -32,7 +32,7 @@ pub fn command<R: Read, W: FlushSink, V: ByteSink>(
     let Some(order) = parse(words) else {
         report(
             errors,
-            b"usage: screendump run|ROWS COLS [CAPACITY [TIMES]]\n",
+            b"usage: screen_probe run|ROWS COLS [CAPACITY [TIMES]]\n",
         );
         return USAGE;
     };
@@ -53,10 +53,10 @@ pub fn report_fault<V: ByteSink>(errors: &mut V, error: DumpError) -> u8
     report(
         errors,
         match error {
-            DumpError::Read => b"screendump: read\n",
-            DumpError::Write => b"screendump: write\n",
-            DumpError::Memory => b"screendump: memory\n",
-            DumpError::Script => b"screendump: script\n",
+            DumpError::Read => b"screen_probe: read\n",
+            DumpError::Write => b"screen_probe: write\n",
+            DumpError::Memory => b"screen_probe: memory\n",
+            DumpError::Script => b"screen_probe: script\n",
         },
     );
     FAULT
