@@ -64,7 +64,7 @@ above P i h l m =
     let e : 8 + (i - 8) ≡ i = omega (arith, l) in
     subst P e (each-below (λ j. P (8 + j)) 8 (i - 8) h (omega (arith, l, m)))
 
--- what groups after 38 or 48 alone lead to
+-- what groups after 38 or 48 alone make
 abbrev read_after : Bool → List (List ℕ) → Attrs → Read
 read_after fore gs a = read_on (read_groups gs) a (separate_color fore gs)
 

@@ -44,7 +44,7 @@ mouse-kept : (b : Bool) (s : State)
 mouse-kept true s = refl
 mouse-kept false s = refl
 
--- the mode that a form leads to
+-- the mode that a form sets
 mouse-played : (to from : MouseProtocolMode) (s : State)
     → played (mode_events (mouse_number to) (mouse_number from)) s
     ≡ mouse_set (switched mouse_number to from s.modes.mouse) s
@@ -83,7 +83,7 @@ encoding-kept : (b : Bool) (s : State)
 encoding-kept true s = refl
 encoding-kept false s = refl
 
--- the mode that a form leads to
+-- the mode that a form sets
 encoding-played : (to from : MouseProtocolEncoding) (s : State)
     → played (mode_events (encoding_number to) (encoding_number from)) s
     ≡ encoding_set (switched encoding_number to from s.modes.encoding) s

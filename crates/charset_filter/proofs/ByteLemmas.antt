@@ -154,7 +154,7 @@ shown-drawn n s [] b = refl
 shown-drawn n s (a ∷ t) b = ap (λ (x : Event). x ∷ Print (mapped (drawing_set (set_behind s (a ∷ t))) b) ∷ [])
     (steady-print 0xFFFD refl s)
 
--- what is given tells what the byte tells, as it is drawn, and leaves what the byte leaves
+-- what is given has the byte's events, as it is drawn, and leaves what the byte leaves
 abbrev pub Represents : Pending → CharacterSets → ℕ → Type 0
 Represents q s b = (n : ℕ) → (events_from n q (given_for q s b) ≡ drawn_events s (events_of_byte n q b))
     × (after_bytes q (given_for q s b) ≡ after_byte q b)

@@ -43,7 +43,7 @@ listener-performed p q (e ∷ es) h =
           ∙ ap (λ (d : Option ℕ). last_drawn (after_event p.sets e) d es) h.1.1),
     )
 
--- what was told is what is pending tells
+-- the events so far are those of what is pending
 reported-is : {S : Type 0} (step : S → Event → S → Type 0) (parser : Parser 0) (old new : S) (past bytes : List ℕ)
     (h : Reported step 0 parser old bytes new) → IsAfter 0 parser past → h.reported ≡ events_from 0 (pending past) bytes
 reported-is step parser old new past bytes h state_after =

@@ -1,4 +1,4 @@
--- Where a filter stands.
+-- The state of a filter.
 use Rattle.std.specs.Prelude.{◌≡◌, ℕ, ◌≤◌, Bool, true, false, List, ◌++◌, length, take}
 use Rattle.vte_core.specs.Pending.{Pending, InText, InEscape, InCsi, InOsc, InHook, InDevice, InSwallowed, pending}
 use Rattle.vte_core.specs.Standing.{IsAfter}
@@ -28,6 +28,6 @@ pub record Gives (old : CharsetFilter) (bytes : List ℕ) (k : ℕ) (new : Chars
   pub reads : (past : List ℕ) → HasRead old past → HasRead new (past ++ take k bytes)
   pub given : (past : List ℕ) → HasRead old past → after ≡ before ++ given_after past (take k bytes)
 
--- the same of some bytes at the front
+-- the same of some bytes at the start
 abbrev pub GivesPrefix : CharsetFilter → List ℕ → CharsetFilter → List ℕ → List ℕ → Type 0
 GivesPrefix old bytes new before after = (k : ℕ) × Gives old bytes k new before after

@@ -41,7 +41,7 @@ impl CharsetFilter {
 
     /// Reads the next bytes, and appends to the output what they give.
     ///
-    /// Where memory is refused, some of the bytes at the front have been read, and what these give is appended. The
+    /// Where memory is refused, some of the bytes at the start have been read, and what these give is appended. The
     /// others have not been read.
     pub fn advance(&mut self, bytes: &[u8], output: &mut Vec<u8>) -> Result<(), AllocError>
         ensures given { OnOk result (Gives self.old bytes.now (length bytes.now) self.new output.old.items
@@ -73,7 +73,7 @@ impl CharsetFilter {
         Ok(1)
     }
 
-    /// Reads a run in which no set can change, as many bytes at the front, and gives it as it is.
+    /// Reads a run in which no set can change, as many bytes at the start, and gives it as it is.
     fn read_plain(
         &mut self,
         bytes: &[u8],
@@ -105,7 +105,7 @@ impl CharsetFilter {
         Ok(())
     }
 
-    /// Tells the parser of a byte, and answers what is drawn of the last character that it printed.
+    /// Gives the parser a byte, and returns what is drawn of the last character that it printed.
     fn listen(&mut self, byte: u8) -> Option<char>
         ensures reads { (past : List ℕ) → HasRead self.old past → HasRead self.new (past ++ byte ∷ []) }
         ensures drawn { (past : List ℕ) → HasRead self.old past → result ≡ last_drawn self.old.sets None

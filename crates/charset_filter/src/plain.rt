@@ -3,7 +3,7 @@
 ghost use Rattle.std.specs.Prelude.{◌≡◌, ◌≤◌, length, take, true, false, ◌==◌, ◌||◌};
 ghost use Rattle.charset_filter.specs.Plain.{is_plain_run};
 
-/// How many bytes at the front have neither SO nor SI, and only `[` or `]` directly behind each ESC.
+/// How many bytes at the start have neither SO nor SI, and only `[` or `]` directly behind each ESC.
 #[tactic(auto, using(crate::proofs::PlainLemmas::run_byte, crate::proofs::PlainLemmas::run_sequence))]
 pub fn plain_len(bytes: &[u8]) -> usize
     ensures within { result ≤ length bytes.now }

@@ -1,4 +1,4 @@
-//! Exit statuses, and what is told on the error output.
+//! Exit statuses, and the lines on the error output.
 
 ghost use Rattle.byte_sinks.specs.Pump.{Tells};
 

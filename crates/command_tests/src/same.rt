@@ -3,7 +3,7 @@ use std::alloc::{AllocError, Global};
 use std::fmt::Debug;
 use std::process::Abort;
 
-/// What was told is what was wanted, where this was asked.
+/// The value found is the one wanted, for this case.
 pub fn same<R: Abort, A: Debug, T: PartialEq + Debug>(rt: &R, asked: &A, reported: &T, wanted: &T) {
     assert_eq!(rt; reported, wanted, "{asked:?}");
 }

@@ -27,7 +27,7 @@ const COMMANDS: &[Row] = &[
     (&[], b"hi", 2, b"", USAGE),
 ];
 
-/// What the command writes that answers this status and tells this.
+/// What the command writes that returns this status and reports this.
 fn output_of(
     rt: &(impl Abort + AllocGlobal),
     words: &[&str],

@@ -19,7 +19,7 @@ const CAST: &[u8] = b"{\"version\": 2, \"width\": 4, \"height\": 2}\n\
 [0.0, \"o\", \"a\\r\\n\"]\n\
 [0.5, \"o\", \"b\"]\n";
 
-/// A command's status, and what it writes and tells. Words that aren't understood leave the input as it is.
+/// A command's status, and what it writes and reports. Words that aren't understood leave the input as it is.
 fn check(
     rt: &(impl Abort + AllocGlobal),
     words: &[&str],

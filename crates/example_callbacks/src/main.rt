@@ -1,4 +1,4 @@
-//! What a program asks of its terminal beyond drawing: titles and bells, told as they come.
+//! What a program asks of its terminal beyond drawing: titles and bells, as they come.
 #![tactic(auto)]
 
 ghost use Rattle.std.specs.Prelude.{⊤};

@@ -59,7 +59,7 @@ struct UntilStopped {
 }
 
 impl Timeout for UntilStopped {
-    // What setting it and clearing it lead to, and what it answers.
+    // What setting and clearing it do, and what it answers.
     ghost ticking = { record {
       sets = λ old duration new. new.pending ≡ true;
       clears = λ old new. new.pending ≡ false;

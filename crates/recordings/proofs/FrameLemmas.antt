@@ -18,7 +18,7 @@ small-take (suc n) [] h i = omega arith
 small-take (suc n) (b ∷ bs) h zero = h 0
 small-take (suc n) (b ∷ bs) h (suc i) = small-take n bs (λ j. h (suc j)) i
 
--- four bytes at the front are a number
+-- four bytes at the start are a number
 pub prefix_number : (bytes number after : List ℕ) (n : ℕ) → number ≡ take 4 bytes → after ≡ drop 4 bytes
     → length after + 4 ≡ length bytes → ((i : ℕ) → get_or bytes i 0 < 256) → n ≡ from_le_bytes w32 number
     → bytes ≡ to_le_bytes w32 n ++ after

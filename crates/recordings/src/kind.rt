@@ -7,9 +7,9 @@ use crate::ttyrec::{begins_ttyrec, parse_ttyrec};
 use crate::typescript::parse_typescript;
 use std::alloc::{AllocError, Global};
 
-/// Reads a recording of the kind that is told, or else of that which its first bytes say.
+/// Reads a recording of the kind that is given, or else of the one that its first bytes say.
 ///
-/// With a timing file it is a typescript, unless another kind is told.
+/// With a timing file it is a typescript, unless another kind is given.
 pub fn parse_recording(
     alloc: Global,
     bytes: Vec<u8>,

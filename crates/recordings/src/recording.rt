@@ -48,7 +48,7 @@ pub enum Kind {
 }
 
 impl Kind {
-    /// The name by which the kind is told and asked for.
+    /// The name by which the kind is printed and asked for.
     pub fn name(self) -> &'static str {
         match self {
             Kind::Asciicast => "asciicast",

@@ -91,7 +91,7 @@ fn time_of(frame: &Frame<'_>) -> u64
     frame.seconds as u64 * 1_000_000 + frame.micros as u64
 }
 
-// The frame at the front, and what comes after it.
+// The frame at the start, and what comes after it.
 fn next_frame(bytes: &[u8]) -> Option<(Frame<'_>, &[u8])>
     ensures { MatchOption result (IsNoFrame bytes.now)
         (λ p. (bytes.now ≡ stored_one (piece_of p.0) ++ p.1.now) × (length p.1.now < length bytes.now)) }

@@ -19,7 +19,7 @@ fn attach_and_fail(rt: &impl Abort, hub: &mut Hub, log: &mut Log) -> Result<(), 
     Ok(())
 }
 
-/// The log tells so.
+/// The log says so.
 fn check_log(rt: &impl Abort, log: &Log) {
     let is_reported = matches!(
         log.replies(),

@@ -196,7 +196,7 @@ fn check_relayed(rt: &(impl Abort + AllocGlobal), relayed: &[u8]) -> Result<(), 
     })
 }
 
-/// The frame that would lead back from the other sheet is too long.
+/// The frame that would bring back the main sheet is too long.
 fn check_relay(rt: &(impl Abort + AllocGlobal), input: &[u8]) -> Result<(), Fail> {
     lend(Vec::new(rt.alloc()), |relayed| {
         let answer = relay_row(rt.alloc(), input, relayed);
@@ -205,8 +205,8 @@ fn check_relay(rt: &(impl Abort + AllocGlobal), input: &[u8]) -> Result<(), Fail
     })
 }
 
-/// The other sheet is shown for a while, and the frame that would lead back from it is too long: what was relayed shows
-/// that sheet.
+/// The other sheet is shown for a while, and the frame that would bring the main one back is too long: what was relayed
+/// shows that sheet.
 #[test]
 fn a_relay_that_ends(rt: HostRuntime) -> Result<(), Fail> {
     lend(Vec::new(rt.alloc()), |input| {

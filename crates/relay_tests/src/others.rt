@@ -36,8 +36,8 @@ fn tell(text: &mut String, hub: &Hub, log: &Log, own: usize) -> Result<(), Fail>
     Ok(())
 }
 
-/// Does the deeds, and tells what the client that came with this number is answered, and what it is owed after each
-/// answer.
+/// Does the deeds, and writes down what the client that came with this number is answered, and what it is owed after
+/// each answer.
 fn run_deeds(
     hub: &mut Hub,
     log: &mut Log,

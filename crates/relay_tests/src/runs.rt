@@ -251,7 +251,7 @@ const ENDS: &[Step] = &[
     Pump(1, 0),
 ];
 
-/// Each client's frames lead on from its own last one, however many were made at one moment.
+/// Each client's frames go on from its own last one, however many were made at one moment.
 const BASES: &[Step] = &[
     Attach,
     Attach,

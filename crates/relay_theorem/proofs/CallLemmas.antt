@@ -29,7 +29,7 @@ acted h act clients = record { parser = record (h.parser) { acts = h.parser.acts
 abbrev pub broken : HubState as_reported → HubState as_reported
 broken h = record h { parser = record (h.parser) { failed = true } }
 
--- a writer that is told of so can end a pump of these bytes
+-- a writer of this script can end a pump of these bytes
 abbrev pub CanPump : List Take → List ℕ → Type 0
 CanPump takes owed =
     (end : Result (Unit {0}) Error) × (n : ℕ) × (rest : List Take) × Pumps WritesAsReported takes owed end n rest

@@ -418,7 +418,7 @@ module _ (rows cols : ℕ) (z : Size) (height : IsSide z.rows) (width : IsSide z
       (read-all None es [] read-nothing parts.0).known (entry-shot (base_of last) e parts.1) sure
       (entry-due (base_of last) e parts.1) ready refl)
 
-  -- ---- a front of the frames' texts
+  -- ---- a prefix of the frames' texts
 
   not-whole : (p text left : List ℕ) → text ≡ p ++ left → left ≢ [] → length p < length text
   not-whole p text [] e some = absurd (some refl)
@@ -534,7 +534,7 @@ texts-frames rows cols calls replies n t s =
     let h = sessions-reported rows cols calls replies n t s in
     entries-frames rows cols (size_of_story t) h.height h.width t.entries h.entries
 
--- what is told of a session, and of the entries whose frames come whole
+-- what the judge says of a session, and of the entries whose frames come whole
 module _ (rows cols : ℕ) (calls : List Call) (replies : List Reply) (n : ℕ) (t : Story)
     (s : IsSession rows cols calls replies n t) where
   abbrev reported : IsReported rows cols (clients_in s.hub) t

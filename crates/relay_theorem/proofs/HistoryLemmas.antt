@@ -165,7 +165,7 @@ served-as rows cols clients key t c is at (d, found, s) =
     let one : d ≡ c = cc in
     subst (λ k. IsServed rows cols t k) one s
 
--- it is told, and while it hasn't ended the screen has its size
+-- it has a story, and while it hasn't ended the screen has its size
 pub record IsIn (h : HubState as_reported) (t : Story) : Type 0 where
   pub reported : IsReported h.parser.rows h.parser.cols h.clients t
   pub size : t.session.ended ≡ false → size_of_story t ≡ size_in h
@@ -314,8 +314,8 @@ begun-in h key acts = record {
 
 -- ---- all sessions after a call
 
--- each is told; where a session of a key hasn't ended there is a client, and only there; and there is one such session
--- at most
+-- each has a story; where a session of a key hasn't ended there is a client, and only there; and there is one such
+-- session at most
 pub record IsKept (h : HubState as_reported) (ts : List Story) : Type 0 where
   pub acts : AreActs h.parser.rows h.parser.cols 0 h.parser.acts
   pub each : AllByRecursion (IsIn h) ts

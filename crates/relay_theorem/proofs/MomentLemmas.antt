@@ -24,7 +24,7 @@ use Rattle.relay_theorem.proofs.CallLemmas.{Does, refuses, feeds, fails, resizes
 use Rattle.relay_theorem.proofs.CallLemmas.{pumps, misses, serves-does}
 use Rattle.relay_theorem.proofs.OneHistory.{history-is-one}
 
--- ---- fronts of one list of acts
+-- ---- prefixes of one list of acts
 
 -- no byte and no resize makes anything else
 nothing-made : (past : List ℕ) (s : State) (acts : List Act) → length (bytes_fed acts) ≡ 0 → resizes_made acts ≡ 0
@@ -70,7 +70,7 @@ grown-prefix : (acts p : List Act) (act : Act) → IsPrefix acts p → IsPrefix 
 grown-prefix acts p act h =
     (h.0 ++ act ∷ [], sym (append_assoc p h.0 (act ∷ [])) ∙ ap (λ xs. xs ++ act ∷ []) h.1)
 
--- ---- the moments of a run are such fronts
+-- ---- the moments of a run are such prefixes
 
 abbrev HasPrefixes : List Act → Story → Type 0
 HasPrefixes acts t = AllByRecursion (λ e. IsPrefix acts e.moment) t.entries

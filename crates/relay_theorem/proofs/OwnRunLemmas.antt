@@ -65,13 +65,13 @@ module _ (rows cols : ℕ) where
 
   -- ---- from its coming on
 
-  -- where its own calls lead
+  -- what its own calls make
   pub record EndsAs (key n : ℕ) (k : HubState as_reported) (us : List Story) (l : Life) (owns : List Own) : Type 0 where
     pub story : slice_get us n ≡ Some (story_of rows cols key (tell_on rows cols l owns).1 (tell_on rows cols l owns).0)
     pub client : (tell_on rows cols l owns).1 ≡ false → k.clients key ≡ Some (tell_on rows cols l owns).0.client
     pub can : CanLive rows cols l owns
 
-  -- one call more, by where those after it lead
+  -- one call more, by what those after it make
   module _ (key n : ℕ) (g k : HubState as_reported) (ts us : List Story) (owns : List Own)
       (more : (l : Life) → Lives rows cols key n g ts l → EndsAs key n k us l owns)
       (gone : (l : Life) → slice_get ts n ≡ Some (story_of rows cols key true l)
@@ -115,7 +115,7 @@ module _ (rows cols : ℕ) where
 
   -- ---- before it comes
 
-  -- a session that its own calls tell, on the hub after them
+  -- a session as its own calls make it, on the hub after them
   pub record Found (acts : List Act) (owns : List Own) (k : HubState as_reported) (t : Story) : Type 0 where
     pub key : ℕ
     pub life : Life
@@ -183,7 +183,7 @@ module _ (rows cols : ℕ) where
         let change = with_session (grown (bytes_taken takes (clients key))) in
         idle-passes before (change_last (is_on key) change ts) refl (changed-count key change)
 
-  -- what is told of a run's own calls goes on by the acts before them
+  -- the life that a run's own calls make goes on by the acts before them
   tell-more : (acts more : List Act) (owns : List Own)
       → tell rows cols acts (map Acts more ++ owns) ≡ tell rows cols (acts ++ more) owns
   tell-more acts [] owns = ap (λ all. tell rows cols all owns) (sym (append-nil acts))

@@ -36,9 +36,9 @@ use Rattle.relay_theorem.specs.Serves.{IsPumpReply, EachPumpTakesAsReported, Eac
 use Rattle.relay_theorem.specs.Serves.{EachRunHasAHistory, EachLogHasAHistory}
 use Rattle.relay_theorem.proofs.StoryLemmas.{put, shown-changed, unchanged}
 
--- ---- a call on a hub, and on what is told of it
+-- ---- a call on a hub, and on its history
 
--- what is told after a call on a hub that is then g
+-- the history after a call on a hub that is then g
 pub record Follows (u : HubState as_reported) (call : Call) (reply : Reply) (g : HubState as_kept) : Type 0 where
   pub after : HubState as_reported
   pub serves : Serves u call reply after
@@ -62,13 +62,13 @@ module _ (h : HubState as_kept) (u : HubState as_reported) (m : Matches h u) whe
     clients = puts.1 ∙ ap (λ clients. with_client clients key slot) m.clients;
   }
 
-  -- what is shown is what is told
+  -- what is shown is what the history says
   screen-now : is_failed u ≡ false → screen_in h ≡ screen_in u
   screen-now e =
       (m.parser e).screen
       ∙ (λ i. record { state = made u.parser.rows u.parser.cols 0 u.parser.acts; failed = sym e i })
 
-  -- what may take memory by what has been read, may by what is told
+  -- what may allocate by what has been read, may by the history
   may-take : (bytes : List ℕ) → is_failed h ≡ false
       → ((past : List ℕ) → HasRead h.parser past → some_may_take (events_added past bytes) h.parser.screen.state ≡ true)
       → some_may_take (events_added (bytes_fed u.parser.acts) bytes)
@@ -337,7 +337,7 @@ module _ (way : Telling) where
     pumped-left h g key takes reply c at (result, rest, f, e),
   )
 
--- ---- any writer, told of
+-- ---- any writer, as a script
 
 module _ (S : Type 0) (step : S → List ℕ → Result ℕ Error → S → Type 0) where
   abbrev Reported : List ℕ → Result (Unit {0}) Error → ℕ → Type 0

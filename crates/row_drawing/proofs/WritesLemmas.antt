@@ -83,7 +83,7 @@ pub wrote_by : {f g : Writer} {p : Pen} {s : List ℕ} {q : Pen} {t : List ℕ} 
     → Wrote g p s q t
 wrote_by e a = wrote_as _ _ _ _ _ _ e a
 
--- of what a call appends, this is a front
+-- of what a call appends, this is a prefix
 pub record Began (f : Writer) (p : Pen) (s t : List ℕ) : Type 0 where
   pub is : IsBegun s (bytes_of (f p).forms) t
 
@@ -194,7 +194,7 @@ module _ {Z : Type 0} where
   writes_last h p g true r u e a b = appended_by e (appended_both a b)
   writes_last h p g false r u e a b = refused_by e (refused_then a b)
 
-  -- a front of a text is appended, up to bytes that don't fit
+  -- a prefix of a text is appended, up to bytes that don't fit
   pub full_within : (s t : String Z) (more text : List ℕ) → string_capacity s ≤ string_capacity t
       → string_capacity t < string_len t + length more → IsBegun (string_bytes s) text (string_bytes t ++ more)
       → string_capacity s < string_len s + length text
@@ -218,7 +218,7 @@ wrote_columns_next {p = p} {r = r} {s = s} {u = u} j n a b =
     let both : Wrote (columns j (suc n)) p s r u = wrote_both a b in
     subst (λ k. Wrote (columns j k) p s r u) next both
 
--- a front of what fewer columns append is one of what more columns do
+-- a prefix of what fewer columns append is one of what more columns do
 began_columns : {p : Pen} {s t : List ℕ} (j : Job) (n m : ℕ) → n ≤ m → Began (columns j n) p s t
     → Began (columns j m) p s t
 unfolding columns

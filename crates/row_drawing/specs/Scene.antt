@@ -10,7 +10,7 @@ use Rattle.terminal_model.specs.Term.{Size, Term}
 use Rattle.row_drawing.specs.declared.pen.Pen.{Pen}
 use Rattle.row_drawing.specs.RowWriter.{Job, keeps_flag}
 
--- A terminal of `rows` rows and the columns of the job; `cells` and `flags` are its own before the row is drawn. Of
+-- A terminal of `rows` rows and the row's columns; `cells` and `flags` are its own before the row is drawn. Of
 -- `term` only the other fields count.
 pub record Scene : Type 0 where
   pub rows : ℕ
@@ -22,7 +22,7 @@ pub record Scene : Type 0 where
 abbrev pub scene_size : Scene → Size
 scene_size s = record { rows = s.rows; cols = s.job.cols }
 
--- the terminal with the line f in the job's row, with these flags, cursor and attributes
+-- the terminal with the line f in that row, with these flags, cursor and attributes
 abbrev pub with_row : Scene → (ℕ → CellView) → (ℕ → Bool) → ℕ → ℕ → Attrs → Term
 with_row s f W r c a = record (s.term) { cell = update s.cells s.job.row f; wrapped = W; row = r; col = c; attrs = a }
 
@@ -37,7 +37,7 @@ pub record IsLine (n : ℕ) (f : ℕ → CellView) (wrapped : Bool) : Type 0 whe
   pub beyond : Bounded n f
   pub filled : wrapped ≡ true → is_filled (f (n - 1)) ≡ true
 
--- Whole rows are drawn. The flags of the job are those of the terminal. A row above that wraps shows something in its
+-- Whole rows are drawn. The flags before are those of the terminal. A row above that wraps shows something in its
 -- last column.
 pub record IsScene (s : Scene) : Type 0 where
   pub whole : s.job.start ≡ 0

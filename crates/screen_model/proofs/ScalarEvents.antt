@@ -43,7 +43,7 @@ joined-reported es fs p q = All-append IsReported es fs p q
 if-reported : (b : Bool) (es fs : List Event) → Reported es → Reported fs → Reported (cond b es fs)
 if-reported b es fs p q = cond_both b es fs (λ (xs : List Event). Reported xs) (λ _. p) (λ _. q)
 
--- ---- the number that well-formed bytes spell
+-- ---- the number that well-formed bytes encode
 
 low : (c : ℕ) → c < 0xD800 → IsScalar c
 low c h = grind (arith, nat_tests)

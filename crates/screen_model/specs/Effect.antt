@@ -143,7 +143,7 @@ attributes_read gs s = record {
 abbrev pub partly : Partly → Call → Effect
 partly x k = record { state = x.state; reports = x.reports; calls = replicate x.unhandled k }
 
--- window operation 8 asks for a size; the screen's own stands for an absent number
+-- window operation 8 asks for a size; an absent number is the screen's own
 abbrev pub window_effect : List (List ℕ) → Call → State → Effect
 window_effect gs k s =
     if nat_eq (unwrap_or (given gs) 0) 8

@@ -34,7 +34,7 @@ last_cols cols [] = cols
 last_cols cols (Fed bytes ∷ acts) = last_cols cols acts
 last_cols cols (Resized height width ∷ acts) = last_cols width acts
 
--- bytes and resizes lead to a valid state of a terminal
+-- bytes and resizes make a valid state of a terminal
 abbrev pub MakesStates : Type 0
 MakesStates = (rows cols capacity : ℕ) (acts : List Act) → AreActs rows cols capacity acts
     → IsState (made rows cols capacity acts)

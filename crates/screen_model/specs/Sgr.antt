@@ -51,7 +51,7 @@ abbrev pub rgb : Option ℕ → Option ℕ → Option ℕ → Option Color
 rgb (Some r) (Some g) (Some b) = Some (Rgb r g b)
 rgb r g b = None
 
--- ---- what the groups at the front of a list ask for
+-- ---- what the groups at the start of a list ask for
 
 pub data Asks : Type 0 where
   -- a change, by the first group and so many after it

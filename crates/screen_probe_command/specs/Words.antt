@@ -11,6 +11,6 @@ is_order (rows ∷ cols ∷ capacity ∷ []) = is_size rows && (is_size cols && 
 is_order (rows ∷ cols ∷ capacity ∷ times ∷ []) = is_size rows && (is_size cols && (is_count capacity && is_count times))
 is_order _ = false
 
--- what any other command line is told
+-- what is printed for any other command line
 abbrev pub usage_line : List ℕ
 usage_line = codes "usage: screen_probe run|ROWS COLS [CAPACITY [TIMES]]" ++ (0x0A ∷ [])

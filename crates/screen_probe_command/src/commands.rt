@@ -15,9 +15,9 @@ use std::io::Read;
 
 /// Runs the program on the words after its name, and answers its exit status.
 ///
-/// A fault is told in a line on `errors`: `screen_probe: read`, `write`, `memory` or `script`. Any other command line
-/// than `ROWS COLS [CAPACITY [TIMES]]` and `run` gets the usage line there, and then nothing is read or written. Such a
-/// line is written whole, unless a write of it fails or takes nothing; that changes nothing else.
+/// A fault is reported in a line on `errors`: `screen_probe: read`, `write`, `memory` or `script`. Any other command
+/// line than `ROWS COLS [CAPACITY [TIMES]]` and `run` gets the usage line there, and then nothing is read or written.
+/// Such a line is written whole, unless a write of it fails or takes nothing; that changes nothing else.
 pub fn command<R: Read, W: FlushSink, V: ByteSink>(
     alloc: Global,
     words: &[&str],
@@ -46,7 +46,7 @@ pub fn command<R: Read, W: FlushSink, V: ByteSink>(
     }
 }
 
-/// Tells a fault in a line on `errors`, and answers the exit status that goes with it.
+/// Reports a fault in a line on `errors`, and returns its exit status.
 pub fn report_fault<V: ByteSink>(errors: &mut V, error: DumpError) -> u8
     ensures { result ≡ 1 }
 {

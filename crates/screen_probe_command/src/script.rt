@@ -30,7 +30,8 @@ enum Step {
     SetScrollback(usize),
     /// `clear_scrollback`.
     ClearScrollback,
-    /// `base`: the screen as it is now is kept, and differences are told from it. A fresh parser's screen is kept too.
+    /// `base`: the screen as it is now is kept, and differences are written from it. A fresh parser's screen is kept
+    /// too.
     Base,
     /// A question.
     Ask(Question),
@@ -57,7 +58,7 @@ enum Question {
     Between(u16, u16, u16, u16),
 }
 
-/// Reads a line of a script. What stands behind ` #`, and words past those that are wanted, don't count.
+/// Reads a line of a script. What comes after ` #`, and words past those that are wanted, don't count.
 fn parse_step(alloc: Global, line: &str) -> Result<Step, DumpError> {
     let line = match line.split_once(" #") {
         Some((line, _)) => line,
@@ -177,7 +178,7 @@ fn play<W: FlushSink>(alloc: Global, script: &str, output: &mut W) -> Result<(),
     replay.take_lines(script, output)
 }
 
-/// The parser that a script's lines work on, and the screen that differences are told from.
+/// The parser that a script's lines work on, and the screen that differences are written from.
 #[derive(Drop)]
 struct Replay {
     alloc: Global,

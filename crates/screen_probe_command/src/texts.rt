@@ -1,4 +1,4 @@
-//! The texts of a screen, a line each, and where they lead.
+//! The texts of a screen, a line each, and what another screen makes of them.
 
 use crate::dump::push_screen;
 use crate::error::DumpError;
@@ -199,7 +199,7 @@ fn push_comparison(out: &mut String, name: &str, wanted: &str, got: &str) -> Res
     push_missing(out, "reader", got, wanted)
 }
 
-// The lines of a screen's dump without the modes, of which a redraw doesn't tell all, and the kept rows.
+// The lines of a screen's dump without the modes, which a redraw doesn't set all, and the kept rows.
 fn picture_of(alloc: Global, screen: &Screen) -> Result<String, DumpError> {
     let mut dump = String::new(alloc);
     push_screen(&mut dump, screen)?;

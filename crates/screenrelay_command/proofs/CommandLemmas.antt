@@ -1,4 +1,4 @@
--- What an order writes, where the source and the writer tell their bytes.
+-- What an order writes, where the bytes of the source and the writer are known.
 use Rattle.std.proofs.Common.{ℕ, List, Option, Result, OnOk, IfSome}
 use Rattle.std.specs.declared.io.Error.{Error}
 use Rattle.std.specs.Io.KnownBytes.{Appends, Keeps}

@@ -49,7 +49,7 @@ flags_asked a b =
 abbrev pub attrs_asked : Attrs → Attrs → Bool
 attrs_asked a b = color_eq a.fgcolor b.fgcolor && (color_eq a.bgcolor b.bgcolor && flags_asked a b)
 
--- they tell whether the attributes are equal
+-- they say whether the attributes are equal
 pub attrs-reported : (a b : Attrs) → IsProper a → IsProper b → attrs_asked a b ≡ attrs_eq a b
 attrs-reported a b p q =
     let asked = λ (m n : ℕ). flags_asked (with_mode a m) (with_mode b n) in

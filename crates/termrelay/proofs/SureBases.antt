@@ -72,7 +72,7 @@ redraw-due now (Some v) h e =
     let unsure : is_unsure_screen v ≡ true = grind arith in
     rw (rw h.size at unsure)
 
--- ---- what an answer tells
+-- ---- what an answer says
 
 reported : (z : Size) (now : Shown) (base : Option Shown) → sameb the_type (due z now base) Unsure ≡ is_unsure z now
 reported z now None = grind arith

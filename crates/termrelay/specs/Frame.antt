@@ -57,7 +57,7 @@ abbrev pub EachSureIsPlain : Type 0
 EachSureIsPlain = (z : Size) (s : Shown) → IsShown z s → is_unsure z s ≡ false → (r k : ℕ)
     → Contains (s.cell r k).text 0xFE0F → ⊥
 
--- ---- where it leads
+-- ---- what it makes of a terminal
 
 -- the text has the start mark only at its start, and the end mark only at its end
 pub record IsMarked (text : List ℕ) : Type 0 where

@@ -120,7 +120,7 @@ runs-on p q r xs n first more =
     (sym (map-append input (take n xs) (drop n xs)) ∙ ap (map input) (take-append-drop n xs))
     (Calls-append Does p q r (map input (take n xs)) (map input (drop n xs)) first more)
 
--- ---- the front of a text, and what is left of it
+-- ---- the start of a text, and what is left of it
 
 pub prefix-run : (text : List ℕ) (n : ℕ) (p q : PictureView) → All IsPrintable (take n text)
     → Calls Does p (map input (take n text)) q → ShowsPrefix text (drop n text) p q

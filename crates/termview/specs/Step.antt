@@ -36,7 +36,7 @@ use Rattle.terminal_model.specs.Apply.{erase, input, down, switched}
 
 -- ---- characters
 
--- a character is printed, but for U+FFFD, which stands for bytes that couldn't be decoded
+-- a character is printed, but for U+FFFD, the replacement for bytes that couldn't be decoded
 unfoldable pub printed : Size → ℕ → Term → Term
 printed z c t = if c == 0xFFFD then t else input z c t
 

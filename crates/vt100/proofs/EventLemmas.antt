@@ -117,7 +117,7 @@ module _ {C : Type 0} {step : C → ScreenView → Call → C → ScreenView →
       → step c v k d w → w.failed ≡ true → Does step scrolls (calling (k ∷ ks)) t c v d w
   does_first_call {t} {c} {d} {v} {w} k ks h one dead = does_calls k ks d w h one (tells_failed step d w ks dead)
 
-  -- a call of which parts can be unknown, and then the calls that tell of these
+  -- a call of which parts can be unknown, and then the calls that report these
   does_unhandled : {t : Bool} {c d : C} {v w : ScreenView} (f : State → Partly) (k : Call) (n : ℕ) (b : C)
       (u : ScreenView) → v.failed ≡ false → Receives scrolls c (f v.state).reports b → u ≡ alive (f v.state).state
       → n ≡ (f v.state).unhandled → Tells step b u (replicate n k) d w → Does step scrolls (λ s. partly (f s) k) t c v d w

@@ -40,7 +40,7 @@ Reports scrolls s v t = scrolls s.callbacks.now v s.alternate_screen t.callbacks
     × (t.alternate_screen ≡ s.alternate_screen) × (t.callbacks.ghost_name ≡ s.callbacks.ghost_name)
 
 module _ {C : Type 0} (scrolls : C → RowView → Bool → C → Type 0) where
-  -- the callbacks of a reporter hear of the rows, and stay where they are
+  -- the callbacks of a reporter get the rows, and stay where they are
   pub receives_all : (s : Reporter C) (rows : List RowView) (t : Reporter C) → TakesAll (Reports scrolls) s rows t
       → Receives scrolls s.callbacks.now (reports_of s.alternate_screen rows) t.callbacks.now
       × (t.callbacks.ghost_name ≡ s.callbacks.ghost_name)
@@ -95,7 +95,7 @@ module _ {C : Type 0} (scrolls : C → RowView → Bool → C → Type 0) where
     dead = λ e. absurd (false≢true (sym live ∙ e));
   }
 
-  -- the screen has failed, and the callbacks were told of the first of the rows
+  -- the screen has failed, and the callbacks got only the first of the rows
   pub tries_prefix : {A : Type 0} (f : State → Stepped) (v : ScreenView) (c : C) (w : ScreenView) (d : C)
       → v.failed ≡ false → w.failed ≡ true → ReceivesPrefix scrolls c (f v.state).reports d
       → Tries {A = A} scrolls f v c (Err Memory) w d

@@ -45,7 +45,7 @@ pub goes_through : {C : Type 0} (step : C → ScreenView → Call → C → Scre
 goes_through step scrolls [] p q h = (ap (λ x. x.callbacks) h, ap (λ x. x.screen) h)
 goes_through step scrolls (e ∷ es) p q (m, s, h) = (m.callbacks, m.screen, s, goes_through step scrolls es m q h)
 
--- what a call of the reader told
+-- the events of a call of the reader
 pub goes_reported : {C : Type 0} {step : C → ScreenView → Call → C → ScreenView → Type 0}
     {scrolls : C → RowView → Bool → C → Type 0} {r : Parser 1024} {p : WrappedScreen C} {bytes : List ℕ}
     {q : WrappedScreen C} → Reported (Steps step scrolls) 1024 r p bytes q → (past : List ℕ) → IsAfter 1024 r past
@@ -143,7 +143,7 @@ module _ {C : Type 0} (step : C → ScreenView → Call → C → ScreenView →
             ∙ ap (λ (x : ScreenView). alive (played es x.state)) (one_played e c v b u h one f)
       ]
 
-  -- ---- where a parser stands
+  -- ---- the state of a parser
 
   pub state_after_fed : (p q : ParserView C) (bytes : List ℕ)
       → ((past : List ℕ) → IsAfter 1024 p.reader past → IsAfter 1024 q.reader (past ++ bytes))

@@ -1,4 +1,4 @@
--- The texts of a screen's rows, one by one, and where they lead.
+-- The texts of a screen's rows, one by one, and what a terminal makes of them.
 use Rattle.std.proofs.Common.{◌≡◌, ◌∙◌, ℕ, zero, suc, ◌+◌, ◌<◌, ◌^◌, ◌==◌, Bool, false, ◌&&◌, List, [], ◌∷◌, length}
 use Rattle.std.proofs.Common.{get_or, Contains, None, refl, sym, ap, subst, arith}
 use Rattle.std.proofs.lemmas.Bool.{and_right}
@@ -157,7 +157,7 @@ ready-row s h i l known =
       known = subst (λ (f : ℕ → CellView). (k : ℕ) → Contains (f k).text 0xFFFD → ⊥) (cells-of s h i) known;
     }
 
--- ---- where they lead
+-- ---- what a terminal makes of them
 
 text-is : (s : State) → IsUnscrolled s → (width i : ℕ) → i < s.shown.height
     → is_continued (shown_state s).wrapped i ≡ false

@@ -141,7 +141,7 @@ module _ {C : Type 0} (scrolls : C → RowView → Bool → C → Type 0) where
       scroll_as scrolls (typed_all (characters run)) (sym (typed_all-is (characters run) p.screen.state
       (run-spacing p.screen.state.shown.width some run is))) x
 
-  -- a run on a sheet; at a refusal the callbacks heard of the rows that left while a front was printed
+  -- a run on a sheet; at a refusal the callbacks got the rows that left while a prefix was printed
   pub draws_run : {A E : Type 0} {g h : GridView} {s t : Reporter C} (xs : List ℕ) (a : Attrs)
       (result : Result A E) → OnOk result (h ≡ (printed_all g xs a).grid)
       → OnOk result (TakesAll (Reports scrolls) s (printed_all g xs a).sunk t)
@@ -173,7 +173,7 @@ module _ {C : Type 0} (scrolls : C → RowView → Bool → C → Type 0) where
         allocated = some;
       }
 
-  -- reports of two changes are told of, one change after the other
+  -- reports of two changes come one change after the other
   receives-split : (c : C) (xs ys : List Report) (d : C) → Receives scrolls c (xs ++ ys) d
       → (b : C) × Receives scrolls c xs b × Receives scrolls b ys d
   receives-split c [] ys d h = (c, refl, h)
@@ -181,7 +181,7 @@ module _ {C : Type 0} (scrolls : C → RowView → Bool → C → Type 0) where
       let r = receives-split h.0 xs ys d h.2 in
       (r.0, (h.0, h.1, r.1), r.2)
 
-  -- and of a front of both, which ends in the first of them, or has all of it
+  -- and of a prefix of both, which ends in the first of them, or has all of it
   prefix-split : (c : C) (xs ys : List Report) (d : C) → ReceivesPrefix scrolls c (xs ++ ys) d
       → ReceivesPrefix scrolls c xs d ⊎ ((b : C) × Receives scrolls c xs b × ReceivesPrefix scrolls b ys d)
   prefix-split c [] ys d h = inr (c, refl, h)
@@ -194,7 +194,7 @@ module _ {C : Type 0} (scrolls : C → RowView → Bool → C → Type 0) where
         | inr k ↦ inr (k.0, (h.0, rw heads h.1, k.1), k.2)
       ]
 
--- ---- how many rows scroll off, and which are told of
+-- ---- how many rows scroll off, and which are reported
 
 counts-typed : (c : ℕ) (s : State) → s.shown.kept.scrolled_off < 2 ^ 64
     → Counts s.shown.kept (typed c s).state.shown.kept (typed c s).reports
@@ -254,7 +254,7 @@ first-keeps s t u e h = rw (← e) h
 
 module _ {C : Type 0} (step : C → ScreenView → Call → C → ScreenView → Type 0)
     (scrolls : C → RowView → Bool → C → Type 0) where
-  -- callbacks that were told of no rows are the same
+  -- callbacks that got no rows are the same
   prefix-none : (c : C) (rows : List Report) (d : C) → rows ≡ [] → ReceivesPrefix scrolls c rows d → d ≡ c
   prefix-none c rows d e ([], rest, parts, h) = sym h
   prefix-none c rows d e (f ∷ prefix, rest, parts, h) = absurd (cc (sym e ∙ parts))
@@ -299,7 +299,7 @@ module _ {C : Type 0} (step : C → ScreenView → Call → C → ScreenView →
       record { may_take = keeps; failed = failed; bounds = bounds; reported = reported } in
       (d, w, goes-typed x c v d w h live (inr one), goes-failed xs d w failed)
 
-  -- or at one of them, by which a row is kept: if the callbacks haven't heard of rows that leave by the others
+  -- or at one of them, by which a row is kept: if the callbacks haven't got rows that leave by the others
   goes-refused : (x : ℕ) (xs : List ℕ) (c : C) (v : ScreenView) (d : C) (w : ScreenView) → All IsHandled (x ∷ xs)
       → v.failed ≡ false → w.failed ≡ true → IsKeeping v.state
       → keeps_row v.state (typed_all (x ∷ xs) v.state).state ≡ true → SameBounds v.state w.state
@@ -381,7 +381,7 @@ module _ {C : Type 0} (step : C → ScreenView → Call → C → ScreenView →
       let m : WrappedScreen C = record { screen = h.1; callbacks = h.0 } in
       (m, h.2, performs-goes es m q h.3)
 
-  -- ---- the front of a text
+  -- ---- the start of a text
 
   -- printable ASCII
   pub prefix-run : (bs : List ℕ) (n : ℕ) {p q : WrappedScreen C} (result : Result (Unit {0}) ScreenError) → 0 < n

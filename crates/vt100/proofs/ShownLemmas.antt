@@ -94,7 +94,7 @@ screen-drawable s h p =
       attrs = h.state.attrs;
     }
 
--- ---- where they lead
+-- ---- what a terminal makes of them
 
 pub shown-is : (s : State) → IsUnscrolled s → IsShown (grid_size s.shown) (shown_state s)
 shown-is s h =

@@ -57,9 +57,9 @@ drawn_on d s =
       reports = reports_of s.alternate x.sunk;
     }
 
--- A call that makes x of a sheet g, which is then h, and tells the callbacks of a reporter s, which is then t, of the
--- rows that leave. It finds no memory only where rows scroll off that are kept; then what h shows is open, but not its
--- bounds, and the callbacks were told of the first of the rows alone.
+-- A call that makes x of a sheet g, which is then h. It reports the rows that leave to the callbacks of a reporter s,
+-- which is then t. It finds no memory only where rows that are kept scroll off. Then what h shows is open, but not its
+-- bounds, and the callbacks got only the first of the rows.
 pub record Draws {C A E : Type 0} (scrolls : C → RowView → Bool → C → Type 0) (x : Scrolled) (g : GridView)
     (s : Reporter C) (result : Result A E) (h : GridView) (t : Reporter C) : Type 0 where
   pub grid : OnOk result (h ≡ x.grid)

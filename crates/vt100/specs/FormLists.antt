@@ -1,5 +1,5 @@
--- What a screen's calls write are lists of forms: where those of modes and attributes lead, which forms they are, how many
--- bytes they take, and which cells those of differences touch.
+-- What a screen's calls write are lists of forms: what those of modes and attributes set, which forms they are, how
+-- many bytes they take, and which cells those of differences touch.
 use Rattle.std.specs.Prelude.{ℕ, ◌≡◌, ◌+◌, ◌*◌, ◌≤◌, List, length, Contains}
 use Rattle.std.specs.List.{AllByRecursion}
 use Rattle.vt100_forms.specs.Attrs.{HasByteColors}
@@ -44,7 +44,7 @@ EachAttributeLeads = (s : State) (z : Size) (from : Shown) → IsState s
 
 -- ---- what is shown is known
 
--- of every live screen that shows no kept row, unless U+FFFD stands in a cell, which no bytes put there
+-- of every live screen that shows no kept row, unless a cell has U+FFFD, which no bytes put there
 abbrev pub EachScreenIsKnown : Type 0
 EachScreenIsKnown = (s : State) → IsUnscrolled s
     → ((r k : ℕ) → Contains ((shown_state s).cell r k).text 0xFFFD → ⊥) → IsKnown (shown_state s)

@@ -1,4 +1,4 @@
--- What events do to a screen and to the callbacks that are told of them.
+-- What events do to a screen and to its callbacks.
 use Rattle.std.specs.Prelude.{◌≡◌, ◌⊎◌, Bool, true, false, List, [], ◌∷◌}
 use Rattle.vte_core.specs.Event.{Event}
 use Rattle.vt100_rows.specs.Row.{RowView}
@@ -23,14 +23,14 @@ Tells step c v [] d w = (d ≡ c) × (w ≡ v)
 Tells {C} step c v (k ∷ ks) d w =
     Either v.failed ((d ≡ c) × (w ≡ v)) ((b : C) × (u : ScreenView) × step c v k b u × Tells step b u ks d w)
 
--- an effect on callbacks c, which are then d, and on their screen, which is then w: the change is made, c are told of
--- the rows that leave, and then the calls are made
+-- an effect on callbacks c, which are then d, and on their screen, which is then w: the change is made, the rows that
+-- leave are reported to c, and then the calls are made
 abbrev pub Acts : {C : Type 0} → (C → ScreenView → Call → C → ScreenView → Type 0) → (C → RowView → Bool → C → Type 0)
     → C → Effect → C → ScreenView → Type 0
 Acts {C} step scrolls c x d w = (b : C) × Receives scrolls c x.reports b × Tells step b (alive x.state) x.calls d w
 
 -- A change of a screen v and callbacks c that finds no memory, where it may take some: the screen is then w, which has
--- failed, with sheets of the same size, and the callbacks d were told of the first of these rows alone.
+-- failed, with sheets of the same size, and the callbacks d got only the first of these rows.
 pub record Fails {C : Type 0} (scrolls : C → RowView → Bool → C → Type 0) (takes : Bool) (rows : List Report) (c : C)
     (v : ScreenView) (d : C) (w : ScreenView) : Type 0 where
   pub may_take : takes ≡ true

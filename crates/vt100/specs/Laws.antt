@@ -37,7 +37,7 @@ abbrev pub ActsFollow : Type 0
 ActsFollow = (rows cols capacity : ℕ) (acts more : List Act)
     → made rows cols capacity (acts ++ more) ≡ made_on (bytes_fed acts) (made rows cols capacity acts) more
 
--- a parser into which its screen at another size is put stands where a resize of its own would have left it: a sequence
+-- a parser into which its screen at another size is put is as a resize of its own would have left it: a sequence
 -- or a character that its bytes leave unfinished goes on
 abbrev pub ResizedScreensArePutIn : Type 0
 ResizedScreensArePutIn = (p : ParserView (Unit {0})) (w : ScreenView) (height width rows cols capacity : ℕ)

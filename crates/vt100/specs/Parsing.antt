@@ -1,4 +1,4 @@
--- What a parser is, and where it stands.
+-- What a parser is, and its state after some bytes.
 use Rattle.std.specs.Prelude.{◌≡◌, ℕ, List}
 use Rattle.vte_core.specs.declared.parser.Parser.{Parser}
 use Rattle.vte_core.specs.Standing.{IsAfter}
@@ -6,7 +6,7 @@ use Rattle.screen_model.specs.Call.{Call, ScreenView}
 use Rattle.screen_model.specs.Made.{Act, bytes_fed, made}
 use Rattle.vt100.specs.Tries.{alive}
 
--- what reads the bytes, the screen, and the callbacks that are told
+-- what reads the bytes, the screen, and the callbacks
 pub record ParserView (C : Type 0) : Type 0 where
   pub reader : Parser 1024
   pub screen : ScreenView

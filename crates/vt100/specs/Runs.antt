@@ -36,11 +36,11 @@ abbrev pub last_of : List ℕ → Option ℕ → Option ℕ
 last_of [] last = last
 last_of (c ∷ cs) last = last_of cs (Some c)
 
--- a character that is printed, and not told of
+-- a character that is printed, and not reported as unhandled
 abbrev pub IsHandled : ℕ → Type 0
 IsHandled c = is_unhandled c ≡ false
 
--- callbacks c and a screen v have gone through the printing of the characters at the front of a text, of which these
+-- callbacks c and a screen v have gone through the printing of the characters at the start of a text, of which these
 -- bytes are left, and are d and w
 abbrev pub PrintsPrefix : {C : Type 0} → (C → ScreenView → Call → C → ScreenView → Type 0)
     → (C → RowView → Bool → C → Type 0) → List ℕ → List ℕ → C → ScreenView → C → ScreenView → Type 0

@@ -19,7 +19,7 @@ alive s = record { state = s; failed = false }
 abbrev pub unless_failed : (State → State) → ScreenView → ScreenView
 unless_failed f v = if v.failed then v else alive (f v.state)
 
--- A call that can't be refused: f changes the state, unless the screen has failed. The callbacks are told of nothing.
+-- A call that can't be refused: f changes the state, unless the screen has failed. The callbacks aren't called.
 pub record Changes {C : Type 0} (f : State → State) (old new : WrappedScreen C) : Type 0 where
   pub screen : new.screen ≡ unless_failed f old.screen
   pub callbacks : new.callbacks ≡ old.callbacks
@@ -29,7 +29,7 @@ pub record SameBounds (s t : State) : Type 0 where
   pub main : SameLimits (main_sheet s) (main_sheet t)
   pub alternate : SameLimits (alternate_sheet s) (alternate_sheet t)
 
--- callbacks c have been told of the first of these rows, all of them or fewer, and of nothing else, and are d
+-- callbacks c have got the first of these rows, all of them or fewer, and nothing else, and are d
 abbrev pub ReceivesPrefix : {C : Type 0} → (C → RowView → Bool → C → Type 0) → C → List Report → C → Type 0
 ReceivesPrefix scrolls c rows d =
     (prefix : List Report) × (rest : List Report) × (rows ≡ prefix ++ rest) × Receives scrolls c prefix d
@@ -40,9 +40,9 @@ abbrev pub Stops : ℕ → ℕ → State → State → Type 0
 Stops rows cols s t =
     (alternate_sheet t ≡ alternate_sheet s) ⊎ (main_sheet t ≡ (resized (main_sheet s) rows cols).grid)
 
--- A call that may be refused, of a screen v and callbacks c that are then w and d. It does f, and the callbacks are
--- told of the rows that leave. Without memory the screen has failed, and they were told of the first of these rows
--- alone; one that has failed refuses, and nothing changes.
+-- A call that may be refused, of a screen v and callbacks c that are then w and d. It does f, and reports the rows
+-- that leave to the callbacks. Without memory the screen has failed, and they got only the first of these rows. A
+-- screen that has failed refuses, and nothing changes.
 pub record Tries {C A : Type 0} (scrolls : C → RowView → Bool → C → Type 0) (f : State → Stepped)
     (v : ScreenView) (c : C) (result : Result A ScreenError) (w : ScreenView) (d : C) : Type 0 where
   pub live : OnOk result (v.failed ≡ false)

@@ -1,4 +1,4 @@
--- What a screen's calls write, and where it leads.
+-- What a screen's calls write, and what a terminal makes of it.
 use Rattle.std.specs.Prelude.{ℕ, ◌<◌, ◌≤◌, ◌≡◌, false, List, [], length, get_or, Contains, None}
 use Rattle.vt100_forms.specs.Attrs.{default_attrs}
 use Rattle.vt100_forms.specs.Form.{Form, bytes_of}
@@ -57,7 +57,7 @@ abbrev pub EachScreenIsDrawable : Type 0
 EachScreenIsDrawable = (s : State) → IsUnscrolled s → IsPlainlyShown (shown_state s)
     → IsDrawableScreen (grid_size s.shown) (shown_state s)
 
--- ---- the forms lead to what is shown
+-- ---- a terminal that reads the forms shows what the screen shows
 
 -- from any picture; the modes with them where the mouse and the cursor's style are as they are at first; and the cursor
 -- from the screen's own cells and flags
@@ -106,8 +106,8 @@ pub record DrawsRow (z : Size) (text : List ℕ) (cells : ℕ → CellView) (i :
 abbrev pub text_at : List (List ℕ) → ℕ → List ℕ
 text_at texts i = get_or texts i []
 
--- for whole rows there is one text for each row. That of a row, of which the one above doesn't go on in it, leads from
--- default cells there to what the screen shows in it, with the cursor at the row's start and the default attributes.
+-- For whole rows there is one text for each row. If the row above doesn't go on in it, a terminal that has default
+-- cells there, its cursor at the row's start and the default attributes then shows what the screen shows in the row.
 pub record RowTextsLead (s : State) (width : ℕ) : Type 0 where
   pub count : length (rows_formatted s.shown 0 width) ≡ s.shown.height
   pub each : (i : ℕ) (t : Term) → i < s.shown.height → is_continued (shown_state s).wrapped i ≡ false

@@ -1,4 +1,4 @@
-//! What a screen tells the program around it.
+//! What a screen reports to the program around it.
 ghost use Rattle.std.specs.Prelude.{◌≡◌, map, Bool};
 ghost use Rattle.screen_model.specs.Call as said;
 ghost use Rattle.screen_model.specs.Call.{ScreenView};
@@ -57,8 +57,8 @@ pub trait Callbacks {
     /// A row left for good: it was kept and is pushed out, or it left the screen and isn't kept. `alternate_screen`
     /// says that it was a row of the alternate screen.
     ///
-    /// A screen that becomes lower tells of rows too. One that becomes higher gets rows back, blank where they weren't
-    /// kept; these are told of like others when they leave again.
+    /// A screen that becomes lower reports rows too. One that becomes higher gets rows back, blank where they weren't
+    /// kept; these are reported like others when they leave again.
     fn on_scroll(&mut self, contents: RowContents<'_>, alternate_screen: bool)
         ensures { scrolls self.old contents.entry alternate_screen self.new };
 

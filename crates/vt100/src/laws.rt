@@ -23,7 +23,7 @@ pub fn feeds_are_joined()
     ensures after { ActsFollow }
 {}
 
-/// The screen of a parser may be cloned, given another size, and put in again: the parser then stands where
+/// The screen of a parser may be cloned, given another size, and put in again. The parser is then as
 /// [`Parser::set_size`](crate::Parser::set_size) would have left it, with what is unfinished.
 pub fn screens_are_put_in()
     ensures { ResizedScreensArePutIn }
@@ -35,7 +35,7 @@ pub fn redraws_are_of_what_is_shown()
     ensures { EachRedrawIsOfShown }
 {}
 
-/// And where two of one size show none, the forms that lead from one to the other are those of what both show.
+/// Where two screens of one size show no kept row, the forms of their difference are those of what both show.
 pub fn differences_are_of_what_is_shown()
     ensures { EachDifferenceIsOfShown }
 {}
@@ -45,53 +45,52 @@ pub fn screens_are_drawable()
     ensures { EachScreenIsDrawable }
 {}
 
-/// The redraws of such a screen lead from any picture to what it shows: of the contents alone, with the modes where the
-/// mouse's and the cursor's style are as they are at first, and of the cursor on the screen's own cells.
+/// A terminal that reads a redraw of such a screen shows what the screen shows. The redraw of the contents does so from
+/// any picture; with the modes, if the mouse's modes and the cursor's style are the initial ones; the cursor's, if the
+/// terminal has the screen's cells.
 pub fn redraws_lead()
     ensures { EachRedrawLeads }
 {}
 
-/// The differences from an earlier screen of one size lead from what that one shows to what such a screen shows,
-/// whatever the earlier one shows.
+/// A terminal that shows an earlier screen of the same size, and reads the difference, shows what such a screen shows.
 pub fn differences_lead()
     ensures { EachDifferenceLeads }
 {}
 
 /// The texts of [`rows_formatted`](crate::Screen::rows_formatted) for whole rows, where such a row has no U+FE0F:
-/// each leads from a row of default cells, with the cursor at its start and the default attributes, to the cells that
-/// the screen shows in that row, and every other row stays. Of rows that the one above goes on in this isn't said.
+/// each draws the screen's row on a row of default cells, with the cursor at its start and the default attributes.
+/// Every other row stays. This isn't said of a row that continues the one above.
 pub fn texts_of_rows_lead()
     ensures { EachRowTextLeads }
 {}
 
-/// Those of [`rows_diff`](crate::Screen::rows_diff) from an earlier screen of one size: each leads so from the row that
-/// the earlier one shows, whatever the rows above are.
+/// The texts of [`rows_diff`](crate::Screen::rows_diff) from an earlier screen of the same size: each draws the
+/// screen's row on that of the earlier screen, whatever the rows above are.
 pub fn differences_of_rows_lead()
     ensures { EachRowDifferenceLeads }
 {}
 
-/// What [`input_mode_formatted`](crate::Screen::input_mode_formatted) and
-/// [`input_mode_diff`](crate::Screen::input_mode_diff) write leads, from any picture, to the screen's modes and cursor's
-/// style; what [`attributes_formatted`](crate::Screen::attributes_formatted) writes to the attributes that are drawn
-/// with; and nothing else changes. The first one asks for a mouse and a style as they are at first, the second one for
-/// the modes and the style of the earlier screen.
+/// [`input_mode_formatted`](crate::Screen::input_mode_formatted) and
+/// [`input_mode_diff`](crate::Screen::input_mode_diff) set a terminal's modes and cursor style to those of the screen,
+/// and [`attributes_formatted`](crate::Screen::attributes_formatted) its drawing attributes. Nothing else changes. The
+/// first one needs the initial mouse modes and cursor style, the second one the modes and style of the earlier screen.
 pub fn modes_lead()
     ensures set { EachModeLeads }
     ensures changed { EachModeChangeLeads }
     ensures attributes { EachAttributeLeads }
 {}
 
-/// What a live screen without kept rows shows are cells, and so what can be sent, unless U+FFFD stands in one; in those
-/// that bytes and resizes have made it stands in none. The numbers of what is shown are of the code's types.
+/// Every cell that a live screen without kept rows shows can be sent as a form, unless it holds U+FFFD; screens made
+/// from bytes and resizes never do. The numbers of what is shown fit the code's types.
 pub fn screens_are_known()
     ensures shown { EachScreenIsKnown }
     ensures made { EachMadeScreenIsKnown }
     ensures small { EachScreenIsSmall }
 {}
 
-/// What each call writes of a screen that is known, or of what differs from an earlier one of its size, is spelled by
-/// forms that writers send: their texts are those of cells, and their numbers are of the code's types. Where no cell
-/// shows U+FE0F they are forms that a screen and a view read alike. So is the text of each row, of whichever columns.
+/// What each call writes of a known screen, or of its difference from an earlier one of its size, is a list of forms
+/// that writers send: their texts are those of cells, and their numbers fit the code's types. Where no cell shows
+/// U+FE0F, a screen and a view read these forms alike. The same holds of the text of each row, of whichever columns.
 pub fn lists_are_of_forms()
     ensures sent { EachListIsSent }
     ensures forms { EachListIsOfForms }

@@ -64,7 +64,7 @@ impl<CB> Parser<CB> {
 impl Parser<()> {
     ghost use Rattle.vt100.specs.Parsing.{ParserIsAfter};
 
-    /// A parser of this size that keeps so many rows, and tells nobody of anything.
+    /// A parser of this size that keeps so many rows, and has no callbacks.
     pub fn new(
         alloc: Global,
         rows: NonZeroU16,
@@ -93,7 +93,7 @@ impl<CB: Callbacks> Parser<CB> {
     ghost use Rattle.vt100.specs.Parsing.{HasRead, ParserIsAfter, KeepsScreens};
     ghost use Rattle.vt100.specs.ParserLends.{lends_screen, lends_callbacks, lends_both};
 
-    /// A parser of this size that keeps so many rows, and tells these callbacks of its events.
+    /// A parser of this size that keeps so many rows, and reports its events to these callbacks.
     pub fn new_with_callbacks(
         alloc: Global,
         rows: NonZeroU16,
@@ -119,9 +119,9 @@ impl<CB: Callbacks> Parser<CB> {
     ///
     /// Where memory is refused, and where a call of the callbacks left a screen that has failed, the later events do
     /// nothing, and the answer is [`ScreenError::Memory`]; but for what the callbacks change, the screen keeps its size
-    /// and its capacity. Of the event that found no memory the callbacks were told of rows alone, the first of those that
-    /// leave; and it is one that may take memory, so that bytes without such an event aren't refused (`takes`). On a
-    /// screen that had failed before nothing is done.
+    /// and its capacity. If an allocation fails during an event, the callbacks have got only the first of the rows that
+    /// leave by it, and no other call. Only events that allocate can fail (`takes`). On a screen that had failed before
+    /// nothing is done.
     pub fn process(&mut self, bytes: &[u8]) -> Result<(), ScreenError>
         ensures alive { OnOk result (self.new.screen.failed ≡ false) }
         ensures memory { result ≡ Err Memory → (self.old.screen.failed ≡ false) × (self.new.screen.failed ≡ true) }
@@ -151,7 +151,7 @@ impl<CB: Callbacks> Parser<CB> {
         Ok(())
     }
 
-    /// Gives the screen another size, and tells the callbacks of the rows that leave it. A synchronized update of the
+    /// Gives the screen another size, and reports the rows that leave it to the callbacks. A synchronized update of the
     /// program's ends. The same size changes nothing else.
     ///
     /// A screen that becomes lower first loses the rows under the cursor, and then lets its top rows scroll off. One

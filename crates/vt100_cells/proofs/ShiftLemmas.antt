@@ -23,7 +23,7 @@ prefix-len : (xs ys : List CellView) (i n : ℕ) → i + n ≤ length xs → len
     → length (take n (drop i (put_mid i (length xs - i) xs ys))) ≡ n
 prefix-len xs ys i n h e = grind (arith, places)
 
--- a part of the row is turned, and its front is written over: m is i + n - i
+-- a part of the row is turned, and its start is written over: m is i + n - i
 pub shifts-right : (xs ys zs mid : List CellView) (i n m : ℕ) (x : CellView) → i + n ≤ length xs → m ≡ n
     → mid ≡ drop i xs → ys ≡ drop (length mid - n) mid ++ take (length mid - n) mid
     → zs ≡ replicate (length (take m (drop i (put_mid i (length xs - i) xs ys)))) x → x ≡ default_cell

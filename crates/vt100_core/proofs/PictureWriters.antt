@@ -118,7 +118,7 @@ differing-of_pictures g old x y h o e =
     let all = ap (lines_difference g old) both ∙ rows in
     λ j. (all j >> cursor_placed (grid_size g) (drawn_on g)) (pen_at old.row old.col y.attrs)
 
--- ---- where they lead
+-- ---- what a terminal makes of them
 
 pub shown-grid : (g : GridView) (x : Extras) → IsUnscrolledGrid g → IsShown (grid_size g) (picture_of g x)
 shown-grid g x h = IsShown-of (grid_size g) (term_of_grid g x) (IsTerm-grid g x h.grid)

@@ -146,7 +146,7 @@ module _ {n : ℕ} {columns : List ℕ → ℕ} {put_in : RowView → ℕ → Li
       (omega (arith, count)))
       ∙ (λ i. record { grid = with-first s.grid x xs a l i; sunk = append-nil s.sunk i })
 
-  -- a front of m characters, for which the row of h has room, where the first character is made to fit
+  -- a prefix of m characters, for which the row of h has room, where the first character is made to fit
   pub prints-in-row : {S : Type 0} {takes : S → RowView → S → Type 0} {s t : S} {g h k : GridView} {T E : Type 0}
       {x : T} (text : List ℕ) (a : Attrs) (m : ℕ) → All IsOne text → n ≤ g.width → 0 < m → m ≤ length text
       → ScrollsTo takes s t g h {T = T} {E = E} (Ok x) (made_to_fit g n true) → IsGrid h
@@ -235,7 +235,7 @@ printed_all-append (x ∷ xs) ys g a =
     in u) (printed_all-append xs ys d.grid a)
     ∙ (λ i. record { grid = t.grid; sunk = sym (append_assoc d.sunk o.sunk t.sunk) i })
 
--- a grid g and a sink s on the way from g0 and s0: a front of the text has been printed
+-- a grid g and a sink s on the way from g0 and s0: a prefix of the text has been printed
 pub record IsOnTheWay (IsOne : ℕ → Type 0) {S : Type 0} (takes : S → RowView → S → Type 0) (s0 s : S)
     (g0 g : GridView) (text : List ℕ) (a : Attrs) (rest : List ℕ) : Type 0 where
   pub prefix : List ℕ

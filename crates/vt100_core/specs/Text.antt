@@ -91,13 +91,13 @@ printed_all g (c ∷ cs) a =
     let others = printed_all first.grid cs a in
     record { grid = others.grid; sunk = first.sunk ++ others.sunk }
 
--- the sink s has been given the rows that leave while a front of the text is printed, and is t
+-- the sink s has been given the rows that leave while a prefix of the text is printed, and is t
 abbrev pub TakesPrefix : {S : Type 0} → (S → RowView → S → Type 0) → S → GridView → List ℕ → Attrs → S → Type 0
 TakesPrefix takes s g text a t =
     (prefix : List ℕ) × (rest : List ℕ) × (text ≡ prefix ++ rest) × TakesAll takes s (printed_all g prefix a).sunk t
 
 -- what a call does that prints a text on a grid g, which is h then, as `Prints` says of each character in turn; where
--- it is refused the sink has been given what leaves while a front of the text is printed
+-- it is refused the sink has been given what leaves while a prefix of the text is printed
 pub record PrintsAll {S : Type 0} (takes : S → RowView → S → Type 0) (s t : S) (g h : GridView) {T E : Type 0}
     (result : Result T E) (text : List ℕ) (a : Attrs) : Type 0 where
   pub grid : OnOk result (h ≡ (printed_all g text a).grid)
@@ -108,7 +108,7 @@ pub record PrintsAll {S : Type 0} (takes : S → RowView → S → Type 0) (s t 
   pub stays : ScrollsNoneOff g (printed_all g text a).grid → IsOk result
   pub allocated : IsAllocated h
 
--- the same of some characters at the text's front, where its first one may be refused
+-- the same of some characters at the text's start, where its first one may be refused
 pub record PrintsFirst {S : Type 0} (takes : S → RowView → S → Type 0) (s t : S) (g h : GridView) {E : Type 0}
     (result : Result ℕ E) (text : List ℕ) (a : Attrs) : Type 0 where
   pub some : IfOk result (λ n. 0 < n)

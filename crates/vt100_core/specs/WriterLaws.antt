@@ -1,4 +1,4 @@
--- Where the forms of a grid lead.
+-- What a terminal makes of the forms of a grid.
 use Rattle.std.specs.Prelude.{ℕ, ◌≡◌, Contains, Option, unwrap_or}
 use Rattle.vt100_forms.specs.declared.attrs.Attrs.{Attrs}
 use Rattle.vt100_forms.specs.declared.position.Pos.{Pos}
@@ -45,7 +45,7 @@ EachDifferenceIsOfPictures = (g old : GridView) (x y : Extras) → IsUnscrolledG
     → grid_size old ≡ grid_size g
     → differing g old y.attrs ≡ grid_difference (grid_size g) (picture_of old y) (picture_of g x)
 
--- ---- they lead to it
+-- ---- a terminal that reads them shows it
 
 abbrev pub EachGridIsDrawable : Type 0
 EachGridIsDrawable = (g : GridView) (x : Extras) → IsDrawableGrid g → IsDrawable (grid_size g) (picture_of g x)

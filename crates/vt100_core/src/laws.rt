@@ -7,7 +7,7 @@ ghost use Rattle.vt100_core.specs.WriterLaws.{EachCursorIsDrawn};
 ghost use Rattle.vt100_core.specs.FormLists.{EachListIsSent, EachListIsOfForms, EachListIsShort};
 
 /// Which row stands where after [`Grid::set_size`](crate::Grid::set_size), counted from the top: rows that come back,
-/// blank ones above them where they weren't kept, then the rows that stood on the screen and stay, and blank ones
+/// blank ones above them where they weren't kept, then the rows that were on the screen and stay, and blank ones
 /// below.
 pub fn resizes_place_rows()
     ensures { EachResizePlacesRows }
@@ -53,22 +53,22 @@ pub fn grids_are_drawable()
     ensures { EachGridIsDrawable }
 {}
 
-/// What [`Grid::write_contents_formatted`](crate::Grid::write_contents_formatted) appends leads from any terminal to
-/// the
-/// grid's cells, flags and cursor, and to the attributes that it answers.
+/// Any terminal that reads what [`Grid::write_contents_formatted`](crate::Grid::write_contents_formatted) appends then
+/// has the grid's cells, flags and cursor, and draws with the attributes that the call returns.
 pub fn redraws_lead()
     ensures { EachRedrawIsDrawn }
 {}
 
-/// What [`Grid::write_contents_diff`](crate::Grid::write_contents_diff) appends leads from the earlier grid's cells,
-/// flags and cursor, and the attributes that it is given, to those of the grid, and to the attributes that it answers.
+/// A terminal with the earlier grid's cells, flags and cursor and with the given attributes, which reads what
+/// [`Grid::write_contents_diff`](crate::Grid::write_contents_diff) appends, then has those of the grid, and draws with
+/// the attributes that the call returns.
 pub fn differences_lead()
     ensures { EachDifferenceIsDrawn }
 {}
 
-/// What [`Grid::write_cursor_position_formatted`](crate::Grid::write_cursor_position_formatted) appends leads from the
-/// grid's cells and flags, with the cursor and attributes that it is given, to the grid's cursor, and changes nothing
-/// else.
+/// A terminal with the grid's cells and flags and with the given cursor and attributes, which reads what
+/// [`Grid::write_cursor_position_formatted`](crate::Grid::write_cursor_position_formatted) appends, then has the grid's
+/// cursor. Nothing else changes.
 pub fn cursors_lead()
     ensures { EachCursorIsDrawn }
 {}

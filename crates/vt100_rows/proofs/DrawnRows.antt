@@ -107,7 +107,7 @@ module _ (rows : ℕ) (t : Term) (v earlier : RowView) (row : ℕ) (was_above : 
     saved_attrs = ap (λ (x : Term). x.saved_attrs) d.state_after;
   }
 
-  -- e are the forms of a row, which d leads there
+  -- e are the forms of a row, which d draws
   leads-there : (e d : Drawn) (pos : Option Pos) (attrs : Option Attrs)
       → IsAtRow row (cell_at earlier.cells) earlier.wrapped pos attrs t → e ≡ d
       → IsDrawn scene d.pen (run (scene_size scene) d.forms

@@ -61,14 +61,14 @@ pub wipes-none : (xs : List CellView) (s e m t : ℕ) (a : Attrs) → a ≡ defa
     → IsBlankFrom xs m → s < e → t ≡ min e m → t ≤ s → xs ≡ by_position (length xs) (wiped (cell_at xs) s e a)
 wipes-none xs s e m t a is p b h et none = rw is (none-default xs s e m t p b h et none)
 
--- ---- the front of a line
+-- ---- the start of a line
 
 pub line-of-prefix : (xs : List CellView) (t : ℕ) → IsBlankFrom xs t → cell_at (take t xs) ≡ cell_at xs
 line-of-prefix xs t b =
     fun_ext (λ k. ⊎_elim (λ lt. get_or-take t xs k default_cell lt)
     (λ ge. cell_at_past (take t xs) k (omega (arith, length-take t xs)) ∙ sym (b k ge)) (cases_lt k t))
 
--- where ws is what an edit makes of the front, and g what stands where then
+-- where ws is what an edit makes of the start, and g what stands where then
 prefixes : (xs ws : List CellView) (t : ℕ) (f g : ℕ → CellView) → t ≤ length xs → ws ≡ by_position t f
     → ((k : ℕ) → k < t → f k ≡ g k) → ((k : ℕ) → t ≤ k → k < length xs → cell_at xs k ≡ g k)
     → ws ++ drop t xs ≡ by_position (length xs) g

@@ -19,7 +19,7 @@ pub TakesAll-list : {S : Type 0} (takes : S → RowView → S → Type 0) (s t :
     → TakesAll takes s vs t → TakesAll takes s ws t
 TakesAll-list takes s t vs ws e h = subst (λ (xs : List RowView). TakesAll takes s xs t) e h
 
--- ---- rows that are taken from the front
+-- ---- rows that are taken from the start
 
 pub drop-more : (rows ys zs : List RowView) (i : ℕ) → ys ≡ drop i rows → zs ≡ drop 1 ys → zs ≡ drop (i + 1) rows
 drop-more rows ys zs i e f = f ∙ ap (λ (xs : List RowView). drop 1 xs) e ∙ drop-drop 1 i rows

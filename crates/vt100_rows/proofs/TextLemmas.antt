@@ -158,7 +158,7 @@ IsBegun-spaces n k old now h e =
       e,
     )
 
--- the text up to a column where one stands is a front of the text of more columns
+-- the text up to a column where one stands is a prefix of the text of more columns
 module _ (f : ℕ → CellView) (s n : ℕ) (state_after : has_text (f (s + n)) ≡ true) where
   abbrev first : List ℕ
   first = columns_text f s (suc n)

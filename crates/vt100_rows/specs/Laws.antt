@@ -26,7 +26,7 @@ pub record IsPlainRow (v : RowView) : Type 0 where
   pub proper : (k : ℕ) → IsProper (cell_at v.cells k).attrs
 
 -- The terminal shows these cells in this row, which has the flag or hasn't; its cursor stands at the start of the row,
--- and it draws with the default attributes. What a writer is told of cursor and attributes, if it is told, is right.
+-- and it draws with the default attributes. What a writer is given as cursor and attributes, if it is given, is right.
 pub record IsAtRow (row : ℕ) (f : ℕ → CellView) (flag : Bool) (pos : Option Pos) (attrs : Option Attrs) (t : Term)
     : Type 0 where
   pub cells : (k : ℕ) → t.cell row k ≡ f k
@@ -53,7 +53,7 @@ pub record IsRowDrawn (row : ℕ) (f : ℕ → CellView) (p : Pen) (t u : Term) 
   pub saved_col : u.saved_col ≡ t.saved_col
   pub saved_attrs : u.saved_attrs ≡ t.saved_attrs
 
--- where the terminal shows default cells and no flag, the forms of the whole row lead to the row's cells
+-- on default cells without a flag the forms of the whole row draw the row's cells
 abbrev pub EachRowIsDrawn : Type 0
 EachRowIsDrawn = (rows : ℕ) (t : Term) (v : RowView) (row width : ℕ) (pos : Option Pos) (attrs : Option Attrs) → IsRow v
     → IsPlainRow v → row < rows → 0 < length v.cells → length v.cells ≤ width
@@ -90,7 +90,7 @@ abbrev pub EachTextIsAForm : Type 0
 EachTextIsAForm = (v : RowView) → IsRow v → IsKnownRow v → ((k : ℕ) → Contains (cell_at v.cells k).text 0xFE0F → ⊥)
     → IsTrueOfForms (AllDrawing IsFormText) v
 
--- no mark of a synchronized update stands in them
+-- they contain no mark of a synchronized update
 abbrev pub EachHasNoMark : Type 0
 EachHasNoMark = (v : RowView) → IsRow v → IsKnownRow v → IsTrueOfForms HasNoMark v
 

@@ -35,7 +35,7 @@ pub fn lists_are_of_forms()
     ensures forms { EachListIsOfForms }
 {}
 
-/// No mark of a synchronized update stands in what is appended.
+/// What is appended contains no mark of a synchronized update.
 pub fn marks_are_absent()
     ensures { EachHasNoMark }
 {}

@@ -5,7 +5,7 @@ ghost use Rattle.vt100_cells.specs.Cell.{IsPrintable};
 /// How many bytes are tested at once.
 const BLOCK_LEN: usize = 16;
 
-/// How many bytes at the front are printable ASCII, which [`Row::put_run`](crate::Row::put_run) takes: those before the
+/// How many bytes at the start are printable ASCII, which [`Row::put_run`](crate::Row::put_run) takes: those before the
 /// first that isn't.
 pub fn printable_len(bytes: &[u8]) -> usize
     ensures within { result ≤ length bytes.now }

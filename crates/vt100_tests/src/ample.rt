@@ -23,7 +23,7 @@ const TO_MAIN: &[(Text, &str)] = &[
     (Text::RowsDiff(0, 4), "ab//"),
 ];
 
-/// These texts lead from one screen to another, and those back.
+/// These texts draw one screen on another, and those the first one again.
 fn check_both(
     rt: &(impl Abort + AllocGlobal),
     to: &Screen,
@@ -98,7 +98,7 @@ const READ: &[(Start, &[u8])] = &[
     ((2, 2, usize::MAX), b"a\r\nb\r\nc\x1b[1;2;3;4;7;31;42m"),
 ];
 
-/// A copy of a screen tells what the screen tells.
+/// A copy of a screen reads as the screen does.
 fn check_copy(rt: &(impl Abort + AllocGlobal), screen: &Screen) -> Result<(), Fail> {
     with(screen.clone(), |copy| {
         check_alike(

@@ -25,7 +25,7 @@ fn begun_text(alloc: Global) -> Result<String, GridError> {
     Ok(text)
 }
 
-/// Whether a text holds what it held before, and a front of what was to be appended.
+/// Whether a text holds what it held before, and a prefix of what was to be appended.
 fn holds_a_prefix(text: &str, want: &str) -> bool {
     match text.strip_prefix(BEGUN) {
         Some(prefix) => want.starts_with(prefix),
@@ -33,7 +33,7 @@ fn holds_a_prefix(text: &str, want: &str) -> bool {
     }
 }
 
-/// After a refusal a text holds what it held before, and a front of what was to be appended. Then it is begun anew.
+/// After a refusal a text holds what it held before, and a prefix of what was to be appended. Then it is begun anew.
 fn check_refused(
     rt: &impl Abort,
     text: &mut String,

@@ -104,7 +104,7 @@ fn write_capture(grid: &Grid, capture: Capture, writer: &mut Limited) -> fmt::Re
     }
 }
 
-/// A writer with this room takes a front of the capture, and the whole of it where there is room.
+/// A writer with this room takes a prefix of the capture, and the whole of it where there is room.
 fn check_room(
     rt: &(impl Abort + AllocGlobal),
     grid: &Grid,

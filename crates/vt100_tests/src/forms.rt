@@ -1,4 +1,4 @@
-//! Each form byte for byte, and the forms that lead from attributes to others.
+//! Each form byte for byte, and the forms that change attributes to others.
 use crate::same::same;
 use std::alloc::Global;
 use std::fmt;

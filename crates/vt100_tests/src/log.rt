@@ -1,4 +1,4 @@
-//! Callbacks that write down what they are told.
+//! Callbacks that write down their calls.
 
 ghost use Rattle.std.specs.Prelude.{⊤};
 

@@ -30,7 +30,7 @@ fn retried_clone(screen: &Screen) -> Result<Screen, ScreenError> {
     retried(ScreenError::Memory, || screen.clone())
 }
 
-/// Everything is read of a screen, whether it has failed or not, and of its copy, which tells the same.
+/// Everything is read of a screen, whether it has failed or not, and of its copy, which reads the same.
 fn read_all(rt: &(impl Abort + AllocGlobal), screen: &Screen) -> Result<(), Fail> {
     let copy = retried_clone(screen)?;
     check_alike(rt, screen, &copy, |screen, prev| {
@@ -446,7 +446,7 @@ fn check_rows_formatted(rt: &impl Abort, screen: &Screen) -> Result<(), Fail> {
     Ok(())
 }
 
-/// The same of the forms that lead from another screen.
+/// The same of the difference from another screen.
 fn check_rows_diff(rt: &impl Abort, screen: &Screen, prev: &Screen) -> Result<(), Fail> {
     if check_items(rt, screen.rows_diff(prev, 0, 8), ITEMS)? != 0 {
         same(

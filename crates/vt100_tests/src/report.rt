@@ -197,8 +197,8 @@ fn add_getters(text: &mut String, screen: &Screen) -> Result<(), ScreenError> {
     Ok(())
 }
 
-/// Everything that a screen tells: what each getter answers, its cells, and each text, against `prev` where it is one of
-/// what differs.
+/// Everything that can be read of a screen: what each getter answers, its cells, and each text, against `prev` where it
+/// is one of what differs.
 pub fn report(screen: &Screen, prev: &Screen, alloc: Global) -> Result<String, ScreenError> {
     let mut report = String::new(alloc);
     add_getters(&mut report, screen)?;
@@ -211,7 +211,7 @@ pub fn report(screen: &Screen, prev: &Screen, alloc: Global) -> Result<String, S
     Ok(report)
 }
 
-/// Two screens tell the same, as this reports it of a screen against another one.
+/// Two screens read the same, as this reports it of a screen against another one.
 pub fn check_alike<F: Fn(&Screen, &Screen) -> Result<String, ScreenError>>(
     rt: &impl Abort,
     screen: &Screen,

@@ -1,4 +1,4 @@
-//! What callbacks are told, in order, each call after its event's change, and captures of what they keep.
+//! The calls that callbacks get, in order, each call after its event's change, and captures of what they keep.
 
 use crate::log::{Log, logging_parser};
 use crate::owners::with;
@@ -9,10 +9,10 @@ use std::test::Fail;
 use vt100::Parser;
 use vt100::capture::BasicFormattedCaptureRange;
 
-/// A size, a stream, and what it tells.
+/// A size, a stream, and the calls that it makes.
 type Reported = (Start, &'static [u8], &'static str);
 
-/// A stream tells this.
+/// A stream makes these calls.
 fn check_stream(
     rt: &impl Abort,
     parser: &mut Parser<Log>,
@@ -165,7 +165,7 @@ fn check_two_sizes(rt: &impl Abort, parser: &mut Parser<Log>) -> Result<(), Fail
     Ok(())
 }
 
-/// A request for a size comes to callbacks that grant it, and a lower screen tells of the rows that leave.
+/// A request for a size comes to callbacks that grant it, and a lower screen reports the rows that leave.
 #[test]
 fn sizes_are_reported(rt: HostRuntime) -> Result<(), Fail> {
     with(

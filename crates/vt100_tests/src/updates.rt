@@ -51,7 +51,7 @@ fn an_update_is_open_or_closed(rt: HostRuntime) -> Result<(), Fail> {
     Ok(())
 }
 
-/// Whether the program is in an update before a size and after it, and whether a text of the screen tells of one.
+/// Whether the program is in an update before a size and after it, and whether a text of the screen has one.
 fn is_updating_at_a_size(parser: &mut Parser<()>, rows: u16) -> Result<(bool, bool, bool), Fail> {
     parser.process(b"\x1b[?2026ha")?;
     let held = parser.screen().state_formatted()?;
@@ -69,7 +69,7 @@ fn check_sizes(rt: &impl Abort, parser: &mut Parser<()>) -> Result<(), Fail> {
     Ok(())
 }
 
-/// Another size ends an update, and so does the same size. No text of the screen tells of one.
+/// Another size ends an update, and so does the same size. No text of the screen has one.
 #[test]
 fn sizes_end_updates(rt: HostRuntime) -> Result<(), Fail> {
     with(

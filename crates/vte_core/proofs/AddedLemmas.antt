@@ -16,7 +16,7 @@ pub added-is : (n : ℕ) (past bytes : List ℕ) (es : List Event) → events n 
 unfolding added
 added-is n past bytes es h = sym (ap (drop (length (events n past))) h ∙ drop-append_seam (events n past) es)
 
--- told byte by byte
+-- given byte by byte
 pub added-from : (n : ℕ) (past bytes : List ℕ) → added n past bytes ≡ events_from n (pending past) bytes
 added-from n past bytes = sym (added-is n past bytes (events_from n (pending past) bytes) (events-past n past bytes))
 

@@ -112,7 +112,7 @@ lead-high a h = grind (arith, nat_tests)
 pub malformed-high : (n a : ℕ) → is_in_range 0x80 0x9F a ≡ false → malformed_event n a ≡ Print 0xFFFD
 malformed-high n a h = elim (bool_cases (n == 1)) [ inl e ↦ rw (e, h) refl | inr e ↦ rw e refl ]
 
--- what the front tells, by its length
+-- the events of the prefix, by its length
 pub prefix-whole : (cut : Bool) (a n : ℕ) (bs : List ℕ) → prefix_len a bs ≡ n → n ≡ char_len a
     → prefix_event cut a bs ≡ char_event (joined (first_bits a) (take (n - 1) bs)) ∷ []
 prefix-whole cut a n bs f e = let t : (n == char_len a) ≡ true = eq-eqb n (char_len a) e in rw (f, t) refl

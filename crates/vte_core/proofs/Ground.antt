@@ -17,7 +17,7 @@ pub no_esc-append : (xs ys : List ℕ) → has_no_esc xs ≡ true → has_no_esc
 no_esc-append [] ys h k = k
 no_esc-append (x ∷ xs) ys h k = let g = no_esc-both x xs h in rw g.0 (no_esc-append xs ys g.1 k)
 
--- ASCII without ESC tells what its characters are, one by one
+-- ASCII without ESC has its characters as events, one by one
 ascii-run : (p : ℕ → Bool) (f : ℕ → Event)
     → ((b : ℕ) → p b ≡ true → (b < 128) × (is_esc b ≡ false) × (char_event b ≡ f b))
     → (xs : List ℕ) → each p xs ≡ true → (run_reported [] xs ≡ map f xs) × (run_rest [] xs ≡ [])

@@ -128,7 +128,7 @@ pub ground-text : (n : ℕ) (text : List ℕ) → IsText text → AtGround n tex
 ground-text n text h = ground-pending n text
     ((run-events n [] text (without_esc text h.1)).1 ∙ ap InText (run-text text h.0).1)
 
--- what whole sequences and texts tell
+-- the events of whole sequences and texts
 
 pub escape-tells : (n : ℕ) (between : List ℕ) (b : ℕ) → IsEscape between b
     → events n (0x1B ∷ (between ++ b ∷ [])) ≡ esc_event between b

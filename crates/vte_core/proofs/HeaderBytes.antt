@@ -18,7 +18,7 @@ final-ends b e = (grind (arith, nat_tests), grind (arith, nat_tests))
 
 module _ {S : Type 0} {step : S → Event → S → Type 0} {n : ℕ} {p r : Parser n} {b : ℕ} {old new : S} (es : List Event)
     (done : Performs step old es new) where
-  -- a byte that tells es
+  -- a byte whose events are es
   pub reads_by : (s : State) (f : List ℕ → Pending) → ((q : Pending) → IsOf s q → (h : List ℕ) × (q ≡ f h))
       → p.state ≡ s → byte_heard n s p r b ≡ es
       → ((h : List ℕ) → IsAt n p (f h) → (byte_reported n (f h) b ≡ es) × IsAt n r (byte_rest (f h) b))

@@ -20,7 +20,7 @@ use Rattle.vte_core.proofs.Machine.{events-past, events-reported, after_bytes-ap
 
 -- ESC
 
--- what follows a byte is told from what is pending after it
+-- the events of what follows a byte begin at what is pending after it
 cut-after : (n : ℕ) (s : List ℕ) (b : ℕ) (t : List ℕ)
     → events n (s ++ b ∷ t) ≡ events n (s ++ b ∷ []) ++ events_from n (after_byte (pending s) b) t
 cut-after n s b t = ap (events n) (sym (append_assoc s (b ∷ []) t)) ∙ (events-past n (s ++ b ∷ []) t
@@ -82,7 +82,7 @@ pieces-fit n s bell =
     let kept : length (take 16 (first_bytes n parts)) ≡ _ = length-take 16 (first_bytes n parts) in
     (omega (arith, some, same, kept), omega (arith, kept), few-bytes 16 n parts)
 
--- what holds of each character and control holds of all that a byte of text tells
+-- what holds of each character and control holds of all events of a byte of text
 
 pub all_one : (P : Event → Type 0) (e : Event) → P e → All P (e ∷ [])
 all_one P e h = All-cons P e [] h (All-nil P)

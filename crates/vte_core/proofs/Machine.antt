@@ -1,4 +1,4 @@
--- The events of bytes, told byte by byte.
+-- The events of bytes, byte by byte.
 use Rattle.std.proofs.Common.{◌≡◌, ℕ, Bool, true, false, not, ◌&&◌, ◌||◌, List, [], ◌∷◌, ◌++◌, map, length, ◌==◌}
 use Rattle.std.proofs.Common.{if◌then◌else◌, cond, refl, sym, ◌∙◌, ap, inl, inr, append_assoc, append-nil}
 use Rattle.std.specs.List.{filter}
@@ -198,7 +198,7 @@ IsSound-byte (InHook h) b k = sound_if (is_esc b) _ _ tt
 IsSound-byte InDevice b h = sound_if (is_esc b) _ _ tt (sound_if (ends_device b) _ _ tt tt)
 IsSound-byte InSwallowed b h = sound_if (is_esc b) _ _ tt (sound_if (is_abort b) _ _ tt tt)
 
--- the definition, told byte by byte from what is pending
+-- the definition, byte by byte from what is pending
 pub going_on-reported : (n : ℕ) (q : Pending) (bs : List ℕ) → IsSound q → going_on n q bs ≡ events_from n q bs
 going_on-reported n q [] h = go_on-cut n q false h
 going_on-reported n q (b ∷ bs) h =
@@ -210,7 +210,7 @@ going_on-reported n q (b ∷ bs) h =
           ∙ rw e (ap (λ xs. byte_reported n q b ++ xs) (rw e at more))
     ]
 
--- the events of the bytes are those told byte by byte
+-- the events of the bytes are those given byte by byte
 pub events-reported : (n : ℕ) (bs : List ℕ) → events n bs ≡ events_from n (InText []) bs
 events-reported n bs = going_on-reported n (InText []) bs tt
 

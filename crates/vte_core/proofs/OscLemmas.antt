@@ -166,7 +166,7 @@ cut-pieces n x s ends r h =
     ∙ ap (take 16) (ap (λ j. cut_at j (ends_from n 0 all) (take n (concat all))) (omega arith)
     ∙ (cut-first n 0 all [] refl ∙ ap (λ j. first_bytes j all) (omega arith)))))
 
--- one more piece told
+-- one more piece reported
 pub tell_step : {X : Type 0} (f : X → List ℕ) (xs : List X) (x : X) (i start end : ℕ) (rest bytes : List ℕ)
     (all : List (List ℕ)) → i < length xs → f x ≡ slice_range bytes start end
     → map f (take i xs) ++ cut_at start (end ∷ rest) bytes ≡ all

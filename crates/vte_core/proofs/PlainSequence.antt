@@ -92,7 +92,7 @@ module _ {S : Type 0} {step : S → Event → S → Type 0} {n : ℕ} {p r : Par
             (rw (begun q at).1 (one-step n (InCsi h) (f ∷ []) _ (asked h f _))));
       }
 
--- a step from a parser that stands wherever this one does
+-- a step from a parser in whatever state this one is
 pub from_same : {S : Type 0} {step : S → Event → S → Type 0} {n : ℕ} {p mid r : Parser n} {old new : S} (bs : List ℕ)
     (k : ℕ) → ((q : Pending) → IsAt n p q → IsAt n mid q) → ReadsStep step n mid old bs k r new
     → ReadsStep step n p old bs k r new

@@ -1,4 +1,4 @@
--- Ground text, front by front.
+-- Ground text, prefix by prefix.
 use Rattle.std.proofs.Common.{◌≡◌, ℕ, zero, suc, ◌+◌, ◌-◌, ◌*◌, ◌<◌, ◌≤◌, true, false, List, [], ◌∷◌, ◌++◌, length}
 use Rattle.std.proofs.Common.{take, drop, get_or, nat_lt, ◌==◌, refl, sym, ◌∙◌, ap, arith, inl, inr, append_assoc}
 use Rattle.std.proofs.lemmas.Bool.Decides.{nat_tests}
@@ -33,7 +33,7 @@ before-drop (b ∷ bs) (suc k) l h =
     let e : is_esc b ≡ false = g.0 in
     rw e (before-drop bs k (omega (arith, l)) g.1)
 
--- a front that is told by itself
+-- a prefix whose events are its own
 pub reads_prefix : {S : Type 0} {step : S → Event → S → Type 0} {u : List ℕ} {old : S} (bs : List ℕ) (k : ℕ) {new : S}
     {v : List ℕ} → 0 < k → k ≤ length bs
     → has_no_esc (take k bs) ≡ true → Performs step old (run_reported u (take k bs)) new → v ≡ run_rest u (take k bs)
@@ -141,7 +141,7 @@ malformed-reported a b s high off =
       | inr e ↦ let none : char_len a ≡ 0 = grind (arith, nat_tests) in rw none (refl, refl)
     ]
 
--- the first k bytes tell an event
+-- the first k bytes have an event
 reads_event : {S : Type 0} {step : S → Event → S → Type 0} {old : S} (bs : List ℕ) (k : ℕ) {new : S} (e : Event) → 0 < k
     → k ≤ length bs → has_no_esc (take k bs) ≡ true
     → (run_reported [] (before is_esc bs) ≡ e ∷ run_reported [] (drop k (before is_esc bs)))
@@ -210,7 +210,7 @@ c1-run b h =
     let code : 2 * 64 + (b - 128) ≡ b = grind (arith, nat_tests) in
     (rw on (rw code (rw (low, h) refl)), rw on refl, rw esc refl)
 
--- after the first i bytes, told so far, a step of ground text
+-- after the first i bytes and their events, a step of ground text
 pub reads_more : {S : Type 0} (step : S → Event → S
     → Type 0) (u w : List ℕ) (mid : S) (bs : List ℕ) (i k : ℕ) (new : S) (v : List ℕ) (reported : List Event)
     → i ≤ length bs → has_no_esc (take i bs) ≡ true

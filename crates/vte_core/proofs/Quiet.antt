@@ -1,4 +1,4 @@
--- Bytes that tell nothing.
+-- Bytes without events.
 use Rattle.std.proofs.Common.{◌≡◌, ℕ, ◌+◌, ◌-◌, ◌==◌, ◌<◌, ◌≤◌, take, drop, get_or, Bool, true, false, not, ◌&&◌}
 use Rattle.std.proofs.Common.{List, [], ◌∷◌, ◌++◌, ◌⊎◌, inl, inr, length, refl, sym, ◌∙◌, ap, subst, arith}
 use Rattle.std.proofs.Common.{append_assoc, append-nil, length-append, length-drop}
@@ -47,7 +47,7 @@ by_state n p s (InHook h) e at = rw (sym e ∙ at.0) (h, refl)
 by_state n p s InDevice e at = rw (sym e ∙ at.0) refl
 by_state n p s InSwallowed e at = rw (sym e ∙ at.0) refl
 
--- a byte that tells nothing and is kept
+-- a byte that has no event and is kept
 abbrev pub Keeps : ℕ → (List ℕ → Pending) → ℕ → Type 0
 Keeps n f b = (h : List ℕ) → (events_of_byte n (f h) b ≡ []) × (after_byte (f h) b ≡ f (h ++ b ∷ []))
 
@@ -143,7 +143,7 @@ module _ {S : Type 0} (step : S → Event → S → Type 0) (terminated : S → 
   any_flag q true (b ∷ bs) old k new t h = h
   any_flag q false (b ∷ bs) old k new t h = rw t at h
 
-  -- over bytes that tell nothing
+  -- over bytes without events
   quiet_steps : (q : Pending) (asked : Bool) (bs rest : List ℕ) (old : S) (k : ℕ) (new : S)
       → events_from n q bs ≡ [] → terminated old ≡ false
       → StopsAt step terminated n (after_bytes q bs) true rest old k new
@@ -190,7 +190,7 @@ module _ {S : Type 0} (step : S → Event → S → Type 0) (terminated : S → 
       )
       (quiet_steps q true s.quiet (s.last ++ rest) old (length s.last + k) new s.nothing t whole)
 
--- a step after bytes that tell nothing
+-- a step after bytes without events
 pub quiet-step : (n : ℕ) (q : Pending) (xs ys rest : List ℕ) → events_from n q xs ≡ []
     → IsStep n (after_bytes q xs) ys rest → IsStep n q (xs ++ ys) rest
 quiet-step n q xs ys rest e s = record {
@@ -235,7 +235,7 @@ first_two [] a b h e f = absurd (omega (arith, h))
 first_two (x ∷ []) a b h e f = absurd (omega (arith, h))
 first_two (x ∷ y ∷ xs) a b h e f = let first : x ≡ a = e in let second : y ≡ b = f in rw (first, second) refl
 
--- some of a header, after the bytes at the front that begin it
+-- some of a header, after the bytes at the start that begin it
 begun-header : (n : ℕ) (q : Pending) (f : List ℕ → Pending) (bs prefix : List ℕ) (j k : ℕ)
     → ((b : ℕ) → is_header b ≡ true → Keeps n f b) → take j bs ≡ prefix → events_from n q prefix ≡ []
     → after_bytes q prefix ≡ f [] → each is_header (take k (take (length bs - j) (drop j bs))) ≡ true

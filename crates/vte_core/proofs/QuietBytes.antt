@@ -1,4 +1,4 @@
--- Bytes that print nothing, and what ESC tells.
+-- Bytes that print nothing, and the events of ESC.
 use Rattle.std.proofs.Common.{◌≡◌, ℕ, Bool, true, false, not, ◌&&◌, ◌||◌, ◌==◌, List, [], ◌∷◌, length}
 use Rattle.std.proofs.Common.{take, nat_lt, if◌then◌else◌, refl, sym, ◌∙◌, subst, append-nil}
 use Rattle.std.specs.List.{All}

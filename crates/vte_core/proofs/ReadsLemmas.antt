@@ -28,7 +28,7 @@ reads_none bs = record {
   reported = record { reported = []; performed = refl; added = λ q at. refl };
 }
 
--- bytes that tell nothing
+-- bytes without events
 pub reads_quiet : {S : Type 0} {step : S → Event → S → Type 0} {n : ℕ} {p r : Parser n} {old : S} (bs : List ℕ) (k : ℕ)
     → ReadsQuietly n p bs k r → Reads step n p old bs k r old
 reads_quiet bs k quiet = record {

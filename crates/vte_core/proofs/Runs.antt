@@ -96,7 +96,7 @@ encode-four c x y z h k p q w =
 nat_not : (a b : ℕ) → nat_lt a b ≡ false → b ≤ a
 nat_not a b h = grind (arith, nat_tests)
 
--- a whole character tells itself, and leaves nothing
+-- a whole character is its own event, and leaves nothing
 run-char : (c : ℕ) (rest : List ℕ) → IsScalar c → (run_reported [] (encode_utf8 c ++ rest) ≡ char_event c
     ∷ run_reported [] rest) × (run_rest [] (encode_utf8 c ++ rest) ≡ run_rest [] rest)
 unfolding encode_utf8
@@ -130,7 +130,7 @@ run-chars (c ∷ cs) h =
     let more = run-chars cs g.1 in
     (first.0 ∙ ap (λ es. char_event c ∷ es) more.0, first.1 ∙ more.1)
 
--- a text tells its characters, and leaves nothing
+-- the events of a text are its characters, and it leaves nothing
 pub run-text : (bs : List ℕ) → IsUtf8 bs → (run_reported [] bs ≡ map char_event (chars bs)) × (run_rest [] bs ≡ [])
 run-text bs h =
     let all = run-chars (chars bs) (scalars-chars bs h) in
@@ -263,7 +263,7 @@ text-byte true true h = cc
 text-byte true false h = (refl, refl)
 text-byte false b h = cc
 
--- a run of ground text, from where the parser stands
+-- a run of ground text, from the parser's state
 pub run-at : (n : ℕ) (p : Parser n) (bs : List ℕ) (k : ℕ) (q : Pending) → 0 < length bs
     → (state_is_text p.state && not (is_esc (get_or bs 0 0))) ≡ true → k ≡ length (before is_esc bs) → IsAt n p q
     → (events_from n q (take k bs) ≡ run_reported p.unfinished (take k bs))
@@ -430,7 +430,7 @@ printed-chars (c ∷ cs) h p =
     let k = printed-char c (encode_utf8_all cs) g.0 p in
     ap (λ (e : Event). e ∷ map char_event cs) k.0 ∙ ap (λ (es : List Event). Print c ∷ es) (printed-chars cs g.1 k.1)
 
--- a text without controls tells that its characters are printed
+-- the events of a text without controls are that its characters are printed
 pub printed-text : (bs : List ℕ) → IsUtf8 bs → printed_len bs ≡ length bs → run_reported [] bs ≡ map Print (chars bs)
 printed-text bs h p =
     let same = encodes-chars bs h in

@@ -59,7 +59,7 @@ module _ {S : Type 0} (step : S → Event → S → Type 0) (terminated : S → 
             (stops-performs (after_byte q b) (not (runs_on q b bs)) bs mid j new r))
       ]
 
-  -- where it stops before the last byte, it asks and is told to
+  -- where it stops before the last byte, the performer has asked for it
   pub stops-asked : (q : Pending) (asked : Bool) (bs : List ℕ) (old : S) (k : ℕ) (new : S)
       → StopsAt step terminated n q asked bs old k new → k < length bs → (asks_at q asked bs k ≡ true)
       × (terminated new ≡ true)

@@ -7,8 +7,8 @@ use Rattle.vte_core.specs.Standing.{IsAt}
 use Rattle.vte_core.specs.declared.parser.Parser.{Parser}
 use Rattle.vte_core.specs.declared.parser.State.{State}
 
--- Where the parser stood, it stands after the byte. The performer has gone through events that the parser's fields say,
--- and they are those of the byte after what was pending.
+-- From any state that the parser was in, it is in the one after the byte. The performer has gone through events that
+-- the parser's fields say, and they are those of the byte after what was pending.
 pub record ReadsByte {S : Type 0} (step : S → Event → S
     → Type 0) (n : ℕ) (p : Parser n) (old : S) (b : ℕ) (r : Parser n) (new : S) : Type 0 where
   pub state_after : (q : Pending) → IsAt n p q → IsAt n r (after_byte q b)

@@ -1,4 +1,4 @@
--- What a byte tells, by the parser's fields before it (old) and after it (new).
+-- The events of a byte, by the parser's fields before it (old) and after it (new).
 use Rattle.std.specs.Prelude.{ℕ, Bool, false, ◌||◌, ◌&&◌, List, [], ◌∷◌, length, ◌==◌, if◌then◌else◌}
 use Rattle.vte_core.specs.Event.{Event, Print, Execute, Hook, Unhook, Osc, Csi, Esc}
 use Rattle.vte_core.specs.Bytes.{is_esc, is_abort, is_control, ends_header, ends_escape, ends_osc}

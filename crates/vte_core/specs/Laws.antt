@@ -26,7 +26,7 @@ IsCutOff (Osc ps bell) = bell ≡ false
 IsCutOff Unhook = Unit {0}
 IsCutOff _ = ⊥
 
--- ESC itself tells nothing else
+-- ESC itself has no other event
 abbrev pub EscCutsOff : Type 0
 EscCutsOff = (n : ℕ) (past : List ℕ) → All IsCutOff (added n past (0x1B ∷ []))
 

@@ -28,7 +28,7 @@ pub record ReadsHeader (x : Header) (h : List ℕ) : Type 0 where
   pub numbers : ReadsNumbers x.numbers (filter is_numeric h)
   pub kept : KeepsTwo x.intermediates (intermediates h)
 
--- a header that is told of
+-- a header that is reported
 abbrev pub is_kept : Phase → Bool
 is_kept Start = true
 is_kept InNumbers = true

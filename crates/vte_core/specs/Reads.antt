@@ -8,12 +8,12 @@ use Rattle.vte_core.specs.Runs.{Tells, IsStep}
 use Rattle.vte_core.specs.Standing.{IsAt}
 use Rattle.vte_core.specs.declared.parser.Parser.{Parser}
 
--- ESC stands at the front
+-- ESC comes first
 pub record BeginsWithEsc (bs : List ℕ) : Type 0 where
   pub some : 0 < length bs
   pub esc : slice_index bs 0 ≡ 0x1B
 
--- where the parser stood, it stands after them, and the performer has gone through their events
+-- from any state that the parser was in, it is in the one after them, and the performer has gone through their events
 pub record Reads {S : Type 0} (step : S → Event → S
     → Type 0) (n : ℕ) (p : Parser n) (old : S) (bs : List ℕ) (k : ℕ) (r : Parser n) (new : S) : Type 0 where
   pub within : k ≤ length bs
@@ -26,20 +26,20 @@ pub record ReadsSome {S : Type 0} (step : S → Event → S
   pub some : 0 < k
   pub reads : Reads step n p old bs k r new
 
--- the same, and the performer has to be asked after them, and not between those that tell something
+-- the same, and the performer has to be asked after them, and not between those that have events
 pub record ReadsStep {S : Type 0} (step : S → Event → S
     → Type 0) (n : ℕ) (p : Parser n) (old : S) (bs : List ℕ) (k : ℕ) (r : Parser n) (new : S) : Type 0 where
   pub some : 0 < k
   pub reads : Reads step n p old bs k r new
   pub is_step : (q : Pending) → IsAt n p q → IsStep n q (take k bs) (drop k bs)
 
--- they tell nothing
+-- they have no events
 pub record ReadsQuietly (n : ℕ) (p : Parser n) (bs : List ℕ) (k : ℕ) (r : Parser n) : Type 0 where
   pub within : k ≤ length bs
   pub state_after : (q : Pending) → IsAt n p q → IsAt n r (after_bytes q (take k bs))
   pub quiet : (q : Pending) → IsAt n p q → events_from n q (take k bs) ≡ []
 
--- A plain control sequence stands at the front, after whole ground text: `ESC [`, then these numbers in k bytes, and a
+-- A plain control sequence comes first, after whole ground text: `ESC [`, then these numbers in k bytes, and a
 -- final byte. The numbers are kept.
 pub record BeginsPlain (n : ℕ) (p : Parser n) (bs : List ℕ) (k : ℕ) (r : Parser n) : Type 0 where
   pub whole : p.unfinished ≡ []

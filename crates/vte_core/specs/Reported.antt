@@ -1,4 +1,4 @@
--- What a call of a parser tells its performer.
+-- What a call of a parser reports to its performer.
 use Rattle.std.specs.Prelude.{◌≡◌, ℕ, List, [], ◌++◌}
 use Rattle.vte_core.specs.Event.{Event, Performs}
 use Rattle.vte_core.specs.Shapes.{events}

@@ -24,8 +24,8 @@ abbrev pub has_no_esc : List ℕ → Bool
 has_no_esc [] = true
 has_no_esc (b ∷ bs) = not (is_esc b) && has_no_esc bs
 
--- The first k bytes, some at least, are read as ground text after the unfinished bytes u, and leave v. What is told of
--- them, and then what the text up to the next ESC tells that is left after v, is what the whole text tells.
+-- The first k bytes, some at least, are read as ground text after the unfinished bytes u, and leave v. Their
+-- events, and then those of the text up to the next ESC that is left after v, are the events of the whole text.
 pub record ReadsText {S : Type 0} (step : S → Event → S
     → Type 0) (u : List ℕ) (old : S) (bs : List ℕ) (k : ℕ) (new : S) (v : List ℕ) : Type 0 where
   pub some : 0 < k
@@ -42,7 +42,7 @@ is_one_step q [] rest = false
 is_one_step q (b ∷ []) rest = not (runs_on q b rest)
 is_one_step q (b ∷ c ∷ bs) rest = runs_on q b (c ∷ bs) && is_one_step (after_byte q b) (c ∷ bs) rest
 
--- the bytes at the front tell nothing, and the others, if there are any, are one step
+-- the bytes at the start have no events, and the others, if there are any, are one step
 pub record IsStep (n : ℕ) (q : Pending) (bs rest : List ℕ) : Type 0 where
   pub quiet : List ℕ
   pub last : List ℕ

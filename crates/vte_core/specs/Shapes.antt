@@ -42,7 +42,8 @@ device_end cut (b ∷ rest) = Unhook ∷ (if is_abort b then aborted cut b rest 
 abbrev pub device : Bool → List ℕ → List Event
 device cut s = map Put (filter is_put (before ends_device s)) ++ device_end cut (from ends_device s)
 
--- The header h of a sequence, and what ends it: one that is well formed is told, and goes on so; else the rest is ignored.
+-- The header h of a sequence, and what ends it: one that is well formed is reported, and goes on so; else the rest is
+-- ignored.
 abbrev pub header_end : (List (List ℕ) → List ℕ → Bool → ℕ → Event) → (Bool → List ℕ → List Event)
     → (Bool → List ℕ → List Event) → Bool → List ℕ → List ℕ → List Event
 header_end reported after ignored cut h [] = []

@@ -1,5 +1,5 @@
--- Where a parser stands. A caller carries `IsAfter` from one call to the next, and needs nothing of what it says: what a
--- call tells is said of the bytes alone (Shapes, Added).
+-- A parser's state after some bytes. A caller carries `IsAfter` from one call to the next, and needs nothing of what it
+-- says: the events of a call are said of the bytes alone (Shapes, Added).
 use Rattle.std.specs.Prelude.{◌≡◌, ℕ, Bool, true, false, List, []}
 use Rattle.vte_core.specs.declared.parser.State.{State}
 use Rattle.vte_core.specs.Pending.{Pending, InText, InEscape, InCsi, InOsc, InHook, InDevice, InSwallowed, pending}
@@ -10,7 +10,7 @@ use Rattle.vte_core.specs.declared.parser.Parser.{Parser}
 use Rattle.vte_core.specs.declared.parser.State.TheVariants.{Ground, Escape, Csi, OscString, DcsHeader, DcsPassthrough}
 use Rattle.vte_core.specs.declared.parser.State.TheVariants.{SosPmApcString}
 
--- the parser's fields stand for what is pending
+-- the parser's fields hold what is pending
 abbrev pub IsAt : (n : ℕ) → Parser n → Pending → Type 0
 IsAt n p (InText u) = (p.state ≡ Ground) × (p.unfinished ≡ u)
 IsAt n p (InEscape is) = (p.state ≡ Escape) × (p.unfinished ≡ []) × KeepsTwo p.intermediates is

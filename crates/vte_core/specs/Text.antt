@@ -25,11 +25,11 @@ tail_len zero lo hi bs = 0
 tail_len (suc k) lo hi [] = 0
 tail_len (suc k) lo hi (b ∷ bs) = if is_in_range lo hi b then suc (tail_len k 0x80 0xBF bs) else 0
 
--- the length of the longest front that also begins a well-formed character with the first byte a, at least one byte
+-- the length of the longest prefix that also begins a well-formed character with the first byte a, at least one byte
 abbrev pub prefix_len : ℕ → List ℕ → ℕ
 prefix_len a bs = suc (tail_len (char_len a - 1) (second_min a) (second_max a) bs)
 
--- the bits of the first byte, and the number that the bytes of a character spell
+-- the bits of the first byte, and the number that the bytes of a character encode
 abbrev pub first_bits : ℕ → ℕ
 first_bits a = if nat_lt a 0x80 then a else (if nat_lt a 0xE0 then a - 0xC0
     else (if nat_lt a 0xF0 then a - 0xE0 else a - 0xF0))
@@ -46,7 +46,7 @@ char_event c = if nat_lt c 0x20 || is_in_range 0x80 0x9F c then Execute c else P
 abbrev pub malformed_event : ℕ → ℕ → Event
 malformed_event n a = if n == 1 && is_in_range 0x80 0x9F a then Execute a else Print 0xFFFD
 
--- the event of the character or of the malformed sequence at the front; an unfinished character at the end gives one
+-- the event of the character or of the malformed sequence at the start; an unfinished character at the end gives one
 -- only where ESC cuts it off
 abbrev pub prefix_event : Bool → ℕ → List ℕ → List Event
 prefix_event cut a bs =

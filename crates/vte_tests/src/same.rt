@@ -3,7 +3,7 @@
 use std::fmt::Debug;
 use std::process::Abort;
 
-/// What was told is what was wanted. A test calls this in place of `assert_eq!`, whose proof is then done once.
+/// The value found is the one wanted. A test calls this in place of `assert_eq!`, whose proof is then done once.
 pub fn same<R: Abort, T: PartialEq + Debug>(rt: &R, reported: &T, wanted: &T) {
     assert_eq!(rt; reported, wanted);
 }

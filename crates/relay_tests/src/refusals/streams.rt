@@ -93,7 +93,7 @@ fn narrow(alloc: Global) -> Result<Narrow, AllocError> {
     })
 }
 
-/// The answer was the refusal for memory, and only a front of the text was written.
+/// The answer was the refusal for memory, and only a prefix of the text was written.
 fn check_prefix(rt: &impl Abort, answer: Result<(), RelayError>, kept: &[u8], text: &[u8]) {
     let found = (answer, text.starts_with(kept));
     same_for(rt, &text, &found, &(Err(RelayError::Memory), true));

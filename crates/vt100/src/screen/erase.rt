@@ -72,7 +72,7 @@ impl<CB: Callbacks> WrappedScreen<CB> {
     }
 
     /// Empties the screen from the cursor on (0), up to the cursor and at it (1), or whole (2), with the drawing
-    /// attributes; or takes the kept rows away, of which the callbacks are told (3) (ED). Answers how many sequences
+    /// attributes; or takes the kept rows away, and reports them to the callbacks (3) (ED). Answers how many sequences
     /// were unhandled: 1 at another number.
     #[tactic(auto, using(crate::proofs::ProperScreens::drawn_rules))]
     pub fn ed(&mut self, mode: u16) -> usize

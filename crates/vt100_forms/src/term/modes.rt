@@ -227,7 +227,7 @@ fn encoding_number(encoding: crate::MouseProtocolEncoding) -> u16
     }
 }
 
-// Changes one private mode to another, where 0 stands for the default.
+// Changes one private mode to another; 0 is the default.
 fn mode_change(room: &mut FormText, to: u16, from: u16) -> &str
     requires { room.old.bytes ≡ [] }
     ensures { result.now ≡ mode_change to from }

@@ -232,7 +232,7 @@ fn the_forms_of_a_row_are_made_or_refused(rt: HostRuntime) -> Result<(), Fail> {
     Ok(())
 }
 
-/// Columns, what the earlier row shows and the later one; the forms that lead from the one to the other, where both are
+/// Columns, what the earlier row shows and the later one; the forms of the difference, where both are
 /// the fourth row and the cursor stands at its start, and where they leave the cursor.
 const CHANGED: &[(u16, &str, &str, &str, Left)] = &[
     (4, "abcd", "abcd", "", (3, 0, true)),

@@ -198,7 +198,7 @@ const WATCHED: &str =
     "SetPrivateMode(Named(ShowCursor)) false SetPrivateMode(Named(SyncUpdate)) true Input('a') true \
      UnsetPrivateMode(Named(SyncUpdate)) true UnsetPrivateMode(Named(SyncUpdate)) true Input('b') false ";
 
-/// The timeout is set before the handler hears that an update was opened, and cleared after it heard of the end.
+/// The timeout is set before the handler's call for the start of an update, and cleared after that for its end.
 #[test]
 fn sets_the_timeout_first_and_clears_it_last(rt: HostRuntime) -> Result<(), Fail> {
     let flag = Cell::new(false);

@@ -11,7 +11,7 @@ use vte::ansi::Timeout;
 /// Bytes, and their calls.
 type Row = (&'static [u8], &'static str);
 
-/// The front in one piece and the rest in pieces of so many bytes have these calls, and nothing is held.
+/// The start in one piece and the rest in pieces of so many bytes have these calls, and nothing is held.
 fn gives(
     rt: &(impl Abort + AllocGlobal),
     prefix: &[u8],

@@ -1,4 +1,4 @@
-//! A performer that writes down what it is told.
+//! A performer that writes down its events.
 
 ghost use Rattle.std.specs.Prelude.{⊤, ◌≡◌};
 

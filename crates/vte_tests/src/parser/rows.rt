@@ -213,7 +213,7 @@ fn a_new_parser_reads_bytes(rt: HostRuntime) {
     same(&rt, &log.text.as_str(), &"print 97 csi [1:2;3] | kept 109 ");
 }
 
-/// Tells where each text begins that it is handed over.
+/// Writes down where each text begins that it is handed over.
 #[derive(Drop)]
 struct Texts {
     log: Log,

@@ -42,7 +42,7 @@ enum Effect {
     OscBell,
 }
 
-/// The table: what a byte other than CAN, SUB and ESC does, and where it leads.
+/// The table: what a byte other than CAN, SUB and ESC does, and the next state.
 fn entry(place: Place, byte: u8) -> (Effect, Place) {
     match place {
         Place::Ground => (ground(byte), Place::Ground),
@@ -320,7 +320,7 @@ fn reads_alike(rt: &(impl Abort + AllocGlobal), prefix: &[u8], byte: u8, end: &[
     );
 }
 
-/// Bytes that lead to each place, also with all numbers, intermediates or pieces that are kept.
+/// Bytes that bring the parser to each state, also with all numbers, intermediates or pieces that are kept.
 const FRONTS: &[&[u8]] = &[
     b"",
     b"\x1b",

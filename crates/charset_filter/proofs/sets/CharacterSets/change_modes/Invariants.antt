@@ -2,7 +2,7 @@ use Rattle.std.proofs.Common.{◌≡◌, length}
 use Rattle.charset_filter.specs.Sets.{after_modes}
 use Rattle.charset_filter.proofs.sets.CharacterSets.change_modes.Given as goal
 
--- what the groups that are left lead to, all lead to from the start
+-- what all groups make of the start, those that are left make of the state now
 abbrev pub invariant-loop-group : goal.invariant-loop-group
 invariant-loop-group l = after_modes l.set l.self l.groups ≡ after_modes l.set l.fn.self l.fn.params
 

@@ -6,7 +6,7 @@ use Rattle.termview.proofs.handler.PictureHandler.input_str.Given as goal
 use denote.Text.{Utf8}
 use denote.Shadow.{shadow}
 
--- where the characters that are left lead, all lead from the start
+-- what all characters make of the start, those that are left make of the state now
 abbrev pub invariant-loop-rest : goal.invariant-loop-rest
 invariant-loop-rest l =
     shadow (Utf8 l.rest) × ((q : _) → Calls Does l.self (map input (chars l.rest)) q

@@ -5,7 +5,7 @@ use Rattle.vte_types.specs.Call.{Calls, input}
 use Rattle.termview.specs.Picture.{Does}
 use Rattle.termview.proofs.picture.Picture.input_run.Given as goal
 
--- where the characters that are left lead, all lead from the start
+-- what all characters make of the start, those that are left make of the state now
 abbrev pub invariant-loop-rest : goal.invariant-loop-rest
 invariant-loop-rest l = record {
   printable : All IsPrintable l.rest;

@@ -2,7 +2,7 @@ use Rattle.std.proofs.Common.{◌≡◌, ◌+◌, ◌≤◌, length}
 use Rattle.screen_model.specs.Sgr.{read_groups}
 use Rattle.vt100.proofs.screen.sgr.read_groups.Given as goal
 
--- what the groups that are left lead to, all lead to from the start
+-- what all groups make of the start, those that are left make of the state now
 abbrev pub invariant-loop-group : goal.invariant-loop-group
 invariant-loop-group l = record {
   few : l.unhandled + length l.groups ≤ 32;

@@ -6,7 +6,7 @@ use Rattle.vte_core.specs.Standing.{IsAt}
 use Rattle.vte_core.specs.Stopping.{StopsAt}
 use Rattle.vte_core.proofs.parser.Parser.advance_until_terminated.Given as goal
 
--- the bytes so far are read, and whatever stands for the bytes that are left completes the run
+-- the bytes so far are read, and whatever reads the bytes that are left completes the run
 abbrev pub invariant-loop-read : goal.invariant-loop-read
 invariant-loop-read g l = record {
   reads : Reads g.P.Perform.step g.row.N l.initial.self l.initial.performer l.bytes l.read l.self l.performer;

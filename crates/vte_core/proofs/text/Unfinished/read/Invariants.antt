@@ -5,7 +5,7 @@ use Rattle.vte_core.specs.Runs.{run_reported, run_rest, has_no_esc}
 use Rattle.vte_core.specs.Shapes.{before}
 use Rattle.vte_core.proofs.text.Unfinished.read.Given as goal
 
--- what is told so far, and what the rest of the text tells, is what the whole text tells
+-- the events so far, and those of the rest of the text, are those of the whole text
 abbrev pub invariant-loop-read : goal.invariant-loop-read
 invariant-loop-read g l = record {
   within : l.read ≤ length l.bytes;

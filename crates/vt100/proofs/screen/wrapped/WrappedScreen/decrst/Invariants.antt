@@ -2,7 +2,7 @@ use Rattle.std.proofs.Common.{◌≡◌, ◌+◌, ◌≤◌, [], length, false}
 use Rattle.screen_model.specs.PrivateModes.{modes_from, modes_reset, reset_rows}
 use Rattle.vt100.proofs.screen.wrapped.WrappedScreen.decrst.Given as goal
 
--- what the groups that are left lead to, all lead to from the start
+-- what all groups make of the start, those that are left make of the state now
 abbrev pub invariant-loop-group : goal.invariant-loop-group
 invariant-loop-group g l = record {
   live : l.self.screen.failed ≡ false;

@@ -5,7 +5,7 @@ use Rattle.vt100.specs.Memory.{is_unused, shows_alternate}
 use Rattle.vt100.specs.Tries.{SameBounds}
 use Rattle.vt100.proofs.screen.wrapped.WrappedScreen.decset.Given as goal
 
--- what the groups that are left lead to, all lead to from the start
+-- what all groups make of the start, those that are left make of the state now
 abbrev pub invariant-loop-group : goal.invariant-loop-group
 invariant-loop-group g l = record {
   live : l.self.screen.failed ≡ false;

@@ -3,7 +3,7 @@ use Rattle.screen_model.specs.Effect.{csi_call}
 use Rattle.vt100.specs.Goes.{Tells}
 use Rattle.vt100.proofs.screen.wrapped.WrappedScreen.unhandled_groups.Given as goal
 
--- where the calls that are left lead, all lead from the start
+-- what all calls make of the start, those that are left make of the state now
 abbrev pub invariant-loop-i : goal.invariant-loop-i
 invariant-loop-i g l =
     (d : _) (w : _) → Tells g.CB.Callbacks.step l.self.callbacks l.self.screen
