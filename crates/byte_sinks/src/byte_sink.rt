@@ -34,6 +34,7 @@ pub fn pump<T: ByteSink>(owed: &[u8], to: &mut T) -> (usize, io::Result<()>)
     ensures { Pumps T.takes to.old owed.now result.1 result.0 to.new }
 {
     let mut taken = 0;
+    // The label names the loop's invariant.
     'writes: while taken < owed.len() {
         let left = &owed[taken..];
         match to.offer(left) {

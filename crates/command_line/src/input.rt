@@ -50,6 +50,7 @@ pub fn read_all<S: Source>(alloc: Global, input: &mut S) -> Result<Vec<u8>, Inpu
 {
     let mut bytes = Vec::new(alloc);
     let mut room = [0; ROOM_LEN];
+    // The label names the loop's invariant.
     'reads: for _ in 0..MAX_READS {
         match input.give(&mut room) {
             Ok(0) => return Ok(bytes),

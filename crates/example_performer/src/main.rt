@@ -99,6 +99,7 @@ fn new_plain(alloc: Global) -> Plain {
 }
 
 fn main(rt: HostRuntime) -> anyhow::Result<()> {
+    // A law for the proof; it does nothing at run time.
     until_stopped_is_exact();
     println!(rt; "{} letters", count_letters(b"\x1b[1mbold\x1b[m\r\n"))?;
     let mut plain = new_plain(rt.alloc());

@@ -18,6 +18,7 @@ impl Grid {
     pub fn visible_rows(&self) -> VisibleRows<'_>
         ensures { result ≡ visible self.now }
     {
+        // For the proof: the rows' own facts.
         let _rows = &self.rows;
         VisibleRows::new(self)
     }

@@ -34,6 +34,7 @@ impl Grid {
         ensures short { HasByteCells self.now → HasByteVisibleCells self.now → IfOk result (λ answer.
             IsShortGrowth self.now (string_bytes contents.old) (string_bytes contents.new)) }
     {
+        // For the proof: the rows' own facts.
         let _rows = &self.rows;
         ClearAttrs.write_buf(contents)?;
         ClearScreen.write_buf(contents)?;
@@ -73,6 +74,7 @@ impl Grid {
             AppendsLocal (differing self.now prev.now prev_attrs).forms self.now prev.now prev_attrs
             (string_bytes contents.old) (string_bytes contents.new)) }
     {
+        // For the proof: the rows' own facts.
         let _rows = &self.rows;
         let mut pen = pen_at(prev.pos, prev_attrs);
         self.rows_diff(contents, &mut pen, prev)?;
