@@ -13,6 +13,7 @@ mod readers;
 pub(crate) mod reported;
 mod rows;
 mod sgr;
+mod style;
 mod whole;
 mod wide;
 mod wrapped;

@@ -2,12 +2,11 @@
 ghost use Rattle.std.specs.Prelude.{true, false};
 ghost use Rattle.vt100.specs.Tries.{Changes, Counts};
 ghost use Rattle.screen_model.specs.Step.{cells_added, cells_taken, cells_erased, lines_added, lines_taken, region_down};
-ghost use Rattle.screen_model.specs.Effect.{display_erased, line_erased, styled};
+ghost use Rattle.screen_model.specs.Effect.{display_erased, line_erased};
 
 use crate::callbacks::Callbacks;
 use crate::screen::WrappedScreen;
 use crate::screen::reported::{Reporter, erase_kept};
-use vt100_core::CursorStyle;
 
 impl<CB: Callbacks> WrappedScreen<CB> {
     /// Inserts default cells at the cursor; what falls off the row's end is gone (ICH).
@@ -135,26 +134,5 @@ impl<CB: Callbacks> WrappedScreen<CB> {
             self.new.callbacks }
     {
         self.el(mode)
-    }
-
-    /// Sets how the cursor looks (DECSCUSR). Answers how many sequences were unhandled: 1 past 6.
-    pub(crate) fn decscusr(&mut self, style: u16) -> usize
-        ensures { Counts CB.scrolls (styled style) self.old.screen self.old.callbacks result self.new.screen
-            self.new.callbacks }
-    {
-        if self.screen.failed {
-            return 0;
-        }
-        self.screen.cursor_style = match style {
-            0 => CursorStyle::Default,
-            1 => CursorStyle::BlinkBlock,
-            2 => CursorStyle::SteadyBlock,
-            3 => CursorStyle::BlinkUnderline,
-            4 => CursorStyle::SteadyUnderline,
-            5 => CursorStyle::BlinkVerticalBar,
-            6 => CursorStyle::SteadyVerticalBar,
-            _ => return 1,
-        };
-        0
     }
 }
