@@ -17,5 +17,6 @@ pub const USAGE: u8 = 2;
 pub fn report<T: ByteSink>(errors: &mut T, line: &[u8])
     ensures { Tells T.takes errors.old line.now errors.new }
 {
+    // A line that can't be written is given up: the exit status reports the fault too.
     let _ = pump(line, errors);
 }
