@@ -46,7 +46,7 @@ fn new_window(alloc: Global) -> Window {
     }
 }
 
-fn tell(rt: &HostRuntime, window: &Window) -> anyhow::Result<()> {
+fn print_window(rt: &HostRuntime, window: &Window) -> anyhow::Result<()> {
     println!(rt; "{}, {} bells", window.title.as_str(), window.bells)?;
     Ok(())
 }
@@ -55,5 +55,5 @@ fn main(rt: HostRuntime) -> anyhow::Result<()> {
     let size = NonZeroU16::new(24).unwrap_or(NonZeroU16::MIN);
     let mut parser = Parser::new_with_callbacks(rt.alloc(), size, size, 0, new_window(rt.alloc()))?;
     parser.process(b"\x1b]2;editing notes\x07\x07done\x07")?;
-    tell(&rt, parser.callbacks())
+    print_window(&rt, parser.callbacks())
 }

@@ -53,7 +53,7 @@ fn new_view(alloc: Global) -> Result<View<UntilCleared>, ViewError> {
     View::new(alloc, count(1), count(20), UntilCleared::new())
 }
 
-fn tell(rt: &HostRuntime, view: &View<UntilCleared>) -> anyhow::Result<()> {
+fn print_view(rt: &HostRuntime, view: &View<UntilCleared>) -> anyhow::Result<()> {
     view.row_text(0, &mut rt.stdout())?;
     println!(rt; "")?;
     Ok(())
@@ -63,5 +63,5 @@ fn main(rt: HostRuntime) -> anyhow::Result<()> {
     let mut view = new_view(rt.alloc())?;
     let mut hub = Hub::new(rt.alloc(), count(1), count(20))?;
     relay(rt.alloc(), &mut hub, &mut view)?;
-    tell(&rt, &view)
+    print_view(&rt, &view)
 }

@@ -19,7 +19,7 @@ fn screens(alloc: Global) -> Result<(Screen, Screen), ScreenError> {
 }
 
 /// Prints what the later screen shows, and what a terminal that shows the earlier one has to read to show it.
-fn tell(rt: &HostRuntime, earlier: &Screen, later: &Screen) -> anyhow::Result<()> {
+fn print_screens(rt: &HostRuntime, earlier: &Screen, later: &Screen) -> anyhow::Result<()> {
     println!(rt; "{}", later.contents()?.as_str())?;
     println!(rt; "{:?}", later.contents_diff(earlier)?.as_str())?;
     Ok(())
@@ -27,5 +27,5 @@ fn tell(rt: &HostRuntime, earlier: &Screen, later: &Screen) -> anyhow::Result<()
 
 fn main(rt: HostRuntime) -> anyhow::Result<()> {
     let (earlier, later) = screens(rt.alloc())?;
-    tell(&rt, &earlier, &later)
+    print_screens(&rt, &earlier, &later)
 }
