@@ -254,7 +254,7 @@ impl Picture {
         ensures { Becomes self.old self.new (down self.old.size (term_of_picture self.old)) }
     {
         let end = self.rows.len();
-        move_up(&mut self.rows, 0, end, 1, self.size.cols());
+        move_up(&mut self.rows, 0, end, 1);
     }
 
     /// Moves the cursor to a place, clamped to the screen.

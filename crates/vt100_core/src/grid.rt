@@ -120,7 +120,7 @@ impl Grid {
     {
         self.pos = Pos { row: 0, col: 0 };
         self.saved_pos = Pos { row: 0, col: 0 };
-        reset_all(&mut self.rows, self.size.cols());
+        reset_all(&mut self.rows);
         self.scroll_top = 0;
         self.scroll_bottom = self.size.rows() - 1;
         self.origin_mode = false;

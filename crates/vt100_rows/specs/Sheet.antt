@@ -18,6 +18,10 @@ pub record IsRowOf (width : ℕ) (v : RowView) : Type 0 where
   pub row : IsRow v
   pub wide : length v.cells ≡ width
 
+-- these are rows of a screen of this width
+abbrev pub AreRowsOf : ℕ → List RowView → Type 0
+AreRowsOf width rows = (r : ℕ) → r < length rows → IsRowOf width (row_at rows r)
+
 -- what the rows of a screen are: none yet, or one for each line, all of one width, the last of which never goes on in
 -- another
 pub record IsSheet (height width : ℕ) (rows : List RowView) : Type 0 where

@@ -3,7 +3,7 @@ ghost use Rattle.std.specs.Prelude.{◌≡◌, ℕ, ◌+◌, ◌-◌, ◌<◌, �
 ghost use Rattle.std.specs.Prelude.{replicate};
 ghost use Rattle.vt100_rows.specs.Row.{RowView, blank_row, cleared_row, wiped_row};
 ghost use Rattle.vt100_rows.specs.Sheet.{row_at, rows_by_position, turned_up, moved_up, moved_down, opened_line};
-ghost use Rattle.vt100_rows.specs.Sheet.{IsRowOf, changed_between, erased_forward_at, erased_backward_at};
+ghost use Rattle.vt100_rows.specs.Sheet.{AreRowsOf, changed_between, erased_forward_at, erased_backward_at};
 
 use crate::row::Row;
 use crate::size::Size;
@@ -44,9 +44,8 @@ pub fn reset_between(rows: &mut [Row], first: usize, end: usize)
 }
 
 /// Makes every row blank.
-pub fn reset_all(rows: &mut [Row], width: u16)
-    requires widths { (r : ℕ) → r < length rows.old → IsRowOf width (row_at rows.old r) }
-    ensures { rows.new ≡ replicate (length rows.old) (blank_row width) }
+pub fn reset_all(rows: &mut [Row])
+    ensures { (width : ℕ) → AreRowsOf width rows.old → rows.new ≡ replicate (length rows.old) (blank_row width) }
 {
     reset_between(rows, 0, rows.len());
 }
@@ -100,36 +99,36 @@ pub fn turn_up(rows: &mut [Row], first: usize, end: usize, n: usize)
 }
 
 /// Moves the rows from `first` up to `end` up by `n`, after the first `n` of them, which go, have been made blank.
-pub fn move_up(rows: &mut [Row], first: usize, end: usize, n: usize, width: u16)
+pub fn move_up(rows: &mut [Row], first: usize, end: usize, n: usize)
     requires in_part { first + n ≤ end }
     requires in_rows { end ≤ length rows.old }
-    requires widths { (r : ℕ) → r < length rows.old → IsRowOf width (row_at rows.old r) }
-    ensures { rows.new ≡ rows_by_position (length rows.old) (moved_up rows.old first end n width) }
+    ensures { (width : ℕ) → AreRowsOf width rows.old
+        → rows.new ≡ rows_by_position (length rows.old) (moved_up rows.old first end n width) }
 {
     reset_between(rows, first, first + n);
     turn_up(rows, first, end, n);
 }
 
 /// Moves the rows from `first` up to `end` down by `n`, and makes those that come in blank.
-pub fn move_down(rows: &mut [Row], first: usize, end: usize, n: usize, width: u16)
+pub fn move_down(rows: &mut [Row], first: usize, end: usize, n: usize)
     requires in_part { first + n ≤ end }
     requires in_rows { end ≤ length rows.old }
-    requires widths { (r : ℕ) → r < length rows.old → IsRowOf width (row_at rows.old r) }
-    ensures { rows.new ≡ rows_by_position (length rows.old) (moved_down rows.old first end n width) }
+    ensures { (width : ℕ) → AreRowsOf width rows.old
+        → rows.new ≡ rows_by_position (length rows.old) (moved_down rows.old first end n width) }
 {
     rows[first..end].rotate_right(n);
     reset_between(rows, first, first + n);
 }
 
 /// The same; the row at `end - 1` isn't wrapped any more.
-pub fn open_lines(rows: &mut [Row], first: usize, end: usize, n: usize, width: u16)
+pub fn open_lines(rows: &mut [Row], first: usize, end: usize, n: usize)
     requires in_part { first + n ≤ end }
     requires some { 0 < end }
     requires in_rows { end ≤ length rows.old }
-    requires widths { (r : ℕ) → r < length rows.old → IsRowOf width (row_at rows.old r) }
-    ensures { rows.new ≡ rows_by_position (length rows.old) (opened_line rows.old first end n width) }
+    ensures { (width : ℕ) → AreRowsOf width rows.old
+        → rows.new ≡ rows_by_position (length rows.old) (opened_line rows.old first end n width) }
 {
-    move_down(rows, first, end, n, width);
+    move_down(rows, first, end, n);
     rows[end - 1].wrap(false);
 }
 

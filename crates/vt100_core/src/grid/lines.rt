@@ -42,7 +42,7 @@ impl Grid {
         let first = usize::from(first);
         let end = usize::from(self.scroll_bottom) + 1;
         let n = usize::from(count).min(end - first);
-        move_up(&mut self.rows, first, end, n, self.size.cols());
+        move_up(&mut self.rows, first, end, n);
     }
 
     /// Moves the lines of the scroll region down; blank ones come in at its top (SD).
@@ -66,7 +66,7 @@ impl Grid {
         let first = usize::from(first);
         let end = usize::from(self.scroll_bottom) + 1;
         let n = usize::from(count).min(end - first);
-        open_lines(&mut self.rows, first, end, n, self.size.cols());
+        open_lines(&mut self.rows, first, end, n);
     }
 
     /// Moves the cursor up. At the scroll region's top, and at the screen's, the region scrolls down instead (RI).
