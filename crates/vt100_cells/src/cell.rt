@@ -5,8 +5,11 @@ ghost use Rattle.std.specs.Char.{IsScalar};
 ghost use Rattle.vt100_forms.specs.Attrs.{attrs_eq, is_bold, is_dim, is_italic, is_underlined, is_inverse};
 ghost use Rattle.vt100_cells.specs.Cell.{IsCell, cell_eq};
 
+mod packed;
+
 use crate::cell_color::CellColor;
 use crate::cell_text::CellText;
+pub use packed::PackedAttrs;
 use std::marker::Model;
 use std::mem::size_of;
 use vt100_forms::attrs::Attrs;

@@ -14,5 +14,5 @@ pub mod laws;
 pub mod line;
 mod width;
 
-pub use cell::Cell;
+pub use cell::{Cell, PackedAttrs};
 pub use width::columns;

@@ -9,8 +9,11 @@ ghost use Rattle.vt100_cells.specs.Line.{wipe_unflags, cut, opened, closed, left
 ghost use Rattle.vt100_cells.specs.Line.{mended, shifted_left, printed_run, pairs_of, printed_pairs, pairs_unflag};
 ghost use Rattle.vt100_cells.specs.Cells.{AreSame, cell_at, by_position, last_cell, inserted_cells, trimmed_len};
 
+mod packed;
+
 use crate::cell::{Cell, is_same};
 use crate::cell_text::START_BYTES;
+pub use packed::{print_letter, print_run};
 use vt100_forms::attrs::Attrs;
 
 /// The cell at column `i`.

@@ -15,6 +15,7 @@ ghost use Rattle.row_drawing.specs.Writes.{IsBegun};
 
 mod filled;
 mod forms;
+mod packed;
 
 use crate::join::Join;
 use crate::row::filled::{insert_filled, remove_filled, wipe_filled};

@@ -1,6 +1,6 @@
 //! The parameters of a control sequence or a device control string.
 
-ghost use Rattle.std.specs.Prelude.{◌≡◌, ◌+◌, ◌<◌, ◌≤◌, ◌==◌, ℕ, List, [], ◌∷◌, ◌++◌, length, take, map, IfSome};
+ghost use Rattle.std.specs.Prelude.{◌≡◌, ◌+◌, ◌<◌, ◌≤◌, ◌==◌, ℕ, List, [], ◌∷◌, ◌++◌, length, take, map, IfSome, IfNone};
 ghost use Rattle.vte_core.specs.Store.{total};
 ghost use Rattle.vte_core.specs.Plain.{IsPlain};
 ghost use Rattle.vte_core.specs.ParamsText.{group_text, groups_text};
@@ -75,6 +75,20 @@ impl Params {
         ensures { result ≡ (total self.now == 0) }
     {
         self.len == 0
+    }
+
+    /// The number of each group, where every group is one number; nothing where a group has subparameters.
+    #[inline]
+    pub fn numbers(&self) -> Option<&[u16]>
+        ensures alone { IfSome result (λ numbers. self.now ≡ map (λ n. n ∷ []) numbers.now) }
+        ensures few { IfSome result (λ numbers. length numbers.now ≤ 32) }
+        ensures others { IfNone result (length self.now < total self.now) }
+    {
+        if self.groups == self.len {
+            Some(&self.numbers[..self.len])
+        } else {
+            None
+        }
     }
 
     /// Whether no more numbers are kept.
