@@ -1,8 +1,8 @@
 -- What the reading of an SGR sequence leads to, group by group.
-use Rattle.std.specs.Prelude.{ℕ, Bool, true, false, List, Option, Some, None, Result, Ok, Err}
+use Rattle.std.specs.Prelude.{ℕ, Bool, true, false, List, [], ◌∷◌, map, drop, Option, Some, None, Result, Ok, Err}
 use Rattle.vt100_forms.specs.declared.attrs.Attrs.{Attrs}
 use Rattle.vt100_forms.specs.declared.attrs.Color.{Color}
-use Rattle.screen_model.specs.Sgr.{Read, read_groups, one_more, colored}
+use Rattle.screen_model.specs.Sgr.{Read, Asks, change, ends, ends_unhandled, read_groups, one_more, colored}
 use Rattle.vt100.specs.declared.screen.sgr.End.{End}
 use Rattle.vt100.specs.declared.screen.sgr.End.TheVariants.{Value, Kind}
 
@@ -29,3 +29,19 @@ color_led t (Err e) a gs = ended e a
 abbrev pub code_applied : Option (Attrs → Attrs) → Attrs → Attrs
 code_applied None a = a
 code_applied (Some f) a = f a
+
+-- each number in a group of its own
+abbrev pub each_alone : List ℕ → List (List ℕ)
+each_alone ns = map (λ n. n ∷ []) ns
+
+-- a number is read, with these attributes afterwards; so many of the numbers that follow belong to it
+abbrev pub number_led : Result (Bool × ℕ) End → Attrs → List ℕ → Read
+number_led (Ok (true, k)) a ns = read_groups (each_alone (drop k ns)) 0 a
+number_led (Ok (false, k)) a ns = one_more (read_groups (each_alone (drop k ns)) 0 a)
+number_led (Err e) a ns = ended e a
+
+-- what the numbers at the front ask for, with the 38 or 48 before them: a colour, with so many of them
+abbrev pub color_asked : Bool → Result (Color × ℕ) End → Asks
+color_asked t (Ok (x, k)) = change (colored t x) k
+color_asked t (Err Value) = ends
+color_asked t (Err Kind) = ends_unhandled

@@ -100,11 +100,13 @@ impl<CB: Callbacks> Perform for WrappedScreen<CB> {
         }
     }
 
+    #[inline(always)]
     fn csi_dispatch(&mut self, params: &Params, intermediates: &[u8], _ignore: bool, action: char) {
         if self.screen.failed() {
             return;
         }
         match intermediates.first().copied() {
+            None if action == 'm' => self.sgr_csi(params),
             None => self.plain_csi(params, action),
             Some(b' ') => self.space_csi(params, intermediates, action),
             Some(b'?') => self.private_csi(params, intermediates, action),
@@ -185,7 +187,19 @@ impl<CB: Callbacks> WrappedScreen<CB> {
         }
     }
 
+    /// SGR, which most streams have more of than of any other sequence.
+    #[inline(never)]
+    fn sgr_csi(&mut self, params: &Params)
+        requires { self.old.screen.failed ≡ false }
+        ensures { Handles CB.step CB.scrolls (plain_effect (lookup 0x6D plain_rows) params.now 0x6D)
+            (plain_may_take params.now 0x6D self.old.screen.state) self.old self.new }
+    {
+        let unhandled = self.sgr(params);
+        self.unhandled_groups(unhandled, params, &[], 'm');
+    }
+
     /// A control sequence without intermediates.
+    #[inline(never)]
     fn plain_csi(&mut self, params: &Params, action: char)
         requires { self.old.screen.failed ≡ false }
         ensures { Handles CB.step CB.scrolls (plain_effect (lookup action plain_rows) params.now action)
@@ -464,6 +478,7 @@ fn first_two(intermediates: &[u8]) -> (Option<u8>, Option<u8>)
 }
 
 /// The first number of the next group, if it is there.
+#[inline(always)]
 fn next_number(groups: &mut ParamsIter<'_>) -> Option<u16>
     ensures number { result ≡ given groups.old }
     ensures rest { groups.new ≡ later groups.old }
@@ -483,6 +498,7 @@ fn requested_size(mut groups: ParamsIter<'_>, size: (NonZeroU16, NonZeroU16)) ->
 }
 
 /// The first number of the next group, or the default where it is absent or 0.
+#[inline(always)]
 fn next_or(groups: &mut ParamsIter<'_>, default: u16) -> u16
     ensures number { result ≡ number_or default groups.old }
     ensures rest { groups.new ≡ later groups.old }
@@ -494,10 +510,23 @@ fn next_or(groups: &mut ParamsIter<'_>, default: u16) -> u16
 }
 
 /// The first number, or the default where it is absent or 0.
+#[inline(always)]
 fn canonicalize_params_1(params: &Params, default: u16) -> u16
     ensures { result ≡ number_or default params.now }
 {
-    next_or(&mut params.iter(), default)
+    match params.numbers() {
+        Some([number, ..]) => number_or(*number, default),
+        Some([]) => default,
+        None => next_or(&mut params.iter(), default),
+    }
+}
+
+/// A number, or the default where it is 0.
+#[inline(always)]
+fn number_or(number: u16, default: u16) -> u16
+    ensures { result ≡ (if nat_eq number 0 then default else number) }
+{
+    if number == 0 { default } else { number }
 }
 
 /// The first numbers of the first two groups, each or its default where it is absent or 0.
@@ -505,6 +534,9 @@ fn canonicalize_params_2(params: &Params, default1: u16, default2: u16) -> (u16,
     ensures first { result.0 ≡ number_or default1 params.now }
     ensures second { result.1 ≡ number_or default2 (later params.now) }
 {
+    if let Some([first, second, ..]) = params.numbers() {
+        return (number_or(*first, default1), number_or(*second, default2));
+    }
     let mut groups = params.iter();
     (
         next_or(&mut groups, default1),

@@ -23,6 +23,7 @@ use crate::error::ScreenError;
 pub use rows::{Rows, RowsDiff, RowsFormatted};
 use std::alloc::Global;
 use std::marker::Model;
+use vt100_cells::PackedAttrs;
 use vt100_core::attrs::Attrs;
 use vt100_core::{CursorStyle, Grid, MouseProtocolEncoding, MouseProtocolMode, Scrollback, Size};
 pub use wrapped::WrappedScreen;
@@ -36,7 +37,7 @@ pub struct Screen {
     other_grid: Grid,
     alternate_screen: bool,
 
-    attrs: Attrs,
+    attrs: PackedAttrs,
     saved_attrs: Attrs,
 
     application_keypad: bool,
@@ -90,7 +91,7 @@ impl Screen {
             grid,
             other_grid: Grid::new(alloc, size, Scrollback::Disabled),
             alternate_screen: false,
-            attrs: Attrs::new(),
+            attrs: PackedAttrs::new(),
             saved_attrs: Attrs::new(),
             application_keypad: false,
             application_cursor: false,

@@ -35,7 +35,7 @@ impl<CB: Callbacks> WrappedScreen<CB> {
         ensures { Changes (cells_erased count) self.old self.new }
     {
         if !self.screen.failed {
-            let attrs = self.screen.attrs;
+            let attrs = self.screen.attrs.attrs();
             self.screen.grid.erase_cells(count, attrs);
         }
     }
@@ -81,7 +81,7 @@ impl<CB: Callbacks> WrappedScreen<CB> {
         if self.screen.failed {
             return 0;
         }
-        let attrs = self.screen.attrs;
+        let attrs = self.screen.attrs.attrs();
         match mode {
             0 => self.screen.grid.erase_all_forward(attrs),
             1 => self.screen.grid.erase_all_backward(attrs),
@@ -117,7 +117,7 @@ impl<CB: Callbacks> WrappedScreen<CB> {
         if self.screen.failed {
             return 0;
         }
-        let attrs = self.screen.attrs;
+        let attrs = self.screen.attrs.attrs();
         match mode {
             0 => self.screen.grid.erase_row_forward(attrs),
             1 => self.screen.grid.erase_row_backward(attrs),

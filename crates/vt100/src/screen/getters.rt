@@ -166,48 +166,48 @@ impl Screen {
     pub fn fgcolor(&self) -> Color
         ensures { result ≡ self.now.state.attrs.fgcolor }
     {
-        self.attrs.fgcolor
+        self.attrs.attrs().fgcolor
     }
 
     /// The background colour with which the next character is drawn.
     pub fn bgcolor(&self) -> Color
         ensures { result ≡ self.now.state.attrs.bgcolor }
     {
-        self.attrs.bgcolor
+        self.attrs.attrs().bgcolor
     }
 
     /// Whether the next character is drawn bold.
     pub fn bold(&self) -> bool
         ensures { result ≡ is_bold self.now.state.attrs }
     {
-        self.attrs.bold()
+        self.attrs.attrs().bold()
     }
 
     /// Whether the next character is drawn dim.
     pub fn dim(&self) -> bool
         ensures { result ≡ is_dim self.now.state.attrs }
     {
-        self.attrs.dim()
+        self.attrs.attrs().dim()
     }
 
     /// Whether the next character is drawn in italics.
     pub fn italic(&self) -> bool
         ensures { result ≡ is_italic self.now.state.attrs }
     {
-        self.attrs.italic()
+        self.attrs.attrs().italic()
     }
 
     /// Whether the next character is drawn underlined.
     pub fn underline(&self) -> bool
         ensures { result ≡ is_underlined self.now.state.attrs }
     {
-        self.attrs.underline()
+        self.attrs.attrs().underline()
     }
 
     /// Whether the next character is drawn with foreground and background swapped.
     pub fn inverse(&self) -> bool
         ensures { result ≡ is_inverse self.now.state.attrs }
     {
-        self.attrs.inverse()
+        self.attrs.attrs().inverse()
     }
 }

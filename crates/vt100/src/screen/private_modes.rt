@@ -10,6 +10,7 @@ ghost use Rattle.vt100.specs.declared.error.ScreenError.TheVariants.{Memory};
 use crate::callbacks::Callbacks;
 use crate::error::ScreenError;
 use crate::screen::{Screen, WrappedScreen, settle};
+use vt100_cells::PackedAttrs;
 use vt100_core::{MouseProtocolEncoding, MouseProtocolMode};
 use vte_core::Params;
 
@@ -141,7 +142,7 @@ impl Screen {
         ensures { self.new ≡ record self.old { state = saved self.old.state } }
     {
         self.grid.save_cursor();
-        self.saved_attrs = self.attrs;
+        self.saved_attrs = self.attrs.attrs();
     }
 
     /// Brings back what was saved last.
@@ -149,7 +150,7 @@ impl Screen {
         ensures { self.new ≡ record self.old { state = restored self.old.state } }
     {
         self.grid.restore_cursor();
-        self.attrs = self.saved_attrs;
+        self.attrs = PackedAttrs::of(self.saved_attrs);
     }
 
     /// Makes the alternate sheet blank, shown or not.

@@ -9,7 +9,7 @@ ghost use Rattle.vt100.specs.Tries.{ReceivesPrefix};
 ghost use Rattle.vt100.specs.Draws.{IsDrawable, Draws, drawn, printed_by};
 
 use crate::callbacks::Callbacks;
-use vt100_core::attrs::Attrs;
+use vt100_cells::PackedAttrs;
 use vt100_core::capture::RowContents;
 use vt100_core::{Grid, GridError, Printed, Row, RowSink, Size};
 
@@ -50,27 +50,27 @@ pub(super) enum Drawing<'a> {
 }
 
 /// Draws on a sheet, and gives the reporter the rows that leave it. Answers what became of the last character.
-#[inline]
+#[inline(always)]
 pub(super) fn draw<CB: Callbacks>(
     grid: &mut Grid,
     reporter: &mut Reporter<'_, CB>,
     drawing: Drawing<'_>,
-    attrs: Attrs,
+    attrs: &PackedAttrs,
 ) -> Result<Printed, GridError>
     requires allocated { IsAllocated grid.old }
     requires drawable { IsDrawable grid.old.width drawing }
-    ensures drawn { Draws CB.scrolls (drawn drawing.entry grid.old attrs) grid.old reporter.old result grid.new
+    ensures drawn { Draws CB.scrolls (drawn drawing.entry grid.old attrs.now) grid.old reporter.old result grid.new
         reporter.new }
-    ensures answer { IfOk result (λ p. p ≡ printed_by drawing.entry grid.old attrs) }
+    ensures answer { IfOk result (λ p. p ≡ printed_by drawing.entry grid.old attrs.now) }
 {
     match drawing {
-        Drawing::Character(c) => grid.text(c, attrs, reporter),
+        Drawing::Character(c) => grid.print(c, attrs, reporter),
         Drawing::Characters(Run::Narrow(text)) => {
-            grid.text_run(text, attrs, reporter)?;
+            grid.print_run(text, attrs, reporter)?;
             Ok(Printed::Spacing)
         }
         Drawing::Characters(Run::Wide(text)) => {
-            grid.wide_run(text, attrs, reporter)?;
+            grid.wide_run(text, attrs.attrs(), reporter)?;
             Ok(Printed::Spacing)
         }
         Drawing::LineFeed => {

@@ -1,16 +1,17 @@
 //! SGR: the drawing attributes (ECMA-48 8.3.117; colours by ITU-T T.416).
-ghost use Rattle.std.specs.Prelude.{◌≡◌, ◌≤◌, ◌∷◌, Bool, length, drop, ok_or, is_some, IfOk};
+ghost use Rattle.std.specs.Prelude.{◌≡◌, ◌≤◌, ◌∷◌, [], Bool, length, drop, ok_or, is_some, IfOk};
 ghost use Rattle.vt100_forms.specs.declared.attrs.Attrs.{Attrs};
 ghost use Rattle.screen_model.specs.Sgr.{value, value_at, rgb, separate_color, code_row, read_on, read_groups};
 ghost use Rattle.screen_model.specs.Effect.{attributes_read};
-ghost use Rattle.vt100.specs.SgrReading.{read_of, group_led, color_led, code_applied};
+ghost use Rattle.vt100.specs.SgrReading.{read_of, group_led, color_led, code_applied, each_alone, number_led};
+ghost use Rattle.vt100.specs.SgrReading.{color_asked};
 ghost use Rattle.vt100.specs.Tries.{Counts};
 ghost use Rattle.vt100.specs.declared.screen.sgr.End.TheVariants.{Value};
 
 use crate::callbacks::Callbacks;
 use crate::screen::WrappedScreen;
+use vt100_cells::PackedAttrs;
 use vt100_core::Color;
-use vt100_core::attrs::Attrs;
 use vte_core::{Params, ParamsIter};
 
 impl<CB: Callbacks> WrappedScreen<CB> {
@@ -25,11 +26,14 @@ impl<CB: Callbacks> WrappedScreen<CB> {
         if self.screen.failed {
             return 0;
         }
-        if params.iter().next().is_none() {
-            self.screen.attrs = Attrs::default();
-            return 0;
+        match params.numbers() {
+            Some([]) => {
+                self.screen.attrs = PackedAttrs::new();
+                0
+            }
+            Some(numbers) => read_numbers(&mut self.screen.attrs, numbers),
+            None => read_groups(&mut self.screen.attrs, params),
         }
-        read_groups(&mut self.screen.attrs, params)
     }
 }
 
@@ -43,7 +47,7 @@ pub(super) enum End {
 }
 
 /// Reads groups, from the first one on. Answers how many were unhandled.
-fn read_groups(attrs: &mut Attrs, params: &Params) -> usize
+fn read_groups(attrs: &mut PackedAttrs, params: &Params) -> usize
     ensures { read_of attrs.new result ≡ read_groups params.now 0 attrs.old }
 {
     let mut unhandled = 0;
@@ -61,30 +65,91 @@ fn read_groups(attrs: &mut Attrs, params: &Params) -> usize
 
 /// Reads a group, and of those after it the ones that a colour in groups of its own takes. Answers whether it is
 /// handled.
-fn read_group(attrs: &mut Attrs, group: &[u16], groups: &mut ParamsIter<'_>) -> Result<bool, End>
+fn read_group(
+    attrs: &mut PackedAttrs,
+    group: &[u16],
+    groups: &mut ParamsIter<'_>,
+) -> Result<bool, End>
     ensures reads { read_groups (group.now ∷ groups.old) 0 attrs.old ≡ group_led result attrs.new groups.new }
     ensures shorter { length groups.new ≤ length groups.old }
 {
     match group {
-        [38] => attrs.fgcolor = color_in_groups(groups)?,
-        [48] => attrs.bgcolor = color_in_groups(groups)?,
+        [38] => attrs.set_fgcolor(color_in_groups(groups)?),
+        [48] => attrs.set_bgcolor(color_in_groups(groups)?),
         [code] => return Ok(read_code(attrs, *code)),
-        [38, 2, r, g, b] => attrs.fgcolor = rgb(*r, *g, *b)?,
-        [38, 5, i] => attrs.fgcolor = Color::Idx(value(*i)?),
-        [48, 2, r, g, b] => attrs.bgcolor = rgb(*r, *g, *b)?,
-        [48, 5, i] => attrs.bgcolor = Color::Idx(value(*i)?),
+        [38, 2, r, g, b] => attrs.set_fgcolor(rgb(*r, *g, *b)?),
+        [38, 5, i] => attrs.set_fgcolor(Color::Idx(value(*i)?)),
+        [48, 2, r, g, b] => attrs.set_bgcolor(rgb(*r, *g, *b)?),
+        [48, 5, i] => attrs.set_bgcolor(Color::Idx(value(*i)?)),
         _ => return Ok(false),
     }
     Ok(true)
 }
 
+/// Reads groups of one number each, as `read_groups` does.
+fn read_numbers(attrs: &mut PackedAttrs, numbers: &[u16]) -> usize
+    ensures { read_of attrs.new result ≡ read_groups (each_alone numbers.now) 0 attrs.old }
+{
+    let mut unhandled = 0;
+    let mut rest = numbers;
+    while let [code, others @ ..] = rest {
+        match read_number(attrs, *code, others) {
+            Ok((is_handled, len)) => {
+                unhandled += usize::from(!is_handled);
+                rest = &others[len..];
+            }
+            Err(End::Value) => return unhandled,
+            Err(End::Kind) => return unhandled + 1,
+        }
+    }
+    unhandled
+}
+
+/// Reads a number, and of those after it the ones that a colour takes. Answers whether it is handled, and how many it
+/// takes.
+#[inline(always)]
+fn read_number(attrs: &mut PackedAttrs, code: u16, others: &[u16]) -> Result<(bool, usize), End>
+    ensures reads { read_groups ((code ∷ []) ∷ each_alone others.now) 0 attrs.old
+        ≡ number_led result attrs.new others.now }
+    ensures within { IfOk result (λ x. x.1 ≤ length others.now) }
+{
+    match code {
+        38 => {
+            let (color, len) = color_in_numbers(others)?;
+            attrs.set_fgcolor(color);
+            Ok((true, len))
+        }
+        48 => {
+            let (color, len) = color_in_numbers(others)?;
+            attrs.set_bgcolor(color);
+            Ok((true, len))
+        }
+        _ => Ok((read_code(attrs, code), 0)),
+    }
+}
+
+/// The colour at the front, its kind and its values, and how many numbers they are.
+#[inline(always)]
+fn color_in_numbers(numbers: &[u16]) -> Result<(Color, usize), End>
+    ensures asks { (t : Bool) → separate_color t (each_alone numbers.now) ≡ color_asked t result }
+    ensures within { IfOk result (λ x. x.1 ≤ length numbers.now) }
+{
+    match numbers {
+        [5, i, ..] => Ok((Color::Idx(value(*i)?), 2)),
+        [2, r, g, b, ..] => Ok((rgb(*r, *g, *b)?, 4)),
+        [] | [5] | [2, ..] => Err(End::Value),
+        _ => Err(End::Kind),
+    }
+}
+
 /// What a group of one number does, but for 38 and 48. Answers whether it does something.
-fn read_code(attrs: &mut Attrs, code: u16) -> bool
+#[inline(always)]
+fn read_code(attrs: &mut PackedAttrs, code: u16) -> bool
     ensures handled { result ≡ is_some (code_row code) }
     ensures attrs { attrs.new ≡ code_applied (code_row code) attrs.old }
 {
     match code {
-        0 => *attrs = Attrs::default(),
+        0 => *attrs = PackedAttrs::new(),
         1 => attrs.set_bold(),
         2 => attrs.set_dim(),
         3 => attrs.set_italic(true),
@@ -94,12 +159,12 @@ fn read_code(attrs: &mut Attrs, code: u16) -> bool
         23 => attrs.set_italic(false),
         24 => attrs.set_underline(false),
         27 => attrs.set_inverse(false),
-        30..=37 => attrs.fgcolor = Color::Idx((code - 30) as u8),
-        39 => attrs.fgcolor = Color::Default,
-        40..=47 => attrs.bgcolor = Color::Idx((code - 40) as u8),
-        49 => attrs.bgcolor = Color::Default,
-        90..=97 => attrs.fgcolor = Color::Idx((code - 82) as u8),
-        100..=107 => attrs.bgcolor = Color::Idx((code - 92) as u8),
+        30..=37 => attrs.set_fgcolor(Color::Idx((code - 30) as u8)),
+        39 => attrs.set_fgcolor(Color::Default),
+        40..=47 => attrs.set_bgcolor(Color::Idx((code - 40) as u8)),
+        49 => attrs.set_bgcolor(Color::Default),
+        90..=97 => attrs.set_fgcolor(Color::Idx((code - 82) as u8)),
+        100..=107 => attrs.set_bgcolor(Color::Idx((code - 92) as u8)),
         _ => return false,
     }
     true

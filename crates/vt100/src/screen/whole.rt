@@ -11,6 +11,7 @@ use crate::error::ScreenError;
 use crate::screen::reported::resize_both;
 use crate::screen::{Screen, WrappedScreen, settle};
 use std::num::NonZeroU16;
+use vt100_cells::PackedAttrs;
 use vt100_core::attrs::Attrs;
 use vt100_core::{CursorStyle, Grid, MouseProtocolEncoding, MouseProtocolMode, Scrollback, Size};
 
@@ -107,7 +108,7 @@ impl Screen {
         self.exit_alternate_grid();
         renew_sheet(&mut self.grid);
         self.other_grid = Grid::new(self.alloc, self.grid.size(), Scrollback::Disabled);
-        self.attrs = Attrs::new();
+        self.attrs = PackedAttrs::new();
         self.saved_attrs = Attrs::new();
         self.application_keypad = false;
         self.application_cursor = false;
@@ -131,7 +132,7 @@ impl Screen {
             grid,
             other_grid,
             alternate_screen: self.alternate_screen,
-            attrs: self.attrs,
+            attrs: PackedAttrs::of(self.attrs.attrs()),
             saved_attrs: self.saved_attrs,
             application_keypad: self.application_keypad,
             application_cursor: self.application_cursor,

@@ -28,6 +28,7 @@ pub struct WrappedScreen<CB> {
 
 impl<CB: Callbacks> WrappedScreen<CB> {
     /// Prints a character at the cursor, with the drawing attributes.
+    #[inline(always)]
     pub fn text(&mut self, c: char) -> Result<(), ScreenError>
         ensures { MayScroll CB.scrolls (typed c) self.old result self.new }
     {
@@ -35,6 +36,7 @@ impl<CB: Callbacks> WrappedScreen<CB> {
     }
 
     /// Prints the characters of a run as [`text`](Self::text) of each in turn does.
+    #[inline(always)]
     pub(crate) fn run(&mut self, run: Run<'_>) -> Result<(), ScreenError>
         requires { IsRun self.old.screen.state.shown.width run }
         ensures { MayScroll CB.scrolls (typed_all (characters run.entry)) self.old result self.new }
@@ -44,7 +46,7 @@ impl<CB: Callbacks> WrappedScreen<CB> {
     }
 
     /// Draws on the shown sheet, and tells the callbacks of the rows that leave it.
-    #[inline]
+    #[inline(always)]
     fn draw(&mut self, drawing: Drawing<'_>) -> Result<(), ScreenError>
         requires { IsDrawable self.old.screen.state.shown.width drawing }
         ensures { MayScroll CB.scrolls (drawn_on drawing.entry) self.old result self.new }
@@ -52,12 +54,16 @@ impl<CB: Callbacks> WrappedScreen<CB> {
         if self.screen.failed {
             return Err(ScreenError::Failed);
         }
-        let attrs = self.screen.attrs;
         let mut reporter = Reporter {
             callbacks: &mut self.callbacks,
             alternate_screen: self.screen.alternate_screen,
         };
-        let drawn = draw(&mut self.screen.grid, &mut reporter, drawing, attrs);
+        let drawn = draw(
+            &mut self.screen.grid,
+            &mut reporter,
+            drawing,
+            &self.screen.attrs,
+        );
         let printed = settle(&mut self.screen.failed, drawn)?;
         self.screen.last_char = last_drawn(drawing, printed, self.screen.last_char);
         Ok(())
@@ -108,7 +114,7 @@ impl<CB: Callbacks> WrappedScreen<CB> {
 }
 
 /// The last character of what is drawn, or where there is none the one before it.
-#[inline]
+#[inline(always)]
 fn last_drawn(drawing: Drawing<'_>, printed: Printed, last: Option<char>) -> Option<char>
     ensures { result ≡ last_drawn drawing.entry printed last }
 {
@@ -121,7 +127,7 @@ fn last_drawn(drawing: Drawing<'_>, printed: Printed, last: Option<char>) -> Opt
 }
 
 /// The last character that was drawn in a cell of its own, once `c` is printed.
-#[inline]
+#[inline(always)]
 fn last_after(printed: Printed, c: char, last: Option<char>) -> Option<char>
     ensures { result ≡ last_after printed c last }
 {

@@ -72,7 +72,9 @@ impl Screen {
     {
         HideCursor::new(self.hide_cursor).write_buf(contents)?;
         let prev_attrs = self.grid.write_contents_formatted(contents)?;
-        self.attrs.write_escape_code_diff(contents, &prev_attrs)
+        self.attrs
+            .attrs()
+            .write_escape_code_diff(contents, &prev_attrs)
     }
 
     /// The escape sequences that draw each row that is shown, from the top, on a row of default cells: `width`
@@ -113,8 +115,10 @@ impl Screen {
         write_change(contents, prev.hide_cursor, self.hide_cursor, &hiding)?;
         let prev_attrs = self
             .grid
-            .write_contents_diff(contents, &prev.grid, prev.attrs)?;
-        self.attrs.write_escape_code_diff(contents, &prev_attrs)
+            .write_contents_diff(contents, &prev.grid, prev.attrs.attrs())?;
+        self.attrs
+            .attrs()
+            .write_escape_code_diff(contents, &prev_attrs)
     }
 
     /// The escape sequences that draw each row that is shown over the one that `prev` shows there, from the top,
@@ -213,7 +217,9 @@ impl Screen {
         ensures { Writes (attributes_formatted (shown_state self.now.state)) contents.old result contents.new }
     {
         ClearAttrs.write_buf(contents)?;
-        self.attrs.write_escape_code_diff(contents, &Attrs::new())
+        self.attrs
+            .attrs()
+            .write_escape_code_diff(contents, &Attrs::new())
     }
 
     /// The escape sequences that bring a terminal's cursor, which may stand anywhere, to the screen's, and hide or

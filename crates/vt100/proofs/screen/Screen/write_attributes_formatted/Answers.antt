@@ -8,4 +8,4 @@ pub returns : goal.returns
 unfolding attributes_formatted
 returns c = rw (← c.self.view_is) (rw c.new.ensures at (written_then c.write_escape_code_diff.result (ClearAttrs ∷ [])
     (change c.new.result c.self.inside.attrs) _ _ _ c.in_ok-write_buf.ensures.bytes
-    c.write_escape_code_diff.ensures.bytes))
+    (rw c.attrs.ensures at c.write_escape_code_diff.ensures.bytes)))

@@ -5,24 +5,24 @@ use Rattle.vt100.proofs.screen.reported.draw.Goals as goal
 
 pub returns-in-Character-clause-drawn : goal.returns-in-Character-clause-drawn
 returns-in-Character-clause-drawn g c =
-    let e = c.text.ensures in
+    let e = c.print.ensures in
     rw c.in-Character.is (draws_all g.CB.Callbacks.scrolls _ e.grid e.sink e.limits e.keeps_none e.stays e.allocated)
 
-pub returns-in_err-text_run-in-Characters-Narrow-clause-drawn :
-    goal.returns-in_err-text_run-in-Characters-Narrow-clause-drawn
-returns-in_err-text_run-in-Characters-Narrow-clause-drawn g c =
+pub returns-in_err-print_run-in-Characters-Narrow-clause-drawn :
+    goal.returns-in_err-print_run-in-Characters-Narrow-clause-drawn
+returns-in_err-print_run-in-Characters-Narrow-clause-drawn g c =
     let w = c.in-Characters-Narrow in
-    let r = c.in_err-text_run-in-Characters-Narrow in
+    let r = c.in_err-print_run-in-Characters-Narrow in
     let is : c.from_residual.result ≡ Err r.field-0.0 = search rules in
     let e = r.ensures in
     rw (w.is, rw w.is at w.field-0-is, is)
     (draws_run g.CB.Callbacks.scrolls _ _ _ e.grid e.sink e.begun e.limits e.keeps_none e.stays e.allocated)
 
-pub returns-in_ok-text_run-in-Characters-Narrow-clause-drawn :
-    goal.returns-in_ok-text_run-in-Characters-Narrow-clause-drawn
-returns-in_ok-text_run-in-Characters-Narrow-clause-drawn g c =
+pub returns-in_ok-print_run-in-Characters-Narrow-clause-drawn :
+    goal.returns-in_ok-print_run-in-Characters-Narrow-clause-drawn
+returns-in_ok-print_run-in-Characters-Narrow-clause-drawn g c =
     let w = c.in-Characters-Narrow in
-    let e = c.in_ok-text_run-in-Characters-Narrow.ensures in
+    let e = c.in_ok-print_run-in-Characters-Narrow.ensures in
     rw (w.is, rw w.is at w.field-0-is)
     (draws_run g.CB.Callbacks.scrolls _ _ _ e.grid e.sink e.begun e.limits e.keeps_none e.stays e.allocated)
 
@@ -32,7 +32,7 @@ returns-in_err-wide_run-in-Characters-Wide-clause-drawn g c =
     let w = c.in-Characters-Wide in
     let r = c.in_err-wide_run-in-Characters-Wide in
     let is : c.from_residual-in_err-wide_run-in-Characters-Wide.result ≡ Err r.field-0.0 = search rules in
-    let e = r.ensures in
+    let e = rw c.attrs.ensures at r.ensures in
     rw (w.is, rw w.is at w.field-0-is, is)
     (draws_run g.CB.Callbacks.scrolls _ _ _ e.grid e.sink e.begun e.limits e.keeps_none e.stays e.allocated)
 
@@ -40,7 +40,7 @@ pub returns-in_ok-wide_run-in-Characters-Wide-clause-drawn :
     goal.returns-in_ok-wide_run-in-Characters-Wide-clause-drawn
 returns-in_ok-wide_run-in-Characters-Wide-clause-drawn g c =
     let w = c.in-Characters-Wide in
-    let e = c.in_ok-wide_run-in-Characters-Wide.ensures in
+    let e = rw c.attrs.ensures at c.in_ok-wide_run-in-Characters-Wide.ensures in
     rw (w.is, rw w.is at w.field-0-is)
     (draws_run g.CB.Callbacks.scrolls _ _ _ e.grid e.sink e.begun e.limits e.keeps_none e.stays e.allocated)
 
