@@ -1,4 +1,5 @@
 pub mod Sgr
+pub mod SgrSteps
 pub mod Escape
 pub mod Csi
 pub mod Timeout

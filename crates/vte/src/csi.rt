@@ -110,8 +110,19 @@ fn identify_terminal<H: Handler>(handler: &mut H, mut groups: ParamsIter<'_>, in
     }
 }
 
-/// Sequences without intermediates: the final bytes that take a count, and all others.
+/// Sequences without intermediates: SGR, which is the most frequent, and all others.
 fn plain<H: Handler>(handler: &mut H, last: Option<char>, params: &Params, action: char)
+    ensures { Calls H.step handler.old (plain_calls last params.now action) handler.new }
+{
+    if action == 'm' {
+        sgr(handler, params.iter());
+    } else {
+        counted_final(handler, last, params, action);
+    }
+}
+
+/// Sequences without intermediates: the final bytes that take a count, and all others.
+fn counted_final<H: Handler>(handler: &mut H, last: Option<char>, params: &Params, action: char)
     ensures { Calls H.step handler.old (plain_calls last params.now action) handler.new }
 {
     let number = next_or(&mut params.iter(), 1);

@@ -1,12 +1,14 @@
 //! SGR: the attributes that groups of numbers ask for (ECMA-48 8.3.117; colours by ITU-T T.416).
 ghost use Rattle.std.specs.Prelude.{◌≡◌, ◌≤◌, ℕ, List, length, ◌∷◌, [], ◌++◌, map, MatchOption, option_to_list};
-ghost use Rattle.std.specs.Prelude.{◌+◌, ◌<◌, Some};
+ghost use Rattle.std.specs.Prelude.{◌+◌, ◌<◌, ◌≢◌, Some};
+ghost use Rattle.std.specs.Option.{option_map};
 ghost use Rattle.vte_types.specs.Call.{Calls, terminal_attribute};
 ghost use Rattle.vte_types.specs.Lookup.{lookup};
 ghost use Rattle.vte_types.specs.declared.attr.Attr.TheVariants as said;
 ghost use Rattle.vte_types.specs.declared.color.Color.TheVariants.{Named};
 ghost use Rattle.vte.specs.Sgr.{singles, rgb_color, indexed_color, group_color, colored, target_of};
-ghost use Rattle.vte.specs.Sgr.{first, attributes, nothing, selector, underline_of};
+ghost use Rattle.vte.specs.Sgr.{first, attributes, nothing, selector, underline_of, group_attr, awaited};
+ghost use Rattle.vte.specs.SgrSteps.{SetsFirst};
 
 use vte_core::ParamsIter;
 use vte_types::attr::Attr;
@@ -50,40 +52,55 @@ fn bright(number: u16) -> NamedColor
     }
 }
 
-/// The attribute that a group of one number sets.
+/// Makes the call of a group of one number, if that sets an attribute by itself.
 #[inline(always)]
-fn single(code: u16) -> Option<Attr>
-    ensures { result ≡ lookup code singles }
+fn set_single<H: Handler>(handler: &mut H, code: u16)
+    ensures { Calls H.step handler.old (map terminal_attribute (option_to_list (lookup code singles))) handler.new }
 {
-    let attr = match code {
-        0 => Attr::Reset,
-        1 => Attr::Bold,
-        2 => Attr::Dim,
-        3 => Attr::Italic,
-        4 => Attr::Underline,
-        5 => Attr::BlinkSlow,
-        6 => Attr::BlinkFast,
-        7 => Attr::Reverse,
-        8 => Attr::Hidden,
-        9 => Attr::Strike,
-        21 => Attr::CancelBold,
-        22 => Attr::CancelBoldDim,
-        23 => Attr::CancelItalic,
-        24 => Attr::CancelUnderline,
-        25 => Attr::CancelBlink,
-        27 => Attr::CancelReverse,
-        28 => Attr::CancelHidden,
-        29 => Attr::CancelStrike,
-        30..=37 => Attr::Foreground(Color::Named(plain(code - 30))),
-        39 => Attr::Foreground(Color::Named(NamedColor::Foreground)),
-        40..=47 => Attr::Background(Color::Named(plain(code - 40))),
-        49 => Attr::Background(Color::Named(NamedColor::Background)),
-        59 => Attr::UnderlineColor(None),
-        90..=97 => Attr::Foreground(Color::Named(bright(code - 90))),
-        100..=107 => Attr::Background(Color::Named(bright(code - 100))),
-        _ => return None,
-    };
-    Some(attr)
+    match code {
+        0 => handler.terminal_attribute(Attr::Reset),
+        1 => handler.terminal_attribute(Attr::Bold),
+        2 => handler.terminal_attribute(Attr::Dim),
+        3 => handler.terminal_attribute(Attr::Italic),
+        4 => handler.terminal_attribute(Attr::Underline),
+        5 => handler.terminal_attribute(Attr::BlinkSlow),
+        6 => handler.terminal_attribute(Attr::BlinkFast),
+        7 => handler.terminal_attribute(Attr::Reverse),
+        8 => handler.terminal_attribute(Attr::Hidden),
+        9 => handler.terminal_attribute(Attr::Strike),
+        21 => handler.terminal_attribute(Attr::CancelBold),
+        22 => handler.terminal_attribute(Attr::CancelBoldDim),
+        23 => handler.terminal_attribute(Attr::CancelItalic),
+        24 => handler.terminal_attribute(Attr::CancelUnderline),
+        25 => handler.terminal_attribute(Attr::CancelBlink),
+        27 => handler.terminal_attribute(Attr::CancelReverse),
+        28 => handler.terminal_attribute(Attr::CancelHidden),
+        29 => handler.terminal_attribute(Attr::CancelStrike),
+        30..=37 => set_foreground(handler, plain(code - 30)),
+        39 => set_foreground(handler, NamedColor::Foreground),
+        40..=47 => set_background(handler, plain(code - 40)),
+        49 => set_background(handler, NamedColor::Background),
+        59 => handler.terminal_attribute(Attr::UnderlineColor(None)),
+        90..=97 => set_foreground(handler, bright(code - 90)),
+        100..=107 => set_background(handler, bright(code - 100)),
+        _ => {}
+    }
+}
+
+/// Makes the call that sets the text's colour to a named one.
+#[inline(always)]
+fn set_foreground<H: Handler>(handler: &mut H, color: NamedColor)
+    ensures { H.step handler.old (terminal_attribute (said.Foreground (Named color))) handler.new }
+{
+    handler.terminal_attribute(Attr::Foreground(Color::Named(color)));
+}
+
+/// Makes the call that sets the background's colour to a named one.
+#[inline(always)]
+fn set_background<H: Handler>(handler: &mut H, color: NamedColor)
+    ensures { H.step handler.old (terminal_attribute (said.Background (Named color))) handler.new }
+{
+    handler.terminal_attribute(Attr::Background(Color::Named(color)));
 }
 
 /// A colour by red, green and blue, each at most 255; else `None`.
@@ -184,8 +201,9 @@ pub fn next_number(groups: &mut ParamsIter<'_>) -> Option<u16>
 }
 
 /// The colour whose numbers are groups of their own, after 38, 48 or 58.
-fn color_in_groups(target: Target, groups: &mut ParamsIter<'_>) -> Option<Attr>
-    ensures gives { attributes (selector target) groups.old ≡ option_to_list result ++ attributes nothing groups.new }
+fn color_in_groups(groups: &mut ParamsIter<'_>) -> Option<Color>
+    ensures gives { (t : Target) → attributes (selector t) groups.old
+        ≡ option_to_list (option_map (colored t) result) ++ attributes nothing groups.new }
     ensures shorter { length groups.new ≤ length groups.old }
 {
     match next_number(groups)? {
@@ -199,29 +217,50 @@ fn color_in_groups(target: Target, groups: &mut ParamsIter<'_>) -> Option<Attr>
                 return None;
             }
             let blue = next_number(groups)?;
-            Some(in_color(target, rgb(red, green, blue)?))
+            rgb(red, green, blue)
         }
         5 => {
             let index = next_number(groups)?;
-            Some(in_color(target, indexed(index)?))
+            indexed(index)
         }
         _ => None,
     }
 }
 
-/// The attribute that a group sets. A colour also takes the groups after it that hold its numbers.
+/// Makes the call of a group of one number. A colour also takes the groups after it that hold its numbers.
 #[inline(always)]
-fn attribute(group: &[u16], groups: &mut ParamsIter<'_>) -> Option<Attr>
-    ensures gives { attributes nothing (group.now ∷ groups.old) ≡ option_to_list result
-        ++ attributes nothing groups.new }
+fn set_code<H: Handler>(handler: &mut H, code: u16, groups: &mut ParamsIter<'_>)
+    ensures calls { SetsFirst H.step (code ∷ []) handler.old groups.old handler.new groups.new }
     ensures shorter { length groups.new ≤ length groups.old }
+{
+    match code {
+        38 => {
+            if let Some(color) = color_in_groups(groups) {
+                handler.terminal_attribute(Attr::Foreground(color));
+            }
+        }
+        48 => {
+            if let Some(color) = color_in_groups(groups) {
+                handler.terminal_attribute(Attr::Background(color));
+            }
+        }
+        58 => {
+            if let Some(color) = color_in_groups(groups) {
+                handler.terminal_attribute(Attr::UnderlineColor(Some(color)));
+            }
+        }
+        _ => set_single(handler, code),
+    }
+}
+
+/// The attribute that a group sets that isn't of one number.
+fn attribute(group: &[u16]) -> Option<Attr>
+    requires { length group.now ≢ 1 }
+    ensures gives { result ≡ group_attr group.now }
+    ensures ends { awaited group.now ≡ nothing }
 {
     match group {
         [] => None,
-        [code] => match target_for(*code) {
-            Some(target) => color_in_groups(target, groups),
-            None => single(*code),
-        },
         [4, style] => Some(underline(*style)),
         [4, ..] => Some(Attr::Underline),
         [code, numbers @ ..] => Some(in_color(target_for(*code)?, color_in_group(numbers)?)),
@@ -233,8 +272,13 @@ pub fn sgr<H: Handler>(handler: &mut H, mut groups: ParamsIter<'_>)
     ensures { Calls H.step handler.old (map terminal_attribute (attributes nothing groups.entry)) handler.new }
 {
     while let Some(group) = groups.next() {
-        if let Some(attr) = attribute(group, &mut groups) {
-            handler.terminal_attribute(attr);
+        match group {
+            [code] => set_code(handler, *code, &mut groups),
+            _ => {
+                if let Some(attr) = attribute(group) {
+                    handler.terminal_attribute(attr);
+                }
+            }
         }
     }
 }
