@@ -11,3 +11,4 @@ pub mod ViewReads
 pub mod WrittenForms
 pub mod FramedForms
 pub mod RunSteps
+pub mod WideSteps

@@ -7,6 +7,7 @@ use vte_types::attr::Attr;
 use vte_types::color::{Color as AnsiColor, NamedColor};
 
 /// Changes one attribute. Attributes and colours that a `vt100` screen doesn't have change nothing.
+#[inline(always)]
 pub(crate) fn set_attribute(attrs: &mut Attrs, attr: Attr)
     ensures { attrs.new ≡ with_attr attr attrs.old }
 {
@@ -28,6 +29,7 @@ pub(crate) fn set_attribute(attrs: &mut Attrs, attr: Attr)
 }
 
 /// The colour as a `vt100` screen has it, if it does.
+#[inline(always)]
 fn color_of(color: AnsiColor) -> Option<Color>
     ensures { result ≡ color_of color }
 {
@@ -39,6 +41,7 @@ fn color_of(color: AnsiColor) -> Option<Color>
 }
 
 /// The number of one of the 16 named colours, or the terminal's default colour; no other name has a colour.
+#[inline(always)]
 fn named_color(named: NamedColor) -> Option<Color>
     ensures { result ≡ named_color named }
 {

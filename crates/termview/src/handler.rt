@@ -56,8 +56,37 @@ impl Handler for Picture {
     }
 
     #[tactic(auto, unfolding(crate::specs::Step::view_step))]
+    #[inline(always)]
     fn terminal_attribute(&mut self, attr: Attr) {
         self.set_attribute(attr);
+    }
+
+    #[tactic(auto, unfolding(crate::specs::Step::view_step))]
+    fn carriage_return(&mut self) {
+        self.carriage_return();
+    }
+
+    #[tactic(auto, unfolding(crate::specs::Step::view_step))]
+    fn linefeed(&mut self) {
+        self.linefeed();
+    }
+
+    #[tactic(auto, unfolding(crate::specs::Step::view_step))]
+    fn move_forward(&mut self, cols: usize) {
+        self.move_forward(cols);
+    }
+
+    #[tactic(auto, unfolding(crate::specs::Step::view_step))]
+    fn erase_chars(&mut self, count: usize) {
+        self.erase_chars(count);
+    }
+
+    #[tactic(auto, unfolding(crate::specs::Step::view_step))]
+    fn clear_line(&mut self, mode: LineClearMode) {
+        match mode {
+            LineClearMode::Right => self.erase_right(),
+            _ => {}
+        }
     }
 }
 

@@ -15,6 +15,7 @@ mod picture;
 mod text;
 mod until_cleared;
 mod view;
+mod wide;
 
 pub use byte_sinks::ByteSink;
 pub use error::ViewError;

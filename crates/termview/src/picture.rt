@@ -99,7 +99,8 @@ impl Picture {
         }
     }
 
-    /// Prints the prefix of a text that is printable ASCII, or else its first character. Returns the rest.
+    /// Prints the prefix of a text that is printable ASCII, or else its first wide characters, or else its first
+    /// character. Returns the rest.
     pub(crate) fn input_some<'a>(&mut self, text: &'a str) -> &'a str
         requires { 0 < length text.now }
         ensures shorter { length result.now < length text.now }
@@ -110,6 +111,18 @@ impl Picture {
             self.input_run(&text.as_bytes()[..len]);
             return &text[len..];
         }
+        match self.input_wide(text) {
+            Some(rest) => rest,
+            None => self.input_first(text),
+        }
+    }
+
+    /// Prints the first character of a text. Returns the rest.
+    fn input_first<'a>(&mut self, text: &'a str) -> &'a str
+        requires { 0 < length text.now }
+        ensures shorter { length result.now < length text.now }
+        ensures shown { ShowsPrefix text.now result.now self.old self.new }
+    {
         let mut chars = text.chars();
         if let Some(c) = chars.next() {
             self.input(c);
@@ -205,7 +218,7 @@ impl Picture {
     }
 
     /// Moves the cursor to the next row unless its row has this many columns left.
-    fn make_room(&mut self, columns: u16)
+    pub(crate) fn make_room(&mut self, columns: u16)
         requires { columns ≤ self.old.size.cols }
         ensures picture { Becomes self.old self.new (made_to_fit self.old.size columns (term_of_picture self.old)) }
         ensures fits { self.new.col + columns ≤ self.old.size.cols }

@@ -1,12 +1,11 @@
-use Rattle.std.proofs.Common.{◌∙◌, ◌≤◌, ℕ, List, length, map, take, sym, subst, arith}
+use Rattle.std.proofs.Common.{◌≤◌, ℕ, List, length, map, take, sym, subst}
 use Rattle.std.specs.Prelude.{All}
 use Rattle.vt100_cells.specs.Cell.{IsPrintable}
 use Rattle.vt100_rows.proofs.PrintableLemmas.{printable-boundary}
 use Rattle.vte_types.specs.Call.{Calls, input}
-use Rattle.termview.specs.Picture.{Does, ShowsPrefix}
-use Rattle.termview.proofs.RunSteps.{prefix-run, prefix-char}
+use Rattle.termview.specs.Picture.{PictureView, Does, ShowsPrefix}
+use Rattle.termview.proofs.RunSteps.{prefix-run}
 use Rattle.termview.proofs.picture.Picture.input_some.Goals as goal
-use Rattle.termview.proofs.picture.Picture.input_some.Goals.{in-Some, in_default}
 
 pub range_from-requires : goal.range_from-requires
 range_from-requires c =
@@ -30,14 +29,7 @@ returns-then-len-gt0-clause-shown c =
     subst (λ (left : List ℕ). ShowsPrefix c.args.text.now left p q) (sym c.range_from.ensures.value)
     (prefix-run c.args.text.now n p q printable shown)
 
-pub returns-clause-shown : goal.returns-clause-shown
-returns-clause-shown c =
-    let p = c.args.self.now in
-    elim c.match-next.branch [
-      | in-Some w ↦
-          let q = w.input.new.self in
-          rw w.self-is (subst (λ (left : List ℕ). ShowsPrefix c.args.text.now left p q) (sym c.as_str.ensures)
-          (prefix-char c.args.text.now c.next.new.self.rest.now w.in-Some.c p q c.utf8.text
-          (sym c.chars-chars.ensures.rest ∙ w.in-Some.ensures.steps.0) w.input.ensures))
-      | in_default w ↦ absurd (omega (arith, w.in_default.ensures.steps.0, c.chars-chars.ensures.len, c.requires))
-    ]
+pub returns-in-None-clause-shown : goal.returns-in-None-clause-shown
+returns-in-None-clause-shown c =
+    subst (λ (p : PictureView). ShowsPrefix c.args.text.now c.input_first.result.now p c.input_first.new.self)
+    c.in-None.ensures.none c.input_first.ensures.shown

@@ -1,0 +1,12 @@
+use Rattle.std.proofs.Common.{arith}
+use Rattle.std.proofs.lemmas.Grind.{common_steps}
+use Rattle.termview.proofs.KeptPictures.{IsPicture-at}
+use Rattle.termview.proofs.WideSteps.{pairs_at, IsPicture-pairs}
+use Rattle.termview.proofs.picture.Picture.put_pairs.Goals as goal
+
+pub invariant_of-self : goal.invariant_of-self
+invariant_of-self c =
+    let p = c.args.self.now in
+    IsPicture-at _ (pairs_at p c.args.text.now) (grind (arith, common_steps))
+    (IsPicture-pairs c.args.text.now p (rw (← c.self.view_is) c.self.invariant) c.requires.wide
+    c.put_pairs.ensures.characters c.requires.fits)
