@@ -20,16 +20,17 @@ use Rattle.termrelay.specs.declared.call.Reply.{Reply}
 use Rattle.termrelay.specs.declared.call.Reply.TheVariants.{Done, Attached as WasAttached, Answered, Refused}
 use Rattle.termrelay.specs.declared.error.HubError.{HubError}
 use Rattle.termrelay.specs.declared.error.HubError.TheVariants.{Memory, Failed, UnknownClient, Write}
-use Rattle.c_objects.specs.Codes.{ok, unknown_client, not_owed, code_of}
+use Rattle.c_objects.specs.Codes.{IsRefusal, ok, unknown_client, not_owed, code_of}
 use Rattle.c_objects.specs.Hubs.{Feeds, Resizes, Attached, Attaches, Detaches, Frames, Sends}
 use Rattle.c_objects.specs.Runs.{FromC, Feed, Resize, Attach, Detach, Frame, Sent, IsFromC, Does, sessions_after, RunsFromC}
-use Rattle.c_objects.specs.Runs.{EachRunFromCIsLogged}
+use Rattle.c_objects.specs.Runs.{IsCallOf, AreCallsOf, none, asks, refuses, EachRunFromCIsLogged}
 
--- the hub h and the sessions ss become g and ts by one call, or by none
-abbrev Steps : HubState as_kept → List SessionView → HubState as_kept → List SessionView → Type 0
-Steps h ss g ts =
-    ((g ≡ h) × (ts ≡ ss))
-    ⊎ ((c : Call) × (reply : Reply) × IsCall c × Serves h c reply g × (ts ≡ log.sessions_after h c reply ss))
+-- the hub h and the sessions ss become g and ts by the one call that a call from C is, or by none if that is refused
+abbrev Steps : FromC → ℤ → HubState as_kept → List SessionView → HubState as_kept → List SessionView → Type 0
+Steps from code h ss g ts =
+    ((g ≡ h) × (ts ≡ ss) × IsRefusal code)
+    ⊎ ((c : Call) × (reply : Reply) × IsCall c × Serves h c reply g × (ts ≡ log.sessions_after h c reply ss)
+    × IsCallOf from code c reply)
 
 -- ---- calls that have a reply
 
@@ -45,37 +46,71 @@ frame-same h key (negsuc n) ss = refl
 
 resized : (h g : HubState as_kept) (rows cols : ℕ) (ss : List SessionView) (answer : Result (Unit {0}) HubError)
     → IsSide rows × IsSide cols → hub.Resizes h rows cols answer g
-    → Steps h ss g (sessions_after h (Resize rows cols) (code_of answer) ss)
-resized h g rows cols ss (Ok tt) is did = inr (call.Resize rows cols, done (Ok tt), is, (Ok tt, did, refl), refl)
-resized h g rows cols ss (Err Memory) is did =
-    inr (call.Resize rows cols, done (Err Memory), is, (Err Memory, did, refl), refl)
-resized h g rows cols ss (Err Failed) is did =
-    inr (call.Resize rows cols, done (Err Failed), is, (Err Failed, did, refl), refl)
+    → Steps (Resize rows cols) (code_of answer) h ss g (sessions_after h (Resize rows cols) (code_of answer) ss)
+resized h g rows cols ss (Ok tt) is did =
+    inr (call.Resize rows cols, done (Ok tt), is, (Ok tt, did, refl), refl, (refl, (Ok tt, refl, refl)))
+resized h g rows cols ss (Err Memory) is did = inr (
+  call.Resize rows cols,
+  done (Err Memory),
+  is,
+  (Err Memory, did, refl),
+  refl,
+  (refl, (Err Memory, refl, refl)),
+)
+resized h g rows cols ss (Err Failed) is did = inr (
+  call.Resize rows cols,
+  done (Err Failed),
+  is,
+  (Err Failed, did, refl),
+  refl,
+  (refl, (Err Failed, refl, refl)),
+)
 resized h g rows cols ss (Err UnknownClient) is did = absurd did
 resized h g rows cols ss (Err (Write e)) is did = absurd did
 
 attached : (h g : HubState as_kept) (old new : ℕ) (code : ℤ) (ss : List SessionView) (answer : Result ℕ HubError)
-    → hub.Attaches h answer g → Attached answer old new code → Steps h ss g (sessions_after h (Attach old new) code ss)
-attached h g old new code ss (Ok key) did (code_is, is) =
-    rw (code_is, is) (inr (call.Attach, WasAttached key, tt, (Ok key, did, refl), refl))
-attached h g old new code ss (Err Memory) did (code_is, is) =
-    rw code_is (inr (call.Attach, Refused Memory, tt, (Err Memory, did, refl), refl))
-attached h g old new code ss (Err Failed) did (code_is, is) =
-    rw code_is (inr (call.Attach, Refused Failed, tt, (Err Failed, did, refl), refl))
+    → hub.Attaches h answer g → Attached answer old new code
+    → Steps (Attach old new) code h ss g (sessions_after h (Attach old new) code ss)
+attached h g old new code ss (Ok key) did (code_is, is) = rw (code_is, is) (inr (
+  call.Attach,
+  WasAttached key,
+  tt,
+  (Ok key, did, refl),
+  refl,
+  (refl, Ok key, (refl, refl), refl),
+))
+attached h g old new code ss (Err Memory) did (code_is, is) = rw code_is (inr (
+  call.Attach,
+  Refused Memory,
+  tt,
+  (Err Memory, did, refl),
+  refl,
+  (refl, Err Memory, (refl, is), refl),
+))
+attached h g old new code ss (Err Failed) did (code_is, is) = rw code_is (inr (
+  call.Attach,
+  Refused Failed,
+  tt,
+  (Err Failed, did, refl),
+  refl,
+  (refl, Err Failed, (refl, is), refl),
+))
 attached h g old new code ss (Err UnknownClient) did a = absurd did
 attached h g old new code ss (Err (Write e)) did a = absurd did
 
 detached : (h g : HubState as_kept) (key : ℕ) (ss : List SessionView) (answer : Result (Unit {0}) HubError)
-    → hub.Detaches h key answer g → Steps h ss g (sessions_after h (Detach key) (code_of answer) ss)
-detached h g key ss (Ok tt) did = inr (call.Detach key, done (Ok tt), tt, (Ok tt, did, refl), refl)
+    → hub.Detaches h key answer g
+    → Steps (Detach key) (code_of answer) h ss g (sessions_after h (Detach key) (code_of answer) ss)
+detached h g key ss (Ok tt) did =
+    inr (call.Detach key, done (Ok tt), tt, (Ok tt, did, refl), refl, (refl, (Ok tt, refl, refl)))
 detached h g key ss (Err Memory) did =
-    inr (call.Detach key, done (Err Memory), tt, (Err Memory, did, refl), refl)
+    inr (call.Detach key, done (Err Memory), tt, (Err Memory, did, refl), refl, (refl, (Err Memory, refl, refl)))
 detached h g key ss (Err Failed) did =
-    inr (call.Detach key, done (Err Failed), tt, (Err Failed, did, refl), refl)
+    inr (call.Detach key, done (Err Failed), tt, (Err Failed, did, refl), refl, (refl, (Err Failed, refl, refl)))
 detached h g key ss (Err UnknownClient) did =
-    inr (call.Detach key, done (Err UnknownClient), tt, (Err UnknownClient, did, refl), refl)
+    inr (call.Detach key, done (Err UnknownClient), tt, (Err UnknownClient, did, refl), refl, (refl, (Err UnknownClient, refl, refl)))
 detached h g key ss (Err (Write e)) did =
-    inr (call.Detach key, done (Err (Write e)), tt, (Err (Write e), did, refl), refl)
+    inr (call.Detach key, done (Err (Write e)), tt, (Err (Write e), did, refl), refl, (refl, (Err (Write e), refl, refl)))
 
 -- ---- bytes that were sent, as a pump
 
@@ -138,7 +173,7 @@ taking e (x ∷ xs) (suc n) fits = takes-some e (x ∷ xs) (suc n) (omega arith)
 
 sent-to : (e : Error) (h g : HubState as_kept) (key count : ℕ) (ss : List SessionView) (c : ClientState)
     → clients_in h key ≡ Some c → count ≤ length c.owed → Puts h key (Some (record c { owed = drop count c.owed })) g
-    → Steps h ss g (sessions_after h (Sent key count) ok ss)
+    → Steps (Sent key count) ok h ss g (sessions_after h (Sent key count) ok ss)
 sent-to e h g key count ss c is fits puts =
     let t : Taking c.owed count = taking e c.owed count fits in
     let answer : Result (Unit {0}) HubError = pump_answer t.answer in
@@ -148,45 +183,64 @@ sent-to e h g key count ss c is fits puts =
       tt,
       (answer, t.rest, rw is (t.answer, count, t.pumps, refl, puts), refl),
       rw (is, t.taken) refl,
+      (t.takes, refl, refl),
     )
 
 sent : (e : Error) (h g : HubState as_kept) (key count : ℕ) (code : ℤ) (ss : List SessionView) (slot : Option ClientState)
-    → clients_in h key ≡ slot → Sends key count h code g → Steps h ss g (sessions_after h (Sent key count) code ss)
+    → clients_in h key ≡ slot → Sends key count h code g
+    → Steps (Sent key count) code h ss g (sessions_after h (Sent key count) code ss)
 sent e h g key count code ss None is did =
-    let none : (code ≡ unknown_client) × (g ≡ h) = rw is at did in
-    inl (none.1, rw none.0 refl)
+    let missing : (code ≡ unknown_client) × (g ≡ h) = rw is at did in
+    rw missing.0 (inl (missing.1, refl, tt))
 sent e h g key count code ss (Some c) is did =
     let some : ((count ≤ length c.owed) × (code ≡ ok) × Puts h key (Some (record c { owed = drop count c.owed })) g)
     ⊎ ((length c.owed < count) × (code ≡ not_owed) × (g ≡ h)) = rw is at did in
     elim some [
       | inl (fits, code_is, puts) ↦ rw code_is (sent-to e h g key count ss c is fits puts)
-      | inr (more, code_is, same) ↦ inl (same, rw code_is refl)
+      | inr (more, code_is, same) ↦ rw code_is (inl (same, refl, tt))
     ]
 
 -- ---- one call, and a run
 
 step : (e : Error) (h g : HubState as_kept) (c : FromC) (code : ℤ) (ss : List SessionView) → IsFromC c → Does c h code g
-    → Steps h ss g (sessions_after h c code ss)
-step e h g (Feed bytes) code ss is (answer, did, code_is) =
-    inr (call.Feed bytes, done answer, tt, (answer, did, refl), feed-same h bytes code ss)
-step e h g (Resize rows cols) code ss fits (inl (none, code_is, same)) = inl (same, rw code_is refl)
+    → Steps c code h ss g (sessions_after h c code ss)
+step e h g (Feed bytes) code ss is (answer, did, code_is) = inr (
+  call.Feed bytes,
+  done answer,
+  tt,
+  (answer, did, refl),
+  feed-same h bytes code ss,
+  (refl, (answer, code_is, refl)),
+)
+step e h g (Resize rows cols) code ss fits (inl (no_cells, code_is, same)) = rw code_is (inl (same, refl, tt))
 step e h g (Resize rows cols) code ss fits (inr (some_rows, some_cols, answer, did, code_is)) =
     rw code_is (resized h g rows cols ss answer ((some_rows, fits.0), (some_cols, fits.1)) did)
 step e h g (Attach old new) code ss is (answer, did, attach) = attached h g old new code ss answer did attach
 step e h g (Detach key) code ss is (answer, did, code_is) = rw code_is (detached h g key ss answer did)
-step e h g (Frame key) code ss is did =
-    inr (call.Frame key, replied Answered did.answer, tt, (did.answer, did.frames, refl), frame-same h key code ss)
+step e h g (Frame key) code ss is did = inr (
+  call.Frame key,
+  replied Answered did.answer,
+  tt,
+  (did.answer, did.frames, refl),
+  frame-same h key code ss,
+  (refl, did.answer, did.code_is, refl),
+)
 step e h g (Sent key count) code ss is did = sent e h g key count code ss (clients_in h key) refl did
 
-stepped : (h g k : HubState as_kept) (ss us ts : List SessionView) → Steps h ss g us
-    → ((calls : List Call) × (replies : List Reply) × RunsLogged g us calls replies k ts)
-    → (calls : List Call) × (replies : List Reply) × RunsLogged h ss calls replies k ts
-stepped h g k ss us ts (inl (same, kept)) (calls, replies, runs) = (calls, replies, rw (same, kept) at runs)
-stepped h g k ss us ts (inr (c, reply, is, serves, kept)) (calls, replies, runs) =
-    (c ∷ calls, reply ∷ replies, (g, is, serves, rw kept at runs))
+-- calls from C are a run of the library's calls
+abbrev IsRun : HubState as_kept → List SessionView → List (FromC × ℤ) → HubState as_kept → List SessionView → Type 0
+IsRun h ss made k ts =
+    (calls : List Call) × (replies : List Reply) × AreCallsOf made calls replies × RunsLogged h ss calls replies k ts
+
+stepped : (h g k : HubState as_kept) (ss us ts : List SessionView) (c : FromC) (code : ℤ) (made : List (FromC × ℤ))
+    → Steps c code h ss g us → IsRun g us made k ts → IsRun h ss ((c, code) ∷ made) k ts
+stepped h g k ss us ts c code made (inl (same, kept, refused)) (calls, replies, are, runs) =
+    (calls, replies, refuses c code refused are, rw (same, kept) at runs)
+stepped h g k ss us ts c code made (inr (x, reply, is, serves, kept, is_of)) (calls, replies, are, runs) =
+    (x ∷ calls, reply ∷ replies, asks c code x reply is_of are, (g, is, serves, rw kept at runs))
 
 pub runs-logged : EachRunFromCIsLogged
-runs-logged e h k ss ts [] (same, kept) = ([], [], (same, kept))
+runs-logged e h k ss ts [] (same, kept) = ([], [], none, (same, kept))
 runs-logged e h k ss ts ((c, code) ∷ made) (g, is, did, later) =
-    stepped h g k ss (sessions_after h c code ss) ts (step e h g c code ss is did)
+    stepped h g k ss (sessions_after h c code ss) ts c code made (step e h g c code ss is did)
     (runs-logged e g k (sessions_after h c code ss) ts made later)

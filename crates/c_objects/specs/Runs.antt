@@ -1,13 +1,19 @@
 -- Calls from C on one hub. They are a run of the library's calls.
 use Rattle.std.specs.Prelude.{◌≡◌, ℕ, ◌<◌, ◌^◌, ℤ, pos, negsuc, List, [], ◌∷◌, ◌++◌, map, take}
-use Rattle.std.specs.Prelude.{Option, Some, None}
+use Rattle.std.specs.Prelude.{Option, Some, None, Result}
 use Rattle.std.specs.declared.io.Error.{Error}
 use Rattle.termrelay.specs.Answers.{ClientState}
-use Rattle.termrelay.specs.Calls.{Call}
+use Rattle.termrelay.specs.Calls as asked
+use Rattle.termrelay.specs.Calls.{Call, done, replied}
 use Rattle.termrelay.specs.Hub.{HubState, as_kept, clients_in}
 use Rattle.termrelay.specs.Log.{SessionView, begun, ended, grown, change_last, is_of, RunsLogged}
+use Rattle.termrelay.specs.declared.answer.Answer.{Answer}
 use Rattle.termrelay.specs.declared.call.Reply.{Reply}
-use Rattle.c_objects.specs.Hubs.{Feeds, Resizes, Attaches, Detaches, Frames, Sends}
+use Rattle.termrelay.specs.declared.call.Reply.TheVariants.{Attached as WasAttached, Answered}
+use Rattle.termrelay.specs.declared.call.Take.{Take}
+use Rattle.termrelay.specs.declared.error.HubError.{HubError}
+use Rattle.c_objects.specs.Codes.{IsRefusal, ok, code_of, frame_code}
+use Rattle.c_objects.specs.Hubs.{Feeds, Resizes, Attached, Attaches, Detaches, Frames, Sends}
 
 -- a call from C, by its values
 pub data FromC : Type 0 where
@@ -66,9 +72,41 @@ RunsFromC h ss ((call, code) ∷ calls) k ts =
     (g : HubState as_kept) × IsFromC call × Does call h code g
     × RunsFromC g (sessions_after h call code ss) calls k ts
 
+-- ---- the library's calls that these are
+
+-- the reply to a call that C gets this number for
+abbrev pub IsDone : ℤ → Reply → Type 0
+IsDone code reply = (answer : Result (Unit {0}) HubError) × (code ≡ code_of answer) × (reply ≡ done answer)
+
+-- The library's call that a call from C is, its reply, and the number that C gets for it. Sent bytes are a pump to a
+-- writer that takes as many, and then maybe fails.
+abbrev pub IsCallOf : FromC → ℤ → Call → Reply → Type 0
+IsCallOf (Feed bytes) code call reply = (call ≡ asked.Feed bytes) × IsDone code reply
+IsCallOf (Resize rows cols) code call reply = (call ≡ asked.Resize rows cols) × IsDone code reply
+IsCallOf (Attach old new) code call reply =
+    (call ≡ asked.Attach) × (answer : Result ℕ HubError) × Attached answer old new code
+    × (reply ≡ replied WasAttached answer)
+IsCallOf (Detach key) code call reply = (call ≡ asked.Detach key) × IsDone code reply
+IsCallOf (Frame key) code call reply =
+    (call ≡ asked.Frame key) × (answer : Result Answer HubError) × (code ≡ frame_code answer)
+    × (reply ≡ replied Answered answer)
+IsCallOf (Sent key count) code call reply = (takes : List Take) × (call ≡ asked.Pump key takes) × (code ≡ ok)
+
+-- the library's calls and their replies that calls from C are, in order
+pub data AreCallsOf : List (FromC × ℤ) → List Call → List Reply → Type 0 where
+  none : AreCallsOf [] [] []
+  -- a call of the library
+  asks : {made : List (FromC × ℤ)} {calls : List Call} {replies : List Reply} (c : FromC) (code : ℤ) (call : Call)
+      (reply : Reply)
+      → IsCallOf c code call reply → AreCallsOf made calls replies
+      → AreCallsOf ((c, code) ∷ made) (call ∷ calls) (reply ∷ replies)
+  -- a refusal for which no call of the library stands
+  refuses : {made : List (FromC × ℤ)} {calls : List Call} {replies : List Reply} (c : FromC) (code : ℤ)
+      → IsRefusal code → AreCallsOf made calls replies → AreCallsOf ((c, code) ∷ made) calls replies
+
 -- Such calls are a run of the library's calls, with the same hub, and with sessions that were handed the same bytes.
 -- This holds for every error with which a writer may stop after it has taken some bytes.
 abbrev pub EachRunFromCIsLogged : Type 0
 EachRunFromCIsLogged = (e : Error) (h k : HubState as_kept) (ss ts : List SessionView) (made : List (FromC × ℤ))
     → RunsFromC h ss made k ts
-    → (calls : List Call) × (replies : List Reply) × RunsLogged h ss calls replies k ts
+    → (calls : List Call) × (replies : List Reply) × AreCallsOf made calls replies × RunsLogged h ss calls replies k ts

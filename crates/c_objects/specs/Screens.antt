@@ -13,7 +13,7 @@ use Rattle.vt100.specs.Goes.{GoesThrough}
 use Rattle.vt100.specs.Memory.{some_may_take}
 use Rattle.vt100.specs.Parsing.{ParserView, HasRead, ParserIsAfter}
 use Rattle.vt100.specs.Texts.{text_between}
-use Rattle.vt100.specs.Tries.{Tries, TriesAlone, SameBounds, Stops}
+use Rattle.vt100.specs.Tries.{Tries, TriesAlone, TakesNone, SameBounds, Stops}
 use Rattle.vt100.specs.Writers.{contents_formatted, state_formatted, state_diff}
 use Rattle.vt100.specs.Written.{GivesRedraw, GivesDifference}
 use Rattle.vt100.specs.declared.error.ScreenError.{ScreenError}
@@ -78,6 +78,7 @@ pub record Resizes (rows cols : ℕ) (p : ParserView RequestsView) (answer : Res
   pub stops : answer ≡ Err Memory → Stops rows cols p.screen.state q.screen.state
   pub same : p.screen.failed ≡ false → rows ≡ p.screen.state.shown.height → cols ≡ p.screen.state.shown.width
       → IsOk answer
+  pub smaller : p.screen.failed ≡ false → TakesNone rows cols p.screen.state → IsOk answer
   pub reader : q.reader ≡ p.reader
   pub made : (height width capacity : ℕ) (acts : List Act) → ParserIsAfter p height width capacity acts
       → OnOk answer (ParserIsAfter q height width capacity (acts ++ Resized rows cols ∷ []))

@@ -7,7 +7,14 @@ pub returns-in-Ok : goal.returns-in-Ok
 returns-in-Ok c =
     let e = c.in-Ok.ensures in (
       Ok c.in-Ok.field-0,
-      record { screen = e.screen; stops = e.stops; same = e.same; reader = e.reader; made = e.made },
+      record {
+        screen = e.screen;
+        stops = e.stops;
+        same = e.same;
+        smaller = e.smaller;
+        reader = e.reader;
+        made = e.made;
+      },
       refl,
       refl,
     )
@@ -19,7 +26,14 @@ returns-in-Err c =
     (record { parser = c.set_size.new.self; mark = c.args.marked.now.mark })) c.screen_refusal.result
     c.screen_refusal.type_inv (
       Err c.in-Err.error,
-      record { screen = e.screen; stops = e.stops; same = e.same; reader = e.reader; made = e.made },
+      record {
+        screen = e.screen;
+        stops = e.stops;
+        same = e.same;
+        smaller = e.smaller;
+        reader = e.reader;
+        made = e.made;
+      },
       c.screen_refusal.ensures,
       refl,
     )
