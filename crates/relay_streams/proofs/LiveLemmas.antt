@@ -19,14 +19,17 @@ use Rattle.byte_sinks.proofs.SendLemmas.{text-pumped, text-failed, text-appends,
 use Rattle.termrelay.specs.Hub.{HubState, as_kept}
 use Rattle.relay_streams.specs.declared.error.RelayError.{RelayError}
 use Rattle.relay_streams.specs.declared.error.RelayError.TheVariants.{Read, Write, Memory, TooManyReads, FrameTooLong}
+use Rattle.line_drawing.specs.declared.lines.LineDrawing.{LineDrawing}
 use Rattle.relay_streams.specs.Fill.{IsReadBy, max_reads}
 use Rattle.relay_streams.specs.Frames.{asked, is_overlong}
 use Rattle.relay_streams.specs.Live as live
-use Rattle.relay_streams.specs.Live.{live_len, Tries, Listens, SendsFlushed, StreamsLive, RelaysLive, IsLiveText}
+use Rattle.line_drawing.specs.Lines.{all_passed, passed}
+use Rattle.relay_streams.specs.Live.{live_len, Tries, Listens, SendsFlushed, StreamsThrough, RelaysThrough, IsLiveText}
 use Rattle.relay_streams.specs.Live.{TakesLive, TriesOnce, read_as}
-use Rattle.relay_streams.specs.Sessions.{AreRelayed}
+use Rattle.relay_streams.specs.Sessions.{AreRelayed, EndsOverlong}
 use Rattle.relay_streams.specs.Turns.{Relaying, Turned}
 use Rattle.relay_streams.proofs.FrameLists.{frames_of, answers_of, base_of, frames-more, fits-push, base-push}
+use Rattle.line_drawing.proofs.LineLemmas.{concat-passed, none-passed, passed-cut, passed-push}
 use Rattle.relay_streams.proofs.OutcomeLemmas.{if_known, Appends-kept}
 use Rattle.relay_streams.proofs.PieceLemmas.{Consumes-more, Consumes-none, kept-Consumes, left-known, all-taken}
 use Rattle.relay_streams.proofs.SessionLemmas.{frames-are-relayed, ends-overlong, frames-of, relayed-by}
@@ -117,51 +120,77 @@ module _ {S : Type 0} {step : S → ℕ → Result (List ℕ) Error → S → Ty
 
 module _ (S W : Type 0) (gives : S → ℕ → Result (List ℕ) Error → S → Type 0)
     (takes : W → List ℕ → Result ℕ Error → W → Type 0) (flushes : W → Result (Unit {0}) Error → W → Type 0)
-    (rows cols : ℕ) (past : List (List ℕ)) (piece : List ℕ) (key : ℕ) (g : HubState as_kept) where
+    (rows cols : ℕ) (lines : LineDrawing) (past : List (List ℕ)) (piece : List ℕ) where
+  -- the pieces that were read, and those of them that were fed
   abbrev pieces : List (List ℕ)
   pieces = past ++ piece ∷ []
 
-  abbrev base : Option Shown
-  base = base_of rows cols past
+  abbrev before : List (List ℕ)
+  before = all_passed lines past
 
-  frames-are : frames_of rows cols pieces ≡ frames_of rows cols past ++ (asked rows cols (concat pieces) base).owed ∷ []
-  frames-are = frames-more rows cols past (piece ∷ [])
+  abbrev here : List ℕ
+  here = passed lines (concat past) piece
+
+  abbrev fed : List (List ℕ)
+  fed = before ++ here ∷ []
+
+  fed-is : all_passed lines pieces ≡ fed
+  fed-is = passed-push lines past piece
+
+  abbrev base : Option Shown
+  base = base_of rows cols before
+
+  frames-are : frames_of rows cols fed ≡ frames_of rows cols before ++ (asked rows cols (concat fed) base).owed ∷ []
+  frames-are = frames-more rows cols before (here ∷ [])
 
   -- no frame is too long
   abbrev Fit : List (List ℕ) → Type 0
   Fit ps = list_any is_overlong (answers_of rows cols ps) ≡ false
 
+  -- the piece couldn't pass
+  pub live-refused : (s t : S) (w v : W) (n : ℕ) → IsSide rows → IsSide cols → Listens gives live_len s n pieces t
+      → Fit before → SendsFlushed takes flushes w (frames_of rows cols before) over v
+      → StreamsThrough lines gives takes flushes rows cols s w (Err Memory) t v
+  live-refused s t w v n height width b fit sends =
+      live.unmade past (frames_of rows cols before) piece b (frames-are-relayed rows cols before height width fit) sends
+
   -- a turn at which a fault came
-  pub live-faults : (s t : S) (w m v : W) (n : ℕ) (e : RelayError) → IsSide rows → IsSide cols
-      → Listens gives live_len s n pieces t → Fit past → SendsFlushed takes flushes w (frames_of rows cols past) over m
-      → Turned takes rows cols pieces base key m (Err e) v g
-      → StreamsLive gives takes flushes rows cols s w (Err e) t v
-  live-faults s t w m v n Read height width b fit sends turned = absurd turned
-  live-faults s t w m v n Write height width b fit sends (last, x, k, pumps) =
-      live.stopped pieces (frames_of rows cols pieces) x b
-      (frames-are-relayed rows cols pieces height width (fits-push rows cols past piece fit last))
+  pub live-faults : (key : ℕ) (g : HubState as_kept) (s t : S) (w m v : W) (n : ℕ) (e : RelayError) → IsSide rows
+      → IsSide cols → Listens gives live_len s n pieces t → Fit before
+      → SendsFlushed takes flushes w (frames_of rows cols before) over m
+      → Turned takes rows cols fed base key m (Err e) v g
+      → StreamsThrough lines gives takes flushes rows cols s w (Err e) t v
+  live-faults key g s t w m v n Read height width b fit sends turned = absurd turned
+  live-faults key g s t w m v n Write height width b fit sends (last, x, k, pumps) =
+      live.stopped pieces (frames_of rows cols fed) x b
+      (subst (λ (ps : List (List ℕ)). AreRelayed rows cols ps (frames_of rows cols fed)) (sym fed-is)
+      (frames-are-relayed rows cols fed height width (fits-push rows cols before here fit last)))
       (subst (λ (texts : List (List ℕ)). SendsFlushed takes flushes w texts (Err x) v) (sym frames-are)
       (live.broken m sends pumps))
-  live-faults s t w m v n Memory height width b fit sends turned =
-      live.unmade past (frames_of rows cols past) piece b (frames-are-relayed rows cols past height width fit)
-      (subst (λ (u : W). SendsFlushed takes flushes w (frames_of rows cols past) over u) (sym turned) sends)
-  live-faults s t w m v n FrameTooLong height width b fit sends (long, stays) =
-      live.overlong past (frames_of rows cols past) piece b (frames-are-relayed rows cols past height width fit)
-      (ends-overlong rows cols past piece height width long)
-      (subst (λ (u : W). SendsFlushed takes flushes w (frames_of rows cols past) over u) (sym stays) sends)
-  live-faults s t w m v n TooManyReads height width b fit sends turned = absurd turned
+  live-faults key g s t w m v n Memory height width b fit sends turned =
+      live.unmade past (frames_of rows cols before) piece b (frames-are-relayed rows cols before height width fit)
+      (subst (λ (u : W). SendsFlushed takes flushes w (frames_of rows cols before) over u) (sym turned) sends)
+  live-faults key g s t w m v n FrameTooLong height width b fit sends (long, stays) =
+      live.overlong past (frames_of rows cols before) piece b (frames-are-relayed rows cols before height width fit)
+      (subst (λ (ps : List (List ℕ)). EndsOverlong rows cols ps) (sym fed-is)
+      (ends-overlong rows cols before here height width long))
+      (subst (λ (u : W). SendsFlushed takes flushes w (frames_of rows cols before) over u) (sym stays) sends)
+  live-faults key g s t w m v n TooManyReads height width b fit sends turned = absurd turned
 
   -- one that went well, and the flush after it
-  pub live-goes : (w m k v : W) (answer : Result (Unit {0}) Error) → Fit past
-      → SendsFlushed takes flushes w (frames_of rows cols past) over m
-      → Turned takes rows cols pieces base key m well k g → flushes k answer v
-      → Fit pieces × SendsFlushed takes flushes w (frames_of rows cols pieces) answer v
-      × Relaying rows cols pieces (base_of rows cols pieces) g key
-  live-goes w m k v answer fit sends turned flush = (
-    fits-push rows cols past piece fit turned.0,
+  abbrev Goes : ℕ → HubState as_kept → W → Result (Unit {0}) Error → W → List (List ℕ) → Type 0
+  Goes key g w answer v ps = Fit ps × SendsFlushed takes flushes w (frames_of rows cols ps) answer v
+      × Relaying rows cols ps (base_of rows cols ps) g key
+
+  pub live-goes : (key : ℕ) (g : HubState as_kept) (w m k v : W) (answer : Result (Unit {0}) Error) → Fit before
+      → SendsFlushed takes flushes w (frames_of rows cols before) over m
+      → Turned takes rows cols fed base key m well k g → flushes k answer v
+      → Goes key g w answer v (all_passed lines pieces)
+  live-goes key g w m k v answer fit sends turned flush = subst (Goes key g w answer v) (sym fed-is) (
+    fits-push rows cols before here fit turned.0,
     subst (λ (texts : List (List ℕ)). SendsFlushed takes flushes w texts answer v) (sym frames-are)
         (live.sent m k sends turned.1.1 flush),
-    subst (λ (b : Option Shown). Relaying rows cols pieces b g key) (sym (base-push rows cols past piece)) turned.2,
+    subst (λ (b : Option Shown). Relaying rows cols fed b g key) (sym (base-push rows cols before here)) turned.2,
   )
 
 -- ---- what is left, where the source and the writer tell their bytes
@@ -243,18 +272,19 @@ module _ (S W : Type 0) (gives : S → ℕ → Result (List ℕ) Error → S →
         (relayed-by rows cols are.key pieces are.story are.is).pumped
         ∙ ap concat (sym (frames-of rows cols pieces frames are))
 
-    takes-live : (rows cols : ℕ) (w v : W) (pieces frames : List (List ℕ)) (answer : Result (Unit {0}) Error)
-        (bytes rest : List ℕ) → AreRelayed rows cols pieces frames → SendsFlushed takes flushes w frames answer v
-        → bytes ≡ concat pieces ++ rest → TakesLive rows cols bytes (contents w) (contents v)
-    takes-live rows cols w v pieces frames answer bytes rest are sends cut = record {
-      pieces = pieces;
-      rest = rest;
-      cut = cut;
+    takes-live : (rows cols : ℕ) (lines : LineDrawing) (w v : W) (pieces frames : List (List ℕ))
+        (answer : Result (Unit {0}) Error) (bytes rest : List ℕ) → AreRelayed rows cols (all_passed lines pieces) frames
+        → SendsFlushed takes flushes w frames answer v → bytes ≡ concat pieces ++ rest
+        → TakesLive rows cols (passed lines [] bytes) (contents w) (contents v)
+    takes-live rows cols lines w v pieces frames answer bytes rest are sends cut = record {
+      pieces = all_passed lines pieces;
+      rest = passed lines (concat pieces) rest;
+      cut = ap (passed lines []) cut ∙ passed-cut lines pieces rest;
       key = are.key;
       story = are.story;
       is = are.is;
-      took = subst (TakesPrefix (contents w) (contents v)) (sym (pumped-is rows cols pieces frames are))
-          (flushed-prefix w v frames answer sends);
+      took = subst (TakesPrefix (contents w) (contents v))
+          (sym (pumped-is rows cols (all_passed lines pieces) frames are)) (flushed-prefix w v frames answer sends);
     }
 
     listened : (s : S) (n : ℕ) (pieces : List (List ℕ)) (t : S) (bytes : List ℕ) → Listens gives live_len s n pieces t
@@ -273,66 +303,72 @@ module _ (S W : Type 0) (gives : S → ℕ → Result (List ℕ) Error → S →
           all.1 ∙ ap (λ zs. zs ++ all.0) (concat-one pieces piece) ∙ append_assoc (concat pieces) piece all.0,
         )
 
-    pub streams-prefix : (rows cols : ℕ) (s : S) (w : W) (answer : Result (Unit {0}) RelayError) (t : S) (v : W)
-        (bytes : List ℕ) → StreamsLive gives takes flushes rows cols s w answer t v → left s ≡ Some bytes
-        → TakesLive rows cols bytes (contents w) (contents v)
-    streams-prefix rows cols s w answer t v bytes (live.unread {n = n} m pieces frames e listens tries are sends) is =
+    pub streams-prefix : (rows cols : ℕ) (lines : LineDrawing) (s : S) (w : W) (answer : Result (Unit {0}) RelayError)
+        (t : S) (v : W) (bytes : List ℕ) → StreamsThrough lines gives takes flushes rows cols s w answer t v
+        → left s ≡ Some bytes → TakesLive rows cols (passed lines [] bytes) (contents w) (contents v)
+    streams-prefix rows cols lines s w answer t v bytes
+        (live.unread {n = n} m pieces frames e listens tries are sends) is =
         let cut = listened s n pieces m bytes listens is in
-        takes-live rows cols w v pieces frames over bytes cut.0 are sends cut.1
-    streams-prefix rows cols s w answer t v bytes (live.unmade {n = n} pieces frames piece listens are sends) is =
+        takes-live rows cols lines w v pieces frames over bytes cut.0 are sends cut.1
+    streams-prefix rows cols lines s w answer t v bytes (live.unmade {n = n} pieces frames piece listens are sends) is =
         let cut = listened-past s n pieces piece t bytes listens is in
-        takes-live rows cols w v pieces frames over bytes cut.0 are sends cut.1
-    streams-prefix rows cols s w answer t v bytes (live.overlong {n = n} pieces frames piece listens are ends sends) is =
+        takes-live rows cols lines w v pieces frames over bytes cut.0 are sends cut.1
+    streams-prefix rows cols lines s w answer t v bytes
+        (live.overlong {n = n} pieces frames piece listens are ends sends) is =
         let cut = listened-past s n pieces piece t bytes listens is in
-        takes-live rows cols w v pieces frames over bytes cut.0 are sends cut.1
-    streams-prefix rows cols s w answer t v bytes (live.stopped {n = n} pieces frames e listens are sends) is =
+        takes-live rows cols lines w v pieces frames over bytes cut.0 are sends cut.1
+    streams-prefix rows cols lines s w answer t v bytes (live.stopped {n = n} pieces frames e listens are sends) is =
         let cut = listened s n pieces t bytes listens is in
-        takes-live rows cols w v pieces frames (Err e) bytes cut.0 are sends cut.1
-    streams-prefix rows cols s w answer t v bytes (live.ended {n = n} m pieces frames listens tries are sends) is =
+        takes-live rows cols lines w v pieces frames (Err e) bytes cut.0 are sends cut.1
+    streams-prefix rows cols lines s w answer t v bytes
+        (live.ended {n = n} m pieces frames listens tries are sends) is =
         let cut = listened s n pieces m bytes listens is in
-        takes-live rows cols w v pieces frames over bytes cut.0 are sends cut.1
+        takes-live rows cols lines w v pieces frames over bytes cut.0 are sends cut.1
 
-    streams-whole : (rows cols : ℕ) (s : S) (w : W) (answer : Result (Unit {0}) RelayError) (t : S) (v : W)
-        (bytes : List ℕ) → StreamsLive gives takes flushes rows cols s w answer t v → answer ≡ well
+    streams-whole : (rows cols : ℕ) (lines : LineDrawing) (s : S) (w : W) (answer : Result (Unit {0}) RelayError) (t : S)
+        (v : W) (bytes : List ℕ) → StreamsThrough lines gives takes flushes rows cols s w answer t v → answer ≡ well
         → left s ≡ Some bytes
-        → (text : List ℕ) × IsLiveText rows cols bytes text × Appends (contents w) (contents v) text
-    streams-whole rows cols s w answer t v bytes (live.ended {n = n} {k = k} m pieces frames listens tries are sends) ok
-        is = (
+        → (text : List ℕ) × IsLiveText rows cols (passed lines [] bytes) text × Appends (contents w) (contents v) text
+    streams-whole rows cols lines s w answer t v bytes
+        (live.ended {n = n} {k = k} m pieces frames listens tries are sends) ok is = (
           concat frames,
           record {
-            pieces = pieces;
-            whole = all-taken (left s) (left t) bytes (concat pieces) is
+            pieces = all_passed lines pieces;
+            whole = concat-passed lines pieces
+                ∙ ap (passed lines []) (all-taken (left s) (left t) bytes (concat pieces) is
                 (subst (Consumes (left s) (left t)) (append-nil (concat pieces))
                 (Consumes-more (left s) (left m) (left t) (concat pieces) []
                 (listens-taken s live_len n pieces m listens) (tries-taken live_len m k (Ok []) t [] tries refl)))
-                (tries-ended live_len m k (Ok []) t tries refl (omega arith));
+                (tries-ended live_len m k (Ok []) t tries refl (omega arith)));
             key = are.key;
             story = are.story;
             is = are.is;
             fits = are.fits;
-            pumped = pumped-is rows cols pieces frames are;
+            pumped = pumped-is rows cols (all_passed lines pieces) frames are;
           },
           flushed-appends w v frames over sends refl,
         )
-    streams-whole rows cols s w answer t v bytes _ ok is = absurd (cc)
+    streams-whole rows cols lines s w answer t v bytes _ ok is = absurd (cc)
 
-    -- all that the contract of `relay_live` says of what it leaves
-    pub live-reported : (rows cols : ℕ) (s : S) (w : W) (answer : Result (Unit {0}) RelayError) (t : S) (v : W)
-        → IsSide rows → IsSide cols → RelaysLive gives takes flushes rows cols s w answer t v
-        → OnOk answer (IfSome (left s) (λ bytes. (text : List ℕ) × IsLiveText rows cols bytes text
+    -- all that the contract of `relay_live_with` says of what it leaves
+    pub live-reported : (rows cols : ℕ) (lines : LineDrawing) (s : S) (w : W) (answer : Result (Unit {0}) RelayError)
+        (t : S) (v : W) → IsSide rows → IsSide cols
+        → RelaysThrough lines gives takes flushes rows cols s w answer t v
+        → OnOk answer (IfSome (left s) (λ bytes. (text : List ℕ) × IsLiveText rows cols (passed lines [] bytes) text
         × Appends (contents w) (contents v) text))
-        × IfSome (left s) (λ bytes. TakesLive rows cols bytes (contents w) (contents v))
-    live-reported rows cols s w answer t v height width live.refused = (
+        × IfSome (left s) (λ bytes. TakesLive rows cols (passed lines [] bytes) (contents w) (contents v))
+    live-reported rows cols lines s w answer t v height width live.refused = (
       tt,
       if_known (left s) _ (λ bytes is.
-          takes-live rows cols w w [] (frames_of rows cols []) over bytes bytes
-          (frames-are-relayed rows cols [] height width refl) live.none refl),
+          takes-live rows cols lines w w [] (frames_of rows cols []) over bytes bytes
+          (none-passed lines (λ ps. AreRelayed rows cols ps (frames_of rows cols []))
+          (frames-are-relayed rows cols [] height width refl)) live.none refl),
     )
-    live-reported rows cols s w (Ok u) t v height width (live.streamed streams) = (
-      if_known (left s) _ (λ bytes is. streams-whole rows cols s w (Ok u) t v bytes streams refl is),
-      if_known (left s) _ (λ bytes is. streams-prefix rows cols s w (Ok u) t v bytes streams is),
+    live-reported rows cols lines s w (Ok u) t v height width (live.streamed streams) = (
+      if_known (left s) _ (λ bytes is. streams-whole rows cols lines s w (Ok u) t v bytes streams refl is),
+      if_known (left s) _ (λ bytes is. streams-prefix rows cols lines s w (Ok u) t v bytes streams is),
     )
-    live-reported rows cols s w (Err e) t v height width (live.streamed streams) = (
+    live-reported rows cols lines s w (Err e) t v height width (live.streamed streams) = (
       tt,
-      if_known (left s) _ (λ bytes is. streams-prefix rows cols s w (Err e) t v bytes streams is),
+      if_known (left s) _ (λ bytes is. streams-prefix rows cols lines s w (Err e) t v bytes streams is),
     )

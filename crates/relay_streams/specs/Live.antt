@@ -10,7 +10,10 @@ use Rattle.byte_sinks.specs.Pump.{Pumps}
 use Rattle.relay_theorem.specs.History.{Story}
 use Rattle.relay_streams.specs.declared.error.RelayError.{RelayError}
 use Rattle.relay_streams.specs.declared.error.RelayError.TheVariants.{Read, Write, Memory, TooManyReads, FrameTooLong}
+use Rattle.line_drawing.specs.declared.lines.LineDrawing.{LineDrawing}
+use Rattle.line_drawing.specs.declared.lines.LineDrawing.TheVariants.{Kept}
 use Rattle.relay_streams.specs.Fill.{max_reads}
+use Rattle.line_drawing.specs.Lines.{all_passed}
 use Rattle.relay_streams.specs.Sessions.{IsRelayed, has_overlong, AreRelayed, EndsOverlong}
 
 -- bytes of the room that a live read is given
@@ -69,42 +72,53 @@ pub data SendsFlushed {W : Type 0} (takes : W → List ℕ → Result ℕ Error 
 
 -- ---- both
 
--- From a source and a writer, pieces are read, and the frame that is due after each is sent and flushed before the next
--- one is read: so it is answered, and so both are left.
-pub data StreamsLive {S W : Type 0} (gives : S → ℕ → Result (List ℕ) Error → S → Type 0)
+-- From a source and a writer, pieces are read and pass, and the frame that is due after each is sent and flushed before
+-- the next one is read: so it is answered, and so both are left.
+pub data StreamsThrough (lines : LineDrawing) {S W : Type 0} (gives : S → ℕ → Result (List ℕ) Error → S → Type 0)
     (takes : W → List ℕ → Result ℕ Error → W → Type 0) (flushes : W → Result (Unit {0}) Error → W → Type 0)
     (rows cols : ℕ) (s : S) (w : W) : Result (Unit {0}) RelayError → S → W → Type 0 where
   -- a read failed, or as many were made as may be: the frames of the pieces were sent
   unread : {t : S} {v : W} {n k : ℕ} (m : S) (pieces frames : List (List ℕ)) (e : RelayError)
-      → Listens gives live_len s n pieces m → Tries gives live_len m k (Err e) t → AreRelayed rows cols pieces frames
-      → SendsFlushed takes flushes w frames (Ok tt) v → StreamsLive gives takes flushes rows cols s w (Err e) t v
+      → Listens gives live_len s n pieces m → Tries gives live_len m k (Err e) t
+      → AreRelayed rows cols (all_passed lines pieces) frames → SendsFlushed takes flushes w frames (Ok tt) v
+      → StreamsThrough lines gives takes flushes rows cols s w (Err e) t v
   -- there was no memory for a piece or its frame: the frames before it were sent
   unmade : {t : S} {v : W} {n : ℕ} (pieces frames : List (List ℕ)) (piece : List ℕ)
-      → Listens gives live_len s n (pieces ++ piece ∷ []) t → AreRelayed rows cols pieces frames
-      → SendsFlushed takes flushes w frames (Ok tt) v → StreamsLive gives takes flushes rows cols s w (Err Memory) t v
+      → Listens gives live_len s n (pieces ++ piece ∷ []) t → AreRelayed rows cols (all_passed lines pieces) frames
+      → SendsFlushed takes flushes w frames (Ok tt) v
+      → StreamsThrough lines gives takes flushes rows cols s w (Err Memory) t v
   -- the frame of the last piece would be too long: the frames before it were sent
   overlong : {t : S} {v : W} {n : ℕ} (pieces frames : List (List ℕ)) (piece : List ℕ)
-      → Listens gives live_len s n (pieces ++ piece ∷ []) t → AreRelayed rows cols pieces frames
-      → EndsOverlong rows cols (pieces ++ piece ∷ []) → SendsFlushed takes flushes w frames (Ok tt) v
-      → StreamsLive gives takes flushes rows cols s w (Err FrameTooLong) t v
+      → Listens gives live_len s n (pieces ++ piece ∷ []) t → AreRelayed rows cols (all_passed lines pieces) frames
+      → EndsOverlong rows cols (all_passed lines (pieces ++ piece ∷ [])) → SendsFlushed takes flushes w frames (Ok tt) v
+      → StreamsThrough lines gives takes flushes rows cols s w (Err FrameTooLong) t v
   -- a write of the last piece's frame failed or took nothing, or the flush after it failed
   stopped : {t : S} {v : W} {n : ℕ} (pieces frames : List (List ℕ)) (e : Error)
-      → Listens gives live_len s n pieces t → AreRelayed rows cols pieces frames
-      → SendsFlushed takes flushes w frames (Err e) v → StreamsLive gives takes flushes rows cols s w (Err Write) t v
+      → Listens gives live_len s n pieces t → AreRelayed rows cols (all_passed lines pieces) frames
+      → SendsFlushed takes flushes w frames (Err e) v
+      → StreamsThrough lines gives takes flushes rows cols s w (Err Write) t v
   -- the input was read to its end, and all frames were sent
   ended : {t : S} {v : W} {n k : ℕ} (m : S) (pieces frames : List (List ℕ)) → Listens gives live_len s n pieces m
-      → Tries gives live_len m k (Ok []) t → AreRelayed rows cols pieces frames
-      → SendsFlushed takes flushes w frames (Ok tt) v → StreamsLive gives takes flushes rows cols s w (Ok tt) t v
+      → Tries gives live_len m k (Ok []) t → AreRelayed rows cols (all_passed lines pieces) frames
+      → SendsFlushed takes flushes w frames (Ok tt) v
+      → StreamsThrough lines gives takes flushes rows cols s w (Ok tt) t v
 
 -- From a source and a writer it answers so, and leaves both so: there was no memory for the screen, and nothing is read
 -- or written; or pieces were read and frames sent.
-pub data RelaysLive {S W : Type 0} (gives : S → ℕ → Result (List ℕ) Error → S → Type 0)
+pub data RelaysThrough (lines : LineDrawing) {S W : Type 0} (gives : S → ℕ → Result (List ℕ) Error → S → Type 0)
     (takes : W → List ℕ → Result ℕ Error → W → Type 0) (flushes : W → Result (Unit {0}) Error → W → Type 0)
     (rows cols : ℕ) (s : S) (w : W) : Result (Unit {0}) RelayError → S → W → Type 0 where
-  refused : RelaysLive gives takes flushes rows cols s w (Err Memory) s w
+  refused : RelaysThrough lines gives takes flushes rows cols s w (Err Memory) s w
   streamed : {t : S} {v : W} {answer : Result (Unit {0}) RelayError}
-      → StreamsLive gives takes flushes rows cols s w answer t v
-      → RelaysLive gives takes flushes rows cols s w answer t v
+      → StreamsThrough lines gives takes flushes rows cols s w answer t v
+      → RelaysThrough lines gives takes flushes rows cols s w answer t v
+
+-- the same where each piece is fed as it was read
+abbrev pub RelaysLive : {S W : Type 0} → (S → ℕ → Result (List ℕ) Error → S → Type 0)
+    → (W → List ℕ → Result ℕ Error → W → Type 0) → (W → Result (Unit {0}) Error → W → Type 0) → ℕ → ℕ → S → W
+    → Result (Unit {0}) RelayError → S → W → Type 0
+RelaysLive gives takes flushes rows cols s w answer t v =
+    RelaysThrough Kept gives takes flushes rows cols s w answer t v
 
 -- ---- what comes out
 

@@ -3,13 +3,15 @@
 ghost use Rattle.std.specs.Prelude.{◌≡◌, ◌≤◌, ℕ, List, [], None, Option, OnOk, IfSome, length};
 ghost use Rattle.std.specs.Io.KnownBytes.{Appends};
 ghost use Rattle.relay_streams.specs.Fill.{max_reads};
-ghost use Rattle.relay_streams.specs.Live.{IsLiveText, RelaysLive, StreamsLive, TakesLive, TriesOnce};
+ghost use Rattle.line_drawing.specs.Lines.{HasPassed, passed};
+ghost use Rattle.relay_streams.specs.Live.{IsLiveText, RelaysLive, RelaysThrough, StreamsThrough, TakesLive, TriesOnce};
 ghost use Rattle.relay_streams.specs.Turns.{Relaying};
 
 use crate::error::RelayError;
 use crate::relaying::turn;
 use crate::source::{MAX_READS, Source};
 use byte_sinks::FlushSink;
+use line_drawing::{LineDrawing, PieceFilter};
 use std::alloc::Global;
 use std::io::ErrorKind;
 use std::num::NonZeroU16;
@@ -42,20 +44,47 @@ pub fn relay_live<S: Source, W: FlushSink>(
     ensures prefix { IfSome (S.left input.old) (λ bytes.
         TakesLive rows.value cols.value bytes (W.contents output.old) (W.contents output.new)) }
 {
+    relay_live_with(alloc, rows, cols, LineDrawing::Kept, input, output)
+}
+
+/// Does what [`relay_live`] does, where each piece first passes a [`PieceFilter`]. With [`LineDrawing::Kept`] pieces pass
+/// as they are. With [`LineDrawing::Drawn`] what is written is what [`relay_live`] writes of the bytes that
+/// `charset_filter` gives, and still each read brings a frame at once.
+///
+/// A filtered piece has up to four times as many bytes as were read.
+pub fn relay_live_with<S: Source, W: FlushSink>(
+    alloc: Global,
+    rows: NonZeroU16,
+    cols: NonZeroU16,
+    lines: LineDrawing,
+    input: &mut S,
+    output: &mut W,
+) -> Result<(), RelayError>
+    ensures relays { RelaysThrough lines S.gives W.takes W.flushes rows.value cols.value input.old output.old result
+        input.new output.new }
+    ensures text { OnOk result (IfSome (S.left input.old) (λ bytes. (text : List ℕ)
+        × IsLiveText rows.value cols.value (passed lines [] bytes) text
+        × Appends (W.contents output.old) (W.contents output.new) text)) }
+    ensures prefix { IfSome (S.left input.old) (λ bytes.
+        TakesLive rows.value cols.value (passed lines [] bytes) (W.contents output.old) (W.contents output.new)) }
+{
     let mut hub = Hub::new(alloc, rows, cols)?;
     let client = hub.attach()?;
-    relay_reads(&mut hub, client, input, output)
+    let mut filter = PieceFilter::new(alloc, lines);
+    relay_reads(&mut hub, client, &mut filter, input, output)
 }
 
 // Reads the whole input, and has a turn with what each read gives.
 fn relay_reads<S: Source, W: FlushSink>(
     hub: &mut Hub,
     client: Client,
+    filter: &mut PieceFilter,
     input: &mut S,
     output: &mut W,
 ) -> Result<(), RelayError>
-    ensures { (rows cols : ℕ) → Relaying rows cols [] None hub.old client
-        → StreamsLive S.gives W.takes W.flushes rows cols input.old output.old result input.new output.new }
+    ensures { (rows cols : ℕ) (lines : LineDrawing) → Relaying rows cols [] None hub.old client
+        → HasPassed filter.old lines []
+        → StreamsThrough lines S.gives W.takes W.flushes rows cols input.old output.old result input.new output.new }
 {
     let mut piece = [0; LIVE_LEN];
     let mut reads = 0;
@@ -64,7 +93,8 @@ fn relay_reads<S: Source, W: FlushSink>(
         if n == 0 {
             return Ok(());
         }
-        turn(hub, client, &piece[..n], output)?;
+        filter.pass(&piece[..n])?;
+        turn(hub, client, filter.given(&piece[..n]), output)?;
         match output.finish() {
             Ok(()) => {}
             Err(_) => return Err(RelayError::Write),

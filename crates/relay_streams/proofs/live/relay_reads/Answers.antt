@@ -1,8 +1,17 @@
-use Rattle.std.proofs.Common.{◌≡◌, ℕ, List, [], ◌∷◌, ◌++◌, take, length, arith, ap, refl, subst, Ok, Err, None, rules}
-use Rattle.relay_streams.specs.Live.{live_len, Tries, begun, none, unread, stopped, ended}
-use Rattle.relay_streams.specs.Turns.{Relaying}
-use Rattle.relay_streams.proofs.FrameLists.{frames_of, base_of}
+use Rattle.std.proofs.Common.{◌≡◌, ◌∙◌, ℕ, List, [], ◌∷◌, ◌++◌, take, length, arith, ap, sym, subst, Ok, Err, None, refl, false}
+use Rattle.std.proofs.Common.{rules}
+use Rattle.std.specs.List.{concat, list_any}
+use Rattle.line_drawing.specs.declared.lines.LineDrawing.{LineDrawing}
+use Rattle.relay_streams.specs.Frames.{is_overlong}
+use Rattle.line_drawing.specs.Lines.{HasPassed, all_passed, passed}
+use Rattle.relay_streams.specs.declared.error.RelayError.TheVariants.{Memory}
+use Rattle.relay_streams.specs.Live.{live_len, Tries, begun, none, unread, stopped, ended, SendsFlushed}
+use Rattle.relay_streams.specs.Turns.{Relaying, Turned}
+use Rattle.relay_streams.proofs.FrameLists.{frames_of, answers_of, base_of}
+use Rattle.line_drawing.proofs.LineLemmas.{none-passed}
 use Rattle.relay_streams.proofs.LiveLemmas.{tried-fault, tried-gave, tried-made, listens-on, live-faults, live-goes}
+use Rattle.relay_streams.proofs.LiveLemmas.{live-refused}
+use Rattle.relay_streams.proofs.PieceLemmas.{concat-push}
 use Rattle.relay_streams.proofs.SessionLemmas.{frames-are-relayed}
 use Rattle.relay_streams.proofs.live.relay_reads.Goals as goal
 
@@ -11,65 +20,98 @@ reads-init g c = record {
   most = omega arith;
   past = [];
   read = begun;
-  at = λ rows cols at. at;
-  fits = λ rows cols at. refl;
-  sent = λ rows cols at. none;
+  passes = λ lines passes. passes;
+  at = λ rows cols lines at passes. none-passed lines
+      (λ ps. Relaying rows cols ps (base_of rows cols ps) c.args.hub.now c.args.client) at;
+  fits = λ rows cols lines at passes. none-passed lines
+      (λ ps. list_any is_overlong (answers_of rows cols ps) ≡ false) refl;
+  sent = λ rows cols lines at passes. none-passed lines
+      (λ ps. SendsFlushed g.W.ByteSink.takes g.W.FlushSink.flushes c.args.output.now (frames_of rows cols ps) (Ok tt)
+      c.args.output.now) none;
 }
 
 pub returns-in_err-n : goal.returns-in_err-n
-returns-in_err-n g c = λ rows cols at.
+returns-in_err-n g c = λ rows cols lines at passes.
     let so_far = c.reads.invariant in
     let whole : length c.reads.piece ≡ live_len = omega (arith, c.read_some.auto.room) in
     let fault = c.in_err-n.field-0.0 in
+    let fed = all_passed lines so_far.past in
     let is : c.from_residual.result ≡ Err fault = search rules in
-    rw is (unread c.reads.input so_far.past (frames_of rows cols so_far.past) fault so_far.read
+    rw is (unread c.reads.input so_far.past (frames_of rows cols fed) fault so_far.read
     (tried-fault c.read_some.ensures whole fault c.in_err-n.was)
-    (frames-are-relayed rows cols so_far.past at.height at.width (so_far.fits rows cols at))
-    (so_far.sent rows cols at))
+    (frames-are-relayed rows cols fed at.height at.width (so_far.fits rows cols lines at passes))
+    (so_far.sent rows cols lines at passes))
 
 pub returns-then-n-eq0 : goal.returns-then-n-eq0
-returns-then-n-eq0 g c = λ rows cols at.
+returns-then-n-eq0 g c = λ rows cols lines at passes.
     let so_far = c.reads.invariant in
     let whole : length c.reads.piece ≡ live_len = omega (arith, c.read_some.auto.room) in
     let n = c.in_ok-n.n in
+    let fed = all_passed lines so_far.past in
     let zero : n ≡ 0 = omega arith in
     let nothing : take n c.read_some.new.room ≡ [] = ap (λ k. take k c.read_some.new.room) zero in
     let last = subst (λ (bytes : List ℕ). Tries g.S.Source.gives live_len c.reads.input c.read_some.ensures.made
     (Ok bytes) c.read_some.new.input) nothing (tried-gave c.read_some.ensures whole n c.in_ok-n.was) in
-    ended c.reads.input so_far.past (frames_of rows cols so_far.past) so_far.read last
-    (frames-are-relayed rows cols so_far.past at.height at.width (so_far.fits rows cols at))
-    (so_far.sent rows cols at)
+    ended c.reads.input so_far.past (frames_of rows cols fed) so_far.read last
+    (frames-are-relayed rows cols fed at.height at.width (so_far.fits rows cols lines at passes))
+    (so_far.sent rows cols lines at passes)
 
-pub returns-in_err-turn : goal.returns-in_err-turn
-returns-in_err-turn g c = λ rows cols at.
+pub returns-in_err-pass : goal.returns-in_err-pass
+returns-in_err-pass g c = λ rows cols lines at passes.
     let so_far = c.reads.invariant in
     let whole : length c.reads.piece ≡ live_len = omega (arith, c.read_some.auto.room) in
     let n = c.in_ok-n.n in
     let piece : List ℕ = take n c.read_some.new.room in
+    let is : c.from_residual-in_err-pass.result ≡ Err Memory = search rules in
+    let read = listens-on c.read_some.ensures whole n c.in_ok-n.was (omega arith) c.read_some.auto.room so_far.read in
+    rw is (live-refused g.row.S.Denot g.row.W.Denot g.S.Source.gives g.W.ByteSink.takes g.W.FlushSink.flushes rows cols
+    lines so_far.past piece c.args.input.now c.read_some.new.input c.args.output.now c.reads.output
+    c.read_some.new.reads at.height at.width read (so_far.fits rows cols lines at passes)
+    (so_far.sent rows cols lines at passes))
+
+pub returns-in_err-turn : goal.returns-in_err-turn
+returns-in_err-turn g c = λ rows cols lines at passes.
+    let so_far = c.reads.invariant in
+    let whole : length c.reads.piece ≡ live_len = omega (arith, c.read_some.auto.room) in
+    let n = c.in_ok-n.n in
+    let piece : List ℕ = take n c.read_some.new.room in
+    let past = so_far.past in
     let fault = c.in_err-turn.field-0.0 in
     let is : c.from_residual-in_err-turn.result ≡ Err fault = search rules in
     let read = listens-on c.read_some.ensures whole n c.in_ok-n.was (omega arith) c.read_some.auto.room so_far.read in
+    let given : c.given.result.now ≡ passed lines (concat past) piece =
+    c.given.ensures ∙ (c.in_ok-pass.ensures lines (concat past) (so_far.passes lines passes)).1 in
+    let base = base_of rows cols (all_passed lines past) in
+    let turned = subst (λ (xs : List ℕ). Turned g.W.ByteSink.takes rows cols (all_passed lines past ++ xs ∷ []) base
+    c.args.client c.reads.output (Err fault) c.turn.new.output c.turn.new.hub) given
+    (c.in_err-turn.ensures rows cols (all_passed lines past) base (so_far.at rows cols lines at passes)) in
     rw is (live-faults g.row.S.Denot g.row.W.Denot g.S.Source.gives g.W.ByteSink.takes g.W.FlushSink.flushes rows cols
-    so_far.past piece c.args.client c.turn.new.hub c.args.input.now c.read_some.new.input c.args.output.now
-    c.reads.output c.turn.new.output c.read_some.new.reads fault at.height at.width read (so_far.fits rows cols at)
-    (so_far.sent rows cols at)
-    (c.in_err-turn.ensures rows cols so_far.past (base_of rows cols so_far.past) (so_far.at rows cols at)))
+    lines past piece c.args.client c.turn.new.hub c.args.input.now c.read_some.new.input c.args.output.now
+    c.reads.output c.turn.new.output c.read_some.new.reads fault at.height at.width read
+    (so_far.fits rows cols lines at passes) (so_far.sent rows cols lines at passes) turned)
 
 pub returns-in-Err : goal.returns-in-Err
-returns-in-Err g c = λ rows cols at.
+returns-in-Err g c = λ rows cols lines at passes.
     let so_far = c.reads.invariant in
     let whole : length c.reads.piece ≡ live_len = omega (arith, c.read_some.auto.room) in
     let n = c.in_ok-n.n in
     let piece : List ℕ = take n c.read_some.new.room in
-    let pieces : List (List ℕ) = so_far.past ++ piece ∷ [] in
+    let past = so_far.past in
+    let pieces : List (List ℕ) = past ++ piece ∷ [] in
+    let fed = all_passed lines pieces in
     let read = listens-on c.read_some.ensures whole n c.in_ok-n.was (omega arith) c.read_some.auto.room so_far.read in
+    let given : c.given.result.now ≡ passed lines (concat past) piece =
+    c.given.ensures ∙ (c.in_ok-pass.ensures lines (concat past) (so_far.passes lines passes)).1 in
+    let base = base_of rows cols (all_passed lines past) in
+    let turned = subst (λ (xs : List ℕ). Turned g.W.ByteSink.takes rows cols (all_passed lines past ++ xs ∷ []) base
+    c.args.client c.reads.output (Ok tt) c.turn.new.output c.turn.new.hub) given
+    (c.in_ok-turn.ensures rows cols (all_passed lines past) base (so_far.at rows cols lines at passes)) in
     let goes = live-goes g.row.S.Denot g.row.W.Denot g.S.Source.gives g.W.ByteSink.takes g.W.FlushSink.flushes rows cols
-    so_far.past piece c.args.client c.turn.new.hub c.args.output.now c.reads.output c.turn.new.output
-    c.finish.new.self (Err c.in-Err.field-0) (so_far.fits rows cols at) (so_far.sent rows cols at)
-    (c.in_ok-turn.ensures rows cols so_far.past (base_of rows cols so_far.past) (so_far.at rows cols at))
-    c.in-Err.ensures.flushes in
-    stopped pieces (frames_of rows cols pieces) c.in-Err.field-0 read
-    (frames-are-relayed rows cols pieces at.height at.width goes.0) goes.1
+    lines past piece c.args.client c.turn.new.hub c.args.output.now c.reads.output c.turn.new.output
+    c.finish.new.self (Err c.in-Err.field-0) (so_far.fits rows cols lines at passes)
+    (so_far.sent rows cols lines at passes) turned c.in-Err.ensures.flushes in
+    stopped pieces (frames_of rows cols fed) c.in-Err.field-0 read
+    (frames-are-relayed rows cols fed at.height at.width goes.0) goes.1
 
 pub reads-preserved : goal.reads-preserved
 reads-preserved g c =
@@ -77,19 +119,28 @@ reads-preserved g c =
     let whole : length c.reads.piece ≡ live_len = omega (arith, c.read_some.auto.room) in
     let n = c.in_ok-n.n in
     let piece : List ℕ = take n c.read_some.new.room in
-    let goes = λ (rows cols : ℕ) (at : Relaying rows cols [] None c.args.hub.now c.args.client).
+    let past = so_far.past in
+    let goes = λ (rows cols : ℕ) (lines : LineDrawing) (at : Relaying rows cols [] None c.args.hub.now c.args.client)
+    (passes : HasPassed c.args.filter.now lines []).
+    let base = base_of rows cols (all_passed lines past) in
+    let given : c.given.result.now ≡ passed lines (concat past) piece =
+    c.given.ensures ∙ (c.in_ok-pass.ensures lines (concat past) (so_far.passes lines passes)).1 in
     live-goes g.row.S.Denot g.row.W.Denot g.S.Source.gives g.W.ByteSink.takes g.W.FlushSink.flushes rows cols
-    so_far.past piece c.args.client c.turn.new.hub c.args.output.now c.reads.output c.turn.new.output
-    c.finish.new.self (Ok tt) (so_far.fits rows cols at) (so_far.sent rows cols at)
-    (c.in_ok-turn.ensures rows cols so_far.past (base_of rows cols so_far.past) (so_far.at rows cols at))
+    lines past piece c.args.client c.turn.new.hub c.args.output.now c.reads.output c.turn.new.output
+    c.finish.new.self (Ok tt) (so_far.fits rows cols lines at passes) (so_far.sent rows cols lines at passes)
+    (subst (λ (xs : List ℕ). Turned g.W.ByteSink.takes rows cols (all_passed lines past ++ xs ∷ []) base
+    c.args.client c.reads.output (Ok tt) c.turn.new.output c.turn.new.hub) given
+    (c.in_ok-turn.ensures rows cols (all_passed lines past) base (so_far.at rows cols lines at passes)))
     c.in-Ok.ensures.flushes in
     record {
       most = c.read_some.ensures.most;
-      past = so_far.past ++ piece ∷ [];
+      past = past ++ piece ∷ [];
       read = listens-on c.read_some.ensures whole n c.in_ok-n.was (omega arith) c.read_some.auto.room so_far.read;
-      at = λ rows cols at. (goes rows cols at).2;
-      fits = λ rows cols at. (goes rows cols at).0;
-      sent = λ rows cols at. (goes rows cols at).1;
+      passes = λ lines passes. subst (λ (xs : List ℕ). HasPassed c.pass.new.self lines xs) (sym (concat-push past piece))
+          (c.in_ok-pass.ensures lines (concat past) (so_far.passes lines passes)).0;
+      at = λ rows cols lines at passes. (goes rows cols lines at passes).2;
+      fits = λ rows cols lines at passes. (goes rows cols lines at passes).0;
+      sent = λ rows cols lines at passes. (goes rows cols lines at passes).1;
     }
 
 pub reads-smaller : goal.reads-smaller
