@@ -9,6 +9,9 @@ import sys
 
 SIZE = [("ROWS", "The rows of the screen"), ("COLS", "Its columns")]
 FILES = "files"
+NO_LINE_DRAWING = (
+    "no-line-drawing", None, None, "Letters stay where a program draws lines with DEC's special graphics",
+)
 
 # Each program: what it does, its words in order, its options (name, value, what completes the value, help), and notes.
 PROGRAMS = {
@@ -21,13 +24,13 @@ PROGRAMS = {
     "screenlive": (
         "relay a program's output as it comes, in whole frames",
         SIZE,
-        [],
+        [NO_LINE_DRAWING],
         "Reads standard input, and writes a frame after each read.",
     ),
     "screencat": (
         "print the screen that a program's output leaves",
         SIZE,
-        [],
+        [NO_LINE_DRAWING],
         "Reads standard input to its end, and prints the rows of the screen.",
     ),
     "screentext": (
@@ -44,7 +47,7 @@ PROGRAMS = {
             ("list", None, None, "The kind, size, length and markers, and no screen"),
             ("kind", "NAME", "asciicast script ttyrec raw", "What the recording is"),
             ("timing", "FILE", FILES, "The timing file of a typescript"),
-            ("no-line-drawing", None, None, "Letters stay where a program draws lines with DEC's special graphics"),
+            NO_LINE_DRAWING,
             ("help", None, None, "Tell the words"),
             ("version", None, None, "Tell the version"),
         ],

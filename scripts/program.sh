@@ -10,6 +10,16 @@ is_size() {
     [ "$1" -ge 1 ] && [ "$1" -le 65535 ]
 }
 
+# Whether the words are ROWS COLS, or these with --no-line-drawing before or after them.
+are_screen_words() {
+    if [ $# -eq 3 ] && [ "$1" = --no-line-drawing ]; then
+        shift
+    elif [ $# -eq 3 ] && [ "$3" = --no-line-drawing ]; then
+        set -- "$1" "$2"
+    fi
+    [ $# -eq 2 ] && is_size "$1" && is_size "$2"
+}
+
 # Ends as the program does where it doesn't understand its words.
 refuse_words() {
     echo "usage: $1" >&2

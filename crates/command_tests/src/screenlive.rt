@@ -13,6 +13,18 @@ const HI_X: &[u8] =
 
 const READ: &[u8] = b"screenlive: read\n";
 
+/// The upper edge of a box, drawn with DEC's special graphics in two reads.
+const EDGE: &[Step] = &[Step::Give(b"\x1b(0l"), Step::Give(b"qk")];
+
+/// The frames of its two reads: with ┌, ─ and ┐, and as the letters that the program wrote.
+const DRAWN: &[u8] =
+    b"\x1b[?2026h\x1b[?25h\x1b[m\x1b[H\x1b[J\xe2\x94\x8c\x1b>\x1b[?1l\x1b[?2004l\x1b[?2026l\x1b[?2026h\xe2\x94\x80\xe2\x94\x90\x1b[?2026l";
+
+const KEPT: &[u8] =
+    b"\x1b[?2026h\x1b[?25h\x1b[m\x1b[H\x1b[Jl\x1b>\x1b[?1l\x1b[?2004l\x1b[?2026l\x1b[?2026hqk\x1b[?2026l";
+
+const USAGE: &[u8] = b"usage: screenlive ROWS COLS [--no-line-drawing]\n";
+
 #[test]
 fn a_frame_is_sent_after_each_read(rt: HostRuntime) -> Result<(), Fail> {
     let rows: [(&'static [Step], u8, &[u8], &[u8], u64); 6] = [
@@ -59,22 +71,35 @@ fn a_frame_is_sent_after_each_read(rt: HostRuntime) -> Result<(), Fail> {
     Ok(())
 }
 
+#[test]
+fn line_drawing(rt: HostRuntime) -> Result<(), Fail> {
+    let rows: [(&[&str], &[u8]); 3] = [
+        (&["2", "4"], DRAWN),
+        (&["2", "4", "--no-line-drawing"], KEPT),
+        (&["--no-line-drawing", "2", "4"], KEPT),
+    ];
+    for (words, output) in rows {
+        let mut written = Vec::new(rt.alloc());
+        let mut reported = Vec::new(rt.alloc());
+        let mut input = Script::new(EDGE);
+        let answer = command(rt.alloc(), words, &mut input, &mut written, &mut reported);
+        assert_eq!(rt;
+            (answer, written.as_slice(), reported.as_slice(), input.reads),
+            (0, output, b"".as_slice(), 3)
+        );
+    }
+    Ok(())
+}
+
 // The words, how much a writer takes, whether a flush goes well; and then status, bytes taken, flushes, and the line.
 #[test]
-fn a_failed_write_or_flush_is_reported(rt: HostRuntime) -> Result<(), Fail> {
-    let rows: [(&[&str], usize, bool, u8, usize, u64, &[u8]); 4] = [
+fn writers(rt: HostRuntime) -> Result<(), Fail> {
+    let rows: [(&[&str], usize, bool, u8, usize, u64, &[u8]); 5] = [
         (&["2", "4"], 100, true, 0, 48, 1, b""),
         (&["2", "4"], 10, true, 1, 10, 0, b"screenlive: write\n"),
         (&["2", "4"], 100, false, 1, 48, 1, b"screenlive: write\n"),
-        (
-            &["0", "4"],
-            100,
-            true,
-            2,
-            0,
-            0,
-            b"usage: screenlive ROWS COLS\n",
-        ),
+        (&["0", "4"], 100, true, 2, 0, 0, USAGE),
+        (&["2", "4", "--line-drawing"], 100, true, 2, 0, 0, USAGE),
     ];
     for (words, room, flushes, status, taken, flushed, line) in rows {
         let mut written = Narrow::new(rt.alloc(), room);
