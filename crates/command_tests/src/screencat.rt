@@ -7,7 +7,10 @@ use std::io::ErrorKind;
 use std::process::Abort;
 use std::test::Fail;
 
-const USAGE: &[u8] = b"usage: screencat ROWS COLS\n";
+const USAGE: &[u8] = b"usage: screencat ROWS COLS [--no-line-drawing]\n";
+
+/// A box of three columns and two rows, drawn with DEC's special graphics.
+const BOX: &[u8] = b"\x1b(0lqk\r\nmqj\x1b(B";
 
 const COMMANDS: &[Row] = &[
     (&["2", "4"], b"hi", 0, b"hi\n\n", b""),
@@ -25,6 +28,18 @@ const COMMANDS: &[Row] = &[
     (&["2"], b"hi", 2, b"", USAGE),
     (&["show", "2", "4"], b"hi", 2, b"", USAGE),
     (&[], b"hi", 2, b"", USAGE),
+    (
+        &["2", "4"],
+        BOX,
+        0,
+        // ┌─┐ and └─┘
+        b"\xe2\x94\x8c\xe2\x94\x80\xe2\x94\x90\n\xe2\x94\x94\xe2\x94\x80\xe2\x94\x98\n",
+        b"",
+    ),
+    (&["2", "4", "--no-line-drawing"], BOX, 0, b"lqk\nmqj\n", b""),
+    (&["--no-line-drawing", "2", "4"], BOX, 0, b"lqk\nmqj\n", b""),
+    (&["2", "4", "--line-drawing"], b"hi", 2, b"", USAGE),
+    (&["2", "--no-line-drawing", "4"], b"hi", 2, b"", USAGE),
 ];
 
 /// What the command writes that returns this status and reports this.

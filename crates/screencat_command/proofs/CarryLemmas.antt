@@ -14,18 +14,23 @@ use Rattle.byte_sinks.specs.Pump.{Pumps, Writes}
 use Rattle.byte_sinks.proofs.PumpLaws.{takes-all, appends-prefix}
 use Rattle.relay_streams.specs.declared.error.RelayError.{RelayError}
 use Rattle.relay_streams.specs.declared.error.RelayError.TheVariants.{Read, Write, Memory, TooManyReads, FrameTooLong}
+use Rattle.line_drawing.specs.declared.lines.LineDrawing.{LineDrawing}
+use Rattle.line_drawing.specs.declared.lines.LineDrawing.TheVariants.{Kept, Drawn}
 use Rattle.relay_streams.specs.Fill.{IsReadBy}
 use Rattle.relay_streams.specs.Frames.{asked, is_overlong}
-use Rattle.relay_streams.specs.Pieces.{Begun, Drained, piece_len}
-use Rattle.relay_streams.specs.Sessions.{AreRelayed}
+use Rattle.line_drawing.specs.Lines.{all_passed, drawn_after, passed}
+use Rattle.relay_streams.specs.Pieces.{Begun, Drained, piece_len, pieces_of}
+use Rattle.relay_streams.specs.Sessions.{AreRelayed, EndsOverlong, IsRelayed}
 use Rattle.relay_streams.specs.Turns.{Relaying}
-use Rattle.relay_streams.proofs.FrameLists.{frames_of, answers_of, base_of, frames-more, base-push}
+use Rattle.relay_streams.proofs.FrameLists.{frames_of, answers_of, base_of, frames-more, base-push, fits-push}
+use Rattle.line_drawing.proofs.LineLemmas.{passed-push}
 use Rattle.relay_streams.proofs.OutcomeLemmas.{prints-text}
 use Rattle.relay_streams.proofs.PieceLemmas.{concat-push, drained-pieces}
-use Rattle.relay_streams.proofs.SessionLemmas.{ends-overlong, frames-are-relayed, relayed-as}
+use Rattle.relay_streams.proofs.SessionLemmas.{ends-overlong, frames-are-relayed, frames-of, relayed-as, relayed-by}
 use Rattle.relay_streams.proofs.ViewLemmas.{not_led, led_more}
 use Rattle.screencat_command.specs.Carried as far
-use Rattle.screencat_command.specs.Carried.{Carried, Carries, Follows, IsFarText, PrintsFar, followed, overlong, unmade}
+use Rattle.screencat_command.specs.Carried.{Carried, Carries, Follows, IsFarText, IsRelayedThrough, PrintsFar}
+use Rattle.screencat_command.specs.Carried.{followed, overlong, unmade}
 
 -- all was written
 pub printed : {E : Type 0} (answer : Result (Unit {0}) E) (known : Option (List ℕ)) (P : List ℕ → List ℕ → Type 0)
@@ -48,12 +53,30 @@ carries-more a b c xs ys first then = record {
 }
 
 -- pieces that were read to the end
-ends-well : {S : Type 0} {gives : S → ℕ → Result (List ℕ) Error → S → Type 0} {rows cols : ℕ} {s t : S}
-    {frames : List (List ℕ)} {answer : Result (Unit {0}) RelayError} → Follows gives rows cols s frames answer t
-    → answer ≡ Ok tt
-    → (pieces : List (List ℕ)) × Drained gives piece_len s pieces (Ok tt) t × AreRelayed rows cols pieces frames
+ends-well : {lines : LineDrawing} {S : Type 0} {gives : S → ℕ → Result (List ℕ) Error → S → Type 0} {rows cols : ℕ}
+    {s t : S} {frames : List (List ℕ)} {answer : Result (Unit {0}) RelayError}
+    → Follows lines gives rows cols s frames answer t → answer ≡ Ok tt
+    → (pieces : List (List ℕ)) × Drained gives piece_len s pieces (Ok tt) t
+    × AreRelayed rows cols (all_passed lines pieces) frames
 ends-well (followed pieces d relayed) is = (pieces, d, relayed)
 ends-well _ is = absurd (cc)
+
+-- what is relayed of pieces that have passed, joined
+relayed-through : (lines : LineDrawing) (rows cols : ℕ) (input : List ℕ) (pieces frames : List (List ℕ)) (text : List ℕ)
+    → AreRelayed rows cols (all_passed lines pieces) frames → pieces ≡ pieces_of input → text ≡ concat frames
+    → IsRelayedThrough lines rows cols input text
+relayed-through Kept rows cols input pieces frames text are cut joined =
+    relayed-as rows cols input pieces frames text are cut joined
+relayed-through Drawn rows cols input pieces frames text are cut joined =
+    let fed = drawn_after [] pieces in
+    record {
+      key = are.key;
+      story = are.story;
+      is = subst (λ (ps : List (List ℕ)). IsRelayed rows cols are.key (drawn_after [] ps) are.story) cut are.is;
+      fits = are.fits;
+      pumped = (relayed-by rows cols are.key fed are.story are.is).pumped
+          ∙ ap concat (sym (frames-of rows cols fed frames are)) ∙ sym joined;
+    }
 
 module _ (S W : Type 0) (gives : S → ℕ → Result (List ℕ) Error → S → Type 0)
     (takes : W → List ℕ → Result ℕ Error → W → Type 0) (flushes : W → Result (Unit {0}) Error → W → Type 0)
@@ -66,21 +89,21 @@ module _ (S W : Type 0) (gives : S → ℕ → Result (List ℕ) Error → S →
     → Keeps (contents w) (contents v))
   where
     -- what was printed, where the source and the writer tell their bytes
-    pub far-text : (rows cols : ℕ) (s : S) (w : W) (answer : Result (Unit {0}) RelayError) (t : S) (v : W)
-        → PrintsFar gives takes flushes rows cols s w answer t v
-        → OnOk answer (IfSome (left s) (λ bytes. (text : List ℕ) × IsFarText rows cols bytes text
+    pub far-text : (lines : LineDrawing) (rows cols : ℕ) (s : S) (w : W) (answer : Result (Unit {0}) RelayError) (t : S)
+        (v : W) → PrintsFar lines gives takes flushes rows cols s w answer t v
+        → OnOk answer (IfSome (left s) (λ bytes. (text : List ℕ) × IsFarText lines rows cols bytes text
         × Appends (contents w) (contents v) text))
-    far-text rows cols s w answer t v (far.printed frames pieces text follows joined shown prints) =
+    far-text lines rows cols s w answer t v (far.printed frames pieces text follows joined shown prints) =
         let read = ends-well follows refl in
-        printed answer (left s) (IsFarText rows cols) text (contents w) (contents v)
+        printed answer (left s) (IsFarText lines rows cols) text (contents w) (contents v)
         (λ bytes known. record {
           pieces = pieces;
-          relayed = relayed-as rows cols bytes read.0 frames (concat pieces) read.2
+          relayed = relayed-through lines rows cols bytes read.0 frames (concat pieces) read.2
               (drained-pieces S gives left gave s read.0 t bytes read.1 known) joined;
           shown = shown;
         })
         (prints-text S W gives takes flushes contents left gave took flushed w text answer v prints)
-    far-text rows cols s w answer t v _ = tt
+    far-text lines rows cols s w answer t v _ = tt
 
 -- a writer that held nothing holds what was pumped whole
 pub holds-all : (W : Type 0) (contents : W → Option (List ℕ)) (w v : W) (owed held : List ℕ) (n : ℕ)
@@ -95,42 +118,67 @@ holds-all W contents w v owed held n pumps empty full =
     (subst (λ o. Appends (contents w) o (take n owed)) full reported.0) in
     is ∙ whole
 
--- a turn at which a fault came
-pub carry-faults : (S : Type 0) (gives : S → ℕ → Result (List ℕ) Error → S → Type 0) (rows cols : ℕ)
-    (past : List (List ℕ)) (piece : List ℕ) (key : ℕ) (g : HubState as_kept) (s t : S) (a b : View UntilCleared)
-    (e : RelayError) → IsSide rows → IsSide cols → Begun gives piece_len s (past ++ piece ∷ []) t
-    → list_any is_overlong (answers_of rows cols past) ≡ false
-    → Carried rows cols (past ++ piece ∷ []) (base_of rows cols past) key a (Err e) b g
-    → Follows gives rows cols s (frames_of rows cols past) (Err e) t
-carry-faults S gives rows cols past piece key g s t a b Memory height width begun fit turned =
-    unmade past piece begun (frames-are-relayed rows cols past height width fit)
-carry-faults S gives rows cols past piece key g s t a b FrameTooLong height width begun fit turned =
-    overlong past piece begun (frames-are-relayed rows cols past height width fit)
-    (ends-overlong rows cols past piece height width turned)
-carry-faults S gives rows cols past piece key g s t a b Read height width begun fit turned = absurd turned
-carry-faults S gives rows cols past piece key g s t a b Write height width begun fit turned = absurd turned
-carry-faults S gives rows cols past piece key g s t a b TooManyReads height width begun fit turned = absurd turned
-
-module _ (rows cols : ℕ) (past : List (List ℕ)) (piece : List ℕ) where
+module _ (rows cols : ℕ) (lines : LineDrawing) (past : List (List ℕ)) (piece : List ℕ) where
+  -- the pieces that were read, and those of them that were fed
   abbrev pieces : List (List ℕ)
   pieces = past ++ piece ∷ []
 
+  abbrev before : List (List ℕ)
+  before = all_passed lines past
+
+  abbrev here : List ℕ
+  here = passed lines (concat past) piece
+
+  abbrev fed : List (List ℕ)
+  fed = before ++ here ∷ []
+
+  fed-is : all_passed lines pieces ≡ fed
+  fed-is = passed-push lines past piece
+
   abbrev base : Option Shown
-  base = base_of rows cols past
+  base = base_of rows cols before
 
-  -- the frame of one piece more
-  pub carries-on : (a b c : View UntilCleared) → Carries a (concat (frames_of rows cols past)) b
-      → Carries b (asked rows cols (concat pieces) base).owed c → Carries a (concat (frames_of rows cols pieces)) c
-  carries-on a b c first then =
-      let owed = (asked rows cols (concat pieces) base).owed in
-      let is : concat (frames_of rows cols pieces) ≡ concat (frames_of rows cols past) ++ owed =
-      ap concat (frames-more rows cols past (piece ∷ []))
-      ∙ concat-push (frames_of rows cols past) owed in
-      subst (λ (xs : List ℕ). Carries a xs c) (sym is)
-      (carries-more a b c (concat (frames_of rows cols past)) owed first then)
+  abbrev Fit : List (List ℕ) → Type 0
+  Fit ps = list_any is_overlong (answers_of rows cols ps) ≡ false
 
-  pub relays-on : (g : HubState as_kept) (key : ℕ) → Relaying rows cols pieces (asked rows cols (concat pieces) base).base g key
-      → Relaying rows cols pieces (base_of rows cols pieces) g key
-  relays-on g key r =
-      subst (λ (b : Option Shown). Relaying rows cols pieces b g key)
-      (sym (base-push rows cols past piece)) r
+  -- the piece couldn't pass
+  pub carry-refused : (S : Type 0) (gives : S → ℕ → Result (List ℕ) Error → S → Type 0) (s t : S) → IsSide rows
+      → IsSide cols → Begun gives piece_len s pieces t → Fit before
+      → Follows lines gives rows cols s (frames_of rows cols before) (Err Memory) t
+  carry-refused S gives s t height width begun fit =
+      unmade past piece begun (frames-are-relayed rows cols before height width fit)
+
+  -- a turn at which a fault came
+  pub carry-faults : (S : Type 0) (gives : S → ℕ → Result (List ℕ) Error → S → Type 0) (key : ℕ)
+      (g : HubState as_kept) (s t : S) (a b : View UntilCleared) (e : RelayError) → IsSide rows → IsSide cols
+      → Begun gives piece_len s pieces t → Fit before → Carried rows cols fed base key a (Err e) b g
+      → Follows lines gives rows cols s (frames_of rows cols before) (Err e) t
+  carry-faults S gives key g s t a b Memory height width begun fit turned =
+      unmade past piece begun (frames-are-relayed rows cols before height width fit)
+  carry-faults S gives key g s t a b FrameTooLong height width begun fit turned =
+      overlong past piece begun (frames-are-relayed rows cols before height width fit)
+      (subst (λ (ps : List (List ℕ)). EndsOverlong rows cols ps) (sym fed-is)
+      (ends-overlong rows cols before here height width turned))
+  carry-faults S gives key g s t a b Read height width begun fit turned = absurd turned
+  carry-faults S gives key g s t a b Write height width begun fit turned = absurd turned
+  carry-faults S gives key g s t a b TooManyReads height width begun fit turned = absurd turned
+
+  -- one that went well
+  abbrev Goes : ℕ → HubState as_kept → View UntilCleared → View UntilCleared → List (List ℕ) → Type 0
+  Goes key g a c ps = Fit ps × Carries a (concat (frames_of rows cols ps)) c
+      × Relaying rows cols ps (base_of rows cols ps) g key
+
+  pub carry-goes : (key : ℕ) (g : HubState as_kept) (a b c : View UntilCleared) → Fit before
+      → Carries a (concat (frames_of rows cols before)) b → Carried rows cols fed base key b (Ok tt) c g
+      → Goes key g a c (all_passed lines pieces)
+  carry-goes key g a b c fit first turned =
+      let owed = (asked rows cols (concat fed) base).owed in
+      let is : concat (frames_of rows cols fed) ≡ concat (frames_of rows cols before) ++ owed =
+      ap concat (frames-more rows cols before (here ∷ []))
+      ∙ concat-push (frames_of rows cols before) owed in
+      subst (Goes key g a c) (sym fed-is) (
+        fits-push rows cols before here fit turned.0,
+        subst (λ (xs : List ℕ). Carries a xs c) (sym is)
+            (carries-more a b c (concat (frames_of rows cols before)) owed first turned.1),
+        subst (λ (o : Option Shown). Relaying rows cols fed o g key) (sym (base-push rows cols before here)) turned.2,
+      )

@@ -6,12 +6,16 @@ use Rattle.terminal_model.specs.Term.{Shown}
 use Rattle.termview.specs.declared.view.View.{View}
 use Rattle.termview.specs.declared.until_cleared.UntilCleared.{UntilCleared}
 use Rattle.termrelay.specs.Hub.{HubState, as_kept}
+use Rattle.relay_theorem.specs.History.{Story}
 use Rattle.relay_streams.specs.declared.error.RelayError.{RelayError}
 use Rattle.relay_streams.specs.declared.error.RelayError.TheVariants.{Read, Write, Memory, TooManyReads, FrameTooLong}
+use Rattle.line_drawing.specs.declared.lines.LineDrawing.{LineDrawing}
+use Rattle.line_drawing.specs.declared.lines.LineDrawing.TheVariants.{Kept, Drawn}
 use Rattle.relay_streams.specs.Frames.{answered, asked, is_overlong}
 use Rattle.relay_streams.specs.Led.{Led}
-use Rattle.relay_streams.specs.Pieces.{Begun, Drained, piece_len}
-use Rattle.relay_streams.specs.Sessions.{AreRelayed, EndsOverlong, IsRelayText}
+use Rattle.line_drawing.specs.Lines.{all_passed, drawn_after}
+use Rattle.relay_streams.specs.Pieces.{Begun, Drained, piece_len, pieces_of}
+use Rattle.relay_streams.specs.Sessions.{AreRelayed, EndsOverlong, IsRelayed, IsRelayText, has_overlong}
 use Rattle.relay_streams.specs.Shown.{IsTextShown, Prints, sized}
 use Rattle.relay_streams.specs.Turns.{Relaying}
 
@@ -21,11 +25,25 @@ pub record Carries (old : View UntilCleared) (bytes : List ℕ) (new : View Unti
   pub joined : concat pieces ≡ bytes
   pub led : Led old pieces new
 
--- A fresh view of this size was given, in some pieces, what is relayed of a program's output: a frame after each 4,096
--- bytes, and one at the end. This is the text of what it shows.
-pub record IsFarText (rows cols : ℕ) (input text : List ℕ) : Type 0 where
+-- this is what is pumped to a client, where these pieces are fed
+pub record IsPumped (rows cols : ℕ) (pieces : List (List ℕ)) (text : List ℕ) : Type 0 where
+  pub key : ℕ
+  pub story : Story
+  pub is : IsRelayed rows cols key pieces story
+  pub fits : has_overlong story ≡ false
+  pub pumped : story.session.pumped ≡ text
+
+-- This is what is relayed of a program's output: a frame after each 4,096 bytes, and one at the end. Either the bytes are
+-- fed as they are, or what the filter gives of each piece.
+abbrev pub IsRelayedThrough : LineDrawing → ℕ → ℕ → List ℕ → List ℕ → Type 0
+IsRelayedThrough Kept rows cols input text = IsRelayText rows cols input text
+IsRelayedThrough Drawn rows cols input text = IsPumped rows cols (drawn_after [] (pieces_of input)) text
+
+-- A fresh view of this size was given, in some pieces, what is relayed of a program's output. This is the text of what it
+-- shows.
+pub record IsFarText (lines : LineDrawing) (rows cols : ℕ) (input text : List ℕ) : Type 0 where
   pub pieces : List (List ℕ)
-  pub relayed : IsRelayText rows cols input (concat pieces)
+  pub relayed : IsRelayedThrough lines rows cols input (concat pieces)
   pub shown : IsTextShown (sized rows cols) pieces text
 
 -- These pieces have been fed, the last one by this turn, and the client had this base: so the turn is answered. The
@@ -43,36 +61,36 @@ Carried rows cols pieces base key old (Err Read) new g = ⊥
 Carried rows cols pieces base key old (Err Write) new g = ⊥
 Carried rows cols pieces base key old (Err TooManyReads) new g = ⊥
 
--- From a source pieces are read, and these frames are made of them: so it is answered, and so the source is left.
-pub data Follows {S : Type 0} (gives : S → ℕ → Result (List ℕ) Error → S → Type 0) (rows cols : ℕ) (s : S)
+-- From a source pieces are read and pass, and these frames are made of them: so it is answered, and so the source is left.
+pub data Follows (lines : LineDrawing) {S : Type 0} (gives : S → ℕ → Result (List ℕ) Error → S → Type 0) (rows cols : ℕ) (s : S)
     : List (List ℕ) → Result (Unit {0}) RelayError → S → Type 0 where
   -- a read failed, or as many were made as may be
   unread : {t : S} {frames : List (List ℕ)} (pieces : List (List ℕ)) (rest : List ℕ) (e : RelayError)
-      → Drained gives piece_len s (pieces ++ rest ∷ []) (Err e) t → AreRelayed rows cols pieces frames
-      → Follows gives rows cols s frames (Err e) t
+      → Drained gives piece_len s (pieces ++ rest ∷ []) (Err e) t → AreRelayed rows cols (all_passed lines pieces) frames
+      → Follows lines gives rows cols s frames (Err e) t
   -- there was no memory for the last piece or its frame
   unmade : {t : S} {frames : List (List ℕ)} (pieces : List (List ℕ)) (piece : List ℕ)
-      → Begun gives piece_len s (pieces ++ piece ∷ []) t → AreRelayed rows cols pieces frames
-      → Follows gives rows cols s frames (Err Memory) t
+      → Begun gives piece_len s (pieces ++ piece ∷ []) t → AreRelayed rows cols (all_passed lines pieces) frames
+      → Follows lines gives rows cols s frames (Err Memory) t
   -- the frame of the last piece would be too long
   overlong : {t : S} {frames : List (List ℕ)} (pieces : List (List ℕ)) (piece : List ℕ)
-      → Begun gives piece_len s (pieces ++ piece ∷ []) t → AreRelayed rows cols pieces frames
-      → EndsOverlong rows cols (pieces ++ piece ∷ []) → Follows gives rows cols s frames (Err FrameTooLong) t
+      → Begun gives piece_len s (pieces ++ piece ∷ []) t → AreRelayed rows cols (all_passed lines pieces) frames
+      → EndsOverlong rows cols (all_passed lines (pieces ++ piece ∷ [])) → Follows lines gives rows cols s frames (Err FrameTooLong) t
   -- the input was read to its end
   followed : {t : S} {frames : List (List ℕ)} (pieces : List (List ℕ)) → Drained gives piece_len s pieces (Ok tt) t
-      → AreRelayed rows cols pieces frames → Follows gives rows cols s frames (Ok tt) t
+      → AreRelayed rows cols (all_passed lines pieces) frames → Follows lines gives rows cols s frames (Ok tt) t
 
 -- From a source and a writer it answers so, and leaves both so. Nothing is written before the input has ended.
-pub data PrintsFar {S W : Type 0} (gives : S → ℕ → Result (List ℕ) Error → S → Type 0)
+pub data PrintsFar (lines : LineDrawing) {S W : Type 0} (gives : S → ℕ → Result (List ℕ) Error → S → Type 0)
     (takes : W → List ℕ → Result ℕ Error → W → Type 0) (flushes : W → Result (Unit {0}) Error → W → Type 0)
     (rows cols : ℕ) (s : S) (w : W) : Result (Unit {0}) RelayError → S → W → Type 0 where
   -- there was no memory for the hub, its client or the view: nothing is read
-  refused : PrintsFar gives takes flushes rows cols s w (Err Memory) s w
+  refused : PrintsFar lines gives takes flushes rows cols s w (Err Memory) s w
   -- a fault came before the input had ended
-  broken : {t : S} (frames : List (List ℕ)) (e : RelayError) → Follows gives rows cols s frames (Err e) t
-      → PrintsFar gives takes flushes rows cols s w (Err e) t w
+  broken : {t : S} (frames : List (List ℕ)) (e : RelayError) → Follows lines gives rows cols s frames (Err e) t
+      → PrintsFar lines gives takes flushes rows cols s w (Err e) t w
   -- a fresh view was given all frames, in some pieces, and what it shows was printed
   printed : {t : S} {v : W} {answer : Result (Unit {0}) RelayError} (frames pieces : List (List ℕ)) (text : List ℕ)
-      → Follows gives rows cols s frames (Ok tt) t → concat pieces ≡ concat frames
+      → Follows lines gives rows cols s frames (Ok tt) t → concat pieces ≡ concat frames
       → IsTextShown (sized rows cols) pieces text → Prints takes flushes w text answer v
-      → PrintsFar gives takes flushes rows cols s w answer t v
+      → PrintsFar lines gives takes flushes rows cols s w answer t v

@@ -5,14 +5,14 @@ use Rattle.byte_sinks.specs.Pump.{Tells}
 use Rattle.relay_streams.specs.declared.error.RelayError.{RelayError}
 use Rattle.relay_streams.specs.declared.error.RelayError.TheVariants.{Read, Write, Memory, TooManyReads, FrameTooLong}
 use Rattle.screencat_command.specs.Carried.{PrintsFar}
-use Rattle.screencat_command.specs.Words.{Sides}
+use Rattle.screencat_command.specs.Words.{Order}
 
 -- a line of these characters
 abbrev pub line : List ℕ → List ℕ
 line cs = cs ++ (0x0A ∷ [])
 
 abbrev pub usage_line : List ℕ
-usage_line = line (codes "usage: screencat ROWS COLS")
+usage_line = line (codes "usage: screencat ROWS COLS [--no-line-drawing]")
 
 -- the line that names a fault
 abbrev pub fault_line : RelayError → List ℕ
@@ -32,8 +32,8 @@ Reports reported (Err fault) e status f = (status ≡ 1) × Tells reported e (fa
 -- answered, and so what was read, written and told.
 pub record CarriesOut {S W V : Type 0} (gives : S → ℕ → Result (List ℕ) Error → S → Type 0)
     (takes : W → List ℕ → Result ℕ Error → W → Type 0) (flushes : W → Result (Unit {0}) Error → W → Type 0)
-    (reported : V → List ℕ → Result ℕ Error → V → Type 0) (sides : Sides) (s : S) (w : W) (e : V) (status : ℕ) (t : S)
+    (reported : V → List ℕ → Result ℕ Error → V → Type 0) (order : Order) (s : S) (w : W) (e : V) (status : ℕ) (t : S)
     (v : W) (f : V) : Type 0 where
   pub answer : Result (Unit {0}) RelayError
-  pub does : PrintsFar gives takes flushes sides.rows sides.cols s w answer t v
+  pub does : PrintsFar order.lines gives takes flushes order.rows order.cols s w answer t v
   pub reports : Reports reported answer e status f

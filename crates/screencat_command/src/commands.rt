@@ -5,7 +5,7 @@ ghost use Rattle.std.specs.Io.KnownBytes.{Appends};
 ghost use Rattle.byte_sinks.specs.Pump.{Tells};
 ghost use Rattle.screencat_command.specs.Carried.{IsFarText};
 ghost use Rattle.screencat_command.specs.Command.{CarriesOut, fault_line, usage_line};
-ghost use Rattle.screencat_command.specs.Words.{sides_of};
+ghost use Rattle.screencat_command.specs.Words.{order_of};
 
 use crate::far_screen::print_far_screen;
 use crate::words::parse;
@@ -17,8 +17,9 @@ use std::alloc::Global;
 /// Runs the program on the words after its name, and answers its exit status.
 ///
 /// A fault is told in a line on `errors`: `screencat: read`, `write`, `memory`, `too many reads` or `frame too long`. Any
-/// other command line than `ROWS COLS` gets the usage line there, and then nothing is read or written. Such a line is
-/// written whole, unless a write of it fails or takes nothing; that changes nothing else.
+/// other command line than `ROWS COLS [--no-line-drawing]` gets the usage line there, and then nothing is read or written;
+/// the option may also come first. Such a line is written whole, unless a write of it fails or takes nothing; that changes
+/// nothing else.
 pub fn command<S: Source, W: FlushSink, V: ByteSink>(
     alloc: Global,
     words: &[&str],
@@ -26,19 +27,20 @@ pub fn command<S: Source, W: FlushSink, V: ByteSink>(
     output: &mut W,
     errors: &mut V,
 ) -> u8
-    ensures usage { sides_of (map (λ w. w.now) words.now) ≡ None → (result ≡ 2) × (input.new ≡ input.old)
+    ensures usage { order_of (map (λ w. w.now) words.now) ≡ None → (result ≡ 2) × (input.new ≡ input.old)
         × (output.new ≡ output.old) × Tells V.takes errors.old usage_line errors.new }
-    ensures does { IfSome (sides_of (map (λ w. w.now) words.now)) (λ sides. CarriesOut S.gives W.takes W.flushes V.takes sides
+    ensures does { IfSome (order_of (map (λ w. w.now) words.now)) (λ order. CarriesOut S.gives W.takes W.flushes V.takes order
         input.old output.old errors.old result input.new output.new errors.new) }
-    ensures done { result ≡ 0 → IfSome (sides_of (map (λ w. w.now) words.now))
-        (λ sides. IfSome (S.left input.old) (λ bytes. (text : List ℕ) × IsFarText sides.rows sides.cols bytes text
+    ensures done { result ≡ 0 → IfSome (order_of (map (λ w. w.now) words.now))
+        (λ order. IfSome (S.left input.old) (λ bytes. (text : List ℕ)
+        × IsFarText order.lines order.rows order.cols bytes text
         × Appends (W.contents output.old) (W.contents output.new) text)) }
 {
-    let Some(size) = parse(words) else {
-        report(errors, b"usage: screencat ROWS COLS\n");
+    let Some(order) = parse(words) else {
+        report(errors, b"usage: screencat ROWS COLS [--no-line-drawing]\n");
         return USAGE;
     };
-    match print_far_screen(alloc, size.rows, size.cols, input, output) {
+    match print_far_screen(alloc, order.rows, order.cols, order.lines, input, output) {
         Ok(()) => SUCCESS,
         Err(error) => report_fault(errors, error),
     }

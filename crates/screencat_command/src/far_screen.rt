@@ -4,10 +4,14 @@ ghost use Rattle.std.specs.Prelude.{ℕ, ◌++◌, ◌∷◌, [], List, Option, 
 ghost use Rattle.std.specs.List.{concat};
 ghost use Rattle.std.specs.Io.KnownBytes.{Appends};
 ghost use Rattle.terminal_model.specs.Term.{Shown};
+ghost use Rattle.line_drawing.specs.Lines.{HasPassed};
 ghost use Rattle.relay_streams.specs.Turns.{Relaying};
 ghost use Rattle.screencat_command.specs.Carried.{Carried, Carries, Follows, IsFarText, PrintsFar};
 
-use relay_streams::{FlushSink, PIECE_LEN, RelayError, Source, fill, is_overlong, print_view};
+use relay_streams::{
+    FlushSink, LineDrawing, PIECE_LEN, PieceFilter, RelayError, Source, fill, is_overlong,
+    print_view,
+};
 use std::alloc::Global;
 use std::num::NonZeroU16;
 use termrelay::{Client, Hub};
@@ -20,6 +24,8 @@ const STEP: usize = 7;
 /// Reads a program's output to its end, and writes the rows of the screen that it makes, as a far terminal of this size
 /// shows them, with a newline each. Then the output is flushed.
 ///
+/// Each piece first passes a [`PieceFilter`], which draws the line drawing set's characters or keeps the letters.
+///
 /// Full pieces of 4,096 bytes are read, by at most 2^40 reads; an interrupted read is tried again and counted. A frame
 /// that would be longer than 2,097,150 bytes is a fault. Nothing is written before the input has ended. What was written
 /// when a fault came stays written.
@@ -27,38 +33,44 @@ pub fn print_far_screen<S: Source, W: FlushSink>(
     alloc: Global,
     rows: NonZeroU16,
     cols: NonZeroU16,
+    lines: LineDrawing,
     input: &mut S,
     output: &mut W,
 ) -> Result<(), RelayError>
-    ensures prints { PrintsFar S.gives W.takes W.flushes rows.value cols.value input.old output.old result input.new
+    ensures prints { PrintsFar lines S.gives W.takes W.flushes rows.value cols.value input.old output.old result input.new
         output.new }
     ensures text { OnOk result (IfSome (S.left input.old) (λ bytes. (text : List ℕ)
-        × IsFarText rows.value cols.value bytes text × Appends (W.contents output.old) (W.contents output.new) text)) }
+        × IsFarText lines rows.value cols.value bytes text
+        × Appends (W.contents output.old) (W.contents output.new) text)) }
 {
     let mut hub = Hub::new(alloc, rows, cols)?;
     let client = hub.attach()?;
     let mut view = View::new(alloc, rows, cols, UntilCleared::new())?;
-    carry_frames(alloc, &mut hub, client, input, &mut view)?;
+    let mut filter = PieceFilter::new(alloc, lines);
+    carry_frames(alloc, &mut hub, client, &mut filter, input, &mut view)?;
     print_view(&view, output)
 }
 
-// Reads the whole input in full pieces, and brings the view the frame that is due after each.
+// Reads the whole input in full pieces, which pass the filter, and brings the view the frame that is due after each.
 fn carry_frames<S: Source>(
     alloc: Global,
     hub: &mut Hub,
     client: Client,
+    filter: &mut PieceFilter,
     input: &mut S,
     view: &mut View<UntilCleared>,
 ) -> Result<(), RelayError>
-    ensures { (rows cols : ℕ) → Relaying rows cols [] None hub.old client → (frames : List (List ℕ))
-        × Follows S.gives rows cols input.old frames result input.new
+    ensures { (rows cols : ℕ) (lines : LineDrawing) → Relaying rows cols [] None hub.old client
+        → HasPassed filter.old lines [] → (frames : List (List ℕ))
+        × Follows lines S.gives rows cols input.old frames result input.new
         × OnOk result (Carries view.old (concat frames) view.new) }
 {
     let mut piece = [0; PIECE_LEN];
     let mut reads = 0;
     'pieces: loop {
         let n = fill(input, &mut piece, &mut reads)?;
-        carry_frame(alloc, hub, client, &piece[..n], view)?;
+        filter.pass(&piece[..n])?;
+        carry_frame(alloc, hub, client, filter.given(&piece[..n]), view)?;
         if n < PIECE_LEN {
             return Ok(());
         }

@@ -33,7 +33,7 @@ returns-in_err-carry_frames-clause-prints g c =
     c.attach.new.self (c.args.rows.ok, omega arith) (c.args.cols.ok, omega arith) c.in_ok-hub.ensures.new
     c.in_ok-client.ensures in
     let is : c.from_residual-in_err-carry_frames.result ≡ Err e = search rules in
-    let read = c.in_err-carry_frames.ensures c.args.rows.value c.args.cols.value at in
+    let read = c.in_err-carry_frames.ensures c.args.rows.value c.args.cols.value c.args.lines at c.new-filter.ensures in
     rw is (broken read.0 e read.1)
 
 pub returns : goal.returns
@@ -43,16 +43,17 @@ returns g c =
     let at = first-attached rows cols c.in_ok-client.client c.in_ok-hub.hub
     c.attach.new.self (c.args.rows.ok, omega arith) (c.args.cols.ok, omega arith) c.in_ok-hub.ensures.new
     c.in_ok-client.ensures in
-    let read = c.in_ok-carry_frames.ensures rows cols at in
+    let read = c.in_ok-carry_frames.ensures rows cols c.args.lines at c.new-filter.ensures in
     let carried = read.2 in
     let fresh = c.in_ok-view.ensures.exact (λ b e. e ∙ c.new-2.ensures) in
     let size = size_is _ _ _ c.in_ok-view.ensures.rows c.in_ok-view.ensures.cols in
-    let r : PrintsFar g.S.Source.gives g.W.ByteSink.takes g.W.FlushSink.flushes rows cols c.args.input.now c.args.output.now
+    let r : PrintsFar c.args.lines g.S.Source.gives g.W.ByteSink.takes g.W.FlushSink.flushes rows cols c.args.input.now c.args.output.now
     c.print_view.result c.carry_frames.new.input c.print_view.new.output =
     printed read.0 carried.pieces _ read.1 carried.joined (shown_so _ _ _ carried.pieces fresh size carried.led)
     c.print_view.ensures in
     record {
       prints = r;
       text = far-text g.row.S.Denot g.row.W.Denot g.S.Source.gives g.W.ByteSink.takes g.W.FlushSink.flushes g.W.FlushSink.contents
-          g.S.Source.left g.met.S.Source.tells g.met.W.FlushSink.tells g.met.W.FlushSink.keeps rows cols _ _ _ _ _ r;
+          g.S.Source.left g.met.S.Source.tells g.met.W.FlushSink.tells g.met.W.FlushSink.keeps
+          c.args.lines rows cols _ _ _ _ _ r;
     }
