@@ -9,9 +9,7 @@ import sys
 
 SIZE = [("ROWS", "The rows of the screen"), ("COLS", "Its columns")]
 FILES = "files"
-NO_LINE_DRAWING = (
-    "no-line-drawing", None, None, "Letters stay where a program draws lines with DEC's special graphics",
-)
+THEMES = "xterm light asciinema dracula gruvbox-dark monokai nord solarized-dark solarized-light tango"
 
 # Each program: what it does, its words in order, its options (name, value, what completes the value, help), and notes.
 PROGRAMS = {
@@ -43,7 +41,14 @@ PROGRAMS = {
             ("joined", None, None, "A row that goes on in the next is one line with it"),
             ("colours", None, None, "Colours and other attributes, as escape sequences (SGR)"),
             ("html", None, None, "A page in HTML that shows the screen"),
+            ("html-block", None, None, "The block alone of such a page, to be pasted into another"),
             ("svg", None, None, "A picture in SVG of the screen"),
+            ("animate", None, None, "With --svg: a picture that plays the recording, 8 MiB at most"),
+            ("speed", "N", None, "It plays N times as fast as it was recorded"),
+            ("idle", "SECONDS", None, "No screen stands longer than this time of the recording"),
+            ("theme", "NAME", THEMES, "The colours of pictures"),
+            ("font", "NAME", None, "The font of pictures, where it is installed"),
+            ("bold-is-bright", None, None, "Bold texts in the first eight colours have the bright ones"),
             ("list", None, None, "The kind, size, length and markers, and no screen"),
             ("kind", "NAME", "asciicast script ttyrec raw", "What the recording is"),
             ("timing", "FILE", FILES, "The timing file of a typescript"),

@@ -12,7 +12,9 @@ use std::test::Fail;
 
 const USAGE: &[u8] =
     b"usage: screentext [ROWS COLS] [--at SECONDS] [--diff SECONDS] [--history N] [--joined] \
-[--colours] [--html | --svg] [--list] [--kind NAME] [--timing FILE] [--no-line-drawing]\n";
+[--colours] [--html | --html-block | --svg [--animate]] [--speed N] [--idle SECONDS] \
+[--theme NAME] [--font NAME] [--bold-is-bright] [--list] [--kind NAME] [--timing FILE] \
+[--no-line-drawing]\n";
 
 /// A screen of two rows: `a` from the beginning, `b` from half a second on.
 const CAST: &[u8] = b"{\"version\": 2, \"width\": 4, \"height\": 2}\n\
@@ -79,9 +81,76 @@ fn prints_a_raw_stream(rt: HostRuntime) {
     }
 }
 
+/// A screen of one cell, in a theme of its own.
+const CAST_THEME: &[u8] =
+    b"{\"version\": 2, \"width\": 1, \"height\": 1, \"theme\": {\"fg\": \"#010203\", \"bg\": \"#040506\", \"palette\": \"#000000:#111111:#222222:#333333:#444444:#555555:#666666:#777777\"}}\n\
+[0.0, \"o\", \"\\u001b[?25l\\u001b[91mA\"]\n";
+
+// A block in HTML: a theme by its name, bright colours for bold texts, a font, and the recording's own theme.
 #[test]
-fn words_that_are_not_understood_are_refused(rt: HostRuntime) {
-    let rows: [&[&str]; 16] = [
+fn blocks(rt: HostRuntime) {
+    let rows: [(&[&str], &[u8], &[u8]); 4] = [
+        (
+            &["1", "1", "--html-block", "--theme=nord"],
+            b"\x1b[?25l\x1b[1;31mA",
+            b"<pre style=\"display:inline-block;line-height:1.2;color:#eceff4;background:#2e3440\">\n<span style=\"color:#bf616a;background:#2e3440;font-weight:bold\">A</span>\n</pre>\n",
+        ),
+        (
+            &[
+                "1",
+                "1",
+                "--html-block",
+                "--theme=dracula",
+                "--bold-is-bright",
+            ],
+            b"\x1b[?25l\x1b[1;31mA",
+            b"<pre style=\"display:inline-block;line-height:1.2;color:#f8f8f2;background:#282a36\">\n<span style=\"color:#ff6e6e;background:#282a36;font-weight:bold\">A</span>\n</pre>\n",
+        ),
+        (
+            &["1", "1", "--html-block", "--font=A<B"],
+            b"\x1b[?25lx",
+            b"<pre style=\"display:inline-block;line-height:1.2;color:#d4d4d4;background:#1e1e1e;font-family:'A&lt;B',monospace\">\nx\n</pre>\n",
+        ),
+        (
+            &["--html-block"],
+            CAST_THEME,
+            b"<pre style=\"display:inline-block;line-height:1.2;color:#010203;background:#040506\">\n<span style=\"color:#111111;background:#040506\">A</span>\n</pre>\n",
+        ),
+    ];
+    for (words, input, output) in rows {
+        check(&rt, words, input, 0, output, b"");
+    }
+}
+
+// Line drawing and block characters as paths, and a wide character with its width.
+#[test]
+fn lines_as_paths(rt: HostRuntime) {
+    check(
+        &rt,
+        &["1", "5", "--svg"],
+        "\x1b[?25l┌╗▒米".as_bytes(),
+        0,
+        "<svg xmlns=\"http://www.w3.org/2000/svg\" shape-rendering=\"crispEdges\" font-size=\"15\" font-family=\"monospace\" width=\"45\" height=\"18\" viewBox=\"0 0 45 18\">\n<rect x=\"0\" width=\"45\" height=\"18\" fill=\"#1e1e1e\"/>\n<g transform=\"translate(0 0)\"><path fill=\"#d4d4d4\" d=\"M4 9h1v9h-1zM4 9h5v1h-5zM12 10h1v8h-1zM14 8h1v10h-1zM9 8h6v1h-6zM9 10h4v1h-4z\" role=\"img\" aria-label=\"┌╗\"/><path fill=\"#d4d4d4\" fill-opacity=\".50\" d=\"M18 0h9v18h-9z\" role=\"img\" aria-label=\"▒\"/><text xml:space=\"preserve\" x=\"27\" y=\"14\" textLength=\"18\" fill=\"#d4d4d4\" lengthAdjust=\"spacingAndGlyphs\">米</text></g>\n</svg>\n".as_bytes(),
+        b"",
+    );
+}
+
+// Two screens, of which the first stands for a quarter of a second that is played in an eighth.
+#[test]
+fn films(rt: HostRuntime) {
+    check(
+        &rt,
+        &["--svg", "--animate", "--idle=0.25", "--speed=2"],
+        CAST,
+        0,
+        b"<svg xmlns=\"http://www.w3.org/2000/svg\" shape-rendering=\"crispEdges\" font-size=\"15\" font-family=\"monospace\" width=\"36\" height=\"36\" viewBox=\"0 0 36 36\">\n<rect x=\"0\" width=\"36\" height=\"36\" fill=\"#1e1e1e\"/>\n<style>@keyframes film{0.00000%{transform:translate(-0px)}11.11111%{transform:translate(-36px)}}.film{animation:film 1.125000s steps(1,end) infinite}</style>\n<defs>\n<g id=\"r0\"><text xml:space=\"preserve\" x=\"0\" y=\"14\" textLength=\"36\" fill=\"#d4d4d4\">a   </text></g>\n<g id=\"r1\"><rect x=\"0\" width=\"9\" height=\"18\" fill=\"#d4d4d4\"/><text xml:space=\"preserve\" x=\"0\" y=\"14\" textLength=\"9\" fill=\"#1e1e1e\"> </text><text xml:space=\"preserve\" x=\"9\" y=\"14\" textLength=\"27\" fill=\"#d4d4d4\">   </text></g>\n<g id=\"r2\"><text xml:space=\"preserve\" x=\"0\" y=\"14\" textLength=\"9\" fill=\"#d4d4d4\">b</text><rect x=\"9\" width=\"9\" height=\"18\" fill=\"#d4d4d4\"/><text xml:space=\"preserve\" x=\"9\" y=\"14\" textLength=\"9\" fill=\"#1e1e1e\"> </text><text xml:space=\"preserve\" x=\"18\" y=\"14\" textLength=\"18\" fill=\"#d4d4d4\">  </text></g>\n</defs>\n<g class=\"film\">\n<g transform=\"translate(0)\"><use href=\"#r0\" y=\"0\"/><use href=\"#r1\" y=\"18\"/></g>\n<g transform=\"translate(36)\"><use href=\"#r0\" y=\"0\"/><use href=\"#r2\" y=\"18\"/></g>\n</g>\n</svg>\n",
+        b"",
+    );
+}
+
+#[test]
+fn words_that_are_not_understood(rt: HostRuntime) {
+    let rows: [&[&str]; 21] = [
         &["1"],
         &["1", "2", "3"],
         &["0", "2"],
@@ -97,6 +166,11 @@ fn words_that_are_not_understood_are_refused(rt: HostRuntime) {
         &["--history=+1"],
         &["--joined=1"],
         &["--html", "--svg"],
+        &["--animate"],
+        &["--html-block", "--html"],
+        &["--theme=blue"],
+        &["--speed=0"],
+        &["--idle=long"],
         &["--version=2"],
     ];
     for words in rows {

@@ -1,3 +1,2 @@
 mod MomentLemmas
-mod PageLemmas
-mod SafeLemmas
+mod PictureLemmas

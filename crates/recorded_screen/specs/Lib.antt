@@ -1,3 +1,4 @@
 pub mod Moment
-pub mod Page
-pub mod Tags
+pub mod Picture
+pub use Rattle.picture_page.specs.Page
+pub use Rattle.row_pictures.specs.Text

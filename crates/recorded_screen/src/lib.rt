@@ -1,15 +1,14 @@
 //! What a recorded terminal stream shows: its screen at a moment, and a picture of a screen as HTML or SVG.
 #![tactic(auto)]
 
+mod error;
 mod moment;
-mod page;
-mod palette;
 mod picture;
-mod runs;
-mod style;
-mod tag;
+mod reel;
 
+pub use error::FilmError;
 pub use moment::{END, terminal_at};
-pub use picture::{html, svg};
+pub use picture::{html, html_block, svg};
 pub use recordings::{Change, Event, Kind, Recording, RecordingError, Size};
-pub use style::Style;
+pub use reel::{LONGEST_FILM, Pace, film};
+pub use row_pictures::{Look, Rgb, Style, Theme};

@@ -20,6 +20,7 @@ pub fn with_lines_drawn(alloc: Global, recording: &Recording) -> Result<Recordin
     Ok(Recording {
         kind: recording.kind,
         size: recording.size,
+        theme: recording.theme,
         events: drawn_events(alloc, &recording.events)?,
         length: recording.length,
     })

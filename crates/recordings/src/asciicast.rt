@@ -10,6 +10,7 @@ ghost use Rattle.recordings.specs.declared.error.RecordingError.TheVariants.{Lin
 use crate::error::RecordingError;
 use crate::lines::{first_line, is_blank, lines_of};
 use crate::recording::{Change, Kind, Recording, Size};
+use crate::theme::{RecordedTheme, theme_in};
 use crate::time::{microseconds, parse_json};
 use crate::timeline::{Pace, Timeline};
 use command_line::parse_size;
@@ -30,6 +31,7 @@ pub fn parse_asciicast(alloc: Global, text: &[u8]) -> Result<Recording, Recordin
     Ok(Recording {
         kind: Kind::Asciicast,
         size: Some(header.size),
+        theme: header.theme,
         events: timeline.events,
         length: timeline.time,
     })
@@ -50,6 +52,7 @@ pub(crate) fn begins_asciicast(alloc: Global, text: &[u8]) -> Result<bool, Alloc
 pub struct Header {
     pub(crate) pace: Pace,
     pub(crate) size: Size,
+    pub(crate) theme: Option<RecordedTheme>,
 }
 
 fn parse_header(alloc: Global, line: &[u8]) -> Result<Option<Header>, AllocError>
@@ -68,10 +71,12 @@ fn header_of(header: &Value) -> Option<Header>
         2 => Some(Header {
             pace: Pace::FromStart,
             size: size_of(header, "height", "width")?,
+            theme: theme_in(header),
         }),
         3 => Some(Header {
             pace: Pace::FromLast,
             size: size_of(header.get("term")?, "rows", "cols")?,
+            theme: theme_in(header),
         }),
         _ => None,
     }

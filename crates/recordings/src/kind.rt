@@ -51,6 +51,7 @@ fn raw_recording(alloc: Global, bytes: Vec<u8>) -> Result<Recording, AllocError>
     Ok(Recording {
         kind: Kind::Raw,
         size: None,
+        theme: None,
         events,
         length: 0,
     })

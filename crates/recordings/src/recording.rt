@@ -3,6 +3,7 @@
 ghost use Rattle.std.specs.Prelude.{◌≡◌};
 ghost use Rattle.recordings.specs.Kinds.{kind_named};
 
+use crate::theme::RecordedTheme;
 use std::num::NonZeroU16;
 
 /// How many rows and columns a screen has.
@@ -79,6 +80,8 @@ pub struct Recording {
     pub kind: Kind,
     /// The size at first, where the recording says it.
     pub size: Option<Size>,
+    /// The colours of its own, where the recording says them.
+    pub theme: Option<RecordedTheme>,
     /// What happens, in order.
     pub events: Vec<Event>,
     /// Microseconds from the beginning to the last event, be it one in which a screen has no part.

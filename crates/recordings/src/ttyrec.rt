@@ -32,6 +32,7 @@ pub fn parse_ttyrec(alloc: Global, bytes: &[u8]) -> Result<Recording, RecordingE
     Ok(Recording {
         kind: Kind::Ttyrec,
         size: None,
+        theme: None,
         events: timeline.events,
         length: timeline.time,
     })

@@ -32,6 +32,7 @@ pub fn parse_typescript(
     Ok(Recording {
         kind: Kind::Script,
         size: size_in(&lines),
+        theme: None,
         events: timeline.events,
         length: timeline.time,
     })

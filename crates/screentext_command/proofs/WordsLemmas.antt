@@ -1,5 +1,5 @@
 -- What `clap` is told of the words.
-use Rattle.std.proofs.Common.{◌≡◌, ◌∙◌, ap, ap₂, Bool, false, List, ◌++◌, map, inl, inr, true, refl, sym, [], ◌∷◌, subst, Err, Result, IfOk, Option, is_some}
+use Rattle.std.proofs.Common.{◌≡◌, ◌∙◌, ap, ap₂, Bool, false, ℕ, nat_lt, List, ◌++◌, map, inl, inr, true, refl, sym, [], ◌∷◌, subst, Err, Result, IfOk, Option, is_some}
 use Rattle.std.proofs.lemmas.Result.{IfOk-weaker}
 use Rattle.std.proofs.lemmas.List.{map-append}
 use Rattle.std.specs.Borrow.{Bor}
@@ -7,7 +7,7 @@ use Rattle.clap.specs.Words.{AddsAliases, AddsArg, App, IsAmong, Kinds, Row, Rul
 use Rattle.clap.specs.Words.{rule_of, with_rule}
 use Rattle.clap.specs.declared.error.ErrorKind.{ErrorKind}
 use Rattle.clap.proofs.OnLiterals.{clap_on_literals}
-use Rattle.screentext_command.specs.Words.{are_words, is_order_of, is_request, known}
+use Rattle.screentext_command.specs.Words.{are_words, is_form, is_order_of, is_request, known}
 use Rattle.screentext_command.proofs.KindLemmas.{IsSingle}
 use Rattle.clap.specs.declared.Arg.{Arg}
 use Rattle.clap.specs.declared.Command.{Command}
@@ -54,3 +54,10 @@ err_passes r e P is = subst (λ q. IfOk q P) (sym is) tt
 pub by_same_test : {X E : Type 0} (r : Result (Option X) E) (a b : Bool) → a ≡ b → IfOk r (λ o. is_some o ≡ a)
     → IfOk r (λ o. is_some o ≡ b)
 by_same_test r a b e = IfOk-weaker r (λ o. is_some o ≡ a) (λ o. is_some o ≡ b) (λ o is. is ∙ e)
+
+-- the form by the counts of its words
+pub form_counts : (a b c d e f g h : ℕ) → a ≡ e → b ≡ f → c ≡ g → d ≡ h
+    → is_form (nat_lt 0 a) (nat_lt 0 b) (nat_lt 0 c) (nat_lt 0 d) ≡ is_form (nat_lt 0 e) (nat_lt 0 f) (nat_lt 0 g) (nat_lt 0 h)
+form_counts a b c d e f g h p q r s =
+    ap₂ (λ x y. is_form (nat_lt 0 x) (nat_lt 0 y) (nat_lt 0 c) (nat_lt 0 d)) p q
+    ∙ ap₂ (λ x y. is_form (nat_lt 0 e) (nat_lt 0 f) (nat_lt 0 x) (nat_lt 0 y)) r s

@@ -8,7 +8,8 @@ use Rattle.clap.specs.declared.error.ErrorKind.TheVariants.{DisplayHelp, Display
 use Rattle.serde_json.specs.Data.{Data}
 use Rattle.serde_json.specs.Find.{as_number}
 use Rattle.recordings.specs.Kinds.{kind_named}
-use Rattle.recordings.specs.Times.{json_in, time_of}
+use Rattle.recordings.specs.Times.{json_in, time_in, time_of}
+use Rattle.row_pictures.specs.Themes.{is_theme}
 use Rattle.command_line.specs.Numbers.{is_size, is_count}
 
 -- an option with a value
@@ -39,10 +40,19 @@ abbrev pub with_sources : App → App
 with_sources a = with_rule (with_rule (with_rule (with_rule a (flag_rule (codes "list"))) (value_rule (codes "kind")))
     (value_rule (codes "timing"))) (flag_rule (codes "no-line-drawing"))
 
+abbrev pub with_pictures : App → App
+with_pictures a = with_rule (with_rule (with_rule (with_rule a (flag_rule (codes "html-block"))) (value_rule (codes "theme")))
+    (value_rule (codes "font"))) (flag_rule (codes "bold-is-bright"))
+
+abbrev pub with_films : App → App
+with_films a = with_rule (with_rule (with_rule a (flag_rule (codes "animate"))) (value_rule (codes "speed")))
+    (value_rule (codes "idle"))
+
 -- what `clap` is told of `[ROWS COLS] [--at TIME] [--diff TIME] [--history N] [--joined] [--colours] [--html | --svg]
--- [--list] [--kind NAME] [--timing FILE] [--no-line-drawing]`
+-- [--list] [--kind NAME] [--timing FILE] [--no-line-drawing] [--html-block] [--theme NAME] [--font NAME] [--bold-is-bright]
+-- [--animate] [--speed N] [--idle SECONDS]`
 abbrev pub known : App
-known = with_sources (with_flags (with_values program))
+known = with_films (with_pictures (with_sources (with_flags (with_values program))))
 
 -- both are numbers of rows and columns, or there is neither
 abbrev pub is_screen : Option Text → Option Text → Bool
@@ -57,18 +67,35 @@ is_time json = option_map_or (λ value. not (is_some (as_number value)) || is_so
 abbrev pub is_moment : Option Text → Bool
 is_moment word = option_map_or (λ text. is_time (json_in text)) word true
 
+-- one form at most, and a film in SVG alone
+abbrev pub is_form : Bool → Bool → Bool → Bool → Bool
+is_form false false svg film = svg || not film
+is_form true false false false = true
+is_form false true false false = true
+is_form _ _ _ _ = false
+
 -- the values of the words that `clap` takes
 abbrev pub are_values : List Row → Bool
 are_values rows = is_screen (first_of (codes "ROWS") rows) (first_of (codes "COLS") rows)
     && (is_moment (first_of (codes "at") rows) && (is_moment (first_of (codes "diff") rows)
     && (option_map_or is_count (first_of (codes "history") rows) true
-    && not (nat_lt 0 (count_of (codes "html") rows) && nat_lt 0 (count_of (codes "svg") rows)))))
+    && is_form (nat_lt 0 (count_of (codes "html") rows)) (nat_lt 0 (count_of (codes "html-block") rows))
+    (nat_lt 0 (count_of (codes "svg") rows)) (nat_lt 0 (count_of (codes "animate") rows)))))
 
 abbrev pub are_sources : List Row → Bool
 are_sources rows = option_map_or (λ word. is_some (kind_named word)) (first_of (codes "kind") rows) true
 
+-- a number that isn't 0
+abbrev pub is_speed : Text → Bool
+is_speed word = option_map_or (λ n. nat_lt 0 n) (time_in word) false
+
+abbrev pub are_pictures : List Row → Bool
+are_pictures rows = option_map_or is_theme (first_of (codes "theme") rows) true
+    && (option_map_or is_speed (first_of (codes "speed") rows) true
+    && option_map_or (λ word. is_some (time_in word)) (first_of (codes "idle") rows) true)
+
 abbrev pub are_words : List Row → Bool
-are_words rows = are_values rows && are_sources rows
+are_words rows = are_values rows && (are_sources rows && are_pictures rows)
 
 abbrev pub is_request : ErrorKind → Bool
 is_request DisplayHelp = true
@@ -86,7 +113,7 @@ is_order words = is_order_of (fault_of known words) (matches_of known words)
 
 -- what words that aren't understood are told
 abbrev pub usage_line : List ℕ
-usage_line = codes "usage: screentext [ROWS COLS] [--at SECONDS] [--diff SECONDS] [--history N] [--joined] [--colours] [--html | --svg] [--list] [--kind NAME] [--timing FILE] [--no-line-drawing]"
+usage_line = codes "usage: screentext [ROWS COLS] [--at SECONDS] [--diff SECONDS] [--history N] [--joined] [--colours] [--html | --html-block | --svg [--animate]] [--speed N] [--idle SECONDS] [--theme NAME] [--font NAME] [--bold-is-bright] [--list] [--kind NAME] [--timing FILE] [--no-line-drawing]"
     ++ 0x0A ∷ []
 
 -- what is told where memory is refused

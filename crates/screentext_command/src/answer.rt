@@ -2,9 +2,10 @@
 
 use crate::changes::push_changes;
 use crate::error::TextError;
+use crate::pictures::Pictures;
 use crate::text::push_lines;
 use crate::words::{Form, Request};
-use recorded_screen::{Recording, Size, html, svg, terminal_at};
+use recorded_screen::{Look, Recording, Size, Theme, film, html, html_block, svg, terminal_at};
 use std::alloc::Global;
 use std::num::NonZeroU16;
 use vt100::{Parser, Screen};
@@ -14,8 +15,12 @@ pub(crate) fn answer_of(
     alloc: Global,
     recording: &Recording,
     request: Request,
+    pictures: &Pictures,
 ) -> Result<Vec<u8>, TextError> {
     let size = size_of(recording, request);
+    if let Form::Film = request.form {
+        return film_of(alloc, recording, size, request.moment, pictures);
+    }
     let mut terminal = terminal_at(
         alloc,
         size,
@@ -25,8 +30,29 @@ pub(crate) fn answer_of(
     )?;
     match request.since {
         Some(since) => changes_since(alloc, recording, request, since, &terminal),
-        None => picture_of(alloc, &mut terminal, request),
+        None => {
+            let look = pictures.look(alloc, theme_of(recording))?;
+            picture_of(alloc, &mut terminal, request, &look)
+        }
     }
+}
+
+// The colours that the recording has of its own.
+fn theme_of(recording: &Recording) -> Option<Theme> {
+    let theme = recording.theme?;
+    Some(Theme::of_colors(&theme.colors))
+}
+
+// The film of what happens until a moment.
+fn film_of(
+    alloc: Global,
+    recording: &Recording,
+    size: Size,
+    moment: u64,
+    pictures: &Pictures,
+) -> Result<Vec<u8>, TextError> {
+    let look = pictures.look(alloc, theme_of(recording))?;
+    Ok(film(alloc, size, &recording.events, moment, &look, pictures.pace)?)
 }
 
 // What the terminal shows, in the form that is asked for.
@@ -34,11 +60,13 @@ fn picture_of(
     alloc: Global,
     terminal: &mut Parser<()>,
     request: Request,
+    look: &Look,
 ) -> Result<Vec<u8>, TextError> {
     match request.form {
         Form::Text => lines_of(alloc, terminal, request),
-        Form::Html => Ok(html(alloc, terminal.screen())?),
-        Form::Svg => Ok(svg(alloc, terminal.screen())?),
+        Form::Html => Ok(html(alloc, terminal.screen(), look)?),
+        Form::HtmlBlock => Ok(html_block(alloc, terminal.screen(), look)?),
+        Form::Svg | Form::Film => Ok(svg(alloc, terminal.screen(), look)?),
     }
 }
 

@@ -24,7 +24,9 @@ const MEMORY_LINE: &[u8] = b"screentext: memory\n";
 
 const USAGE_LINE: &[u8] =
     b"usage: screentext [ROWS COLS] [--at SECONDS] [--diff SECONDS] [--history N] [--joined] \
-[--colours] [--html | --svg] [--list] [--kind NAME] [--timing FILE] [--no-line-drawing]\n";
+[--colours] [--html | --html-block | --svg [--animate]] [--speed N] [--idle SECONDS] \
+[--theme NAME] [--font NAME] [--bold-is-bright] [--list] [--kind NAME] [--timing FILE] \
+[--no-line-drawing]\n";
 
 /// Runs the program where no file can be read: [`command_with`] without a timing file.
 pub fn command<R: Read, W: FlushSink, V: ByteSink>(
@@ -111,13 +113,13 @@ fn obey<F: Files, R: Read, W: FlushSink>(
 ) -> Result<(), TextError> {
     match order {
         Order::Tell(text) => write_all(output, text.as_bytes()),
-        Order::Print(request, source) => {
+        Order::Print(request, source, pictures) => {
             let recording = recording_of(alloc, &source, files, input)?;
             let request = with_markers(alloc, &recording, &source, request)?;
             let answer = if source.list {
                 list_of(alloc, &recording)?
             } else {
-                answer_of(alloc, &recording, request)?
+                answer_of(alloc, &recording, request, &pictures)?
             };
             write_all(output, &answer)
         }

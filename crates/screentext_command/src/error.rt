@@ -3,9 +3,11 @@
 ghost use Rattle.std.specs.Prelude.{◌≡◌};
 ghost use Rattle.screentext_command.specs.Faults.{input_fault};
 ghost use Rattle.screentext_command.specs.declared.error.TextError.TheVariants.{Memory};
+ghost use Rattle.recorded_screen.specs.declared.error.FilmError.TheVariants.{Memory as NoMemory};
 ghost use Rattle.recordings.specs.declared.error.RecordingError.TheVariants.{Memory as Refused};
 
 use command_line::InputError;
+use recorded_screen::FilmError;
 use recordings::RecordingError;
 use std::alloc::{AllocError, AllocFailed};
 use thiserror::Error;
@@ -29,6 +31,9 @@ pub enum TextError {
     /// The recording has no marker of the name that the words tell.
     #[error("no such marker")]
     Marker,
+    /// The film would be longer than the longest one.
+    #[error("the film has more than 8 MiB")]
+    Film,
     /// What was read is no recording.
     #[error("{0}")]
     Recording(RecordingError),
@@ -67,6 +72,17 @@ impl From<ScreenError> for TextError {
 
     fn from(_error: ScreenError) -> Self {
         TextError::Memory
+    }
+}
+
+impl From<FilmError> for TextError {
+    ghost from_gives = { λ old e. old ≡ NoMemory → e ≡ Memory };
+
+    fn from(error: FilmError) -> Self {
+        match error {
+            FilmError::Memory => TextError::Memory,
+            FilmError::TooLong => TextError::Film,
+        }
     }
 }
 

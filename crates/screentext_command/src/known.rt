@@ -3,7 +3,7 @@
 ghost use Rattle.std.specs.Prelude.{◌≡◌, [], ◌∷◌, false, codes, IfOk};
 ghost use Rattle.clap.specs.Words.{app_of, new_rule, rule_of, with_rule};
 ghost use Rattle.screentext_command.specs.Words.{colors_rule, flag_rule, known, program as program_app, value_rule};
-ghost use Rattle.screentext_command.specs.Words.{with_flags as with_flags_on, with_values as with_values_on, with_sources as with_sources_on};
+ghost use Rattle.screentext_command.specs.Words.{with_flags as with_flags_on, with_films as with_films_on, with_pictures as with_pictures_on, with_values as with_values_on, with_sources as with_sources_on};
 
 use clap::{Arg, ArgAction, Command};
 use std::alloc::{AllocError, Global};
@@ -22,6 +22,9 @@ Examples:
   screentext < demo.cast                         the last screen, as text
   screentext --at 12.5 --svg < demo.cast         a picture of the screen after 12.5 seconds
   screentext --at done --html < demo.cast        a page of the screen at the marker `done`
+  screentext --html-block < demo.cast            a block to be pasted into a page
+  screentext --svg --theme nord < demo.cast      a picture in other colours
+  screentext --svg --animate --idle 2 < demo.cast > demo.svg   a film for a README
   screentext --timing times 24 80 < typescript   a session that script(1) recorded
   screentext --list < game.ttyrec                its kind, length and markers
 
@@ -31,9 +34,66 @@ The status is 0 at success, 1 at a fault, 2 for words that aren't understood.";
 pub(crate) fn known_words<'a>(alloc: Global) -> Result<Command<'a>, AllocError>
     ensures { IfOk result (λ c. app_of c ≡ known) }
 {
-    with_sources(
+    let with_words = with_flags(alloc, with_values(alloc, program(alloc))?)?;
+    with_films(
         alloc,
-        with_flags(alloc, with_values(alloc, program(alloc))?)?,
+        with_pictures(alloc, with_sources(alloc, with_words)?)?,
+    )
+}
+
+fn with_pictures<'a>(alloc: Global, command: Command<'a>) -> Result<Command<'a>, AllocError>
+    ensures { IfOk result (λ c. app_of c ≡ with_pictures_on (app_of command.entry)) }
+{
+    Ok(
+        command
+            .arg(flag(
+                alloc,
+                "html-block",
+                "The block alone of such a page, to be pasted into another",
+            ))?
+            .arg(value(
+                alloc,
+                "theme",
+                "NAME",
+                "The colours of pictures: xterm, light, asciinema, dracula, gruvbox-dark, monokai, nord, \
+solarized-dark, solarized-light or tango",
+            ))?
+            .arg(value(
+                alloc,
+                "font",
+                "NAME",
+                "The font of pictures, where it is installed",
+            ))?
+            .arg(flag(
+                alloc,
+                "bold-is-bright",
+                "Bold texts in the first eight colours have the bright ones",
+            ))?,
+    )
+}
+
+fn with_films<'a>(alloc: Global, command: Command<'a>) -> Result<Command<'a>, AllocError>
+    ensures { IfOk result (λ c. app_of c ≡ with_films_on (app_of command.entry)) }
+{
+    Ok(
+        command
+            .arg(flag(
+                alloc,
+                "animate",
+                "With --svg: a picture that plays the recording, 8 MiB at most",
+            ))?
+            .arg(value(
+                alloc,
+                "speed",
+                "N",
+                "It plays N times as fast as it was recorded",
+            ))?
+            .arg(value(
+                alloc,
+                "idle",
+                "SECONDS",
+                "No screen stands longer than this time of the recording",
+            ))?,
     )
 }
 

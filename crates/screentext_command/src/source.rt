@@ -75,7 +75,8 @@ fn kind_of(word: Option<&str>) -> Option<Option<Kind>>
     }
 }
 
-fn owned(alloc: Global, word: Option<&str>) -> Result<Option<String>, AllocError> {
+/// A word of its own.
+pub(crate) fn owned(alloc: Global, word: Option<&str>) -> Result<Option<String>, AllocError> {
     match word {
         None => Ok(None),
         Some(word) => Ok(Some(word.to_owned(alloc)?)),

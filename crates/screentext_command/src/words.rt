@@ -1,16 +1,17 @@
 //! The words of the command line.
 
-ghost use Rattle.std.specs.Prelude.{◌≡◌, ◌&&◌, true, false, not, map, nat_le, is_some, codes, None, Err, IfOk, IfErr};
+ghost use Rattle.std.specs.Prelude.{◌≡◌, ◌&&◌, true, map, is_some, codes, None, Err, IfOk, IfErr};
 ghost use Rattle.std.specs.Option.{option_map, option_map_or};
 ghost use Rattle.clap.specs.Words.{App, Kinds, app_of, fault_of, found_of, kind_of, matches_of, rows_of};
 ghost use Rattle.clap.specs.declared.error.ErrorKind.TheVariants.{OutOfMemory};
 ghost use Rattle.command_line.specs.Numbers.{is_count};
 ghost use Rattle.recordings.specs.Times.{json_in};
 ghost use Rattle.screentext_command.specs.declared.error.TextError.TheVariants.{Memory};
-ghost use Rattle.screentext_command.specs.Words.{are_values, are_words, is_moment, is_order, is_request, is_screen, is_time};
+ghost use Rattle.screentext_command.specs.Words.{are_values, are_words, is_form, is_moment, is_order, is_request, is_screen, is_time};
 
 use crate::error::TextError;
 use crate::known::known_words;
+use crate::pictures::{Pictures, pictures_of};
 use crate::source::{Source, source_of};
 use clap::error::ErrorKind;
 use clap::{ArgMatches, Error};
@@ -26,7 +27,7 @@ pub(crate) enum Order {
     /// Tell this text: the help or the version.
     Tell(String),
     /// Print a screen, or describe the recording.
-    Print(Request, Source),
+    Print(Request, Source, Pictures),
 }
 
 /// The form in which a screen is printed.
@@ -36,8 +37,12 @@ pub(crate) enum Form {
     Text,
     /// A page in HTML.
     Html,
+    /// A block in HTML.
+    HtmlBlock,
     /// A picture in SVG.
     Svg,
+    /// A film in SVG.
+    Film,
 }
 
 /// How the rows of a screen are written as text.
@@ -96,13 +101,18 @@ fn order_of(alloc: Global, matches: &ArgMatches<'_>) -> Result<Option<Order>, Te
 {
     let request = request_of(alloc, matches)?;
     let source = source_of(alloc, matches)?;
-    Ok(both(request, source))
+    let pictures = pictures_of(alloc, matches)?;
+    Ok(all(request, source, pictures))
 }
 
-fn both(request: Option<Request>, source: Option<Source>) -> Option<Order>
-    ensures { is_some result ≡ (is_some request && is_some source) }
+fn all(
+    request: Option<Request>,
+    source: Option<Source>,
+    pictures: Option<Pictures>,
+) -> Option<Order>
+    ensures { is_some result ≡ (is_some request && (is_some source && is_some pictures)) }
 {
-    Some(Order::Print(request?, source?))
+    Some(Order::Print(request?, source?, pictures?))
 }
 
 fn request_of(alloc: Global, matches: &ArgMatches<'_>) -> Result<Option<Request>, TextError>
@@ -113,7 +123,12 @@ fn request_of(alloc: Global, matches: &ArgMatches<'_>) -> Result<Option<Request>
     let moment = moment_of(alloc, matches.get_str("at"))?;
     let since = moment_of(alloc, matches.get_str("diff"))?;
     let history = history_of(matches.get_str("history"));
-    let form = form_of(matches.get_count("html") > 0, matches.get_count("svg") > 0);
+    let form = form_of(
+        matches.get_count("html") > 0,
+        matches.get_count("html-block") > 0,
+        matches.get_count("svg") > 0,
+        matches.get_count("animate") > 0,
+    );
     let look = Look {
         joined: matches.get_count("joined") > 0,
         colors: matches.get_count("colours") > 0,
@@ -191,13 +206,15 @@ fn history_of(word: Option<&str>) -> Option<usize>
     }
 }
 
-fn form_of(html: bool, svg: bool) -> Option<Form>
-    ensures { is_some result ≡ not (html && svg) }
+fn form_of(html: bool, block: bool, svg: bool, film: bool) -> Option<Form>
+    ensures { is_some result ≡ is_form html block svg film }
 {
-    match (html, svg) {
-        (false, false) => Some(Form::Text),
-        (true, false) => Some(Form::Html),
-        (false, true) => Some(Form::Svg),
-        (true, true) => None,
+    match (html, block, svg, film) {
+        (false, false, false, false) => Some(Form::Text),
+        (true, false, false, false) => Some(Form::Html),
+        (false, true, false, false) => Some(Form::HtmlBlock),
+        (false, false, true, false) => Some(Form::Svg),
+        (false, false, true, true) => Some(Form::Film),
+        _ => None,
     }
 }

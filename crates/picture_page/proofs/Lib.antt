@@ -1,0 +1,2 @@
+pub mod PageLemmas
+mod SafeLemmas

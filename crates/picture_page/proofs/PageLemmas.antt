@@ -1,0 +1,122 @@
+-- A picture to which a part is added.
+use Rattle.std.proofs.Common.{◌≡◌, ℕ, List, [], ◌∷◌, ◌++◌, Option, Some, None, refl, sym, ap, ap₂, ◌∙◌, append_assoc, subst, take, ◌+◌}
+use Rattle.std.proofs.Common.{append-nil, unwrap_or, Result, OnOk}
+use Rattle.std.proofs.lemmas.Result.{on_ok_weaker}
+use Rattle.picture_page.specs.Page.{Adds, Part, Name, Text, Shows, escaped, part_bytes, part_text, parts_bytes, parts_text, IsPage, reference}
+
+pub parts_bytes-append : (ps : List Part) (p : Part) → parts_bytes (ps ++ p ∷ []) ≡ parts_bytes ps ++ part_bytes p
+parts_bytes-append [] p = append-nil (part_bytes p)
+parts_bytes-append (q ∷ ps) p =
+    ap (λ xs. part_bytes q ++ xs) (parts_bytes-append ps p)
+    ∙ sym (append_assoc (part_bytes q) (parts_bytes ps) (part_bytes p))
+
+pub grown : (bytes more : List ℕ) (p : Part) → IsPage bytes → more ≡ part_bytes p → IsPage (bytes ++ more)
+grown bytes more p page is = record {
+  parts = page.parts ++ p ∷ [];
+  joined = ap (λ xs. xs ++ more) page.joined ∙ ap (λ xs. parts_bytes page.parts ++ xs) is
+      ∙ sym (parts_bytes-append page.parts p);
+}
+
+-- by the reference of a byte
+pub grown_by_reference : (bytes more : List ℕ) (b : ℕ) → IsPage bytes → Some more ≡ reference b → IsPage (bytes ++ more)
+grown_by_reference bytes more b page is =
+    grown bytes more (Text (b ∷ [])) page
+    (ap (λ o. unwrap_or o (b ∷ [])) is ∙ sym (append-nil (unwrap_or (reference b) (b ∷ []))))
+
+-- by a byte that has none
+pub grown_by_byte : (bytes : List ℕ) (b : ℕ) → IsPage bytes → None ≡ reference b → IsPage (bytes ++ b ∷ [])
+grown_by_byte bytes b page is =
+    grown bytes (b ∷ []) (Text (b ∷ [])) page
+    (ap (λ o. unwrap_or o (b ∷ [])) is ∙ sym (append-nil (unwrap_or (reference b) (b ∷ []))))
+
+-- ---- parts that are added, and the text in them
+
+pub joined_bytes : (ps qs : List Part) → parts_bytes (ps ++ qs) ≡ parts_bytes ps ++ parts_bytes qs
+joined_bytes [] qs = refl
+joined_bytes (p ∷ ps) qs =
+    ap (λ xs. part_bytes p ++ xs) (joined_bytes ps qs) ∙ sym (append_assoc (part_bytes p) (parts_bytes ps) (parts_bytes qs))
+
+pub joined_text : (ps qs : List Part) → parts_text (ps ++ qs) ≡ parts_text ps ++ parts_text qs
+joined_text [] qs = refl
+joined_text (p ∷ ps) qs =
+    ap (λ xs. part_text p ++ xs) (joined_text ps qs) ∙ sym (append_assoc (part_text p) (parts_text ps) (parts_text qs))
+
+-- nothing is added
+pub adds_none : (bytes : List ℕ) → Adds bytes bytes []
+adds_none bytes = record { parts = []; joined = sym (append-nil bytes); text_is = refl }
+
+-- one part is added
+pub adds_part : (old more : List ℕ) (p : Part) → more ≡ part_bytes p → Adds old (old ++ more) (part_text p)
+adds_part old more p bytes = record {
+  parts = p ∷ [];
+  joined = ap (λ xs. old ++ xs) (bytes ∙ sym (append-nil (part_bytes p)));
+  text_is = append-nil (part_text p);
+}
+
+-- some parts, and then more
+pub adds_both : (a b c s t : List ℕ) → Adds a b s → Adds b c t → Adds a c (s ++ t)
+adds_both a b c s t first second = record {
+  parts = first.parts ++ second.parts;
+  joined = second.joined ∙ ap (λ xs. xs ++ parts_bytes second.parts) first.joined
+      ∙ append_assoc a (parts_bytes first.parts) (parts_bytes second.parts)
+      ∙ ap (λ xs. a ++ xs) (sym (joined_bytes first.parts second.parts));
+  text_is = joined_text first.parts second.parts ∙ ap₂ (λ xs ys. xs ++ ys) first.text_is second.text_is;
+}
+
+-- markup, and then parts
+pub after_markup : (a b c t : List ℕ) → Adds a b [] → Adds b c t → Adds a c t
+after_markup a b c t first second = adds_both a b c [] t first second
+
+-- parts, and then markup
+pub before_markup : (a b c s : List ℕ) → Adds a b s → Adds b c [] → Adds a c s
+before_markup a b c s first second = let all = adds_both a b c s [] first second in
+    record { parts = all.parts; joined = all.joined; text_is = all.text_is ∙ append-nil s }
+
+-- parts that are added to nothing are a page
+pub shows_added : (bytes text : List ℕ) → Adds [] bytes text → Shows bytes text
+shows_added bytes text adds = record { parts = adds.parts; joined = adds.joined; text_is = adds.text_is }
+
+-- the escaped byte
+escaped_one : (b : ℕ) (o : Option (List ℕ)) → o ≡ reference b → unwrap_or o (b ∷ []) ≡ escaped (b ∷ [])
+escaped_one b o is = ap (λ x. unwrap_or x (b ∷ [])) is ∙ sym (append-nil (unwrap_or (reference b) (b ∷ [])))
+
+pub adds_reference : (old more : List ℕ) (b : ℕ) → Some more ≡ reference b → Adds old (old ++ more) (b ∷ [])
+adds_reference old more b r = adds_part old more (Text (b ∷ [])) (escaped_one b (Some more) r)
+
+pub adds_byte : (old : List ℕ) (b : ℕ) → None ≡ reference b → Adds old (old ++ b ∷ []) (b ∷ [])
+adds_byte old b r = adds_part old (b ∷ []) (Text (b ∷ [])) (escaped_one b None r)
+
+pub names_reference : (old more : List ℕ) (b : ℕ) → Some more ≡ reference b → Adds old (old ++ more) []
+names_reference old more b r = adds_part old more (Name (b ∷ [])) (escaped_one b (Some more) r)
+
+pub names_byte : (old : List ℕ) (b : ℕ) → None ≡ reference b → Adds old (old ++ b ∷ []) []
+names_byte old b r = adds_part old (b ∷ []) (Name (b ∷ [])) (escaped_one b None r)
+
+-- a byte more of a text that is taken from the left
+pub adds_more : (a b c text : List ℕ) (i x : ℕ) → take (i + 1) text ≡ take i text ++ x ∷ [] → Adds a b (take i text)
+    → Adds b c (x ∷ []) → Adds a c (take (i + 1) text)
+adds_more a b c text i x more first second = subst (λ t. Adds a c t) (sym more) (adds_both a b c (take i text) (x ∷ []) first second)
+
+-- markup, and then what a call may add
+pub if_added : {T E : Type 0} (r : Result T E) (a b c t : List ℕ) → Adds a b [] → OnOk r (Adds b c t) → OnOk r (Adds a c t)
+if_added r a b c t first = on_ok_weaker r (after_markup a b c t first)
+
+-- what a call may add after parts, if that is markup
+pub if_ended : {T E : Type 0} (r : Result T E) (a b c s : List ℕ) → Adds a b s → OnOk r (Adds b c []) → OnOk r (Adds a c s)
+if_ended r a b c s first = on_ok_weaker r (before_markup a b c s first)
+
+-- two pages, one after the other
+pub pages_joined : (a b : List ℕ) → IsPage a → IsPage b → IsPage (a ++ b)
+pages_joined a b first second = record {
+  parts = first.parts ++ second.parts;
+  joined = ap₂ (λ xs ys. xs ++ ys) first.joined second.joined ∙ sym (joined_bytes first.parts second.parts);
+}
+
+-- what a call may add after parts
+pub if_both : {T E : Type 0} (r : Result T E) (a b c s t : List ℕ) → Adds a b s → OnOk r (Adds b c t) → OnOk r (Adds a c (s ++ t))
+if_both r a b c s t first = on_ok_weaker r (adds_both a b c s t first)
+
+-- the bytes of a page that was empty at first
+pub shows_page : (empty page bytes text : List ℕ) → empty ≡ [] → bytes ≡ page → Adds empty page text → Shows bytes text
+shows_page empty page bytes text none is adds =
+    shows_added bytes text (subst (λ xs. Adds [] xs text) (sym is) (subst (λ xs. Adds xs page text) none adds))

@@ -1,0 +1,7 @@
+use Rattle.std.proofs.Common.{take}
+use Rattle.picture_page.specs.Page.{Adds}
+use Rattle.picture_page.proofs.page.Page.text.Given as goal
+
+-- what was appended so far
+abbrev pub invariant-loop-byte : goal.invariant-loop-byte
+invariant-loop-byte l = Adds l.fn.self l.self (take l.byte-index l.text)

@@ -1,0 +1,19 @@
+use Rattle.picture_page.proofs.PageLemmas.{adds_byte, adds_reference, grown_by_byte, grown_by_reference}
+use Rattle.picture_page.proofs.page.Page.text_byte.Goals as goal
+
+pub invariant_of-self-in-Some : goal.invariant_of-self-in-Some
+invariant_of-self-in-Some c =
+    rw c.in_ok-extend_from_slice-in-Some.ensures.items
+    (grown_by_reference _ _ c.args.byte c.self.invariant c.in-Some.ensures)
+
+pub invariant_of-self-in-None : goal.invariant_of-self-in-None
+invariant_of-self-in-None c =
+    rw c.in_ok-push-in-None.ensures.items (grown_by_byte _ c.args.byte c.self.invariant c.in-None.ensures)
+
+pub returns-in_ok-extend_from_slice-in-Some : goal.returns-in_ok-extend_from_slice-in-Some
+returns-in_ok-extend_from_slice-in-Some c =
+    rw (c.in_ok-extend_from_slice-in-Some.ensures.items, ← c.self.view_is) (adds_reference _ _ c.args.byte c.in-Some.ensures)
+
+pub returns-in_ok-push-in-None : goal.returns-in_ok-push-in-None
+returns-in_ok-push-in-None c =
+    rw (c.in_ok-push-in-None.ensures.items, ← c.self.view_is) (adds_byte _ c.args.byte c.in-None.ensures)

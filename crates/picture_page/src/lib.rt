@@ -1,0 +1,8 @@
+//! Pages of pictures: markup of the program's own, digits, and texts that are escaped.
+#![tactic(auto)]
+
+mod page;
+mod tag;
+
+pub use page::{Page, Rgb};
+pub use tag::Tag;

@@ -1,0 +1,259 @@
+//! A picture as it is written: markup, digits and texts, and nothing else.
+
+ghost use Rattle.std.specs.Prelude.{◌≡◌, ◌∷◌, [], ◌%◌, ◌++◌, OnOk, encode_utf8, length};
+ghost use Rattle.std.specs.Option.{option_map};
+ghost use Rattle.picture_page.specs.Page.{Adds, IsPage, IsSafe, digit_byte, reference as reference_of};
+
+use crate::tag::Tag;
+use std::alloc::{AllocError, Global};
+use std::marker::Model;
+
+/// Red, green and blue.
+#[derive(Clone, Copy, PartialEq, Eq)]
+pub struct Rgb {
+    /// Red.
+    pub red: u8,
+    /// Green.
+    pub green: u8,
+    /// Blue.
+    pub blue: u8,
+}
+
+/// The bytes of a picture. However it was made, they are pieces of markup, digits and escaped texts.
+#[derive(Drop)]
+pub struct Page {
+    bytes: Vec<u8>,
+}
+
+impl Model for Page {
+    ghost use Rattle.std.specs.Prelude.{List, ℕ};
+    ghost use Rattle.picture_page.specs.Page.{IsPage};
+
+    ghost Value = { List ℕ };
+
+    ghost view = { λ p. p.bytes.items };
+
+    ghost invariant = { λ p. IsPage p.bytes.items };
+}
+
+impl Page {
+    /// An empty one.
+    pub fn new(alloc: Global) -> Self
+        ensures { result ≡ [] }
+    {
+        Page {
+            bytes: Vec::new(alloc),
+        }
+    }
+
+    /// Appends a piece of markup.
+    pub fn markup(&mut self, tag: Tag) -> Result<(), AllocError>
+        ensures { OnOk result (Adds self.old self.new []) }
+    {
+        self.bytes.extend_from_slice(tag.bytes())?;
+        Ok(())
+    }
+
+    /// Appends a piece of markup, if it is wanted.
+    pub fn markup_if(&mut self, on: bool, tag: Tag) -> Result<(), AllocError>
+        ensures { OnOk result (Adds self.old self.new []) }
+    {
+        if on { self.markup(tag) } else { Ok(()) }
+    }
+
+    /// Appends the newline that ends a row of cells.
+    pub fn end_row(&mut self) -> Result<(), AllocError>
+        ensures { OnOk result (Adds self.old self.new (10 ∷ [])) }
+    {
+        self.bytes.push(b'\n')?;
+        Ok(())
+    }
+
+    /// Appends a digit. The value counts modulo 16.
+    pub fn digit(&mut self, value: u8) -> Result<(), AllocError>
+        ensures { OnOk result (Adds self.old self.new []) }
+    {
+        self.bytes.push(digit_of(value))?;
+        Ok(())
+    }
+
+    /// Appends a number, in decimal.
+    pub fn number(&mut self, number: u32) -> Result<(), AllocError>
+        ensures { OnOk result (Adds self.old self.new []) }
+    {
+        let mut led = false;
+        for unit in UNITS {
+            let digit = number / unit % 10;
+            led = led || digit > 0 || unit == 1;
+            self.digit_if(led, digit as u8)?;
+        }
+        Ok(())
+    }
+
+    // Appends a digit, if it is wanted.
+    fn digit_if(&mut self, on: bool, value: u8) -> Result<(), AllocError>
+        ensures { OnOk result (Adds self.old self.new []) }
+    {
+        if on { self.digit(value) } else { Ok(()) }
+    }
+
+    /// Appends pieces of markup, each with the number that follows it.
+    pub fn numbers(&mut self, numbers: &[(Tag, u32)]) -> Result<(), AllocError>
+        ensures { OnOk result (Adds self.old self.new []) }
+    {
+        for (tag, number) in numbers {
+            self.markup_number(*tag, *number)?;
+        }
+        Ok(())
+    }
+
+    // Appends a piece of markup and the number that follows it.
+    fn markup_number(&mut self, tag: Tag, number: u32) -> Result<(), AllocError>
+        ensures { OnOk result (Adds self.old self.new []) }
+    {
+        self.markup(tag)?;
+        self.number(number)
+    }
+
+    /// Appends a piece of markup and a colour, as six digits.
+    pub fn color(&mut self, tag: Tag, color: Rgb) -> Result<(), AllocError>
+        ensures { OnOk result (Adds self.old self.new []) }
+    {
+        self.markup(tag)?;
+        self.hexadecimal(color.red)?;
+        self.hexadecimal(color.green)?;
+        self.hexadecimal(color.blue)
+    }
+
+    // Appends two digits of base 16.
+    fn hexadecimal(&mut self, value: u8) -> Result<(), AllocError>
+        ensures { OnOk result (Adds self.old self.new []) }
+    {
+        self.digit(value / 16)?;
+        self.digit(value % 16)
+    }
+
+    /// Appends a name that isn't a text of the screen, such as that of a font, escaped.
+    pub fn name(&mut self, name: &str) -> Result<(), AllocError>
+        ensures { OnOk result (Adds self.old self.new []) }
+    {
+        for byte in name.as_bytes() {
+            self.name_byte(*byte)?;
+        }
+        Ok(())
+    }
+
+    // Appends a byte of a name, escaped.
+    fn name_byte(&mut self, byte: u8) -> Result<(), AllocError>
+        ensures { OnOk result (Adds self.old self.new []) }
+    {
+        match reference(byte) {
+            Some(text) => {
+                self.bytes.extend_from_slice(text)?;
+                Ok(())
+            }
+            None => {
+                self.bytes.push(byte)?;
+                Ok(())
+            }
+        }
+    }
+
+    /// Appends a text of the screen, escaped.
+    pub fn text(&mut self, text: &str) -> Result<(), AllocError>
+        ensures { OnOk result (Adds self.old self.new text.now) }
+    {
+        for byte in text.as_bytes() {
+            self.text_byte(*byte)?;
+        }
+        Ok(())
+    }
+
+    // Appends a byte of a text, escaped.
+    fn text_byte(&mut self, byte: u8) -> Result<(), AllocError>
+        ensures { OnOk result (Adds self.old self.new (byte ∷ [])) }
+    {
+        match reference(byte) {
+            Some(text) => {
+                self.bytes.extend_from_slice(text)?;
+                Ok(())
+            }
+            None => {
+                self.bytes.push(byte)?;
+                Ok(())
+            }
+        }
+    }
+
+    /// Appends a character of the screen, escaped.
+    pub fn character(&mut self, c: char) -> Result<(), AllocError>
+        ensures { OnOk result (Adds self.old self.new (encode_utf8 c)) }
+    {
+        let mut room = [0; 4];
+        self.text(c.encode_utf8(&mut room))
+    }
+
+    /// Appends another page.
+    pub fn append(&mut self, other: &Page) -> Result<(), AllocError>
+        ensures { OnOk result (self.new ≡ self.old ++ other.now) }
+    {
+        self.bytes.extend_from_slice(&other.bytes)?;
+        Ok(())
+    }
+
+    /// How many bytes it has.
+    pub fn len(&self) -> usize
+        ensures { result ≡ length self.now }
+    {
+        self.bytes.len()
+    }
+
+    /// Its bytes.
+    pub fn into_bytes(self) -> Vec<u8>
+        ensures bytes { result.items ≡ self }
+        ensures page { IsPage result.items }
+        ensures safe { IsSafe result.items }
+    {
+        self.bytes
+    }
+}
+
+// The units of a number of 32 bits, in decimal.
+const UNITS: [u32; 10] = [
+    1_000_000_000,
+    100_000_000,
+    10_000_000,
+    1_000_000,
+    100_000,
+    10_000,
+    1000,
+    100,
+    10,
+    1,
+];
+
+// What stands for a byte that isn't written as it is.
+fn reference(byte: u8) -> Option<&'static [u8]>
+    ensures { option_map (λ r. r.now) result ≡ reference_of byte }
+{
+    match byte {
+        b'&' => Some(b"&amp;"),
+        b'<' => Some(b"&lt;"),
+        b'>' => Some(b"&gt;"),
+        b'"' => Some(b"&quot;"),
+        b'\'' => Some(b"&#39;"),
+        _ => None,
+    }
+}
+
+// The digit of this value, which counts modulo 16.
+fn digit_of(value: u8) -> u8
+    ensures { result ≡ digit_byte (value % 16) }
+{
+    let value = value % 16;
+    if value <= 9 {
+        b'0' + value
+    } else {
+        b'a' + (value - 10)
+    }
+}

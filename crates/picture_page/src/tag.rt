@@ -1,0 +1,222 @@
+//! The markup of pictures.
+
+ghost use Rattle.std.specs.Prelude.{◌≡◌};
+ghost use Rattle.picture_page.specs.Tags.{tag_bytes};
+
+/// A piece of markup: the only bytes of a picture that aren't digits, names or the escaped texts of cells.
+#[derive(Clone, Copy)]
+pub enum Tag {
+    /// What comes before the block of a page in HTML.
+    PageHead,
+    /// What comes after it.
+    PageFoot,
+    /// The beginning of a block of rows in HTML.
+    Block,
+    /// What comes before the name of its font.
+    BlockFont,
+    /// What comes after it.
+    BlockFontEnd,
+    /// What comes before its rows.
+    BlockRows,
+    /// What ends it.
+    BlockEnd,
+    /// A newline after it.
+    Newline,
+    /// The beginning of a run of cells in HTML.
+    Span,
+    /// Its colour.
+    Color,
+    /// Its background.
+    Background,
+    /// Bold.
+    SpanBold,
+    /// Italic.
+    SpanItalic,
+    /// Underlined.
+    SpanUnderline,
+    /// Two columns wide.
+    SpanWide,
+    /// What comes before the text of a run.
+    SpanText,
+    /// What comes after it.
+    SpanEnd,
+    /// The beginning of a picture in SVG.
+    Svg,
+    /// What comes before the name of its font.
+    SvgFont,
+    /// What comes after it.
+    SvgFontEnd,
+    /// The font that is tried last.
+    Monospace,
+    /// What comes before the width of the part that is seen.
+    ViewBox,
+    /// A space between two numbers.
+    Space,
+    /// What comes before the rows of a picture in SVG.
+    SvgRows,
+    /// What ends it.
+    SvgFoot,
+    /// The beginning of a row in SVG, before how far down it is.
+    Row,
+    /// What comes before its cells.
+    RowCells,
+    /// What ends it.
+    RowEnd,
+    /// The beginning of a rectangle.
+    Rect,
+    /// The beginning of a text.
+    Text,
+    /// How far down it is.
+    Y,
+    /// How wide it is.
+    Width,
+    /// How high it is.
+    Height,
+    /// How wide a text is.
+    Length,
+    /// A text whose characters are stretched to that width.
+    Stretched,
+    /// What it is filled with.
+    Fill,
+    /// Bold.
+    TextBold,
+    /// Italic.
+    TextItalic,
+    /// Underlined.
+    TextUnderline,
+    /// The end of a rectangle or a path.
+    Close,
+    /// What comes before the text itself.
+    TextStart,
+    /// What comes after it.
+    TextEnd,
+    /// The beginning of a path, before its colour.
+    Lines,
+    /// How opaque a path is, in hundredths.
+    Opacity,
+    /// What comes before the parts of a path.
+    LinesData,
+    /// What comes before the characters for which it stands.
+    LinesLabel,
+    /// A part of a path begins at this place.
+    MoveTo,
+    /// A line to the right, this long.
+    Right,
+    /// A line down, this long.
+    Down,
+    /// A line to the left, this long.
+    Left,
+    /// The end of a part of a path.
+    Shut,
+    /// The beginning of what is drawn elsewhere.
+    DefsStart,
+    /// What ends it.
+    DefsEnd,
+    /// The beginning of a row that is drawn elsewhere, before its number.
+    RowName,
+    /// What comes before its cells.
+    RowNameEnd,
+    /// The beginning of when a film shows what.
+    Keyframes,
+    /// What comes after a part of the film's length, before the place of the screen that is shown then.
+    Percent,
+    /// What comes after the place.
+    PercentEnd,
+    /// The point of a number.
+    Point,
+    /// What comes before the length of a film in seconds.
+    FilmLength,
+    /// What comes after it.
+    FilmLengthEnd,
+    /// The beginning of the screens of a film.
+    Film,
+    /// What ends them.
+    FilmEnd,
+    /// The beginning of a screen of a film, before its place.
+    Frame,
+    /// What comes before its rows.
+    FrameRows,
+    /// What ends it.
+    FrameEnd,
+    /// A row that was drawn elsewhere, before its number.
+    Use,
+}
+
+impl Tag {
+    /// Its bytes.
+    pub fn bytes(self) -> &'static [u8]
+        ensures { result.now ≡ tag_bytes self }
+    {
+        match self {
+            Tag::PageHead =>
+                b"<!DOCTYPE html>\n<html><head><meta charset=\"utf-8\"><title>screentext</title></head>\n<body>",
+            Tag::PageFoot => b"</body></html>\n",
+            Tag::Block => b"<pre style=\"display:inline-block;line-height:1.2;",
+            Tag::BlockFont => b";font-family:'",
+            Tag::BlockFontEnd => b"',monospace",
+            Tag::BlockRows => b"\">\n",
+            Tag::BlockEnd => b"</pre>",
+            Tag::Newline => b"\n",
+            Tag::Span => b"<span style=\"",
+            Tag::Color => b"color:#",
+            Tag::Background => b";background:#",
+            Tag::SpanBold => b";font-weight:bold",
+            Tag::SpanItalic => b";font-style:italic",
+            Tag::SpanUnderline => b";text-decoration:underline",
+            Tag::SpanWide => b";display:inline-block;width:2ch",
+            Tag::SpanText => b"\">",
+            Tag::SpanEnd => b"</span>",
+            Tag::Svg =>
+                b"<svg xmlns=\"http://www.w3.org/2000/svg\" shape-rendering=\"crispEdges\" font-size=\"15\" font-family=\"",
+            Tag::SvgFont => b"'",
+            Tag::SvgFontEnd => b"',",
+            Tag::Monospace => b"monospace",
+            Tag::ViewBox => b"\" viewBox=\"0 0 ",
+            Tag::Space => b" ",
+            Tag::SvgRows => b"\">\n",
+            Tag::SvgFoot => b"</svg>\n",
+            Tag::Row => b"<g transform=\"translate(0 ",
+            Tag::RowCells => b")\">",
+            Tag::RowEnd => b"</g>",
+            Tag::Rect => b"<rect x=\"",
+            Tag::Text => b"<text xml:space=\"preserve\" x=\"",
+            Tag::Y => b"\" y=\"",
+            Tag::Width => b"\" width=\"",
+            Tag::Height => b"\" height=\"",
+            Tag::Length => b"\" textLength=\"",
+            Tag::Stretched => b"\" lengthAdjust=\"spacingAndGlyphs",
+            Tag::Fill => b"\" fill=\"#",
+            Tag::TextBold => b"\" font-weight=\"bold",
+            Tag::TextItalic => b"\" font-style=\"italic",
+            Tag::TextUnderline => b"\" text-decoration=\"underline",
+            Tag::Close => b"\"/>",
+            Tag::TextStart => b"\">",
+            Tag::TextEnd => b"</text>",
+            Tag::Lines => b"<path fill=\"#",
+            Tag::Opacity => b"\" fill-opacity=\".",
+            Tag::LinesData => b"\" d=\"",
+            Tag::LinesLabel => b"\" role=\"img\" aria-label=\"",
+            Tag::MoveTo => b"M",
+            Tag::Right => b"h",
+            Tag::Down => b"v",
+            Tag::Left => b"h-",
+            Tag::Shut => b"z",
+            Tag::DefsStart => b"<defs>\n",
+            Tag::DefsEnd => b"</defs>\n",
+            Tag::RowName => b"<g id=\"r",
+            Tag::RowNameEnd => b"\">",
+            Tag::Keyframes => b"<style>@keyframes film{",
+            Tag::Percent => b"%{transform:translate(-",
+            Tag::PercentEnd => b"px)}",
+            Tag::Point => b".",
+            Tag::FilmLength => b"}.film{animation:film ",
+            Tag::FilmLengthEnd => b"s steps(1,end) infinite}</style>\n",
+            Tag::Film => b"<g class=\"film\">\n",
+            Tag::FilmEnd => b"</g>\n",
+            Tag::Frame => b"<g transform=\"translate(",
+            Tag::FrameRows => b")\">",
+            Tag::FrameEnd => b"</g>\n",
+            Tag::Use => b"<use href=\"#r",
+        }
+    }
+}

@@ -1,0 +1,43 @@
+-- The texts of parts of a row.
+use Rattle.std.proofs.Common.{◌≡◌, ◌≤◌, ◌<◌, ◌+◌, ◌-◌, ℕ, List, [], ◌∷◌, ◌++◌, take, drop, length, get_or, encode_utf8, sym, ap, ◌∙◌, append-nil, subst, arith}
+use Rattle.std.proofs.Math.Seq.{take-add}
+use Rattle.std.proofs.lemmas.Grind.{flat_map-append}
+use Rattle.std.proofs.lemmas.List.{take_more}
+use Rattle.picture_page.specs.Page.{Adds}
+use Rattle.picture_page.proofs.PageLemmas.{adds_both}
+use Rattle.vt100_cells.specs.Cell.{CellView}
+use Rattle.row_pictures.specs.Text.{cell_text, row_text, shown_character, shown_characters}
+
+-- the cells up to a place are those up to an earlier one and those between
+row_text-take : (cells : List CellView) (i j : ℕ) → i ≤ j
+    → row_text (take j cells) ≡ row_text (take i cells) ++ row_text (take (j - i) (drop i cells))
+row_text-take cells i j le =
+    let sum : i + (j - i) ≡ j = omega arith in
+    ap (λ n. row_text (take n cells)) (sym sum) ∙ ap row_text (take-add i (j - i) cells)
+    ∙ flat_map-append cell_text (take i cells) (take (j - i) (drop i cells))
+
+pub row_drawn : (a b c : List ℕ) (cells : List CellView) (i j : ℕ) → i ≤ j → Adds a b (row_text (take i cells))
+    → Adds b c (row_text (take (j - i) (drop i cells))) → Adds a c (row_text (take j cells))
+row_drawn a b c cells i j le first second =
+    subst (λ t. Adds a c t) (sym (row_text-take cells i j le)) (adds_both a b c _ _ first second)
+
+-- one cell more
+pub cell_drawn : (a b c : List ℕ) (cells : List CellView) (i : ℕ) (x : CellView) → i < length cells → x ≡ get_or cells i x
+    → Adds a b (row_text (take i cells)) → Adds b c (cell_text x) → Adds a c (row_text (take (i + 1) cells))
+cell_drawn a b c cells i x lt is first second =
+    let more : take (i + 1) cells ≡ take i cells ++ x ∷ [] =
+    take_more cells i x lt ∙ ap (λ y. take i cells ++ y ∷ []) (sym is) in
+    let joined : row_text (take (i + 1) cells) ≡ row_text (take i cells) ++ cell_text x =
+    ap row_text more ∙ flat_map-append cell_text (take i cells) (x ∷ [])
+    ∙ ap (λ t. row_text (take i cells) ++ t) (append-nil (cell_text x)) in
+    subst (λ t. Adds a c t) (sym joined) (adds_both a b c _ _ first second)
+
+-- one character more
+pub character_drawn : (a b c : List ℕ) (cs : List ℕ) (x y : ℕ) → y ≡ shown_character x → Adds a b (shown_characters cs)
+    → Adds b c (encode_utf8 y) → Adds a c (shown_characters (cs ++ x ∷ []))
+character_drawn a b c cs x y is first second =
+    let shown : ℕ → List ℕ = λ z. encode_utf8 (shown_character z) in
+    let joined : shown_characters (cs ++ x ∷ []) ≡ shown_characters cs ++ encode_utf8 y =
+    flat_map-append shown cs (x ∷ [])
+    ∙ ap (λ t. shown_characters cs ++ t) (append-nil (shown x) ∙ ap encode_utf8 (sym is)) in
+    subst (λ t. Adds a c t) (sym joined) (adds_both a b c _ _ first second)

@@ -1,0 +1,18 @@
+use Rattle.std.proofs.Common.{◌≡◌, ◌∙◌, sym, subst, List, ℕ, map-id}
+use Rattle.std.proofs.lemmas.Iterator.{YieldsList-from_chars}
+use Rattle.std.proofs.lemmas.Iterator.Consumers.{YieldsList-end}
+use Rattle.picture_page.specs.Page.{Adds}
+use Rattle.row_pictures.specs.Text.{shown_characters}
+use Rattle.row_pictures.proofs.RowLemmas.{character_drawn}
+use Rattle.row_pictures.proofs.row.push_characters.Goals as goal
+
+pub loop-c-preserved : goal.loop-c-preserved
+loop-c-preserved c =
+    character_drawn _ _ _ c.loop-c.yielded c.in-Some.c _ c.shown.ensures c.loop-c.invariant c.in_ok-character.ensures
+
+pub returns : goal.returns
+returns c =
+    let end = YieldsList-end (YieldsList-from_chars c.contents.result.now c.contents.utf8 cc) c.loop-c.yielded _
+    c.loop-c.yielded_by _ _ c.in-None.is c.next.ensures.steps in
+    subst (λ (cs : List ℕ). Adds c.args.page.now c.loop-c.page (shown_characters cs))
+    (sym (map-id c.loop-c.yielded) ∙ end.0 ∙ c.contents.ensures.characters) c.loop-c.invariant

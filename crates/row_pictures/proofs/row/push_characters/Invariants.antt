@@ -1,0 +1,6 @@
+use Rattle.picture_page.specs.Page.{Adds}
+use Rattle.row_pictures.specs.Text.{shown_characters}
+use Rattle.row_pictures.proofs.row.push_characters.Given as goal
+
+abbrev pub invariant-loop-c : goal.invariant-loop-c
+invariant-loop-c l = Adds l.fn.page l.page (shown_characters l.yielded)

@@ -1,0 +1,14 @@
+use Rattle.std.proofs.Common.{take, length, ◌-◌, ◌≤◌}
+use Rattle.picture_page.specs.Page.{Adds}
+use Rattle.row_pictures.specs.Text.{row_text}
+use Rattle.row_pictures.proofs.svg.push_svg_row.Given as goal
+
+-- the cells so far
+abbrev pub invariant-loop-start : goal.invariant-loop-start
+invariant-loop-start l = record {
+  within : l.start ≤ length l.cells;
+  drawn : Adds l.fn.page l.page (row_text (take l.start l.cells));
+}
+
+abbrev pub decreases-loop-start : goal.decreases-loop-start
+decreases-loop-start l = length l.cells - l.start

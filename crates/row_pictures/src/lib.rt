@@ -1,0 +1,20 @@
+//! Pictures of a row of cells, in HTML and SVG.
+#![tactic(auto)]
+
+mod arms;
+mod glyph;
+mod html;
+mod look;
+mod paint;
+mod row;
+mod style;
+mod svg;
+mod theme;
+
+pub use html::{push_html_colors, push_html_row};
+pub use look::Look;
+pub use picture_page::{Page, Rgb, Tag};
+pub use style::Style;
+pub use svg::{COL_WIDTH, ROW_HEIGHT, push_rect, push_svg_row};
+pub use theme::Theme;
+pub use vt100_cells::Cell;

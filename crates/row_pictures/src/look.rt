@@ -1,0 +1,14 @@
+//! How pictures look.
+
+use crate::theme::Theme;
+
+/// How pictures look.
+#[derive(Drop)]
+pub struct Look {
+    /// The colours.
+    pub theme: Theme,
+    /// The font's name, before which none is tried; monospace is the last.
+    pub font: Option<String>,
+    /// Whether a bold text in one of the first eight colours has the bright one in its place.
+    pub bold_is_bright: bool,
+}

@@ -1,0 +1,87 @@
+//! The colours of cells as red, green and blue.
+
+use crate::look::Look;
+use crate::style::Style;
+use crate::theme::Theme;
+use picture_page::Rgb;
+use vt100_forms::Color;
+
+// How much red, green or blue the steps of the colour cube have.
+const LEVELS: [u8; 6] = [0, 95, 135, 175, 215, 255];
+
+/// The colours of a text and of what is behind it.
+#[derive(Clone, Copy)]
+pub(crate) struct Paint {
+    pub(crate) fgcolor: Rgb,
+    pub(crate) bgcolor: Rgb,
+}
+
+impl Paint {
+    /// The colours of a style. Inverse ones are swapped, and a dim text is halfway to what is behind it.
+    pub(crate) fn of(style: Style, look: &Look) -> Self {
+        let theme = look.theme;
+        let bright = look.bold_is_bright && style.bold;
+        let mut fgcolor = painted(brightened(style.fgcolor, bright), theme.fgcolor, theme);
+        let mut bgcolor = painted(style.bgcolor, theme.bgcolor, theme);
+        if style.inverse {
+            (fgcolor, bgcolor) = (bgcolor, fgcolor);
+        }
+        if style.dim {
+            fgcolor = between(fgcolor, bgcolor);
+        }
+        Paint { fgcolor, bgcolor }
+    }
+}
+
+// The bright one of the first eight colours, if it is wanted.
+fn brightened(color: Color, bright: bool) -> Color {
+    match color {
+        Color::Idx(index) if bright && index < 8 => Color::Idx(index + 8),
+        color => color,
+    }
+}
+
+fn painted(color: Color, default: Rgb, theme: Theme) -> Rgb {
+    match color {
+        Color::Default => default,
+        Color::Idx(index) => numbered(index, theme),
+        Color::Rgb(red, green, blue) => Rgb { red, green, blue },
+    }
+}
+
+// One of 256 colours: sixteen of the theme, and xterm's cube of six steps a side and 24 greys.
+fn numbered(index: u8, theme: Theme) -> Rgb {
+    if index < 16 {
+        return theme.colors[usize::from(index)];
+    }
+    if index < 232 {
+        let place = index - 16;
+        return Rgb {
+            red: level(place / 36),
+            green: level(place / 6),
+            blue: level(place),
+        };
+    }
+    let grey = (index - 232).saturating_mul(10).saturating_add(8);
+    Rgb {
+        red: grey,
+        green: grey,
+        blue: grey,
+    }
+}
+
+fn level(step: u8) -> u8 {
+    LEVELS[usize::from(step % 6)]
+}
+
+fn between(one: Rgb, other: Rgb) -> Rgb {
+    Rgb {
+        red: mean(one.red, other.red),
+        green: mean(one.green, other.green),
+        blue: mean(one.blue, other.blue),
+    }
+}
+
+fn mean(one: u8, other: u8) -> u8 {
+    one / 2 + other / 2
+}

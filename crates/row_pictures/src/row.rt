@@ -1,0 +1,105 @@
+//! Cells of a row that are drawn alike, and their texts.
+
+ghost use Rattle.std.specs.Prelude.{◌≡◌, ◌<◌, ◌≤◌, length, OnOk, [], ◌∷◌};
+ghost use Rattle.picture_page.specs.Page.{Adds};
+ghost use Rattle.row_pictures.specs.Text.{cell_text, row_text, shown_character, shown_characters};
+
+use crate::glyph::Ink;
+use crate::style::Style;
+use picture_page::Page;
+use std::alloc::AllocError;
+use vt100_cells::Cell;
+
+/// Where a run of cells ends that begins here: cells that are drawn alike, or one wide character.
+pub(crate) fn run_end(cells: &[Cell], start: usize, cursor: Option<usize>) -> usize
+    requires { start < length cells.now }
+    ensures more { start < result }
+    ensures within { result ≤ length cells.now }
+{
+    if cells[start].is_wide() {
+        return wide_end(cells, start);
+    }
+    let mut end = start + 1;
+    while end < cells.len() && are_alike(cells, start, end, cursor) {
+        end += 1;
+    }
+    end
+}
+
+// Whether two cells are drawn alike. A wide character is like no other.
+fn are_alike(cells: &[Cell], one: usize, other: usize, cursor: Option<usize>) -> bool
+    requires one { one < length cells.now }
+    requires other { other < length cells.now }
+{
+    !cells[other].is_wide()
+        && style_at(cells, one, cursor) == style_at(cells, other, cursor)
+        && Ink::of(&cells[one]) == Ink::of(&cells[other])
+}
+
+// Where a wide character ends.
+fn wide_end(cells: &[Cell], start: usize) -> usize
+    requires { start < length cells.now }
+    ensures more { start < result }
+    ensures within { result ≤ length cells.now }
+{
+    let next = start + 1;
+    if next < cells.len() && cells[next].is_wide_continuation() {
+        next + 1
+    } else {
+        next
+    }
+}
+
+/// How a cell is drawn. The cell under the cursor is inverse where it wouldn't be, and the other way round.
+pub(crate) fn style_at(cells: &[Cell], col: usize, cursor: Option<usize>) -> Style
+    requires { col < length cells.now }
+{
+    let mut style = Style::of(&cells[col]);
+    if cursor == Some(col) {
+        style.inverse = !style.inverse;
+    }
+    style
+}
+
+/// Appends the texts of cells.
+pub(crate) fn push_cells(page: &mut Page, cells: &[Cell]) -> Result<(), AllocError>
+    ensures { OnOk result (Adds page.old page.new (row_text cells.now)) }
+{
+    for cell in cells {
+        push_cell(page, cell)?;
+    }
+    Ok(())
+}
+
+// Appends the text of a cell: a space where it is empty, and nothing for the second column of a wide one.
+fn push_cell(page: &mut Page, cell: &Cell) -> Result<(), AllocError>
+    ensures { OnOk result (Adds page.old page.new (cell_text cell.now)) }
+{
+    if cell.is_wide_continuation() {
+        return Ok(());
+    }
+    if !cell.has_contents() {
+        return page.character(' ');
+    }
+    push_characters(page, cell)
+}
+
+// Appends the characters of a cell.
+fn push_characters(page: &mut Page, cell: &Cell) -> Result<(), AllocError>
+    ensures { OnOk result (Adds page.old page.new (shown_characters cell.now.text)) }
+{
+    for c in cell.contents().chars() {
+        page.character(shown(c))?;
+    }
+    Ok(())
+}
+
+// A character as pictures have it: no XML may have U+FFFE and U+FFFF.
+fn shown(c: char) -> char
+    ensures { result ≡ shown_character c }
+{
+    match c {
+        '\u{fffe}' | '\u{ffff}' => '\u{fffd}',
+        c => c,
+    }
+}

@@ -1,0 +1,54 @@
+//! How cells are drawn.
+
+use vt100_cells::Cell;
+use vt100_forms::Color;
+
+/// How a cell is drawn.
+#[derive(Clone, Copy, PartialEq, Eq)]
+pub struct Style {
+    /// The colour of the text.
+    pub fgcolor: Color,
+    /// The colour of what is behind it.
+    pub bgcolor: Color,
+    /// Bold.
+    pub bold: bool,
+    /// Dim.
+    pub dim: bool,
+    /// Italic.
+    pub italic: bool,
+    /// Underlined.
+    pub underline: bool,
+    /// The two colours are swapped.
+    pub inverse: bool,
+}
+
+impl Style {
+    /// How an untouched cell is drawn.
+    pub const PLAIN: Style = Style {
+        fgcolor: Color::Default,
+        bgcolor: Color::Default,
+        bold: false,
+        dim: false,
+        italic: false,
+        underline: false,
+        inverse: false,
+    };
+
+    /// How this cell is drawn.
+    pub fn of(cell: &Cell) -> Self {
+        Style {
+            fgcolor: cell.fgcolor(),
+            bgcolor: cell.bgcolor(),
+            bold: cell.bold(),
+            dim: cell.dim(),
+            italic: cell.italic(),
+            underline: cell.underline(),
+            inverse: cell.inverse(),
+        }
+    }
+
+    /// Whether a blank cell that is drawn so looks other than an untouched one.
+    pub fn shows_on_blanks(&self) -> bool {
+        self.bgcolor != Color::Default || self.inverse || self.underline
+    }
+}

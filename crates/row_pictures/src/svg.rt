@@ -1,0 +1,202 @@
+//! A row of cells in SVG.
+
+ghost use Rattle.std.specs.Prelude.{[], OnOk, ◌<◌, ◌≤◌, length};
+ghost use Rattle.picture_page.specs.Page.{Adds};
+ghost use Rattle.row_pictures.specs.Text.{row_text};
+
+use crate::glyph::{Ink, push_glyph};
+use crate::look::Look;
+use crate::paint::Paint;
+use crate::row::{push_cells, run_end, style_at};
+use crate::style::Style;
+use picture_page::{Page, Rgb, Tag};
+use std::alloc::AllocError;
+use vt100_cells::Cell;
+
+/// How many pixels wide a column is.
+pub const COL_WIDTH: u32 = 9;
+
+/// How many pixels high a row is.
+pub const ROW_HEIGHT: u32 = 18;
+
+// How many pixels below the top of a row its text stands.
+const BASELINE: u32 = 14;
+
+/// Appends a row of cells in SVG, its top at 0. The cursor is shown in its column, if it has one.
+pub fn push_svg_row(
+    page: &mut Page,
+    cells: &[Cell],
+    cursor: Option<usize>,
+    look: &Look,
+) -> Result<(), AllocError>
+    ensures { OnOk result (Adds page.old page.new (row_text cells.now)) }
+{
+    let mut start = 0;
+    while start < cells.len() {
+        let end = run_end(cells, start, cursor);
+        let style = style_at(cells, start, cursor);
+        push_run(page, &cells[start..end], start, style, look)?;
+        start = end;
+    }
+    Ok(())
+}
+
+// Appends a run of cells that begins in a column: what is behind it, unless it is what is behind the picture, and its
+// text.
+fn push_run(
+    page: &mut Page,
+    run: &[Cell],
+    col: usize,
+    style: Style,
+    look: &Look,
+) -> Result<(), AllocError>
+    ensures { OnOk result (Adds page.old page.new (row_text run.now)) }
+{
+    let paint = Paint::of(style, look);
+    let span = Span {
+        x: pixels(col),
+        width: pixels(run.len()),
+    };
+    push_behind(page, span, paint.bgcolor, look)?;
+    push_characters(page, run, span, paint.fgcolor, style)
+}
+
+fn push_characters(
+    page: &mut Page,
+    run: &[Cell],
+    span: Span,
+    color: Rgb,
+    style: Style,
+) -> Result<(), AllocError>
+    ensures { OnOk result (Adds page.old page.new (row_text run.now)) }
+{
+    match ink_of(run) {
+        Ink::Font => push_text(page, run, span, color, style),
+        Ink::Solid => push_lines(page, run, span.x, color, None),
+        Ink::Shade(opacity) => push_lines(page, run, span.x, color, Some(opacity)),
+    }
+}
+
+// With what a run is drawn.
+fn ink_of(run: &[Cell]) -> Ink {
+    match run.first() {
+        Some(cell) => Ink::of(cell),
+        None => Ink::Font,
+    }
+}
+
+fn push_text(
+    page: &mut Page,
+    run: &[Cell],
+    span: Span,
+    color: Rgb,
+    style: Style,
+) -> Result<(), AllocError>
+    ensures { OnOk result (Adds page.old page.new (row_text run.now)) }
+{
+    let wide = run.len() > 1 && run[0].is_wide();
+    push_text_head(page, span, color, style)?;
+    page.markup_if(wide, Tag::Stretched)?;
+    page.markup(Tag::TextStart)?;
+    push_cells(page, run)?;
+    page.markup(Tag::TextEnd)
+}
+
+// Appends line drawing or block characters as a path, which is labelled with them.
+fn push_lines(
+    page: &mut Page,
+    run: &[Cell],
+    x: u32,
+    color: Rgb,
+    opacity: Option<u32>,
+) -> Result<(), AllocError>
+    ensures { OnOk result (Adds page.old page.new (row_text run.now)) }
+{
+    push_lines_head(page, color, opacity)?;
+    push_glyphs(page, run, x)?;
+    page.markup(Tag::LinesLabel)?;
+    push_cells(page, run)?;
+    page.markup(Tag::Close)
+}
+
+fn push_lines_head(page: &mut Page, color: Rgb, opacity: Option<u32>) -> Result<(), AllocError>
+    ensures { OnOk result (Adds page.old page.new []) }
+{
+    page.color(Tag::Lines, color)?;
+    push_opacity(page, opacity)?;
+    page.markup(Tag::LinesData)
+}
+
+fn push_opacity(page: &mut Page, opacity: Option<u32>) -> Result<(), AllocError>
+    ensures { OnOk result (Adds page.old page.new []) }
+{
+    match opacity {
+        Some(opacity) => page.numbers(&[(Tag::Opacity, opacity)]),
+        None => Ok(()),
+    }
+}
+
+fn push_glyphs(page: &mut Page, run: &[Cell], x: u32) -> Result<(), AllocError>
+    ensures { OnOk result (Adds page.old page.new []) }
+{
+    let mut x = x;
+    for cell in run {
+        push_glyph(page, x, cell)?;
+        x = x.saturating_add(COL_WIDTH);
+    }
+    Ok(())
+}
+
+// The pixels of this many columns.
+fn pixels(cols: usize) -> u32 {
+    u32::try_from(cols)
+        .unwrap_or(u32::MAX)
+        .saturating_mul(COL_WIDTH)
+}
+
+// Some columns, in pixels.
+#[derive(Clone, Copy)]
+struct Span {
+    x: u32,
+    width: u32,
+}
+
+fn push_behind(page: &mut Page, span: Span, color: Rgb, look: &Look) -> Result<(), AllocError>
+    ensures { OnOk result (Adds page.old page.new []) }
+{
+    if color == look.theme.bgcolor {
+        return Ok(());
+    }
+    push_rect(page, span.x, span.width, ROW_HEIGHT, color)
+}
+
+/// Appends a rectangle whose top is at 0.
+pub fn push_rect(
+    page: &mut Page,
+    x: u32,
+    width: u32,
+    height: u32,
+    color: Rgb,
+) -> Result<(), AllocError>
+    ensures { OnOk result (Adds page.old page.new []) }
+{
+    let numbers = [(Tag::Rect, x), (Tag::Width, width), (Tag::Height, height)];
+    page.numbers(&numbers)?;
+    page.color(Tag::Fill, color)?;
+    page.markup(Tag::Close)
+}
+
+fn push_text_head(page: &mut Page, span: Span, color: Rgb, style: Style) -> Result<(), AllocError>
+    ensures { OnOk result (Adds page.old page.new []) }
+{
+    let numbers = [
+        (Tag::Text, span.x),
+        (Tag::Y, BASELINE),
+        (Tag::Length, span.width),
+    ];
+    page.numbers(&numbers)?;
+    page.color(Tag::Fill, color)?;
+    page.markup_if(style.bold, Tag::TextBold)?;
+    page.markup_if(style.italic, Tag::TextItalic)?;
+    page.markup_if(style.underline, Tag::TextUnderline)
+}

@@ -1,0 +1,108 @@
+//! How pictures are asked for.
+
+ghost use Rattle.std.specs.Prelude.{◌≡◌, ◌&&◌, is_some, true, false, nat_lt, IfOk};
+ghost use Rattle.std.specs.Option.{option_map, option_map_or};
+ghost use Rattle.clap.specs.Words.{found_of, rows_of};
+ghost use Rattle.recordings.specs.Times.{time_in};
+ghost use Rattle.row_pictures.specs.Themes.{is_theme};
+ghost use Rattle.screentext_command.specs.Words.{are_pictures, is_speed};
+
+use crate::source::owned;
+use clap::ArgMatches;
+use recorded_screen::{Look, Pace, Theme};
+use recordings::parse_seconds;
+use std::alloc::{AllocError, Global};
+
+/// What the words say of pictures.
+#[derive(Drop)]
+pub(crate) struct Pictures {
+    /// The theme that is named.
+    pub(crate) theme: Option<Theme>,
+    /// The font that is named.
+    pub(crate) font: Option<String>,
+    /// Whether bold texts are in bright colours.
+    pub(crate) bold_is_bright: bool,
+    /// How fast a film plays.
+    pub(crate) pace: Pace,
+}
+
+impl Pictures {
+    /// How pictures look whose recording has a theme of its own, or none.
+    pub(crate) fn look(&self, alloc: Global, theme: Option<Theme>) -> Result<Look, AllocError> {
+        let theme = match (self.theme, theme) {
+            (Some(theme), _) => theme,
+            (None, Some(theme)) => theme,
+            (None, None) => Theme::new(),
+        };
+        Ok(Look {
+            theme,
+            font: self.font.clone()?,
+            bold_is_bright: self.bold_is_bright,
+        })
+    }
+}
+
+/// Reads the words that say it.
+pub(crate) fn pictures_of(
+    alloc: Global,
+    matches: &ArgMatches<'_>,
+) -> Result<Option<Pictures>, AllocError>
+    ensures { IfOk result (λ p. is_some p ≡ are_pictures (rows_of (found_of matches.now))) }
+{
+    let theme = theme_of(matches.get_str("theme"));
+    let speed = speed_of(alloc, matches.get_str("speed"))?;
+    let idle = idle_of(alloc, matches.get_str("idle"))?;
+    let font = owned(alloc, matches.get_str("font"))?;
+    let bold_is_bright = matches.get_count("bold-is-bright") > 0;
+    Ok(new_pictures(theme, speed, idle, font, bold_is_bright))
+}
+
+fn new_pictures(
+    theme: Option<Option<Theme>>,
+    speed: Option<u64>,
+    idle: Option<Option<u64>>,
+    font: Option<String>,
+    bold_is_bright: bool,
+) -> Option<Pictures>
+    ensures { is_some result ≡ (is_some theme && (is_some speed && is_some idle)) }
+{
+    Some(Pictures {
+        theme: theme?,
+        font,
+        bold_is_bright,
+        pace: Pace {
+            speed: speed?,
+            idle: idle?,
+        },
+    })
+}
+
+// The theme of this name, or none where there is no word.
+fn theme_of(word: Option<&str>) -> Option<Option<Theme>>
+    ensures { is_some result ≡ option_map_or is_theme (option_map (λ w. w.now) word.entry) true }
+{
+    match word {
+        None => Some(None),
+        Some(word) => Some(Some(Theme::of_name(word)?)),
+    }
+}
+
+// How many millionths of the recorded speed a film has: a million where there is no word.
+fn speed_of(alloc: Global, word: Option<&str>) -> Result<Option<u64>, AllocError>
+    ensures { IfOk result (λ s. is_some s ≡ option_map_or is_speed (option_map (λ w. w.now) word.entry) true) }
+{
+    match word {
+        None => Ok(Some(Pace::AS_RECORDED)),
+        Some(word) => Ok(parse_seconds(alloc, word.as_bytes())?.filter(|speed| *speed > 0)),
+    }
+}
+
+// The longest time in which nothing changes, in microseconds, or none where there is no word.
+fn idle_of(alloc: Global, word: Option<&str>) -> Result<Option<Option<u64>>, AllocError>
+    ensures { IfOk result (λ t. is_some t ≡ option_map_or (λ w. is_some (time_in w)) (option_map (λ w. w.now) word.entry) true) }
+{
+    match word {
+        None => Ok(Some(None)),
+        Some(word) => Ok(parse_seconds(alloc, word.as_bytes())?.map(Some)),
+    }
+}
