@@ -1,5 +1,5 @@
 -- The texts of a screen, row by row.
-use Rattle.std.proofs.Common.{◌≡◌, ◌+◌, ℕ, List, sym, ap, ◌∙◌, subst, add-one}
+use Rattle.std.proofs.Common.{◌+◌, ℕ, List, sym, subst, add-one}
 use Rattle.vt100_core.specs.Grid.{GridView}
 use Rattle.picture_page.specs.Page.{Adds}
 use Rattle.picture_page.proofs.PageLemmas.{adds_both}

@@ -1,4 +1,3 @@
-use Rattle.std.proofs.Common.{[]}
 use Rattle.picture_page.specs.Page.{Adds}
 use Rattle.recorded_screen.specs.Picture.{lines_text}
 use Rattle.recorded_screen.proofs.picture.push_block.Given as goal

@@ -1,4 +1,4 @@
-use Rattle.std.proofs.Common.{◌≡◌, ◌∙◌, sym, subst, List, ℕ, map-id}
+use Rattle.std.proofs.Common.{◌∙◌, sym, subst, List, ℕ, map-id}
 use Rattle.std.proofs.lemmas.Iterator.{YieldsList-from_chars}
 use Rattle.std.proofs.lemmas.Iterator.Consumers.{YieldsList-end}
 use Rattle.picture_page.specs.Page.{Adds}
