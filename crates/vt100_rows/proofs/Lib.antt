@@ -20,3 +20,4 @@ pub mod PictureLemmas
 pub mod PrintableLemmas
 pub mod BlankLemmas
 pub mod FilledLemmas
+pub mod CopyLemmas

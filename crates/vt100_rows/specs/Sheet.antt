@@ -29,6 +29,11 @@ pub record IsSheet (height width : ℕ) (rows : List RowView) : Type 0 where
   pub each : (r : ℕ) → r < length rows → IsRowOf width (row_at rows r)
   pub last : (row_at rows (height - 1)).wrapped ≡ false
 
+-- as many rows, and each as wide as the one in its place
+pub record HaveSameWidths (rows others : List RowView) : Type 0 where
+  pub count : length rows ≡ length others
+  pub widths : (r : ℕ) → r < length rows → length (row_at rows r).cells ≡ length (row_at others r).cells
+
 -- from row `first` up to row `end` the rows stand n further up, and n blank rows follow them; no other row changes
 abbrev pub moved_up : List RowView → ℕ → ℕ → ℕ → ℕ → ℕ → RowView
 moved_up rows first end n width r =

@@ -16,6 +16,7 @@ pub mod printable;
 mod row;
 pub mod row_sink;
 pub mod rows_back;
+pub mod rows_copy;
 pub mod rows_edit;
 pub mod rows_resize;
 pub mod size;

@@ -13,6 +13,7 @@ ghost use Rattle.vt100_rows.specs.Row.{placed_each, pairs_row, placed_pairs, joi
 ghost use Rattle.vt100_rows.specs.Text.{written_text};
 ghost use Rattle.row_drawing.specs.Writes.{IsBegun};
 
+mod copy;
 mod filled;
 mod forms;
 mod packed;
