@@ -24,3 +24,4 @@ pub mod WriterLemmas
 pub mod PictureWriters
 pub mod ShortLists
 pub mod FormLists
+pub mod CopyLemmas

@@ -5,6 +5,7 @@ pub mod Contents
 pub mod Basic
 pub mod Erase
 pub mod KeptFields
+pub mod Copy
 pub mod Lines
 pub mod Resize
 pub mod Scroll

@@ -4,6 +4,7 @@ ghost use Rattle.std.specs.Prelude.{IfOk};
 
 mod basic;
 mod contents;
+mod copy;
 mod cursor;
 mod erase;
 mod lengthen;
