@@ -14,5 +14,6 @@ pub mod RowTexts
 pub mod FormLists
 pub mod ShortLists
 pub mod RenewLemmas
+pub mod CopyLemmas
 mod LendTwo
 mod ParserParts

@@ -1,4 +1,5 @@
 pub mod CallOf
+pub mod Copies
 pub mod Draws
 pub mod Goes
 pub mod Laws

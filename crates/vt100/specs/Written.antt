@@ -11,6 +11,24 @@ use Rattle.vt100.specs.FormLists.{IsShortText, IsLocalText}
 use Rattle.vt100.specs.declared.error.ScreenError.{ScreenError}
 use Rattle.vt100.specs.declared.error.ScreenError.TheVariants.{Memory}
 
+-- the text of a screen's forms, as `GivesRedraw` has it
+pub record IsRedraw (forms : State → List Form) (pictured : Size → Shown → List Form) (more : ℕ) (s : State)
+    (text : List ℕ) : Type 0 where
+  pub written : text ≡ bytes_of (forms s)
+  pub shown : IsUnscrolled s → text ≡ bytes_of (pictured (grid_size s.shown) (shown_state s))
+  pub short : IsState s → IsShortText (grid_size s.shown) more text
+
+-- the text of what differs from an earlier screen, as `GivesDifference` has it
+pub record IsDifference (forms : State → State → List Form) (pictured : Size → Shown → Shown → List Form)
+    (more : ℕ) (old new : State) (text : List ℕ) : Type 0 where
+  pub written : text ≡ bytes_of (forms old new)
+  pub shown : IsUnscrolled old → IsUnscrolled new → grid_size old.shown ≡ grid_size new.shown
+      → text ≡ bytes_of (pictured (grid_size new.shown) (shown_state old) (shown_state new))
+  pub short : IsState new → IsShortText (grid_size new.shown) more text
+  pub local : IsUnscrolled old → IsUnscrolled new → grid_size old.shown ≡ grid_size new.shown
+      → IsPlainlyShown (shown_state new)
+      → IsLocalText (forms old new) (grid_size new.shown) (shown_state old) (shown_state new) text
+
 module _ {Z : Type 0} where
   -- forms are appended to a text, unless there is no memory for them
   abbrev pub Writes : {A E : Type 0} → List Form → String Z → Result A E → String Z → Type 0
@@ -46,5 +64,23 @@ module _ {Z : Type 0} where
         → IsPlainlyShown (shown_state new)
         → IfOk result (λ string. IsLocalText (forms old new) (grid_size new.shown) (shown_state old) (shown_state new)
         (string_bytes string))
+    pub memory : OnErr result (result ≡ Err Memory)
+    pub empty : bytes_of (forms old new) ≡ [] → IsOk result
+
+  -- ---- texts that are appended
+
+  -- it is appended to a text, unless there is no memory for it
+  pub record AppendsRedraw (forms : State → List Form) (pictured : Size → Shown → List Form) (more : ℕ) (s : State)
+      (before : String Z) (result : Result (Unit {0}) ScreenError) (after : String Z) : Type 0 where
+    pub text : OnOk result (string_bytes after ≡ string_bytes before ++ bytes_of (forms s))
+    pub redraw : IsRedraw forms pictured more s (bytes_of (forms s))
+    pub memory : OnErr result (result ≡ Err Memory)
+
+  -- it is appended to a text, unless there is no memory for it; an empty one takes none
+  pub record AppendsDifference (forms : State → State → List Form) (pictured : Size → Shown → Shown → List Form)
+      (more : ℕ) (old new : State) (before : String Z) (result : Result (Unit {0}) ScreenError) (after : String Z)
+      : Type 0 where
+    pub text : OnOk result (string_bytes after ≡ string_bytes before ++ bytes_of (forms old new))
+    pub difference : IsDifference forms pictured more old new (bytes_of (forms old new))
     pub memory : OnErr result (result ≡ Err Memory)
     pub empty : bytes_of (forms old new) ≡ [] → IsOk result

@@ -1,6 +1,7 @@
 //! Laws of what events and bytes make of a screen, each the contract of a function that does nothing.
 ghost use Rattle.vt100.specs.Laws.{PlaysEvents, FeedsMake, FeedsJoin, FeedsNothing, ActsFollow};
 ghost use Rattle.vt100.specs.Laws.{ResizedScreensArePutIn};
+ghost use Rattle.vt100.specs.Copies.{EachCopyShowsTheSame};
 ghost use Rattle.vt100.specs.WriterLaws.{EachRedrawIsOfShown, EachDifferenceIsOfShown, EachScreenIsDrawable};
 ghost use Rattle.vt100.specs.WriterLaws.{EachRedrawLeads, EachDifferenceLeads, EachRowTextLeads};
 ghost use Rattle.vt100.specs.WriterLaws.{EachRowDifferenceLeads};
@@ -27,6 +28,12 @@ pub fn feeds_are_joined()
 /// [`Parser::set_size`](crate::Parser::set_size) would have left it, with what is unfinished.
 pub fn screens_are_put_in()
     ensures { ResizedScreensArePutIn }
+{}
+
+/// If a live screen shows no kept row, the copy that [`clone_shown`](crate::Screen::clone_shown) makes of it has its size
+/// and shows the same.
+pub fn copies_show_the_same()
+    ensures { EachCopyShowsTheSame }
 {}
 
 /// Where a live screen shows no kept row, the forms that [`Screen`](crate::Screen) writes of itself are those of what

@@ -5,6 +5,7 @@ ghost use Rattle.vt100.specs.Tries.{alive};
 ghost use Rattle.vt100.specs.declared.error.ScreenError.TheVariants.{Memory};
 
 mod controls;
+mod copy;
 mod erase;
 mod getters;
 mod motion;

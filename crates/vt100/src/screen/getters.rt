@@ -1,7 +1,8 @@
 //! What a screen answers about itself.
-ghost use Rattle.std.specs.Prelude.{not, ◌≡◌, length, false, unwrap_or};
+ghost use Rattle.std.specs.Prelude.{not, ◌≡◌, length, false, unwrap_or, MatchOption};
 ghost use Rattle.std.specs.Option.{option_copied, option_map};
 ghost use Rattle.vt100_forms.specs.Attrs.{is_bold, is_dim, is_italic, is_underlined, is_inverse};
+ghost use Rattle.vt100_rows.specs.Row.{IsBlankFrom};
 ghost use Rattle.vt100_core.specs.Grid.{IsGrid, cell_in, visible_row_at};
 ghost use Rattle.screen_model.specs.State.{IsState};
 
@@ -84,6 +85,18 @@ impl Screen {
         match self.grid.visible_row(row) {
             Some(row) => Some(row.cells()),
             None => None,
+        }
+    }
+
+    /// A column from which on each cell of the row that is shown at `row` is a default cell. Both are counted from 0. It
+    /// is 65,535 if none is known, and 0 if there is no such row.
+    pub fn row_filled(&self, row: u16) -> u16
+        ensures { MatchOption (visible_row_at self.now.state.shown row) (result ≡ 0)
+            (λ v. IsBlankFrom v.cells result) }
+    {
+        match self.grid.visible_row(row) {
+            Some(row) => row.filled(),
+            None => 0,
         }
     }
 

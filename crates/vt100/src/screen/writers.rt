@@ -10,7 +10,8 @@ ghost use Rattle.vt100.specs.Writers.{contents_formatted, state_formatted, conte
 ghost use Rattle.vt100.specs.Writers.{cursor_state_formatted, rows_formatted, rows_diff};
 ghost use Rattle.vt100.specs.WriterLaws.{IsUnscrolled};
 ghost use Rattle.vt100.specs.Texts.{Gives};
-ghost use Rattle.vt100.specs.Written.{Writes, GivesModes, GivesRedraw, GivesDifference};
+ghost use Rattle.vt100.specs.Written.{Writes, GivesModes, GivesRedraw, GivesDifference, AppendsRedraw};
+ghost use Rattle.vt100.specs.Written.{AppendsDifference};
 ghost use Rattle.vt100.specs.declared.error.ScreenError.TheVariants.{Memory};
 
 use crate::error::ScreenError;
@@ -31,9 +32,19 @@ impl Screen {
         ensures { GivesRedraw state_formatted picture.state_formatted 1008 self.now.state result }
     {
         let mut contents = String::new(self.alloc);
-        self.write_contents_formatted(&mut contents)?;
-        self.write_input_mode_formatted(&mut contents)?;
+        self.write_state_formatted(&mut contents)?;
         Ok(contents)
+    }
+
+    /// Appends the escape sequences of [`state_formatted`](Self::state_formatted) to a text. If an allocation fails, some
+    /// of them may have been appended.
+    pub fn write_state_formatted(&self, contents: &mut String) -> Result<(), ScreenError>
+        ensures { AppendsRedraw state_formatted picture.state_formatted 1008 self.now.state contents.old result
+            contents.new }
+    {
+        self.write_contents_formatted(contents)?;
+        self.write_input_mode_formatted(contents)?;
+        Ok(())
     }
 
     /// The escape sequences that take a terminal from all that `prev` shows to all that the screen shows:
@@ -48,11 +59,21 @@ impl Screen {
     pub fn state_diff(&self, prev: &Self) -> Result<String, ScreenError>
         ensures { GivesDifference state_diff picture.state_diff 1008 prev.now.state self.now.state result }
     {
-        let _prev_attrs = &prev.attrs;
         let mut contents = String::new(self.alloc);
-        self.write_contents_diff(&mut contents, prev)?;
-        self.write_input_mode_diff(&mut contents, prev)?;
+        self.write_state_diff(&mut contents, prev)?;
         Ok(contents)
+    }
+
+    /// Appends the escape sequences of [`state_diff`](Self::state_diff) to a text. If an allocation fails, some of them
+    /// may have been appended.
+    pub fn write_state_diff(&self, contents: &mut String, prev: &Self) -> Result<(), ScreenError>
+        ensures { AppendsDifference state_diff picture.state_diff 1008 prev.now.state self.now.state contents.old result
+            contents.new }
+    {
+        let _prev_attrs = &prev.attrs;
+        self.write_contents_diff(contents, prev)?;
+        self.write_input_mode_diff(contents, prev)?;
+        Ok(())
     }
 
     /// The escape sequences that take a terminal to the picture that the screen shows, whatever it showed before:

@@ -1,58 +1,27 @@
-use Rattle.std.proofs.Common.{◌∙◌, rules, [], ap, refl, subst, sym}
-use Rattle.vt100_forms.specs.Attrs.{HasByteColors}
+use Rattle.std.proofs.Common.{◌∙◌, rules, refl, subst, sym}
 use Rattle.std.proofs.lemmas.Bool.{false≢true}
-use Rattle.vt100_forms.specs.Form.{bytes_of}
 use Rattle.vt100.specs.FormLists.{IsShortText}
-use Rattle.vt100.specs.Writers.{contents_diff}
-use Rattle.screen_drawing.specs.Modes.{input_mode_diff}
-use Rattle.screen_model.specs.Shown.{shown_state}
-use Rattle.vt100.proofs.WriteLemmas.{none-joined}
-use Rattle.vt100.proofs.ShownLemmas.{difference-of_shown}
-use Rattle.vt100.proofs.FormLists.{differences-local}
-use Rattle.vt100.proofs.ShortLists.{screen-short}
-use Rattle.vt100_core.proofs.WriterLemmas.{bytes_then}
 use Rattle.vt100.proofs.screen.Screen.state_diff.Goals as goal
 
-pub returns-in_err-write_contents_diff : goal.returns-in_err-write_contents_diff
-returns-in_err-write_contents_diff c =
-    let old = c.args.prev.now.state in
-    let new = c.args.self.now.state in
-    record {
-      text = search rules;
-      shown = search rules;
-      short = search rules;
-      local = search rules;
-      memory = search rules;
-      empty = λ none. absurd (false≢true (c.in_err-write_contents_diff.ensures.empty
-          (none-joined (contents_diff old new) (input_mode_diff (shown_state old) (shown_state new)) none).0));
-    }
-
-pub returns-in_err-write_input_mode_diff : goal.returns-in_err-write_input_mode_diff
-returns-in_err-write_input_mode_diff c =
-    let old = c.args.prev.now.state in
-    let new = c.args.self.now.state in
-    record {
-      text = search rules;
-      shown = search rules;
-      short = search rules;
-      local = search rules;
-      memory = search rules;
-      empty = λ none. absurd (false≢true (c.in_err-write_input_mode_diff.ensures.empty
-          (none-joined (contents_diff old new) (input_mode_diff (shown_state old) (shown_state new)) none).1));
-    }
+pub returns-in_err-write_state_diff : goal.returns-in_err-write_state_diff
+returns-in_err-write_state_diff c = record {
+  text = search rules;
+  shown = search rules;
+  short = search rules;
+  local = search rules;
+  memory = search rules;
+  empty = λ none. absurd (false≢true (c.in_err-write_state_diff.ensures.empty none));
+}
 
 pub returns : goal.returns
 returns c =
-    let old = c.args.prev.now.state in
-    let new = c.args.self.now.state in
-    let first = rw c.new-contents.ensures.bytes at c.in_ok-write_contents_diff.ensures.text in
-    let is = bytes_then (contents_diff old new) _ [] _ _ first c.in_ok-write_input_mode_diff.ensures.text in
-    let colors : HasByteColors old.attrs = rw (← c.prev.view_is) c.prev.invariant.attrs.colors in
+    let is = rw c.new-contents.ensures.bytes at c.in_ok-write_state_diff.ensures.text in
+    let difference = c.in_ok-write_state_diff.ensures.difference in
     record {
       text = is;
-      shown = λ o h e. is ∙ ap bytes_of (difference-of_shown old new o h e).state;
-      short = λ h. subst (IsShortText _ 1008) (sym is) (screen-short old new colors h).state_diff;
-      local = λ o h e plain. record { written = is; touches = (differences-local old new o h e plain).1 };
+      shown = λ o h e. is ∙ difference.shown o h e;
+      short = λ h. subst (IsShortText _ 1008) (sym is) (difference.short h);
+      local = λ o h e plain. record { written = is; touches = (difference.local o h e plain).touches };
       memory = search rules;
       empty = λ none. refl;
     }
