@@ -8,7 +8,9 @@ use Rattle.std.proofs.lemmas.Option.{IfSome_then}
 use Rattle.slab.specs.Slab.{Slab, get, with_value, Updates}
 use Rattle.vt100_core.specs.Picture.{grid_size}
 use Rattle.screen_model.specs.Call.{ScreenView}
+use Rattle.vt100.specs.Copies.{copy_of}
 use Rattle.vt100.specs.Parsing.{ParserView}
+use Rattle.vt100.proofs.CopyLemmas.{copies-same}
 use Rattle.termrelay.specs.Frame.{IsShortFrame}
 use Rattle.termrelay.specs.Record.{RecordView, client_of, IsBaseOf, IsRecordOf}
 use Rattle.termrelay.specs.Answers.{ClientState}
@@ -34,11 +36,13 @@ pub left-served : (now : ScreenView) (r : RecordView) (n : ℕ) → IsRecordOf n
     → IsRecordOf now (record r { owed = drop n r.owed })
 left-served now r n h = record { base = h.base; short = omega (arith, h.short, length-drop n r.owed) }
 
--- the present screen is a base of itself
-pub present-served : (p : ParserView (Unit {0})) (owed : List ℕ) (base : ScreenView) → IsMade p → base ≡ p.screen
-    → IsShortFrame (grid_size p.screen.state.shown) owed → IsRecordOf p.screen (record { owed = owed; base = Some base })
+-- a copy of what the present screen shows is a base
+pub present-served : (p : ParserView (Unit {0})) (owed : List ℕ) (base : ScreenView) → IsMade p
+    → base ≡ copy_of p.screen → IsShortFrame (grid_size p.screen.state.shown) owed
+    → IsRecordOf p.screen (record { owed = owed; base = Some base })
 present-served p owed base m is few =
-    record { base = rw is (record { unscrolled = made-unscrolled p m; size = refl }); short = few }
+    let copy = copies-same p.screen.state (made-unscrolled p m) in
+    record { base = rw is (record { unscrolled = copy.unscrolled; size = copy.same.size }); short = few }
 
 pub none-served : (s : Slab RecordView) (now : ScreenView) (key : ℕ) → s.slots ≡ []
     → IfSome (get s key) (IsRecordOf now)
@@ -105,3 +109,7 @@ hub-put h key old new i found keeps =
       ];
       present = i.present;
     }
+
+-- nothing is said of the memory that is kept for the next base
+pub hub-spare : (h : Inside) (spare : Option ScreenView) → IsHub h → IsHub (record h { spare = spare })
+hub-spare h spare i = record { made = i.made; served = i.served; present = i.present }

@@ -1,23 +1,24 @@
 -- The cells that a screen gives for a row, and the comparison of two rows.
 use Rattle.std.proofs.Common.{◌≡◌, ◌∙◌, ℕ, zero, suc, ◌<◌, ◌≤◌, ◌==◌, false, Option, Some, None, List}
-use Rattle.std.proofs.Common.{length, take, sym, ap, arith}
+use Rattle.std.proofs.Common.{length, take, sym, ap, arith, refl, true, ◌&&◌, nat_lt}
+use Rattle.std.specs.Option.{MatchOption}
 use mathlib.Core.Logic.{⊎_elim}
 use Rattle.std.specs.Prelude.{slice_get}
 use Rattle.std.specs.Option.{option_map}
-use Rattle.std.proofs.lemmas.Bool.{cases_lt}
+use Rattle.std.proofs.lemmas.Bool.{cases_lt, lt-ltb, cond_both}
 use Rattle.std.proofs.lemmas.Bool.Decides.{nat_tests}
 use Rattle.std.proofs.lemmas.List.{get_or-take}
 use Rattle.std.proofs.lemmas.Option.{slice_get_within, slice_get-get_or, same_Some}
 use Rattle.vt100_cells.specs.Cell.{CellView, default_cell, cell_eq}
 use Rattle.vt100_cells.specs.CellEq.{cell_eq-of_same}
 use Rattle.vt100_cells.specs.Cells.{AreSame, cell_at}
-use Rattle.vt100_rows.specs.Row.{RowView}
-use Rattle.vt100_core.specs.Grid.{visible_row_at, cell_in}
+use Rattle.vt100_rows.specs.Row.{RowView, IsBlankFrom}
+use Rattle.vt100_core.specs.Grid.{visible_at, visible_row_at, cell_in}
 use Rattle.screen_model.specs.State.{State, IsState}
 use Rattle.screen_model.specs.Shown.{shown_state}
 use Rattle.screen_model.proofs.ShownLemmas.{each-cell_is_reported}
 use Rattle.termrelay.specs.Answers.{all_below}
-use Rattle.termrelay.proofs.BelowLemmas.{all-missed, all-true, all-alike}
+use Rattle.termrelay.proofs.BelowLemmas.{all-missed, all-true, all-alike, all-behind}
 
 -- ---- a row's cells
 
@@ -54,6 +55,17 @@ pub cells-cut : (n width : ℕ) (cells : List CellView) (f : ℕ → CellView) �
     → AreSame (cell_at (take n cells)) f 0 width
 cells-cut n width cells f e same k low h = get_or-take n cells k default_cell (omega (arith, h, e)) ∙ same k low h
 
+-- the columns behind which a row of the screen shows nothing
+pub filled-shown : (s : State) (r n : ℕ) → IsState s → r < s.shown.height
+    → MatchOption (visible_row_at s.shown r) (n ≡ 0) (λ v. IsBlankFrom v.cells n) → (k : ℕ) → n ≤ k
+    → (shown_state s).cell r k ≡ default_cell
+filled-shown s r n i inside h k le =
+    let drawn = i.shown.sheet.count i.drawn in
+    let there : nat_lt r (length s.shown.rows) ≡ true = lt-ltb r (length s.shown.rows) (omega (arith, inside, drawn)) in
+    let blank : IsBlankFrom (visible_at s.shown r).cells n = rw there at h in
+    cond_both (nat_lt r s.shown.height && nat_lt k s.shown.width) (cell_at (visible_at s.shown r).cells k) default_cell
+    (λ x. x ≡ default_cell) (λ _. blank k le) (λ _. refl)
+
 -- ---- two rows
 
 -- two rows of n cells that are the same up to m, where they differ unless they end there
@@ -69,6 +81,13 @@ rows-compared n m f g within same differs =
           (λ k lt. cell_eq-of_same (f k) (g k) (same k (omega arith) (omega arith))),
     ))
     (cases_lt m n)
+
+-- rows of n cells that are the same from e on have been compared up to there
+pub rows-compared_to : (n e m : ℕ) (f g : ℕ → CellView) → e ≤ n → AreSame f g e n → m ≤ e → AreSame f g 0 m
+    → (m < e → cell_eq (f m) (g m) ≡ false) → (m == e) ≡ all_below n (λ k. cell_eq (f k) (g k))
+rows-compared_to n e m f g short behind within same differs =
+    rows-compared e m f g within same differs
+    ∙ all-behind e n (λ k. cell_eq (f k) (g k)) short (λ k h lt. cell_eq-of_same (f k) (g k) (behind k h lt))
 
 -- what is asked of two rows of n cells is asked of the rows that they are
 pub rows-alike : (m n : ℕ) (f g h k : ℕ → CellView) → m ≡ n → AreSame f h 0 n → AreSame g k 0 n

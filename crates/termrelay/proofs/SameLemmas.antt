@@ -1,7 +1,7 @@
 -- Screens of which all that is shown is the same.
-use Rattle.std.proofs.Common.{◌≡◌, ℕ, ◌<◌, ◌≤◌, ◌==◌, Bool, true, arith, sym, ◌∙◌}
+use Rattle.std.proofs.Common.{◌≡◌, ℕ, ◌<◌, ◌≤◌, ◌==◌, Bool, true, false, arith, ap, refl, sym, inl, inr, ◌∙◌}
 use mathlib.Core.Logic.{⊎_elim}
-use Rattle.std.proofs.lemmas.Bool.{cases_lt, and_parts, eqb-true}
+use Rattle.std.proofs.lemmas.Bool.{cases_lt, cases_Bool, and_parts, eqb-true}
 use Rattle.std.proofs.lemmas.Bool.Decides.{nat_tests}
 use Rattle.vt100_forms.specs.declared.modes.MouseProtocolMode.{MouseProtocolMode}
 use Rattle.vt100_forms.specs.declared.modes.MouseProtocolEncoding.{MouseProtocolEncoding}
@@ -13,6 +13,7 @@ use Rattle.vt100_cells.specs.CellEq.{cell_eq-true, attrs_eq-true}
 use Rattle.terminal_model.specs.Term.{Size, Modes, Shown, IsShown}
 use Rattle.termrelay.specs.Answers.{all_below, modes_eq, same_shown, EachSameIsOne}
 use Rattle.termrelay.proofs.BelowLemmas.{all-missed}
+use Rattle.termrelay.proofs.ShownLemmas.{one-same}
 
 pub all-below : (k : ℕ) (p : ℕ → Bool) → all_below k p ≡ true → (m : ℕ) → m < k → p m ≡ true
 all-below k p e m h = grind (arith, all-missed k m p h)
@@ -90,3 +91,12 @@ same-one z s t i j h =
       modes = modes n;
       style = look n;
     }
+
+-- what tells whether two screens show the same is the comparison's answer
+pub asked-same : (z : Size) (s t : Shown) (answer : Bool) → IsShown z s → IsShown z t → (answer ≡ true → s ≡ t)
+    → (s ≡ t → answer ≡ true) → answer ≡ same_shown z s t
+asked-same z s t true i j to from = sym (ap (same_shown z s) (sym (to refl)) ∙ one-same z s)
+asked-same z s t false i j to from = elim (cases_Bool (same_shown z s t)) [
+  | inl is ↦ from (same-one z s t i j is) ∙ sym is
+  | inr other ↦ sym other
+]

@@ -27,59 +27,6 @@ short-asks_not [] h = refl
 short-asks_not (x ∷ xs) h =
     grind (arith, nat_tests, length-append (encode_utf8 x) (encode_utf8_all xs), length-encode x, short-asks_not xs)
 
--- ---- rows
-
-same-test : (a b : Bool) → beq a b ≡ bool_eq a b
-same-test a b = grind arith
-
--- the wrap flags of a row are compared on two screens
-pub wraps-compared : (s t : State) (r : ℕ) → IsState s → IsState t → (a b : Bool) → a ≡ reported_wrap s r
-    → b ≡ reported_wrap t r → beq a b ≡ bool_eq ((shown_state s).wrapped r) ((shown_state t).wrapped r)
-wraps-compared s t r i j a b e f =
-    rw (same-test a b, e, f, each-wrap_is_reported s i r, each-wrap_is_reported t j r)
-
--- ---- attributes
-
-abbrev flags_asked : Attrs → Attrs → Bool
-flags_asked a b =
-    beq (is_bold a) (is_bold b) && (beq (is_dim a) (is_dim b) && (beq (is_italic a) (is_italic b)
-    && (beq (is_underlined a) (is_underlined b) && beq (is_inverse a) (is_inverse b))))
-
--- what is asked of two screens' attributes
-abbrev pub attrs_asked : Attrs → Attrs → Bool
-attrs_asked a b = color_eq a.fgcolor b.fgcolor && (color_eq a.bgcolor b.bgcolor && flags_asked a b)
-
--- they say whether the attributes are equal
-pub attrs-reported : (a b : Attrs) → IsProper a → IsProper b → attrs_asked a b ≡ attrs_eq a b
-attrs-reported a b p q =
-    let asked = λ (m n : ℕ). flags_asked (with_mode a m) (with_mode b n) in
-    let row = agree_below_at (λ m. agree_below (asked m) (λ n. m == n) 32) (λ _. true) 32 a.mode refl p.small in
-    ap (λ x. color_eq a.fgcolor b.fgcolor && (color_eq a.bgcolor b.bgcolor && x))
-    (agree_below_at (asked a.mode) (λ n. a.mode == n) 32 b.mode row q.small)
-
--- ---- all that is shown
-
--- the tests that cost least are made first
-tests-in_order : (row col hidden style modes attrs wraps cells : Bool)
-    → ((row && col) && (hidden && (style && (modes && (attrs && (wraps && cells))))))
-    ≡ (cells && (wraps && (row && (col && (hidden && (attrs && (modes && style)))))))
-tests-in_order row col hidden style modes attrs wraps cells = grind arith
-
-abbrev pub shown_asked : Size → Shown → Shown → Bool
-shown_asked z s t =
-    ((s.row == t.row) && (s.col == t.col)) && (bool_eq s.hidden t.hidden
-    && ((style_number s.style == style_number t.style) && (modes_eq s.modes t.modes && (attrs_eq s.attrs t.attrs
-    && (all_below z.rows (λ r. bool_eq (s.wrapped r) (t.wrapped r))
-    && all_below z.rows (λ r. all_below z.cols (λ k. cell_eq (s.cell r k) (t.cell r k))))))))
-
-pub shown-reported : (z : Size) (s t : Shown) → shown_asked z s t ≡ same_shown z s t
-unfolding same_shown
-shown-reported z s t =
-    tests-in_order (s.row == t.row) (s.col == t.col) (bool_eq s.hidden t.hidden)
-    (style_number s.style == style_number t.style) (modes_eq s.modes t.modes) (attrs_eq s.attrs t.attrs)
-    (all_below z.rows (λ r. bool_eq (s.wrapped r) (t.wrapped r)))
-    (all_below z.rows (λ r. all_below z.cols (λ k. cell_eq (s.cell r k) (t.cell r k))))
-
 -- ---- what is shown, and itself
 
 bool-refl : (b : Bool) → bool_eq b b ≡ true

@@ -1,6 +1,8 @@
 //! The hub.
 ghost use Rattle.std.specs.Prelude.{◌≡◌, ◌≢◌, ◌*◌, ◌≤◌, false, IfOk, IsOkAnd, OnOk, OnErr, Err, Some, None, MatchOption};
-ghost use Rattle.std.specs.Prelude.{IsSome, slice_index_or};
+ghost use Rattle.std.specs.Prelude.{IsSome, IfSome, slice_index_or};
+ghost use Rattle.vt100.specs.Copies.{copy_of};
+ghost use Rattle.vt100.specs.WriterLaws.{IsUnscrolled};
 ghost use Rattle.termrelay.specs.Frame.{IsShortFrame};
 ghost use Rattle.termrelay.specs.Record.{is_unsure_screen};
 ghost use Rattle.termrelay.specs.declared.answer.Answer.TheVariants.{Difference, TooLong};
@@ -29,8 +31,10 @@ use vt100::{Parser, Screen};
 pub struct Hub {
     parser: Parser<()>,
     clients: Slab<Record>,
-    /// A copy of the present screen, if one was made since the last change.
+    /// A copy of what the present screen shows, if one was made since the last change.
     present: Option<Rc<Screen>>,
+    /// A copy that no client needs any more. The next one is made in its memory.
+    spare: Option<Screen>,
     alloc: Global,
 }
 
@@ -60,6 +64,7 @@ impl Hub {
             parser: Parser::new(alloc, rows, cols, 0)?,
             clients: Slab::new(alloc),
             present: None,
+            spare: None,
             alloc,
         })
     }
@@ -108,6 +113,7 @@ impl Hub {
         let mut screen = self.parser.screen().clone()?;
         screen.set_size(rows, cols)?;
         self.present = None;
+        self.spare = None;
         self.clients.clear();
         *self.parser.screen_mut() = screen;
         Ok(())
@@ -169,21 +175,6 @@ impl Hub {
         }
     }
 
-    /// A copy of the present screen. A copy that was made before is shared.
-    fn present_base(&self) -> Result<Rc<Screen>, HubError>
-        ensures base { IfOk result (λ base. base.value ≡ self.now.parser.screen) }
-        ensures memory { OnErr result (result ≡ Err Memory) }
-    {
-        if let Some(base) = &self.present {
-            return Ok(base.clone()?);
-        }
-        let screen = self.parser.screen().clone()?;
-        match Rc::new(self.alloc, screen) {
-            Ok(base) => Ok(base),
-            Err(_) => Err(HubError::Memory),
-        }
-    }
-
     /// Asks for a frame for the client. If the answer brings a frame, the client is owed its bytes from now on, and its
     /// next frame starts from the present screen. If the call fails, or with any other answer, nothing has changed.
     ///
@@ -225,23 +216,65 @@ impl Hub {
         if is_too_long(&text) {
             return Ok(Answer::TooLong);
         }
-        let base = self.present_base()?;
+        let base = base_of(
+            self.parser.screen(),
+            &self.present,
+            &mut self.spare,
+            self.alloc,
+        )?;
         self.present = Some(base.clone()?);
         self.owe(client, text, base, answer == Answer::Unsure);
         Ok(answer)
     }
 
-    /// The client is owed a frame's text from now on. `base` is the screen at that frame, and `unsure` says whether it
-    /// shows U+FE0F.
+    /// The client is owed a frame's text from now on. `base` is a copy of what the screen shows at that frame, and
+    /// `unsure` says whether it shows U+FE0F. If no other client needs the copy at the client's last frame, its memory
+    /// is kept for the next copy.
     fn owe(&mut self, client: Client, text: Vec<u8>, base: Rc<Screen>, unsure: bool)
         requires known { IsSome (slice_index_or self.old.clients client None) }
-        requires present { base.value ≡ self.old.parser.screen }
+        requires unscrolled { IsUnscrolled self.old.parser.screen.state }
+        requires present { base.value ≡ copy_of self.old.parser.screen }
         requires unsure { unsure ≡ is_unsure_screen base.value }
         requires short { IsShortFrame (size_in self.old) text.items }
         ensures { Puts self.old client (Some (record { owed = text.items; base = Some (shown_in self.old) })) self.new }
     {
         if let Some(record) = self.clients.get_mut(client.key()) {
-            record.owe(text, base, unsure);
+            keep(record.owe(text, base, unsure), &mut self.spare);
         }
+    }
+}
+
+/// A copy of what the screen shows. It is shared with `present`, if there is one; else it is made in the memory of
+/// `spare`, if there is any.
+fn base_of(
+    screen: &Screen,
+    present: &Option<Rc<Screen>>,
+    spare: &mut Option<Screen>,
+    alloc: Global,
+) -> Result<Rc<Screen>, HubError>
+    requires { IfSome present.now (λ base. base.value ≡ copy_of screen.now) }
+    ensures base { IfOk result (λ base. base.value ≡ copy_of screen.now) }
+    ensures memory { OnErr result (result ≡ Err Memory) }
+{
+    if let Some(base) = present {
+        return Ok(base.clone()?);
+    }
+    let copy = match spare.take() {
+        Some(mut copy) => {
+            copy.copy_shown(screen)?;
+            copy
+        }
+        None => screen.clone_shown()?,
+    };
+    match Rc::new(alloc, copy) {
+        Ok(base) => Ok(base),
+        Err(_) => Err(HubError::Memory),
+    }
+}
+
+/// Keeps the memory of a base that a client has let go, unless another client still has it.
+fn keep(base: Option<Rc<Screen>>, spare: &mut Option<Screen>) {
+    if let Some(screen) = base.and_then(Rc::into_inner) {
+        *spare = Some(screen);
     }
 }

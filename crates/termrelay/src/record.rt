@@ -1,6 +1,6 @@
 //! What a hub keeps of a client.
 ghost use Rattle.std.specs.Prelude.{◌≡◌, ℕ, ◌++◌, [], true, drop, length, nat_lt, Some, None, IfOk, OnOk, OnErr, Err};
-ghost use Rattle.std.specs.Prelude.{if◌then◌else◌};
+ghost use Rattle.std.specs.Prelude.{if◌then◌else◌, string_bytes};
 ghost use Rattle.std.specs.Option.{option_copied, option_map};
 ghost use Rattle.vt100_forms.specs.Form.{bytes_of};
 ghost use Rattle.vt100_core.specs.Picture.{grid_size};
@@ -26,10 +26,10 @@ use std::rc::Rc;
 use vt100::Screen;
 
 /// The bytes that begin a synchronized update: private mode 2026 set (`CSI ? 2026 h`).
-const START_MARK: &[u8; 8] = b"\x1b[?2026h";
+const START_MARK: &str = "\x1b[?2026h";
 
 /// The bytes that end a synchronized update: private mode 2026 reset (`CSI ? 2026 l`).
-const END_MARK: &[u8; 8] = b"\x1b[?2026l";
+const END_MARK: &str = "\x1b[?2026l";
 
 /// The longest frame, in bytes, that a terminal buffers and then parses as a whole.
 const LONGEST_FRAME: usize = 2_097_150;
@@ -55,7 +55,7 @@ pub(crate) struct Record {
     text: Vec<u8>,
     /// How many bytes of the text are no longer owed.
     taken: usize,
-    /// The screen at the last frame.
+    /// A copy of what the screen showed at the last frame.
     base: Option<Rc<Screen>>,
     /// Whether that screen shows U+FE0F, about whose width terminals disagree. It was found when the frame was made.
     unsure: bool,
@@ -162,21 +162,21 @@ impl Record {
             (client_of self.now).base (shown_state now.now.state)) }
         ensures memory { OnErr result (result ≡ Err Memory) }
     {
-        let mut text = Vec::new(alloc);
-        text.extend_from_slice(START_MARK)?;
+        let mut text = String::new(alloc);
+        text.push_str(START_MARK)?;
         self.push_body(&mut text, now, answer)?;
-        text.extend_from_slice(END_MARK)?;
-        Ok(text)
+        text.push_str(END_MARK)?;
+        Ok(text.into_bytes())
     }
 
     /// Appends the body of that frame: the bytes between its marks.
-    fn push_body(&self, text: &mut Vec<u8>, now: &Screen, answer: Answer) -> Result<(), HubError>
+    fn push_body(&self, text: &mut String, now: &Screen, answer: Answer) -> Result<(), HubError>
         requires unscrolled { IsUnscrolled now.now.state }
         requires served { IsRecordOf now.now self.now }
         requires due { answer ≡ due (grid_size now.now.state.shown) (shown_state now.now.state)
             (client_of self.now).base }
         requires frame { is_frame answer ≡ true }
-        ensures text { OnOk result (text.new.items ≡ text.old.items ++ bytes_of (body_forms
+        ensures text { OnOk result (string_bytes text.new ≡ string_bytes text.old ++ bytes_of (body_forms
             (grid_size now.now.state.shown) (client_of self.now).base (shown_state now.now.state))) }
         ensures memory { OnErr result (result ≡ Err Memory) }
     {
@@ -187,16 +187,21 @@ impl Record {
         }
     }
 
-    /// The client is owed a frame's text from now on. `base` is the screen at that frame, and `unsure` says whether it
-    /// shows U+FE0F.
-    pub(crate) fn owe(&mut self, text: Vec<u8>, base: Rc<Screen>, unsure: bool)
+    /// The client is owed a frame's text from now on. `base` is a copy of what the screen shows at that frame, and
+    /// `unsure` says whether it shows U+FE0F. Answers the copy at the frame before.
+    pub(crate) fn owe(
+        &mut self,
+        text: Vec<u8>,
+        base: Rc<Screen>,
+        unsure: bool,
+    ) -> Option<Rc<Screen>>
         requires { unsure ≡ is_unsure_screen base.value }
         ensures { self.new ≡ record { owed = text.items; base = Some base.value } }
     {
         self.text = text;
         self.taken = 0;
-        self.base = Some(base);
         self.unsure = unsure;
+        self.base.replace(base)
     }
 
     /// Writes the bytes that are owed to a writer. The bytes it took are no longer owed.

@@ -1,12 +1,12 @@
 //! Comparisons of what screens show.
-ghost use Rattle.std.specs.Prelude.{◌≡◌, ◌<◌, length, false};
-ghost use Rattle.vt100_forms.specs.Attrs.{attrs_eq};
-ghost use Rattle.vt100_cells.specs.Cell.{bool_eq, cell_eq};
+ghost use Rattle.std.specs.Prelude.{◌≡◌, ℕ, ◌<◌, ◌≤◌, length, false};
+ghost use Rattle.vt100_cells.specs.Cell.{cell_eq, default_cell};
 ghost use Rattle.vt100_cells.specs.Cells.{AreSame, cell_at};
 ghost use Rattle.vt100_core.specs.Picture.{grid_size};
 ghost use Rattle.screen_model.specs.State.{IsState};
 ghost use Rattle.screen_model.specs.Shown.{shown_state};
-ghost use Rattle.termrelay.specs.Answers.{all_below, modes_eq, same_shown};
+ghost use Rattle.vt100.specs.WriterLaws.{IsUnscrolled};
+ghost use Rattle.termrelay.specs.Answers.{all_below, same_shown};
 ghost use Rattle.termrelay.specs.Frame.{any_below, asks_for_emoji, is_unsure};
 
 use vt100::{Cell, Screen};
@@ -38,6 +38,15 @@ fn cells_of(screen: &Screen, row: u16) -> &[Cell]
     }
 }
 
+/// How many columns of a row that is shown are looked at: the cells behind them are default cells.
+fn filled_cols(screen: &Screen, row: u16) -> usize
+    requires state { IsState screen.now.state }
+    requires inside { row < screen.now.state.shown.height }
+    ensures { (k : ℕ) → result ≤ k → (shown_state screen.now.state).cell row k ≡ default_cell }
+{
+    usize::from(screen.row_filled(row))
+}
+
 /// Whether one of the cells asks for an emoji.
 fn one_asks_for_emoji(cells: &[Cell]) -> bool
     ensures { result ≡ any_below (length cells.now) (λ k. asks_for_emoji (cell_at cells.now k)) }
@@ -57,7 +66,9 @@ fn is_row_unsure(screen: &Screen, row: u16) -> bool
     ensures { result ≡ any_below screen.now.state.shown.width
         (λ k. asks_for_emoji ((shown_state screen.now.state).cell row k)) }
 {
-    one_asks_for_emoji(cells_of(screen, row))
+    let cells = cells_of(screen, row);
+    let filled = filled_cols(screen, row).min(cells.len());
+    one_asks_for_emoji(&cells[..filled])
 }
 
 /// Whether the screen is unsure: a cell has U+FE0F, about whose width terminals disagree.
@@ -74,12 +85,14 @@ pub(crate) fn is_unsure(screen: &Screen) -> bool
     false
 }
 
-/// Whether two rows of one width have the same cells.
-fn are_same(cells: &[Cell], others: &[Cell]) -> bool
-    requires { length cells.now ≡ length others.now }
+/// Whether two rows of one width have the same cells. Behind the first `filled` they have.
+fn are_same(cells: &[Cell], others: &[Cell], filled: usize) -> bool
+    requires width { length cells.now ≡ length others.now }
+    requires blank { AreSame (cell_at cells.now) (cell_at others.now) filled (length cells.now) }
     ensures { result ≡ all_below (length cells.now) (λ k. cell_eq (cell_at cells.now k) (cell_at others.now k)) }
 {
-    same_to(cells, others, 0, cells.len()) == cells.len()
+    let end = filled.min(cells.len());
+    same_to(cells, others, 0, end) == end
 }
 
 /// Whether two screens of one size show the same cells in a row.
@@ -91,7 +104,8 @@ fn has_same_cells(screen: &Screen, other: &Screen, row: u16) -> bool
     ensures { result ≡ all_below screen.now.state.shown.width (λ k. cell_eq
         ((shown_state screen.now.state).cell row k) ((shown_state other.now.state).cell row k)) }
 {
-    are_same(cells_of(screen, row), cells_of(other, row))
+    let filled = filled_cols(screen, row).max(filled_cols(other, row));
+    are_same(cells_of(screen, row), cells_of(other, row), filled)
 }
 
 /// Whether one of a row's cells asks for an emoji, where none of a screen does that may have the same row.
@@ -128,78 +142,13 @@ pub(crate) fn is_unsure_since(base: &Screen, now: &Screen) -> bool
     false
 }
 
-/// Whether two screens of one size show the same cells.
-fn same_cells(screen: &Screen, other: &Screen) -> bool
-    requires state { IsState screen.now.state }
-    requires other_state { IsState other.now.state }
-    requires size { grid_size screen.now.state.shown ≡ grid_size other.now.state.shown }
-    ensures { result ≡ all_below screen.now.state.shown.height (λ r. all_below screen.now.state.shown.width
-        (λ k. cell_eq ((shown_state screen.now.state).cell r k) ((shown_state other.now.state).cell r k))) }
-{
-    let (rows, _) = screen.size();
-    for row in 0..rows.get() {
-        if !has_same_cells(screen, other, row) {
-            return false;
-        }
-    }
-    true
-}
-
-/// Whether both screens have the same wrapped rows, which go on in the next row.
-fn same_wraps(screen: &Screen, other: &Screen) -> bool
-    requires state { IsState screen.now.state }
-    requires other_state { IsState other.now.state }
-    ensures { result ≡ all_below screen.now.state.shown.height (λ r. bool_eq
-        ((shown_state screen.now.state).wrapped r) ((shown_state other.now.state).wrapped r)) }
-{
-    let (rows, _) = screen.size();
-    for row in 0..rows.get() {
-        if screen.row_wrapped(row) != other.row_wrapped(row) {
-            return false;
-        }
-    }
-    true
-}
-
-/// Whether both draw with the same attributes.
-fn same_attributes(screen: &Screen, other: &Screen) -> bool
-    requires state { IsState screen.now.state }
-    requires other_state { IsState other.now.state }
-    ensures { result ≡ attrs_eq screen.now.state.attrs other.now.state.attrs }
-{
-    screen.fgcolor() == other.fgcolor()
-        && screen.bgcolor() == other.bgcolor()
-        && screen.bold() == other.bold()
-        && screen.dim() == other.dim()
-        && screen.italic() == other.italic()
-        && screen.underline() == other.underline()
-        && screen.inverse() == other.inverse()
-}
-
-/// Whether both have the same modes of the keys, of pasting and of the mouse.
-fn same_modes(screen: &Screen, other: &Screen) -> bool
-    ensures { result ≡ modes_eq screen.now.state.modes other.now.state.modes }
-{
-    screen.application_keypad() == other.application_keypad()
-        && screen.application_cursor() == other.application_cursor()
-        && screen.bracketed_paste() == other.bracketed_paste()
-        && screen.mouse_protocol_mode() == other.mouse_protocol_mode()
-        && screen.mouse_protocol_encoding() == other.mouse_protocol_encoding()
-}
-
 /// Whether two screens of one size show the same. The comparison stops at the first difference.
 pub(crate) fn same_shown(screen: &Screen, other: &Screen) -> bool
-    requires state { IsState screen.now.state }
-    requires other_state { IsState other.now.state }
+    requires unscrolled { IsUnscrolled screen.now.state }
+    requires other_unscrolled { IsUnscrolled other.now.state }
     requires size { grid_size screen.now.state.shown ≡ grid_size other.now.state.shown }
     ensures { result ≡ same_shown (grid_size screen.now.state.shown) (shown_state screen.now.state)
         (shown_state other.now.state) }
 {
-    screen.cursor_position() == other.cursor_position()
-        && screen.hide_cursor() == other.hide_cursor()
-        && screen.cursor_style() == other.cursor_style()
-        && same_modes(screen, other)
-        && same_attributes(screen, other)
-        && same_wraps(screen, other)
-        && same_cells(screen, other)
+    screen.shows_same(other)
 }

@@ -10,11 +10,13 @@ use Rattle.terminal_model.specs.Term.{Shown}
 use Rattle.screen_model.specs.Call.{ScreenView}
 use Rattle.screen_model.specs.Shown.{shown_state}
 use Rattle.vt100.specs.WriterLaws.{IsUnscrolled}
+use Rattle.vt100.specs.Copies.{copy_of}
+use Rattle.vt100.proofs.CopyLemmas.{copies-same}
 use Rattle.termrelay.specs.declared.answer.Answer.{Answer}
 use Rattle.termrelay.specs.declared.answer.Answer.TheVariants.{Difference, TooLong}
 use Rattle.termrelay.specs.declared.error.HubError.{HubError}
 use Rattle.termrelay.specs.declared.error.HubError.TheVariants.{Memory}
-use Rattle.termrelay.specs.Frame.{frame_text, IsShortFrame}
+use Rattle.termrelay.specs.Frame.{frame_text, is_unsure, IsShortFrame}
 use Rattle.termrelay.specs.Answers.{ClientState, wanted_of, is_too_long, answer_for, is_frame}
 use Rattle.termrelay.specs.Record.{RecordView, client_of, IsRecordOf, is_unsure_screen}
 use Rattle.termrelay.specs.HubFields.{hub_of}
@@ -217,11 +219,15 @@ owe-requires-clause-unsure c =
     let d = drawn at.After-is_too_long (asked at.After-is_frame) in
     let client = client_of c.in-Some.record.now in
     let screen = c.self.inside.parser.screen in
-    let is_base : c.in_ok-base.base.value ≡ screen =
-    c.in_ok-base.ensures.base ∙ ap (λ (h : HubState as_kept). h.parser.screen) (sym c.self.view_is) in
+    let is_base : c.in_ok-base.base.value ≡ copy_of screen = c.in_ok-base.ensures.base ∙ ap copy_of c.screen.ensures in
     c.eq.ensures
     ∙ unsure-reported screen.state client.base client.owed c.answer-answer.result d.asked.wanted d.frame
+    ∙ ap (is_unsure (grid_size screen.state.shown)) (sym (copies-same screen.state d.asked.unscrolled).same.shown)
     ∙ ap is_unsure_screen (sym is_base)
+
+pub owe-requires-clause-unscrolled : goal.owe-requires-clause-unscrolled
+owe-requires-clause-unscrolled c =
+    (asked (goal.at.owe-requires-clause-unscrolled c).After-is_frame).unscrolled
 
 pub owe-requires-clause-short : goal.owe-requires-clause-short
 owe-requires-clause-short c =

@@ -4,6 +4,16 @@ use Rattle.termrelay.specs.declared.answer.Answer.TheVariants.{Unsure, Differenc
 use Rattle.termrelay.proofs.SureBases.{base-sure, same-due, other-due}
 use Rattle.termrelay.proofs.record.Record.due.Goals as goal
 
+pub same_shown-requires-clause-unscrolled : goal.same_shown-requires-clause-unscrolled
+same_shown-requires-clause-unscrolled c =
+    (base-sure c.args.now.now c.args.self.now.base c.in-Some.base.now c.requires.served.base
+    (sym (ap option_copied c.in-Some.is) ∙ c.sure_base.ensures)).0.unscrolled
+
+pub same_shown-requires-clause-size : goal.same_shown-requires-clause-size
+same_shown-requires-clause-size c =
+    (base-sure c.args.now.now c.args.self.now.base c.in-Some.base.now c.requires.served.base
+    (sym (ap option_copied c.in-Some.is) ∙ c.sure_base.ensures)).0.size
+
 pub returns-then-same_shown : goal.returns-then-same_shown
 returns-then-same_shown c =
     same-due c.args.now.now c.args.self.now.base c.in-Some.base.now c.requires.unscrolled c.requires.served.base
