@@ -1,6 +1,6 @@
 -- Copies and comparisons of rows up to a column from which on both are blank.
-use Rattle.std.proofs.Common.{◌≡◌, ◌∙◌, ℕ, ◌+◌, ◌-◌, ◌<◌, ◌≤◌, Bool, true, false, List, ◌++◌, length, take, drop, set, arith}
-use Rattle.std.proofs.Common.{sym, ap, refl, ⊎_elim, take-append-drop, length-drop, inl, inr, nat_eq}
+use Rattle.std.proofs.Common.{◌≡◌, ◌∙◌, ℕ, ◌+◌, ◌-◌, ◌<◌, ◌≤◌, true, false, List, ◌++◌, length, take, drop, set, arith}
+use Rattle.std.proofs.Common.{sym, ap, ⊎_elim, take-append-drop, length-drop, inl, inr, nat_eq}
 use Rattle.std.proofs.lemmas.Bool.{cases_lt, cases_eq, false≢true, eqb-true, eq-eqb}
 use Rattle.std.proofs.lemmas.List.{ext_get_or, get_or-drop, get_or-set_same, get_or-set_other}
 use Rattle.vt100_cells.specs.Cell.{CellView, default_cell, cell_eq}

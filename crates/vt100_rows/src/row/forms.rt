@@ -184,6 +184,9 @@ impl Row {
         ensures { Writes (difference self.now prev.now start width row above was_above) pen.old
             contents.old (is_ok result) pen.new contents.new }
     {
+        if self.is_drawn(prev, pen, above, was_above) {
+            return Ok(());
+        }
         let cols = self.cols().min(prev.cols());
         if cols <= start {
             return Ok(());

@@ -4,8 +4,16 @@ use Rattle.vt100_cells.specs.Cell.{CellView}
 use Rattle.vt100_cells.specs.Cells.{cell_at}
 use Rattle.vt100_cells.specs.Line.{IsPaired}
 use Rattle.row_drawing.proofs.WritesLemmas.{appended_none}
-use Rattle.vt100_rows.proofs.FormsLemmas.{wrote_difference_none}
+use Rattle.vt100_rows.proofs.FormsLemmas.{wrote_difference_none, wrote_difference_same}
 use Rattle.vt100_rows.proofs.row.Row.difference.Goals as goal
+
+pub returns-then-is_drawn : goal.returns-then-is_drawn
+returns-then-is_drawn c =
+    let drawn = c.is_drawn.ensures in
+    let yes = c.if-is_drawn.true in
+    appended_none _ (wrote_difference_same c.args.self.now c.args.prev.now c.args.start c.args.width c.args.row c.args.above
+    c.args.was_above c.args.pen.now (string_bytes c.args.contents.now) (drawn.row yes) (drawn.above yes)
+    (drawn.closed yes) (drawn.kept yes))
 
 pub returns-then-cols-start : goal.returns-then-cols-start
 returns-then-cols-start c =

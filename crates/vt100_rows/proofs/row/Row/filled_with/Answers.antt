@@ -1,4 +1,4 @@
-use Rattle.std.proofs.Common.{◌≤◌, arith, length, min, subst}
+use Rattle.std.proofs.Common.{arith, subst}
 use Rattle.vt100_rows.specs.Row.{RowView, IsBlankFrom}
 use Rattle.vt100_rows.proofs.FilledLemmas.{blank-later}
 use Rattle.vt100_rows.proofs.row.Row.filled_with.Goals as goal
