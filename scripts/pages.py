@@ -9,6 +9,9 @@ import sys
 
 SIZE = [("ROWS", "The rows of the screen"), ("COLS", "Its columns")]
 FILES = "files"
+NO_LINE_DRAWING = (
+    "no-line-drawing", None, None, "Letters stay where a program draws lines with DEC's special graphics",
+)
 THEMES = "xterm light asciinema dracula gruvbox-dark monokai nord solarized-dark solarized-light tango"
 
 # Each program: what it does, its words in order, its options (name, value, what completes the value, help), and notes.

@@ -93,7 +93,7 @@ fn line_drawing(rt: HostRuntime) -> Result<(), Fail> {
 
 // The words, how much a writer takes, whether a flush goes well; and then status, bytes taken, flushes, and the line.
 #[test]
-fn writers(rt: HostRuntime) -> Result<(), Fail> {
+fn a_failed_write_or_flush_is_reported(rt: HostRuntime) -> Result<(), Fail> {
     let rows: [(&[&str], usize, bool, u8, usize, u64, &[u8]); 5] = [
         (&["2", "4"], 100, true, 0, 48, 1, b""),
         (&["2", "4"], 10, true, 1, 10, 0, b"screenlive: write\n"),

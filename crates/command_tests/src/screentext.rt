@@ -149,7 +149,7 @@ fn films(rt: HostRuntime) {
 }
 
 #[test]
-fn words_that_are_not_understood(rt: HostRuntime) {
+fn words_that_are_not_understood_are_refused(rt: HostRuntime) {
     let rows: [&[&str]; 21] = [
         &["1"],
         &["1", "2", "3"],
