@@ -10,7 +10,7 @@ use Rattle.screen_model.specs.Holds.{AreActs}
 use Rattle.screen_model.specs.Made.{Act, Fed, Resized, events_added}
 use Rattle.screen_model.specs.Step.{kept_shown, resized_to}
 use Rattle.vt100.specs.Goes.{GoesThrough}
-use Rattle.vt100.specs.Memory.{some_may_take}
+use Rattle.vt100.specs.Memory.{some_may_allocate}
 use Rattle.vt100.specs.Parsing.{ParserView, HasRead, ParserIsAfter}
 use Rattle.vt100.specs.Texts.{text_between}
 use Rattle.vt100.specs.Tries.{Tries, TriesAlone, TakesNone, SameBounds, Stops}
@@ -64,7 +64,7 @@ pub record Reads (bytes : List ℕ) (p : ParserView RequestsView) (answer : Resu
   pub bounds : (rows cols capacity : ℕ) (acts : List Act) → AreActs rows cols capacity acts
       → ParserIsAfter p rows cols capacity acts → SameBounds p.screen.state q.screen.state
   pub takes : answer ≡ Err Memory → (past : List ℕ) → HasRead p past
-      → some_may_take (events_added past bytes) p.screen.state ≡ true
+      → some_may_allocate (events_added past bytes) p.screen.state ≡ true
 
 abbrev pub Processes : List ℕ → Marked → ℤ → Marked → Type 0
 Processes bytes m code n =

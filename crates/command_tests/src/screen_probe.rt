@@ -2,7 +2,7 @@
 
 use crate::same::{Row, same, written};
 use screen_probe_command::command;
-use scripted_io::{Narrow, Script, Step};
+use scripted_io::{LimitedWriter, ReadStep, ScriptedReader};
 use std::io::ErrorKind;
 use std::process::Abort;
 
@@ -87,13 +87,13 @@ fn prints_the_state_or_the_usage(rt: HostRuntime) {
 #[test]
 fn a_failed_read_is_reported(rt: HostRuntime) {
     // Want of memory in the reader is a read's fault, too.
-    let rows: [(&'static [Step], &[u8]); 2] = [
+    let rows: [(&'static [ReadStep], &[u8]); 2] = [
         (
-            &[Step::Fail(ErrorKind::BrokenPipe)],
+            &[ReadStep::Fail(ErrorKind::BrokenPipe)],
             b"screen_probe: read\n",
         ),
         (
-            &[Step::Fail(ErrorKind::OutOfMemory)],
+            &[ReadStep::Fail(ErrorKind::OutOfMemory)],
             b"screen_probe: read\n",
         ),
     ];
@@ -101,7 +101,7 @@ fn a_failed_read_is_reported(rt: HostRuntime) {
         for words in [["1", "2"].as_slice(), ["run"].as_slice()] {
             let mut written = Vec::new(rt.alloc());
             let mut reported = Vec::new(rt.alloc());
-            let mut input = Script::new(steps);
+            let mut input = ScriptedReader::new(steps);
             let answer = command(rt.alloc(), words, &mut input, &mut written, &mut reported);
             same(&rt, &words, &(answer, written.is_empty()), &(1, true));
             same(&rt, &words, &reported.as_slice(), &line);
@@ -114,7 +114,7 @@ fn a_failed_write_or_flush_is_reported(rt: HostRuntime) {
     let rows: [(&[&str], &[u8]); 2] = [(&["1", "2"], b"ab"), (&["run"], b"new 1 2 0\ndump")];
     for (room, flushes) in [(0, true), (20, true), (1000, false)] {
         for (words, input) in rows {
-            let mut output = Narrow::new(rt.alloc(), room);
+            let mut output = LimitedWriter::new(rt.alloc(), room);
             output.flushes = flushes;
             let mut reported = Vec::new(rt.alloc());
             let mut left = input;

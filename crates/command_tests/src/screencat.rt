@@ -2,7 +2,7 @@
 
 use crate::same::{Row, overlong, same, written};
 use screencat_command::command;
-use scripted_io::{Narrow, Script, Step};
+use scripted_io::{LimitedWriter, ReadStep, ScriptedReader};
 use std::io::ErrorKind;
 use std::process::Abort;
 use std::test::Fail;
@@ -69,9 +69,9 @@ fn prints_the_screen_or_the_usage(rt: HostRuntime) {
 
 #[test]
 fn a_read_is_retried_or_reported(rt: HostRuntime) -> Result<(), Fail> {
-    let rows: [(&'static [Step], u8, &[u8], &[u8], u64); 2] = [
+    let rows: [(&'static [ReadStep], u8, &[u8], &[u8], u64); 2] = [
         (
-            &[Step::Give(b"hi"), Step::Fail(ErrorKind::BrokenPipe)],
+            &[ReadStep::Give(b"hi"), ReadStep::Fail(ErrorKind::BrokenPipe)],
             1,
             b"",
             b"screencat: read\n",
@@ -79,9 +79,9 @@ fn a_read_is_retried_or_reported(rt: HostRuntime) -> Result<(), Fail> {
         ),
         (
             &[
-                Step::Give(b"h"),
-                Step::Fail(ErrorKind::Interrupted),
-                Step::Give(b"i"),
+                ReadStep::Give(b"h"),
+                ReadStep::Fail(ErrorKind::Interrupted),
+                ReadStep::Give(b"i"),
             ],
             0,
             b"hi\n\n",
@@ -92,7 +92,7 @@ fn a_read_is_retried_or_reported(rt: HostRuntime) -> Result<(), Fail> {
     for (steps, status, output, errors, reads) in rows {
         let mut written = Vec::new(rt.alloc());
         let mut reported = Vec::new(rt.alloc());
-        let mut input = Script::new(steps);
+        let mut input = ScriptedReader::new(steps);
         let answer = command(
             rt.alloc(),
             &["2", "4"],
@@ -116,7 +116,7 @@ fn a_failed_write_or_flush_is_reported(rt: HostRuntime) -> Result<(), Fail> {
         (100, false, 1, 4, 1, b"screencat: write\n"),
     ];
     for (room, flushes, status, taken, flushed, line) in rows {
-        let mut written = Narrow::new(rt.alloc(), room);
+        let mut written = LimitedWriter::new(rt.alloc(), room);
         written.flushes = flushes;
         let mut reported = Vec::new(rt.alloc());
         let mut left = b"hi".as_slice();

@@ -1,7 +1,7 @@
 //! A live relay: a frame after each read, flushed, and faults of readers and writers in mid-stream.
 
 use screenlive_command::command;
-use scripted_io::{Narrow, Script, Step};
+use scripted_io::{LimitedWriter, ReadStep, ScriptedReader};
 use std::io::ErrorKind;
 use std::test::Fail;
 
@@ -14,7 +14,7 @@ const HI_X: &[u8] =
 const READ: &[u8] = b"screenlive: read\n";
 
 /// The upper edge of a box, drawn with DEC's special graphics in two reads.
-const EDGE: &[Step] = &[Step::Give(b"\x1b(0l"), Step::Give(b"qk")];
+const EDGE: &[ReadStep] = &[ReadStep::Give(b"\x1b(0l"), ReadStep::Give(b"qk")];
 
 /// The frames of its two reads: with ┌, ─ and ┐, and as the letters that the program wrote.
 const DRAWN: &[u8] =
@@ -27,10 +27,19 @@ const USAGE: &[u8] = b"usage: screenlive ROWS COLS [--no-line-drawing]\n";
 
 #[test]
 fn a_frame_is_sent_after_each_read(rt: HostRuntime) -> Result<(), Fail> {
-    let rows: [(&'static [Step], u8, &[u8], &[u8], u64); 6] = [
-        (&[Step::Give(b"hi"), Step::Give(b"x")], 0, HI_X, b"", 3),
+    let rows: [(&'static [ReadStep], u8, &[u8], &[u8], u64); 6] = [
         (
-            &[Step::Fail(ErrorKind::Interrupted), Step::Give(b"hi")],
+            &[ReadStep::Give(b"hi"), ReadStep::Give(b"x")],
+            0,
+            HI_X,
+            b"",
+            3,
+        ),
+        (
+            &[
+                ReadStep::Fail(ErrorKind::Interrupted),
+                ReadStep::Give(b"hi"),
+            ],
             0,
             HI,
             b"",
@@ -38,9 +47,9 @@ fn a_frame_is_sent_after_each_read(rt: HostRuntime) -> Result<(), Fail> {
         ),
         (
             &[
-                Step::Give(b"hi"),
-                Step::Fail(ErrorKind::BrokenPipe),
-                Step::Give(b"x"),
+                ReadStep::Give(b"hi"),
+                ReadStep::Fail(ErrorKind::BrokenPipe),
+                ReadStep::Give(b"x"),
             ],
             1,
             HI,
@@ -48,9 +57,12 @@ fn a_frame_is_sent_after_each_read(rt: HostRuntime) -> Result<(), Fail> {
             2,
         ),
         (&[], 0, b"", b"", 1),
-        (&[Step::Give(b"\x1b[?2026hhi")], 0, b"", b"", 2),
+        (&[ReadStep::Give(b"\x1b[?2026hhi")], 0, b"", b"", 2),
         (
-            &[Step::Give(b"\x1b[?2026hhi"), Step::Give(b"\x1b[?2026l")],
+            &[
+                ReadStep::Give(b"\x1b[?2026hhi"),
+                ReadStep::Give(b"\x1b[?2026l"),
+            ],
             0,
             HI,
             b"",
@@ -60,7 +72,7 @@ fn a_frame_is_sent_after_each_read(rt: HostRuntime) -> Result<(), Fail> {
     for (steps, status, output, errors, reads) in rows {
         let mut written = Vec::new(rt.alloc());
         let mut reported = Vec::new(rt.alloc());
-        let mut input = Script::new(steps);
+        let mut input = ScriptedReader::new(steps);
         let words = ["2", "4"];
         let answer = command(rt.alloc(), &words, &mut input, &mut written, &mut reported);
         assert_eq!(rt;
@@ -81,7 +93,7 @@ fn line_drawing(rt: HostRuntime) -> Result<(), Fail> {
     for (words, output) in rows {
         let mut written = Vec::new(rt.alloc());
         let mut reported = Vec::new(rt.alloc());
-        let mut input = Script::new(EDGE);
+        let mut input = ScriptedReader::new(EDGE);
         let answer = command(rt.alloc(), words, &mut input, &mut written, &mut reported);
         assert_eq!(rt;
             (answer, written.as_slice(), reported.as_slice(), input.reads),
@@ -102,7 +114,7 @@ fn a_failed_write_or_flush_is_reported(rt: HostRuntime) -> Result<(), Fail> {
         (&["2", "4", "--line-drawing"], 100, true, 2, 0, 0, USAGE),
     ];
     for (words, room, flushes, status, taken, flushed, line) in rows {
-        let mut written = Narrow::new(rt.alloc(), room);
+        let mut written = LimitedWriter::new(rt.alloc(), room);
         written.flushes = flushes;
         let mut reported = Vec::new(rt.alloc());
         let mut left = b"hi".as_slice();

@@ -3,7 +3,7 @@
 use crate::same::{Row, overlong, same, written};
 use relay_streams::RelayError;
 use screenrelay_command::{command, report_fault};
-use scripted_io::{Few, Narrow, Script, Step};
+use scripted_io::{LimitedWriter, ReadStep, ScriptedReader, SmallReader};
 use std::alloc::AllocError;
 use std::io::ErrorKind;
 use std::process::Abort;
@@ -110,21 +110,21 @@ fn relays_shows_or_prints_the_usage(rt: HostRuntime) {
 }
 
 /// A reader that is interrupted between two bytes.
-const INTERRUPTED: &[Step] = &[
-    Step::Give(b"h"),
-    Step::Fail(ErrorKind::Interrupted),
-    Step::Give(b"i"),
+const INTERRUPTED: &[ReadStep] = &[
+    ReadStep::Give(b"h"),
+    ReadStep::Fail(ErrorKind::Interrupted),
+    ReadStep::Give(b"i"),
 ];
 
 #[test]
 fn a_read_is_retried_or_reported(rt: HostRuntime) -> Result<(), Fail> {
-    let rows: [(&str, &'static [Step], u8, &[u8], &[u8], u64); 5] = [
+    let rows: [(&str, &'static [ReadStep], u8, &[u8], &[u8], u64); 5] = [
         (
             "relay",
             &[
-                Step::Give(b"hi"),
-                Step::Fail(ErrorKind::BrokenPipe),
-                Step::Give(b"x"),
+                ReadStep::Give(b"hi"),
+                ReadStep::Fail(ErrorKind::BrokenPipe),
+                ReadStep::Give(b"x"),
             ],
             1,
             b"",
@@ -133,7 +133,10 @@ fn a_read_is_retried_or_reported(rt: HostRuntime) -> Result<(), Fail> {
         ),
         (
             "relay",
-            &[Step::Fail(ErrorKind::Interrupted), Step::Give(b"hi")],
+            &[
+                ReadStep::Fail(ErrorKind::Interrupted),
+                ReadStep::Give(b"hi"),
+            ],
             0,
             HI,
             b"",
@@ -143,7 +146,7 @@ fn a_read_is_retried_or_reported(rt: HostRuntime) -> Result<(), Fail> {
         ("show", INTERRUPTED, 0, b"hi\n\n", b"", 4),
         (
             "show",
-            &[Step::Give(b"hi"), Step::Fail(ErrorKind::BrokenPipe)],
+            &[ReadStep::Give(b"hi"), ReadStep::Fail(ErrorKind::BrokenPipe)],
             1,
             b"",
             b"screenrelay: read\n",
@@ -153,7 +156,7 @@ fn a_read_is_retried_or_reported(rt: HostRuntime) -> Result<(), Fail> {
     for (job, steps, status, output, errors, reads) in rows {
         let mut written = Vec::new(rt.alloc());
         let mut reported = Vec::new(rt.alloc());
-        let mut input = Script::new(steps);
+        let mut input = ScriptedReader::new(steps);
         let words = [job, "2", "4"];
         let answer = command(rt.alloc(), &words, &mut input, &mut written, &mut reported);
         assert_eq!(rt;
@@ -168,7 +171,7 @@ fn a_read_is_retried_or_reported(rt: HostRuntime) -> Result<(), Fail> {
 #[test]
 fn a_line_that_cannot_be_written_is_given_up(rt: HostRuntime) -> Result<(), Fail> {
     for (room, kept) in [(100, USAGE), (10, &USAGE[..10])] {
-        let mut reported = Narrow::new(rt.alloc(), room);
+        let mut reported = LimitedWriter::new(rt.alloc(), room);
         let mut written = Vec::new(rt.alloc());
         let mut left = b"".as_slice();
         let answer = command(rt.alloc(), &[], &mut left, &mut written, &mut reported);
@@ -234,7 +237,7 @@ fn a_stream_is_read_in_whole_pieces(rt: HostRuntime) -> Result<(), Fail> {
     stream.extend_from_slice(START)?;
     stream.push(b'b')?;
     let words: [&str; 3] = ["show", "1", "1"];
-    let mut input = Few::new(&stream, 14);
+    let mut input = SmallReader::new(&stream, 14);
     let mut written = Vec::new(rt.alloc());
     let mut reported = Vec::new(rt.alloc());
     let answer = command(rt.alloc(), &words, &mut input, &mut written, &mut reported);
@@ -253,7 +256,7 @@ fn a_failed_write_or_flush_is_reported(rt: HostRuntime) -> Result<(), Fail> {
         ("show", HI, 100, false, 1, 4, 1),
     ];
     for (job, input, room, flushes, status, taken, flushed) in rows {
-        let mut written = Narrow::new(rt.alloc(), room);
+        let mut written = LimitedWriter::new(rt.alloc(), room);
         written.flushes = flushes;
         let mut reported = Vec::new(rt.alloc());
         let mut left = input;

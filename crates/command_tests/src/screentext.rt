@@ -4,7 +4,7 @@ mod refusals;
 
 use crate::same::{same, written};
 use screentext_command::{Files, TextError, command, command_with};
-use scripted_io::{Few, Narrow, Script, Step};
+use scripted_io::{LimitedWriter, ReadStep, ScriptedReader, SmallReader};
 use std::alloc::Global;
 use std::io::ErrorKind;
 use std::process::Abort;
@@ -338,25 +338,25 @@ fn prints_the_help_and_the_version(rt: HostRuntime) {
 
 #[test]
 fn a_read_is_retried_or_reported(rt: HostRuntime) {
-    let rows: [(&'static [Step], u8, &[u8], &[u8]); 4] = [
+    let rows: [(&'static [ReadStep], u8, &[u8], &[u8]); 4] = [
         (
-            &[Step::Give(b"h"), Step::Fail(ErrorKind::BrokenPipe)],
+            &[ReadStep::Give(b"h"), ReadStep::Fail(ErrorKind::BrokenPipe)],
             1,
             b"",
             b"screentext: read\n",
         ),
         // Want of memory in the reader is a read's fault, too.
         (
-            &[Step::Give(b"h"), Step::Fail(ErrorKind::OutOfMemory)],
+            &[ReadStep::Give(b"h"), ReadStep::Fail(ErrorKind::OutOfMemory)],
             1,
             b"",
             b"screentext: read\n",
         ),
         (
             &[
-                Step::Give(b"h"),
-                Step::Fail(ErrorKind::Interrupted),
-                Step::Give(b"i"),
+                ReadStep::Give(b"h"),
+                ReadStep::Fail(ErrorKind::Interrupted),
+                ReadStep::Give(b"i"),
             ],
             0,
             b"hi\n",
@@ -367,7 +367,7 @@ fn a_read_is_retried_or_reported(rt: HostRuntime) {
     for (steps, status, output, errors) in rows {
         let mut written = Vec::new(rt.alloc());
         let mut reported = Vec::new(rt.alloc());
-        let mut input = Script::new(steps);
+        let mut input = ScriptedReader::new(steps);
         let answer = command(
             rt.alloc(),
             &["1", "4"],
@@ -384,9 +384,9 @@ fn a_read_is_retried_or_reported(rt: HostRuntime) {
 // One byte a read and one byte a write.
 #[test]
 fn one_byte_a_read_and_a_write_changes_nothing(rt: HostRuntime) {
-    let mut input = Few::new(CAST, 1);
-    let mut output = Narrow::new(rt.alloc(), 100);
-    let mut reported = Narrow::new(rt.alloc(), 100);
+    let mut input = SmallReader::new(CAST, 1);
+    let mut output = LimitedWriter::new(rt.alloc(), 100);
+    let mut reported = LimitedWriter::new(rt.alloc(), 100);
     let answer = command(rt.alloc(), &[], &mut input, &mut output, &mut reported);
     same(&rt, &output.flushed, &answer, &0);
     same(&rt, &answer, &output.kept.as_slice(), &b"a\nb\n".as_slice());
@@ -401,7 +401,7 @@ fn a_failed_write_or_flush_is_reported(rt: HostRuntime) {
         (9, false, b"a\nb\n"),
     ];
     for (room, flushes, kept) in rows {
-        let mut output = Narrow::new(rt.alloc(), room);
+        let mut output = LimitedWriter::new(rt.alloc(), room);
         output.flushes = flushes;
         let mut reported = Vec::new(rt.alloc());
         let mut left = CAST;

@@ -9,6 +9,6 @@ mod reel;
 pub use error::FilmError;
 pub use moment::{END, terminal_at};
 pub use picture::{html, html_block, svg};
-pub use recordings::{Change, Event, Kind, Recording, RecordingError, Size};
+pub use recordings::{Change, Event, Kind, Recording, RecordingError, ScreenSize};
 pub use reel::{LONGEST_FILM, Pace, film};
 pub use row_pictures::{Look, Rgb, Style, Theme};

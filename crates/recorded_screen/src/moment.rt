@@ -6,7 +6,7 @@ ghost use Rattle.screen_model.specs.Made.{Act};
 ghost use Rattle.vt100.specs.declared.error.ScreenError.TheVariants.{Memory};
 ghost use Rattle.recorded_screen.specs.Moment.{act_of, acts_until};
 
-use recordings::{Change, Event, Size};
+use recordings::{Change, Event, ScreenSize};
 use std::alloc::Global;
 use vt100::{Parser, ScreenError};
 
@@ -17,7 +17,7 @@ pub const END: u64 = u64::MAX;
 /// screen. It is refused only for memory.
 pub fn terminal_at(
     alloc: Global,
-    size: Size,
+    size: ScreenSize,
     capacity: usize,
     events: &[Event],
     moment: u64,

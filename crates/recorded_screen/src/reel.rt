@@ -7,7 +7,7 @@ use crate::error::FilmError;
 use crate::moment::act;
 use crate::picture::{cells_of, cursor_in, push_svg_head};
 use indexmap::IndexSet;
-use recordings::{Change, Event, Size};
+use recordings::{Change, Event, ScreenSize};
 use row_pictures::{COL_WIDTH, Look, Page, ROW_HEIGHT, Tag, push_svg_row};
 use std::alloc::{AllocError, Global};
 use vt100::{Parser, Screen};
@@ -48,7 +48,7 @@ const LAST: u64 = 1_000_000;
 /// that occurs more than once is drawn once. The last screen stands for a second.
 pub fn film(
     alloc: Global,
-    size: Size,
+    size: ScreenSize,
     events: &[Event],
     moment: u64,
     look: &Look,
@@ -89,7 +89,7 @@ fn is_followed(events: &[Event], i: usize) -> bool
 }
 
 // The most rows and columns that the screen has up to a moment.
-fn widest(size: Size, events: &[Event], moment: u64) -> Size {
+fn widest(size: ScreenSize, events: &[Event], moment: u64) -> ScreenSize {
     let mut widest = size;
     for event in events {
         if let Change::Resize(size) = &event.change
@@ -106,7 +106,7 @@ fn widest(size: Size, events: &[Event], moment: u64) -> Size {
 #[derive(Drop)]
 struct Reel {
     // The size of the picture.
-    size: Size,
+    size: ScreenSize,
     // The rows that are drawn, as they are written.
     rows: IndexSet<Vec<u8>>,
     // The screens, each by the numbers of its rows.
@@ -128,7 +128,7 @@ struct Shot {
 }
 
 impl Reel {
-    fn new(alloc: Global, size: Size) -> Self {
+    fn new(alloc: Global, size: ScreenSize) -> Self {
         Reel {
             size,
             rows: IndexSet::new(alloc),

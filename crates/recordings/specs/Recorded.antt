@@ -3,7 +3,7 @@ use Rattle.std.specs.Prelude.{◌≡◌, ℕ, ◌+◌, ◌-◌, ◌^◌, max, mi
 use Rattle.recordings.specs.declared.recording.Change.{Change}
 use Rattle.recordings.specs.declared.recording.Change.TheVariants.{Output, Resize, Marker}
 use Rattle.recordings.specs.declared.recording.Event.{Event}
-use Rattle.recordings.specs.declared.recording.Size.{Size}
+use Rattle.recordings.specs.declared.recording.ScreenSize.{ScreenSize}
 use Rattle.recordings.specs.declared.timeline.Pace.{Pace}
 use Rattle.recordings.specs.declared.timeline.Pace.TheVariants.{FromStart, FromLast}
 use Rattle.recordings.specs.declared.timeline.Timeline.{Timeline}
@@ -20,7 +20,7 @@ deed_of (Resize size) = resizes size.rows.value size.cols.value
 deed_of (Marker name) = marks (string_bytes name)
 
 -- rows and columns
-abbrev pub size_said : Size → ℕ × ℕ
+abbrev pub size_said : ScreenSize → ℕ × ℕ
 size_said size = (size.rows.value, size.cols.value)
 
 -- a time in microseconds, and what happens then

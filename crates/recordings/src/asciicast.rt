@@ -9,7 +9,7 @@ ghost use Rattle.recordings.specs.declared.error.RecordingError.TheVariants.{Lin
 
 use crate::error::RecordingError;
 use crate::lines::{first_line, is_blank, lines_of};
-use crate::recording::{Change, Kind, Recording, Size};
+use crate::recording::{Change, Kind, Recording, ScreenSize};
 use crate::theme::{RecordedTheme, theme_in};
 use crate::time::{microseconds, parse_json};
 use crate::timeline::{Pace, Timeline};
@@ -51,7 +51,7 @@ pub(crate) fn begins_asciicast(alloc: Global, text: &[u8]) -> Result<bool, Alloc
 #[derive(Clone, Copy)]
 pub struct Header {
     pub(crate) pace: Pace,
-    pub(crate) size: Size,
+    pub(crate) size: ScreenSize,
     pub(crate) theme: Option<RecordedTheme>,
 }
 
@@ -82,10 +82,10 @@ fn header_of(header: &Value) -> Option<Header>
     }
 }
 
-fn size_of(object: &Value, rows: &str, cols: &str) -> Option<Size>
+fn size_of(object: &Value, rows: &str, cols: &str) -> Option<ScreenSize>
     ensures { option_map size_said result ≡ sides_in rows.now cols.now (view object.now) }
 {
-    Some(Size {
+    Some(ScreenSize {
         rows: side(object, rows)?,
         cols: side(object, cols)?,
     })
@@ -205,11 +205,11 @@ fn parse_change(alloc: Global, code: &str, text: &str) -> Result<Option<Option<C
 }
 
 /// Reads `COLSxROWS`.
-fn parse_resize(text: &str) -> Option<Size>
+fn parse_resize(text: &str) -> Option<ScreenSize>
     ensures { option_map size_said result ≡ resize_in text.now }
 {
     let (cols, rows) = text.split_once('x')?;
-    Some(Size {
+    Some(ScreenSize {
         cols: parse_size(cols)?,
         rows: parse_size(rows)?,
     })

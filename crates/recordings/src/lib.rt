@@ -15,7 +15,7 @@ mod typescript;
 pub use asciicast::parse_asciicast;
 pub use error::RecordingError;
 pub use kind::{guess_kind, parse_recording};
-pub use recording::{Change, Event, Kind, Recording, Size};
+pub use recording::{Change, Event, Kind, Recording, ScreenSize};
 pub use theme::RecordedTheme;
 pub use time::{microseconds, parse_json, parse_seconds};
 pub use ttyrec::parse_ttyrec;

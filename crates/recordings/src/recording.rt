@@ -8,7 +8,7 @@ use std::num::NonZeroU16;
 
 /// How many rows and columns a screen has.
 #[derive(Clone, Copy)]
-pub struct Size {
+pub struct ScreenSize {
     /// How many rows there are.
     pub rows: NonZeroU16,
     /// How many columns there are.
@@ -21,7 +21,7 @@ pub enum Change {
     /// The program writes these bytes.
     Output(Vec<u8>),
     /// The terminal gets this size.
-    Resize(Size),
+    Resize(ScreenSize),
     /// Nothing: this names the moment.
     Marker(String),
 }
@@ -79,7 +79,7 @@ pub struct Recording {
     /// The form in which it was stored.
     pub kind: Kind,
     /// The size at first, where the recording says it.
-    pub size: Option<Size>,
+    pub size: Option<ScreenSize>,
     /// The colours of its own, where the recording says them.
     pub theme: Option<RecordedTheme>,
     /// What happens, in order.

@@ -2,7 +2,7 @@
 
 use crate::error::RecordingError;
 use crate::lines::{is_blank, lines_of};
-use crate::recording::{Change, Kind, Recording, Size};
+use crate::recording::{Change, Kind, Recording, ScreenSize};
 use crate::time::parse_seconds;
 use crate::timeline::{Pace, Timeline};
 use command_line::{parse_count, parse_size};
@@ -48,11 +48,11 @@ fn after_line(text: &[u8]) -> &[u8] {
 
 /// What a line of a timing file says.
 #[derive(Clone, Copy)]
-pub enum Step {
+pub enum TimingLine {
     /// After so many microseconds the program writes so many bytes.
     Output(u64, usize),
     /// After so many microseconds the terminal gets this size.
-    Resize(u64, Size),
+    Resize(u64, ScreenSize),
     /// So many microseconds pass.
     Other(u64),
 }
@@ -61,11 +61,11 @@ pub enum Step {
 fn push_step<'a>(
     alloc: Global,
     timeline: &mut Timeline,
-    step: Step,
+    step: TimingLine,
     left: &'a [u8],
 ) -> Result<Option<&'a [u8]>, AllocError> {
     match step {
-        Step::Output(time, count) => match left.split_at_checked(count) {
+        TimingLine::Output(time, count) => match left.split_at_checked(count) {
             Some((bytes, after)) => {
                 let output = Change::Output(bytes.to_vec(alloc)?);
                 timeline.push(time, Some(output))?;
@@ -73,20 +73,20 @@ fn push_step<'a>(
             }
             None => Ok(None),
         },
-        Step::Resize(time, size) => {
+        TimingLine::Resize(time, size) => {
             timeline.push(time, Some(Change::Resize(size)))?;
             Ok(Some(left))
         }
-        Step::Other(time) => {
+        TimingLine::Other(time) => {
             timeline.push(time, None)?;
             Ok(Some(left))
         }
     }
 }
 
-fn parse_step(alloc: Global, line: &[u8]) -> Result<Option<Step>, AllocError> {
+fn parse_step(alloc: Global, line: &[u8]) -> Result<Option<TimingLine>, AllocError> {
     if is_blank(line) {
-        return Ok(Some(Step::Other(0)));
+        return Ok(Some(TimingLine::Other(0)));
     }
     let (first, rest) = cut(line);
     match first {
@@ -98,51 +98,51 @@ fn parse_step(alloc: Global, line: &[u8]) -> Result<Option<Step>, AllocError> {
 }
 
 // Reads `DELAY BYTES`.
-fn output_step(alloc: Global, text: &[u8]) -> Result<Option<Step>, AllocError> {
+fn output_step(alloc: Global, text: &[u8]) -> Result<Option<TimingLine>, AllocError> {
     let (delay, count) = cut(text);
     match (parse_seconds(alloc, delay)?, count_in(count)) {
-        (Some(time), Some(count)) => Ok(Some(Step::Output(time, count))),
+        (Some(time), Some(count)) => Ok(Some(TimingLine::Output(time, count))),
         _ => Ok(None),
     }
 }
 
 // Reads `DELAY SIGNAL`, which for `SIGWINCH` goes on as `ROWS=N COLS=N`.
-fn signal_step(alloc: Global, text: &[u8]) -> Result<Option<Step>, AllocError> {
+fn signal_step(alloc: Global, text: &[u8]) -> Result<Option<TimingLine>, AllocError> {
     let (delay, signal) = cut(text);
     let Some(time) = parse_seconds(alloc, delay)? else {
         return Ok(None);
     };
     let (name, size) = cut(signal);
     if name != b"SIGWINCH".as_slice() {
-        return Ok(Some(Step::Other(time)));
+        return Ok(Some(TimingLine::Other(time)));
     }
     match window_in(size) {
-        Some(size) => Ok(Some(Step::Resize(time, size))),
+        Some(size) => Ok(Some(TimingLine::Resize(time, size))),
         None => Ok(None),
     }
 }
 
 // Reads a delay, and passes over what follows.
-fn other_step(alloc: Global, text: &[u8]) -> Result<Option<Step>, AllocError> {
+fn other_step(alloc: Global, text: &[u8]) -> Result<Option<TimingLine>, AllocError> {
     let (delay, _) = cut(text);
     match parse_seconds(alloc, delay)? {
-        Some(time) => Ok(Some(Step::Other(time))),
+        Some(time) => Ok(Some(TimingLine::Other(time))),
         None => Ok(None),
     }
 }
 
 // Reads `ROWS=N COLS=N`.
-fn window_in(text: &[u8]) -> Option<Size> {
+fn window_in(text: &[u8]) -> Option<ScreenSize> {
     let (rows, cols) = cut(text);
-    Some(Size {
+    Some(ScreenSize {
         rows: side_in(rows.strip_prefix(b"ROWS=")?)?,
         cols: side_in(cols.strip_prefix(b"COLS=")?)?,
     })
 }
 
 // The size in the header: the values of `LINES` and `COLUMNS`.
-fn size_in(lines: &[&[u8]]) -> Option<Size> {
-    Some(Size {
+fn size_in(lines: &[&[u8]]) -> Option<ScreenSize> {
+    Some(ScreenSize {
         rows: header_in(lines, b"LINES")?,
         cols: header_in(lines, b"COLUMNS")?,
     })

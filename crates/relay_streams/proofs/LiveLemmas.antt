@@ -193,7 +193,7 @@ module _ (S W : Type 0) (gives : S → ℕ → Result (List ℕ) Error → S →
     subst (λ (b : Option Shown). Relaying rows cols fed b g key) (sym (base-push rows cols before here)) turned.2,
   )
 
--- ---- what is left, where the source and the writer tell their bytes
+-- ---- what is left, where the bytes of the source and the writer are known
 
 module _ (S W : Type 0) (gives : S → ℕ → Result (List ℕ) Error → S → Type 0)
     (takes : W → List ℕ → Result ℕ Error → W → Type 0) (flushes : W → Result (Unit {0}) Error → W → Type 0)

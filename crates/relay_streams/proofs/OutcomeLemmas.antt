@@ -1,4 +1,4 @@
--- What commands leave, where the source and the writer tell their bytes.
+-- What commands leave, where the bytes of the source and the writer are known.
 use Rattle.std.proofs.Common.{◌≡◌, ℕ, true, List, [], ◌∷◌, ◌++◌, append-nil, Option, None, Some, Ok, Err, Result}
 use Rattle.std.proofs.Common.{OnOk, IfSome, take, refl, sym, ap, ◌∙◌, subst}
 use Rattle.std.specs.List.{concat, list_any}
@@ -122,7 +122,7 @@ module _ (S W : Type 0) (gives : S → ℕ → Result (List ℕ) Error → S →
         ))
     relays-text rows cols s w answer t v _ = tt
 
-    -- what was written is a front of the one text
+    -- what was written is a prefix of the one text
     prefixes : (rows cols key : ℕ) (w v : W) (bytes : List ℕ) (t : Story) → IsRelayed rows cols key (pieces_of bytes) t
         → TakesPrefix (contents w) (contents v) (relay_text rows cols bytes)
         → TakesPrefix (contents w) (contents v) t.session.pumped

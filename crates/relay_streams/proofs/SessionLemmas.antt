@@ -121,7 +121,7 @@ module _ (rows cols key : ℕ) where
   abbrev with_answer : Entry → Story → Story
   with_answer e t = with_session (grown e.text) (with_entries (e ∷ []) t)
 
-  -- where a turn leads, with which all these have been fed
+  -- what a turn makes, with which all these have been fed
   pub record Turns (got : List (List ℕ)) (base : Option Shown) (t : Story) (g : HubState as_reported) (us : List Story)
       : Type 0 where
     pub are : us ≡ with_answer (entry_at rows cols got base) t ∷ []
@@ -537,7 +537,7 @@ relayed-are-one rows cols key other pieces t u r s =
 pub relay-texts-are-one : RelayTextsAreOne
 relay-texts-are-one rows cols input a b r s = text-of rows cols input a r ∙ sym (text-of rows cols input b s)
 
--- ---- any front of it
+-- ---- any prefix of it
 
 pub prefixes-shown : RelayedPrefixesAreShown
 prefixes-shown rows cols key parsed cut pieces t r reads =

@@ -18,7 +18,7 @@ use Rattle.relay_theorem.specs.Isolation.{is_out_of_memory}
 use Rattle.termview.specs.Timeout.{until_cleared}
 use Rattle.relay_streams.specs.Pieces.{cut_by}
 
--- a view of this size stands where these bytes, in pieces of these lengths, lead a new one
+-- a view of this size is as these bytes, in pieces of these lengths, leave a new one
 pub record HasRead (z : Size) (bytes cuts : List ℕ) (v : View UntilCleared) : Type 0 where
   pub parsed : List ℕ
   pub hold : Option (List ℕ)
@@ -26,7 +26,7 @@ pub record HasRead (z : Size) (bytes cuts : List ℕ) (v : View UntilCleared) : 
   pub holds : HoldsAt until_cleared v parsed hold
   pub size : view_size v ≡ z
 
--- and of a session's size, where the first bytes that were pumped to it lead one
+-- and of a session's size, as the first bytes that were pumped to it leave one
 abbrev pub HasReadFirst : SessionView → ℕ → List ℕ → View UntilCleared → Type 0
 HasReadFirst s most cuts v = HasRead (size_of_session s) (take most s.pumped) cuts v
 

@@ -7,7 +7,7 @@ use Rattle.termview.specs.declared.until_cleared.UntilCleared.{UntilCleared}
 use Rattle.termview.specs.Timeout.{until_cleared}
 use Rattle.termview.specs.Standing.{HoldsAt, view_size}
 
--- where the pieces lead a view that stands at a parsed text and a hold
+-- the state in which the pieces leave a view that has a parsed text and a hold
 pub record LedTo (old : View UntilCleared) (parsed : List ℕ) (hold : Option (List ℕ)) (pieces : List (List ℕ))
     (new : View UntilCleared) : Type 0 where
   pub parsed' : List ℕ
@@ -16,7 +16,7 @@ pub record LedTo (old : View UntilCleared) (parsed : List ℕ) (hold : Option (L
   pub holds : HoldsAt until_cleared new parsed' hold'
   pub size : view_size new ≡ view_size old
 
--- wherever the view stands, the pieces lead it on
+-- from whatever state the view is in, the pieces take it on
 pub record Led (old : View UntilCleared) (pieces : List (List ℕ)) (new : View UntilCleared) : Type 0 where
   pub goes : (parsed : List ℕ) (hold : Option (List ℕ)) → HoldsAt until_cleared old parsed hold
       → LedTo old parsed hold pieces new

@@ -111,6 +111,7 @@ pub fn view_of(
 fn give_pieces(view: &mut View<UntilCleared>, bytes: &[u8], cuts: &[usize])
     ensures { Led view.old (cut_by cuts.now bytes.now) view.new }
 {
+    // A law for the proof; it does nothing at run time.
     until_cleared_is_exact();
     let mut left = bytes;
     for cut in cuts {

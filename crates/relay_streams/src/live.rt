@@ -21,8 +21,8 @@ use termrelay::{Client, Hub};
 pub const LIVE_LEN: usize = 65_536;
 
 /// Reads a program's output to its end, and after each read that gave something writes the frame that is then due, if
-/// there is one, and flushes. So what is written is what is pumped to a client of a hub that comes first, and after each
-/// piece asks for a frame and gets what it is owed.
+/// there is one, and flushes. The output equals the bytes that a hub sends to a client that attaches before the first
+/// read and asks for a frame after each.
 ///
 /// A read is given room for 65,536 bytes, so the output of a fast program is gathered while a write waits. No frame is
 /// due while the program is in a synchronized update of its own. A frame that would be longer than 2,097,150 bytes is a
@@ -88,6 +88,7 @@ fn relay_reads<S: Source, W: FlushSink>(
 {
     let mut piece = [0; LIVE_LEN];
     let mut reads = 0;
+    // The label names the loop's invariant.
     'reads: loop {
         let n = read_some(input, &mut piece, &mut reads)?;
         if n == 0 {
@@ -111,6 +112,7 @@ fn read_some<S: Source>(
     requires { reads.old ≤ max_reads }
     ensures { TriesOnce S.gives input.old (length room.old) reads.old result input.new room.new reads.new }
 {
+    // The label names the loop's invariant.
     'reading: while *reads < MAX_READS {
         *reads += 1;
         match input.give(room) {

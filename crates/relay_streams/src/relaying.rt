@@ -20,9 +20,9 @@ use std::num::NonZeroU16;
 use termrelay::{Answer, Client, Hub};
 
 /// Reads a program's output to its end, and writes frames of the screen of this size that it makes: after each full
-/// piece of 4,096 bytes, and at the end, the frame that is then due, if there is one. Then the output is flushed. So the
-/// text is what is pumped to a client of a hub that comes first, and after each piece asks for a frame and gets what it
-/// is owed.
+/// piece of 4,096 bytes, and at the end, the frame that is then due, if there is one. Then the output is flushed. The
+/// output equals the bytes that a hub sends to a client that attaches before the first piece and asks for a frame after
+/// each.
 ///
 /// No frame is due while the program is in a synchronized update of its own. A frame that would be longer than 2,097,150
 /// bytes is a fault, [`RelayError::FrameTooLong`], and nothing of it is written.
@@ -67,6 +67,7 @@ fn relay_pieces<S: Source, W: FlushSink>(
 {
     let mut piece = [0; PIECE_LEN];
     let mut reads = 0;
+    // The label names the loop's invariant.
     'pieces: loop {
         let n = fill(input, &mut piece, &mut reads)?;
         turn(hub, client, &piece[..n], output)?;

@@ -50,9 +50,11 @@ fn read_view<S: Source>(view: &mut View<UntilCleared>, input: &mut S) -> Result<
     ensures { (pieces : List (List ℕ)) × Drained S.gives piece_len input.old pieces result input.new
         × OnOk result (Led view.old pieces view.new) }
 {
+    // A law for the proof; it does nothing at run time.
     until_cleared_is_exact();
     let mut piece = [0; PIECE_LEN];
     let mut reads = 0;
+    // The label names the loop's invariant.
     'pieces: loop {
         let n = fill(input, &mut piece, &mut reads)?;
         view.advance(&piece[..n]);

@@ -55,6 +55,7 @@ pub fn fill<S: Source>(
     ensures { Filled S.gives input.old (length piece.old) reads.old result input.new piece.new reads.new }
 {
     let mut len = 0;
+    // The label names the loop's invariant.
     'reading: while len < piece.len() {
         if *reads >= MAX_READS {
             return Err(RelayError::TooManyReads);

@@ -1,6 +1,6 @@
 //! Many clients on one hub, and the longest sides.
 use crate::owners::{lend, new_hub, with};
-use crate::play::Step::{Attach, Feed, Frame, Pump, Resize, Unknown};
+use crate::play::HubStep::{Attach, Feed, Frame, Pump, Resize, Unknown};
 use crate::play::{Way, play};
 use crate::same::same_for;
 use crate::seen::take_frame;

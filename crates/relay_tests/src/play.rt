@@ -26,7 +26,7 @@ pub enum Way {
 
 /// What is done with a hub, and what has to come of it. Clients are counted in the order of their coming.
 #[derive(Clone, Copy, Debug)]
-pub enum Step {
+pub enum HubStep {
     Feed(&'static [u8]),
     Resize(u16, u16),
     Attach,
@@ -130,9 +130,9 @@ fn is_unknown<T>(answer: &Result<T, HubError>) -> bool {
 const MAX_CLIENTS: usize = 66;
 
 /// What a client has to be owed.
-fn owed(steps: &[Step], place: Place) -> &'static [u8] {
+fn owed(steps: &[HubStep], place: Place) -> &'static [u8] {
     match steps.get(place.step) {
-        Some(Step::Frame(_, _, text)) => text.get(place.taken..).unwrap_or(b""),
+        Some(HubStep::Frame(_, _, text)) => text.get(place.taken..).unwrap_or(b""),
         _ => b"",
     }
 }
@@ -163,7 +163,7 @@ impl Stage {
     }
 
     /// Each client is owed what it has to be.
-    fn check(&self, rt: &impl Abort, steps: &[Step]) {
+    fn check(&self, rt: &impl Abort, steps: &[HubStep]) {
         for place in self.places.iter() {
             if !place.has_ended {
                 let found = self.hub.owed(place.client()).ok();
@@ -180,7 +180,7 @@ impl Stage {
     }
 
     /// Makes a call. Where it is refused, all clients are owed what they were before.
-    fn ask(&mut self, rt: &impl Abort, steps: &[Step], call: &Call<'_>) -> Reported {
+    fn ask(&mut self, rt: &impl Abort, steps: &[HubStep], call: &Call<'_>) -> Reported {
         let reported = self.ask_once(call);
         if reported != Reported::Refused {
             return reported;
@@ -192,7 +192,7 @@ impl Stage {
         self.ask_once(call)
     }
 
-    fn attach(&mut self, rt: &impl Abort, steps: &[Step], step: usize) -> Result<(), Fail> {
+    fn attach(&mut self, rt: &impl Abort, steps: &[HubStep], step: usize) -> Result<(), Fail> {
         let Reported::Attached(client) = self.ask(rt, steps, &Call::Attach) else {
             return Err("no client".into());
         };
@@ -205,7 +205,7 @@ impl Stage {
         Ok(())
     }
 
-    fn resize(&mut self, rt: &impl Abort, steps: &[Step], rows: u16, cols: u16) {
+    fn resize(&mut self, rt: &impl Abort, steps: &[HubStep], rows: u16, cols: u16) {
         let reported = self.ask(rt, steps, &Call::Resize(count(rows), count(cols)));
         same_for(rt, &(rows, cols), &reported, &Reported::Done);
         for place in self.places.iter_mut() {
@@ -213,7 +213,7 @@ impl Stage {
         }
     }
 
-    fn detach(&mut self, rt: &impl Abort, steps: &[Step], index: usize) {
+    fn detach(&mut self, rt: &impl Abort, steps: &[HubStep], index: usize) {
         let place = self.place(index);
         let reported = self.ask(rt, steps, &Call::Detach(place.client()));
         same_for(rt, &index, &reported, &Reported::Done);
@@ -227,7 +227,7 @@ impl Stage {
     }
 
     /// A client asks for a frame and gets this answer.
-    fn frame(&mut self, rt: &impl Abort, steps: &[Step], index: usize, answer: Answer) {
+    fn frame(&mut self, rt: &impl Abort, steps: &[HubStep], index: usize, answer: Answer) {
         let call = Call::Frame(self.place(index).client());
         let reported = self.ask(rt, steps, &call);
         same_for(rt, &index, &reported, &Reported::Answered(answer));
@@ -267,7 +267,7 @@ impl Stage {
         same_for(rt, &index, &(reported, is_logged), &(wanted_reported, true));
     }
 
-    fn pump(&mut self, rt: &impl Abort, steps: &[Step], index: usize, room: usize) {
+    fn pump(&mut self, rt: &impl Abort, steps: &[HubStep], index: usize, room: usize) {
         let place = self.place(index);
         let wanted = owed(steps, place);
         if self.way == Way::Logged {
@@ -306,7 +306,7 @@ impl Stage {
     }
 
     /// Feeds the hub. Where that is refused the hub has failed.
-    fn feed(&mut self, rt: &impl Abort, steps: &[Step], bytes: &[u8]) {
+    fn feed(&mut self, rt: &impl Abort, steps: &[HubStep], bytes: &[u8]) {
         let reported = self.ask(rt, steps, &Call::Feed(bytes));
         let wanted = if self.hub.screen().failed() && self.way != Way::Once {
             Reported::Refused
@@ -316,7 +316,7 @@ impl Stage {
         same_for(rt, &bytes, &reported, &wanted);
     }
 
-    fn take_all(&mut self, rt: &impl Abort, steps: &[Step]) -> Result<(), Fail> {
+    fn take_all(&mut self, rt: &impl Abort, steps: &[HubStep]) -> Result<(), Fail> {
         for (number, step) in steps.iter().enumerate() {
             if !self.hub.screen().failed() {
                 self.take(rt, steps, number, *step)?;
@@ -330,16 +330,16 @@ impl Stage {
     fn take(
         &mut self,
         rt: &impl Abort,
-        steps: &[Step],
+        steps: &[HubStep],
         number: usize,
-        step: Step,
+        step: HubStep,
     ) -> Result<(), Fail> {
         match step {
-            Step::Feed(bytes) => self.feed(rt, steps, bytes),
-            Step::Resize(rows, cols) => self.resize(rt, steps, rows, cols),
-            Step::Attach => self.attach(rt, steps, number)?,
-            Step::Detach(index) => self.detach(rt, steps, index),
-            Step::Frame(index, answer, _) => {
+            HubStep::Feed(bytes) => self.feed(rt, steps, bytes),
+            HubStep::Resize(rows, cols) => self.resize(rt, steps, rows, cols),
+            HubStep::Attach => self.attach(rt, steps, number)?,
+            HubStep::Detach(index) => self.detach(rt, steps, index),
+            HubStep::Frame(index, answer, _) => {
                 self.frame(rt, steps, index, answer);
                 let place = self.place(index);
                 self.put(
@@ -351,14 +351,14 @@ impl Stage {
                     },
                 );
             }
-            Step::NoFrame(index, answer) => self.frame(rt, steps, index, answer),
-            Step::Pump(index, room) => self.pump(rt, steps, index, room),
-            Step::Unknown(index) => {
+            HubStep::NoFrame(index, answer) => self.frame(rt, steps, index, answer),
+            HubStep::Pump(index, room) => self.pump(rt, steps, index, room),
+            HubStep::Unknown(index) => {
                 let client = self.place(index).client();
                 self.check_unknown(rt, client);
             }
-            Step::Shows(text, cursor) => self.check_shown(rt, text, cursor)?,
-            Step::Color(row, col, color) => {
+            HubStep::Shows(text, cursor) => self.check_shown(rt, text, cursor)?,
+            HubStep::Color(row, col, color) => {
                 let found = self.hub.screen().cell(row, col).map(|cell| cell.fgcolor());
                 same_for(rt, &step, &found, &Some(Color::Idx(color)));
             }
@@ -394,7 +394,7 @@ pub fn play(
     rt: &(impl Abort + AllocGlobal),
     way: Way,
     size: Size,
-    steps: &[Step],
+    steps: &[HubStep],
 ) -> Result<(), Fail> {
     let mut stage = new_stage(rt.alloc(), way, size)?;
     stage.take_all(rt, steps)

@@ -1,8 +1,8 @@
 //! Runs of a hub, each call of which succeeds at once.
-use crate::play::Step::{
+use crate::play::HubStep::{
     Attach, Color, Detach, Feed, Frame, NoFrame, Pump, Resize, Shows, Unknown,
 };
-use crate::play::{Step, Way, play};
+use crate::play::{HubStep, Way, play};
 use crate::seen::Size;
 use std::process::Abort;
 use std::test::Fail;
@@ -16,7 +16,7 @@ pub const BLANK: &[u8] =
 const ALL: usize = usize::MAX;
 
 /// A word is drawn over, and a second client comes late.
-const DRAWN_OVER: &[Step] = &[
+const DRAWN_OVER: &[HubStep] = &[
     Attach,
     Feed(b"this text is \x1b[31mRED\x1b[m"),
     Frame(
@@ -114,7 +114,7 @@ pub fn play_differences(rt: &(impl Abort + AllocGlobal), way: Way) -> Result<(),
 }
 
 /// Half a character shows nothing, and a frame doesn't end it.
-const HALF: &[Step] = &[
+const HALF: &[HubStep] = &[
     Attach,
     Frame(0, Full, BLANK),
     Pump(0, ALL),
@@ -132,7 +132,7 @@ const HALF: &[Step] = &[
 ];
 
 /// A wide character has no room on one column.
-const NO_ROOM: &[Step] = &[
+const NO_ROOM: &[HubStep] = &[
     Attach,
     Frame(0, Full, BLANK),
     Pump(0, ALL),
@@ -141,7 +141,7 @@ const NO_ROOM: &[Step] = &[
 ];
 
 /// A screen that asks for an emoji, and one that doesn't any more.
-const EMOJI: &[Step] = &[
+const EMOJI: &[HubStep] = &[
     Attach,
     Feed(b"\xE2\x9D\xA4\xEF\xB8\x8F"),
     Frame(
@@ -206,7 +206,7 @@ pub fn play_first_frames(rt: &(impl Abort + AllocGlobal), way: Way) -> Result<()
 }
 
 /// The writer fails in mid-frame, and the next one gets the rest.
-const FAULT: &[Step] = &[
+const FAULT: &[HubStep] = &[
     Attach,
     Frame(0, Full, BLANK),
     Pump(0, 10),
@@ -217,7 +217,7 @@ const FAULT: &[Step] = &[
 ];
 
 /// Every client ends, also where the size stays.
-const SAME: &[Step] = &[
+const SAME: &[HubStep] = &[
     Attach,
     Resize(24, 80),
     Unknown(0),
@@ -225,7 +225,7 @@ const SAME: &[Step] = &[
     Frame(1, Full, BLANK),
 ];
 
-const HIGHER: &[Step] = &[
+const HIGHER: &[HubStep] = &[
     Feed(b"a\r\nb\r\nc"),
     Resize(4, 4),
     Shows("\nb\nc", (2, 1)),
@@ -238,7 +238,7 @@ const HIGHER: &[Step] = &[
 ];
 
 /// Clients that never came or have ended are unknown.
-const ENDS: &[Step] = &[
+const ENDS: &[HubStep] = &[
     Unknown(7),
     Attach,
     Frame(0, Full, BLANK),
@@ -252,7 +252,7 @@ const ENDS: &[Step] = &[
 ];
 
 /// Each client's frames go on from its own last one, however many were made at one moment.
-const BASES: &[Step] = &[
+const BASES: &[HubStep] = &[
     Attach,
     Attach,
     Attach,
@@ -288,7 +288,7 @@ pub fn play_client_number_65(rt: &(impl Abort + AllocGlobal), way: Way) -> Resul
 }
 
 /// Sizes, and what is done then.
-const RUNS: &[(Size, &[Step])] = &[
+const RUNS: &[(Size, &[HubStep])] = &[
     ((24, 80), DRAWN_OVER),
     ((2, 4), HALF),
     ((2, 1), NO_ROOM),

@@ -1,6 +1,6 @@
 //! A program's own synchronized updates, which hold frames back.
-use crate::play::Step::{Attach, Feed, Frame, NoFrame, Pump, Resize};
-use crate::play::{Step, Way, play};
+use crate::play::HubStep::{Attach, Feed, Frame, NoFrame, Pump, Resize};
+use crate::play::{HubStep, Way, play};
 use crate::runs::BLANK;
 use std::test::Fail;
 use termrelay::Answer::{Behind, Difference, Full, Held, Unchanged, Unsure};
@@ -10,7 +10,7 @@ const ALL: usize = usize::MAX;
 
 /// On two rows of four columns: an update that ends, one that a full reset ends, one that comes before the first frame,
 /// one that begins while bytes are owed, and one that a resize to the same size ends.
-const UPDATES: &[&[Step]] = &[
+const UPDATES: &[&[HubStep]] = &[
     &[
         Attach,
         Frame(0, Full, BLANK),

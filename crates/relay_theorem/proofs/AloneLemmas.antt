@@ -20,7 +20,7 @@ use Rattle.relay_theorem.specs.Isolation.{own_calls, alone, EachSessionIsIsolate
 use Rattle.relay_theorem.proofs.StoryLemmas.{at-key}
 use Rattle.relay_theorem.proofs.CallLemmas.{left_in}
 use Rattle.relay_theorem.proofs.HistoryLemmas.{IsKept, fed-kept, resized-kept, attached-kept, fresh-kept, run-went}
-use Rattle.relay_theorem.proofs.OwnLemmas.{Life, past, story_of, born, answer_now, client_by, lives, tell_on, CanLive}
+use Rattle.relay_theorem.proofs.OwnLemmas.{Life, past, story_of, born, answer_now, client_by, lives, life_on, CanLive}
 use Rattle.relay_theorem.proofs.OwnLemmas.{CanCome, Lives}
 use Rattle.relay_theorem.proofs.OwnRunLemmas.{EndsAs, lives-run, session-found}
 
@@ -188,7 +188,7 @@ module _ (rows cols key : ℕ) where
       (own_of key (map (alone key) owns) r.replies) =
       lives-run rows cols key 0 (born rows cols acts) g r.hub ts r.stories (map (alone key) owns) r.replies s r.fed
       (run-went g r.hub ts r.stories (map (alone key) owns) r.replies (attached-kept h key [] refl kept) r.run) in
-      let l = tell_on rows cols (born rows cols acts) (own_of key (map (alone key) owns) r.replies) in
+      let l = life_on rows cols (born rows cols acts) (own_of key (map (alone key) owns) r.replies) in
       record {
         replies = Attached key ∷ r.replies;
         hub = r.hub;

@@ -19,7 +19,7 @@ use Rattle.relay_theorem.proofs.CallLemmas.{serves-does, hub_after, does-after}
 use Rattle.relay_theorem.proofs.HistoryLemmas.{IsKept, fed-kept, resized-kept, attached-kept, does-kept, fresh-kept}
 use Rattle.relay_theorem.proofs.HistoryLemmas.{run-went}
 use Rattle.relay_theorem.proofs.LoggedLemmas.{logged-story}
-use Rattle.relay_theorem.proofs.OwnLemmas.{Life, past, story_of, born, lives, tell_on, CanLive, CanCome, Lives, Goes}
+use Rattle.relay_theorem.proofs.OwnLemmas.{Life, past, story_of, born, lives, life_on, CanLive, CanCome, Lives, Goes}
 use Rattle.relay_theorem.proofs.OwnLemmas.{call-goes-on}
 use Rattle.relay_theorem.proofs.OwnRunLemmas.{lives-run, session-found}
 use Rattle.relay_theorem.proofs.IsolationLemmas.{sessions-isolated, logged-isolated}
@@ -146,7 +146,7 @@ module _ (rows cols : ℕ) where
       → RunsReported (first_at acts key) (stories_at acts key) calls answers k us → slice_get us 0 ≡ Some u
       → key ≡ u.session.client
   key-of acts key k us calls answers u kept fed run is =
-      let l = tell_on rows cols (born rows cols acts) (own_of key calls answers) in
+      let l = life_on rows cols (born rows cols acts) (own_of key calls answers) in
       let e = lives-run rows cols key 0 (born rows cols acts) (first_at acts key) k (stories_at acts key) us calls answers
       (born-lives acts key) fed
       (run-went (first_at acts key) k (stories_at acts key) us calls answers

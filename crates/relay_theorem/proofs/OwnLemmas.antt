@@ -109,15 +109,15 @@ module _ (rows cols : ℕ) where
   lives l Leaves = l
 
   -- after all of them, and whether it has ended
-  abbrev pub tell_on : Life → List Own → Life × Bool
-  tell_on l [] = (l, false)
-  tell_on l (own ∷ owns) = if ends own then (lives l own, true) else tell_on (lives l own) owns
+  abbrev pub life_on : Life → List Own → Life × Bool
+  life_on l [] = (l, false)
+  life_on l (own ∷ owns) = if ends own then (lives l own, true) else life_on (lives l own) owns
 
-  abbrev pub tell : List Act → List Own → Option (Life × Bool)
-  tell acts [] = None
-  tell acts (Acts act ∷ owns) = tell (acts ++ act ∷ []) owns
-  tell acts (Comes ∷ owns) = Some (tell_on (born acts) owns)
-  tell acts (own ∷ owns) = None
+  abbrev pub life_of : List Act → List Own → Option (Life × Bool)
+  life_of acts [] = None
+  life_of acts (Acts act ∷ owns) = life_of (acts ++ act ∷ []) owns
+  life_of acts (Comes ∷ owns) = Some (life_on (born acts) owns)
+  life_of acts (own ∷ owns) = None
 
   -- all of them can be done
   abbrev pub CanLive : Life → List Own → Type 0

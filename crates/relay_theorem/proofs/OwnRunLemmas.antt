@@ -26,7 +26,7 @@ use Rattle.relay_theorem.proofs.CallLemmas.{Does, refuses, feeds, fails, resizes
 use Rattle.relay_theorem.proofs.CallLemmas.{declines, pumps, misses}
 use Rattle.relay_theorem.proofs.HistoryLemmas.{IsKept, Went, over, called, fresh-went}
 use Rattle.relay_theorem.proofs.OwnLemmas.{got-mapped, got-prefix, got-last, none-past, Life, past, story_of, born}
-use Rattle.relay_theorem.proofs.OwnLemmas.{lives, tell_on, tell, CanLive, CanCome, Lives, Goes, call-goes-on}
+use Rattle.relay_theorem.proofs.OwnLemmas.{lives, life_on, life_of, CanLive, CanCome, Lives, Goes, call-goes-on}
 
 -- on a hub that was first of this size
 module _ (rows cols : ℕ) where
@@ -67,8 +67,8 @@ module _ (rows cols : ℕ) where
 
   -- what its own calls make
   pub record EndsAs (key n : ℕ) (k : HubState as_reported) (us : List Story) (l : Life) (owns : List Own) : Type 0 where
-    pub story : slice_get us n ≡ Some (story_of rows cols key (tell_on rows cols l owns).1 (tell_on rows cols l owns).0)
-    pub client : (tell_on rows cols l owns).1 ≡ false → k.clients key ≡ Some (tell_on rows cols l owns).0.client
+    pub story : slice_get us n ≡ Some (story_of rows cols key (life_on rows cols l owns).1 (life_on rows cols l owns).0)
+    pub client : (life_on rows cols l owns).1 ≡ false → k.clients key ≡ Some (life_on rows cols l owns).0.client
     pub can : CanLive rows cols l owns
 
   -- one call more, by what those after it make
@@ -120,7 +120,7 @@ module _ (rows cols : ℕ) where
     pub key : ℕ
     pub life : Life
     pub gone : Bool
-    pub reported : tell rows cols acts owns ≡ Some (life, gone)
+    pub reported : life_of rows cols acts owns ≡ Some (life, gone)
     pub is : t ≡ story_of rows cols key gone life
     pub client : gone ≡ false → k.clients key ≡ Some life.client
     pub can : CanCome rows cols acts owns
@@ -184,11 +184,11 @@ module _ (rows cols : ℕ) where
         idle-passes before (change_last (is_on key) change ts) refl (changed-count key change)
 
   -- the life that a run's own calls make goes on by the acts before them
-  tell-more : (acts more : List Act) (owns : List Own)
-      → tell rows cols acts (map Acts more ++ owns) ≡ tell rows cols (acts ++ more) owns
-  tell-more acts [] owns = ap (λ all. tell rows cols all owns) (sym (append-nil acts))
-  tell-more acts (act ∷ more) owns =
-      tell-more (acts ++ act ∷ []) more owns ∙ ap (λ all. tell rows cols all owns) (append_assoc acts (act ∷ []) more)
+  life_of-more : (acts more : List Act) (owns : List Own)
+      → life_of rows cols acts (map Acts more ++ owns) ≡ life_of rows cols (acts ++ more) owns
+  life_of-more acts [] owns = ap (λ all. life_of rows cols all owns) (sym (append-nil acts))
+  life_of-more acts (act ∷ more) owns =
+      life_of-more (acts ++ act ∷ []) more owns ∙ ap (λ all. life_of rows cols all owns) (append_assoc acts (act ∷ []) more)
 
   -- a call by which no session comes, and what is found after it
   quiet-then : (acts : List Act) (h g k : HubState as_reported) (ts us : List Story) (call : Call) (reply : Reply)
@@ -207,7 +207,7 @@ module _ (rows cols : ℕ) where
         key = f.key;
         life = f.life;
         gone = f.gone;
-        reported = tell-more acts (acts_of call reply) owns ∙ f.reported;
+        reported = life_of-more acts (acts_of call reply) owns ∙ f.reported;
         is = f.is;
         client = f.client;
         can = p.sides owns f.can;
@@ -249,7 +249,7 @@ module _ (rows cols : ℕ) where
         } in
         let r = lives-run key (length ts) (born rows cols acts) g k (ts ++ new-story h key ∷ []) us calls replies s fed
         later in
-        let l = tell_on rows cols (born rows cols acts) (own_of key calls replies) in
+        let l = life_on rows cols (born rows cols acts) (own_of key calls replies) in
         let first : n ≡ 0 = eqb-true n 0 e in
         let place : length ts + n ≡ length ts = omega arith in
         let both : Some t ≡ Some (story_of rows cols key l.1 l.0) = sym at ∙ ap (λ i. slice_get us i) place ∙ r.story in

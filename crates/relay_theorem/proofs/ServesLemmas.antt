@@ -9,10 +9,10 @@ use Rattle.vt100_core.specs.Picture.{grid_size}
 use Rattle.screen_model.specs.Call.{ScreenView}
 use Rattle.screen_model.specs.Shown.{shown_state}
 use Rattle.screen_model.specs.Made.{Fed, Resized, bytes_fed, events_added, made}
-use Rattle.vt100.specs.Memory.{some_may_take}
+use Rattle.vt100.specs.Memory.{some_may_allocate}
 use Rattle.vt100.specs.Parsing.{ParserView, HasRead, ParserIsAfter}
 use Rattle.byte_sinks.specs.Pump.{Pumps, all, nothing, fault, some}
-use Rattle.termrelay.specs.Answers.{ClientState, answer_for, after_answer, may_take_memory}
+use Rattle.termrelay.specs.Answers.{ClientState, answer_for, after_answer, may_allocate}
 use Rattle.termrelay.specs.Hub.{Telling, HubState, as_kept, is_failed, screen_in, clients_in, with_client, new_client}
 use Rattle.termrelay.specs.Hub.{no_clients, Puts, IsNewHub, Feeds, Resizes, Attaches, DetachesFrom, CanFrame, Framed}
 use Rattle.termrelay.specs.Hub.{pump_answer, PumpsFrom}
@@ -70,13 +70,13 @@ module _ (h : HubState as_kept) (u : HubState as_reported) (m : Matches h u) whe
 
   -- what may allocate by what has been read, may by the history
   may-take : (bytes : List ℕ) → is_failed h ≡ false
-      → ((past : List ℕ) → HasRead h.parser past → some_may_take (events_added past bytes) h.parser.screen.state ≡ true)
-      → some_may_take (events_added (bytes_fed u.parser.acts) bytes)
+      → ((past : List ℕ) → HasRead h.parser past → some_may_allocate (events_added past bytes) h.parser.screen.state ≡ true)
+      → some_may_allocate (events_added (bytes_fed u.parser.acts) bytes)
       (made u.parser.rows u.parser.cols 0 u.parser.acts) ≡ true
   may-take bytes e may =
       let at = m.parser (live e) in
       let past = bytes_fed u.parser.acts in
-      ap (λ (v : ScreenView). some_may_take (events_added past bytes) v.state) (sym at.screen) ∙ may past at.has_read
+      ap (λ (v : ScreenView). some_may_allocate (events_added past bytes) v.state) (sym at.screen) ∙ may past at.has_read
 
   feed-follows : (bytes : List ℕ) (result : Result (Unit {0}) HubError) (g : HubState as_kept) → Feeds h bytes result g
       → (v : HubState as_reported) × Feeds u bytes result v × Matches g v
@@ -151,7 +151,7 @@ module _ (h : HubState as_kept) (u : HubState as_reported) (m : Matches h u) whe
       )
   frame-follows key (Some c) (Err hub.Memory) g can f =
       let on = live can.0 in
-      let due = ap (λ (v : ScreenView). may_take_memory (answer_for v.state c)) (sym (screen-now on)) ∙ can.1 in
+      let due = ap (λ (v : ScreenView). may_allocate (answer_for v.state c)) (sym (screen-now on)) ∙ can.1 in
       (u, ((on, due), refl), unchanged-matches g f)
   frame-follows key (Some c) (Err hub.Failed) g can f = (u, (dead can, refl), unchanged-matches g f)
   frame-follows key (Some c) _ g can f = absurd can

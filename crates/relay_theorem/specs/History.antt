@@ -2,7 +2,7 @@
 use Rattle.std.specs.Prelude.{◌≡◌, ℕ, Bool, true, false, List, [], ◌∷◌, ◌++◌, map, Option, Some, None, if◌then◌else◌}
 use Rattle.terminal_model.specs.Term.{Size}
 use Rattle.screen_model.specs.Made.{Act, bytes_fed, events_added, made}
-use Rattle.vt100.specs.Memory.{some_may_take}
+use Rattle.vt100.specs.Memory.{some_may_allocate}
 use Rattle.termrelay.specs.Frame.{frame_text}
 use Rattle.termrelay.specs.Answers.{ClientState, is_frame}
 use Rattle.termrelay.specs.Hub.{Telling, HubState, size_in, shown_in, clients_in, no_clients}
@@ -28,7 +28,7 @@ as_reported = record {
   screen = λ p. record { state = made p.rows p.cols 0 p.acts; failed = p.failed };
   goes = λ p act q. q ≡ record p { acts = p.acts ++ act ∷ [] };
   fails = λ p bytes q.
-      (some_may_take (events_added (bytes_fed p.acts) bytes) (made p.rows p.cols 0 p.acts) ≡ true)
+      (some_may_allocate (events_added (bytes_fed p.acts) bytes) (made p.rows p.cols 0 p.acts) ≡ true)
       × (q ≡ record p { failed = true });
   Clients = ℕ → Option ClientState;
   client = λ clients. clients;

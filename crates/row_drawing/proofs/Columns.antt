@@ -17,7 +17,7 @@ use Rattle.row_drawing.specs.declared.pen.Erase.{Erase}
 use Rattle.row_drawing.specs.declared.pen.Pen.{Pen}
 use Rattle.row_drawing.specs.Writer.{Writer, ◌>>◌, skip, goto, turn, color, print, space, back, erasing}
 use Rattle.row_drawing.specs.Writer.{clearing, marking}
-use Rattle.row_drawing.specs.RowWriter.{finish, finish_of, Job, is_same, wraps, to_erase, is_end, flush_of, flush}
+use Rattle.row_drawing.specs.RowWriter.{finish, finish_of, RowChange, is_same, wraps, to_erase, is_end, flush_of, flush}
 use Rattle.row_drawing.specs.RowWriter.{arrive, mark_of, mark, draw, column, columns}
 use Rattle.row_drawing.specs.Scene.{Scene, IsScene, scene_size, with_row, flags_above}
 use Rattle.row_drawing.proofs.Lines.{Line, line-narrow, line-wide, line-erased, line-spaced, spaced-half}
@@ -45,8 +45,8 @@ empty-is x h none single =
           ∙ suc-some (length cs)))
     ]) refl
 
-pub sends : (s : Scene) → IsScene s → (k : ℕ) → has_text (s.job.new k) ≡ true → IsSendable (s.job.new k)
-sends s h k some = record { cell = h.cells k; some = some-text (s.job.new k) some; plain = h.plain k }
+pub sends : (s : Scene) → IsScene s → (k : ℕ) → has_text (s.row_change.new k) ≡ true → IsSendable (s.row_change.new k)
+sends s h k some = record { cell = h.cells k; some = some-text (s.row_change.new k) some; plain = h.plain k }
 
 pub span-wide : (x : CellView) → x.wide ≡ true → span_of x ≡ 2
 span-wide x w = rw w refl
@@ -54,9 +54,9 @@ span-wide x w = rw w refl
 pub span-narrow : (x : CellView) → x.wide ≡ false → span_of x ≡ 1
 span-narrow x w = rw w refl
 
-pub room-for : (s : Scene) → IsScene s → (n : ℕ) → n < s.job.cols → n + span_of (s.job.new n) ≤ s.job.cols
+pub room-for : (s : Scene) → IsScene s → (n : ℕ) → n < s.row_change.cols → n + span_of (s.row_change.new n) ≤ s.row_change.cols
 room-for s h n l =
-    let inside = wide_within s.job.cols s.job.new n h.new.beyond h.new.paired in grind (arith, nat_tests, inside)
+    let inside = wide_within s.row_change.cols s.row_change.new n h.new.beyond h.new.paired in grind (arith, nat_tests, inside)
 
 -- ---- columns are erased
 
@@ -68,60 +68,60 @@ wipe-loses n f g s e half h = grind (arith, nat_tests, half)
 record Arrives (S : ℕ → ℕ → Type 0) (s : Scene) (e : Erase) (p : Pen) (t : Term) : Type 0 where
   line : ℕ → CellView
   flags : ℕ → Bool
-  kept : Flags flags (flags_above s) s.job.row p.lost
-  reads : Reads S s (to_erase s.job e) p t (pen s.job.row e.from e.attrs (Some e) p.lost)
-      (with_row s line flags s.job.row e.from e.attrs)
-  lines : (m : ℕ) → e.from < m → ((k : ℕ) → e.from ≤ k → k < m → s.job.new k ≡ empty_cell e.attrs)
-      → Line s.job.old s.job.new m (wiped line e.from m e.attrs)
-  half : (m : ℕ) → e.from < m → (line m).continuation ≡ true → (s.job.old m).continuation ≡ true
-  written : (k : ℕ) → k < e.from → line k ≡ s.job.new k
+  kept : Flags flags (flags_above s) s.row_change.row p.lost
+  reads : Reads S s (to_erase s.row_change e) p t (pen s.row_change.row e.from e.attrs (Some e) p.lost)
+      (with_row s line flags s.row_change.row e.from e.attrs)
+  lines : (m : ℕ) → e.from < m → ((k : ℕ) → e.from ≤ k → k < m → s.row_change.new k ≡ empty_cell e.attrs)
+      → Line s.row_change.old s.row_change.new m (wiped line e.from m e.attrs)
+  half : (m : ℕ) → e.from < m → (line m).continuation ≡ true → (s.row_change.old m).continuation ≡ true
+  written : (k : ℕ) → k < e.from → line k ≡ s.row_change.new k
 
 -- the pending columns are erased, up to a column or to the end
 pub record Erased (S : ℕ → ℕ → Type 0) (s : Scene) (g : Writer) (p : Pen) (t : Term) (e : Erase) (n : ℕ) (b : Bool)
     : Type 0 where
   pub line : ℕ → CellView
   pub flags : ℕ → Bool
-  pub kept : Flags flags (flags_above s) s.job.row (p.lost || b)
-  pub reads : Reads S s g p t (pen s.job.row e.from e.attrs None (p.lost || b))
-      (with_row s line flags s.job.row e.from e.attrs)
-  pub lines : Line s.job.old s.job.new n line
+  pub kept : Flags flags (flags_above s) s.row_change.row (p.lost || b)
+  pub reads : Reads S s g p t (pen s.row_change.row e.from e.attrs None (p.lost || b))
+      (with_row s line flags s.row_change.row e.from e.attrs)
+  pub lines : Line s.row_change.old s.row_change.new n line
 
-pub erase-turn : (j : Job) (e : Erase) (p : Pen) → (wraps j 1 p && (e.from == 0)) ≡ true
+pub erase-turn : (j : RowChange) (e : Erase) (p : Pen) → (wraps j 1 p && (e.from == 0)) ≡ true
     → to_erase j e p ≡ (turn j.row >> space >> back >> color e.attrs) p
 unfolding to_erase
 erase-turn j e p h = rw h refl
 
-pub erase-goto : (j : Job) (e : Erase) (p : Pen) → (wraps j 1 p && (e.from == 0)) ≡ false
+pub erase-goto : (j : RowChange) (e : Erase) (p : Pen) → (wraps j 1 p && (e.from == 0)) ≡ false
     → to_erase j e p ≡ (goto j.row e.from >> color e.attrs) p
 unfolding to_erase
 erase-goto j e p h = rw h refl
 
 -- ---- one column where nothing is to be erased
 
-pub past-whole : (j : Job) (n : ℕ) → (j.new n).continuation ≡ false → past j n ≡ n
+pub past-whole : (j : RowChange) (n : ℕ) → (j.new n).continuation ≡ false → past j n ≡ n
 past-whole j n h = rw h refl
 
-next-past : (s : Scene) → IsScene s → (n : ℕ) → past s.job (n + 1) ≡ n + span_of (s.job.new n)
+next-past : (s : Scene) → IsScene s → (n : ℕ) → past s.row_change (n + 1) ≡ n + span_of (s.row_change.new n)
 next-past s h n = grind (arith, nat_tests, h.new.paired.next n)
 
-pub draw-is_same : (j : Job) (n : ℕ) (p : Pen) → is_same j n ≡ true → draw j n p ≡ skip p
+pub draw-is_same : (j : RowChange) (n : ℕ) (p : Pen) → is_same j n ≡ true → draw j n p ≡ skip p
 unfolding draw
 draw-is_same j n p h = rw h refl
 
-pub draw-full : (j : Job) (n : ℕ) (p : Pen) (x : CellView) (m : ℕ) (b : Bool) → x ≡ j.new n → is_same j n ≡ false
+pub draw-full : (j : RowChange) (n : ℕ) (p : Pen) (x : CellView) (m : ℕ) (b : Bool) → x ≡ j.new n → is_same j n ≡ false
     → has_text x ≡ true → m ≡ span_of x → b ≡ put_unflags j.cols j.old n (j.new n)
     → draw j n p ≡ (arrive j n m >> color x.attrs >> print x b) p
 unfolding draw
 draw-full j n p x m b is differs some em eb = rw (em, eb, is, differs, ap has_text (sym is) ∙ some) refl
 
-pub draw-marks : (j : Job) (n : ℕ) (p : Pen) (x : CellView) (a : Attrs) → x ≡ j.new n → is_same j n ≡ false
+pub draw-marks : (j : RowChange) (n : ℕ) (p : Pen) (x : CellView) (a : Attrs) → x ≡ j.new n → is_same j n ≡ false
     → has_text x ≡ false → p.erase ≡ None → a ≡ x.attrs → draw j n p ≡ marking n a p
 unfolding draw mark mark_of
 draw-marks j n p x a is differs none closed e =
     rw (e, is, differs, ap has_text (sym is) ∙ none) (ap (λ o. mark_of j n o p) closed)
 
 -- if columns are pending
-pub draw-passes : (j : Job) (n : ℕ) (p : Pen) (e : Erase) → p.erase ≡ Some e → has_text (j.new n) ≡ false
+pub draw-passes : (j : RowChange) (n : ℕ) (p : Pen) (e : Erase) → p.erase ≡ Some e → has_text (j.new n) ≡ false
     → draw j n p ≡ skip p
 unfolding draw mark mark_of
 draw-passes j n p e is none =
@@ -130,11 +130,11 @@ draw-passes j n p e is none =
       | inr differs ↦ rw (differs, none) (ap (λ o. mark_of j n o p) is)
     ]
 
-line-printed : (s : Scene) → IsScene s → (n : ℕ) (f : ℕ → CellView) (a : Attrs) → Line s.job.old s.job.new n f
-    → (s.job.new n).continuation ≡ false
-    → Line s.job.old s.job.new (n + span_of (s.job.new n)) (put f n (s.job.new n) a)
+line-printed : (s : Scene) → IsScene s → (n : ℕ) (f : ℕ → CellView) (a : Attrs) → Line s.row_change.old s.row_change.new n f
+    → (s.row_change.new n).continuation ≡ false
+    → Line s.row_change.old s.row_change.new (n + span_of (s.row_change.new n)) (put f n (s.row_change.new n) a)
 line-printed s h n f a l single =
-    let j = s.job in
+    let j = s.row_change in
     elim (cases_Bool (j.new n).wide) [
       | inl wide ↦ subst (λ m. Line j.old j.new (n + m) (put f n (j.new n) a)) (sym (span-wide (j.new n) wide))
           (line-wide j.old j.new n f a h.old.paired h.new.paired l wide)
@@ -142,11 +142,11 @@ line-printed s h n f a l single =
           (line-narrow j.old j.new n f a h.old.paired h.new.paired l narrow single)
     ]
 
-line-stays : (s : Scene) → IsScene s → (n : ℕ) (f : ℕ → CellView) → Line s.job.old s.job.new n f
-    → (s.job.new n).continuation ≡ false → s.job.old n ≡ s.job.new n
-    → Line s.job.old s.job.new (n + span_of (s.job.new n)) f
+line-stays : (s : Scene) → IsScene s → (n : ℕ) (f : ℕ → CellView) → Line s.row_change.old s.row_change.new n f
+    → (s.row_change.new n).continuation ≡ false → s.row_change.old n ≡ s.row_change.new n
+    → Line s.row_change.old s.row_change.new (n + span_of (s.row_change.new n)) f
 line-stays s h n f l single same =
-    let j = s.job in
+    let j = s.row_change in
     elim (cases_Bool (j.new n).wide) [
       | inl wide ↦ subst (λ m. Line j.old j.new (n + m) f) (sym (span-wide (j.new n) wide))
           (line-same_wide j.old j.new n f h.old.paired h.new.paired l same wide)
@@ -155,24 +155,24 @@ line-stays s h n f l single same =
     ]
 
 -- a wide cell here empties the last column only where it does so in the earlier row
-print-loses : (j : Job) (n : ℕ) (f : ℕ → CellView) → Line j.old j.new n f
+print-loses : (j : RowChange) (n : ℕ) (f : ℕ → CellView) → Line j.old j.new n f
     → put_unflags j.cols f n (j.new n) ≡ true → put_unflags j.cols j.old n (j.new n) ≡ true
 print-loses j n f l h =
     ap (λ (x : CellView). (j.new n).wide && (x.wide && ((n + 3) == j.cols))) (sym (l.rest (n + 1) (omega arith))) ∙ h
 
 -- ---- one column
 
-pub flush-is_none : (j : Job) (n : ℕ) (p : Pen) → p.erase ≡ None → flush j n p ≡ skip p
+pub flush-is_none : (j : RowChange) (n : ℕ) (p : Pen) → p.erase ≡ None → flush j n p ≡ skip p
 unfolding flush flush_of
 flush-is_none j n p e = ap (λ o. flush_of j n o p) e
 
-pub flush-is_kept : (j : Job) (n : ℕ) (p : Pen) (e : Erase) (x : CellView) → p.erase ≡ Some e → x ≡ j.new n
+pub flush-is_kept : (j : RowChange) (n : ℕ) (p : Pen) (e : Erase) (x : CellView) → p.erase ≡ Some e → x ≡ j.new n
     → is_end x e.attrs ≡ false → flush j n p ≡ skip p
 unfolding flush flush_of
 flush-is_kept j n p e x h is g =
     ap (λ o. flush_of j n o p) h ∙ rw (ap (λ (y : CellView). is_end y e.attrs) (sym is) ∙ g) refl
 
-pub flush-is_ended : (j : Job) (n : ℕ) (p : Pen) (e : Erase) (x : CellView) (m : ℕ) (b : Bool) → p.erase ≡ Some e
+pub flush-is_ended : (j : RowChange) (n : ℕ) (p : Pen) (e : Erase) (x : CellView) (m : ℕ) (b : Bool) → p.erase ≡ Some e
     → x ≡ j.new n → is_end x e.attrs ≡ true → m ≡ n - e.from → b ≡ wipe_unflags j.cols j.old e.from n
     → flush j n p ≡ (to_erase j e >> erasing m b) p
 unfolding flush flush_of
@@ -181,54 +181,54 @@ flush-is_ended j n p e x m b h is g em eb =
     ∙ ap (λ k. (to_erase j e >> erasing k (wipe_unflags j.cols j.old e.from n)) p) (sym em)
     ∙ ap (λ c. (to_erase j e >> erasing m c) p) (sym eb)
 
-pub finish-is_none : (j : Job) (p : Pen) → p.erase ≡ None → finish j p ≡ skip p
+pub finish-is_none : (j : RowChange) (p : Pen) → p.erase ≡ None → finish j p ≡ skip p
 unfolding finish finish_of
 finish-is_none j p e = ap (λ o. finish_of j o p) e
 
-pub finish-is_some : (j : Job) (p : Pen) (e : Erase) → p.erase ≡ Some e → finish j p ≡ (to_erase j e >> clearing) p
+pub finish-is_some : (j : RowChange) (p : Pen) (e : Erase) → p.erase ≡ Some e → finish j p ≡ (to_erase j e >> clearing) p
 unfolding finish finish_of
 finish-is_some j p e h = ap (λ o. finish_of j o p) h
 
 open-on : (x : CellView) (a : Attrs) → is_end x a ≡ false → (has_text x ≡ false) × (x.attrs ≡ a)
 open-on x a h = (grind (arith, nat_tests), attrs_eq-true x.attrs a (grind (arith, nat_tests)))
 
-pub column-is_half : (j : Job) (n : ℕ) (p : Pen) → ((j.new n).continuation && not (n == j.start)) ≡ true
+pub column-is_half : (j : RowChange) (n : ℕ) (p : Pen) → ((j.new n).continuation && not (n == j.start)) ≡ true
     → column j n p ≡ skip p
 unfolding column
 column-is_half j n p h = rw h refl
 
-pub column-is_whole : (j : Job) (n : ℕ) (p : Pen) → ((j.new n).continuation && not (n == j.start)) ≡ false
+pub column-is_whole : (j : RowChange) (n : ℕ) (p : Pen) → ((j.new n).continuation && not (n == j.start)) ≡ false
     → column j n p ≡ (flush j n >> draw j n) p
 unfolding column
 column-is_whole j n p h = rw h refl
 
 -- a second half follows a wide cell, and so no column is pending there
-half-closed : (s : Scene) (n : ℕ) (e : Erase) → IsScene s → Opens s.job n (Some e)
-    → (s.job.new n).continuation ≡ true → ⊥
+half-closed : (s : Scene) (n : ℕ) (e : Erase) → IsScene s → Opens s.row_change n (Some e)
+    → (s.row_change.new n).continuation ≡ true → ⊥
 half-closed s zero e h opens half = absurd (omega (arith, opens.0))
 half-closed s (suc n) e h opens half =
     let next : n + 1 ≡ suc n = omega arith in
-    let wide : (s.job.new n).wide ≡ true = sym (h.new.paired.next n) ∙ ap (λ i. (s.job.new i).continuation) next ∙ half
+    let wide : (s.row_change.new n).wide ≡ true = sym (h.new.paired.next n) ∙ ap (λ i. (s.row_change.new i).continuation) next ∙ half
     in
-    both_ways (s.job.new n).wide (ap (λ (x : CellView). x.wide) (opens.2 n (omega (arith, opens.0)) (omega arith))) wide
+    both_ways (s.row_change.new n).wide (ap (λ (x : CellView). x.wide) (opens.2 n (omega (arith, opens.0)) (omega arith))) wide
 
-pub not-first : (s : Scene) (n : ℕ) → IsScene s → (s.job.new n).continuation ≡ true → (n == s.job.start) ≡ false
-not-first s n h half = ne_eqb n s.job.start (λ e. both_ways (s.job.new 0).continuation h.new.paired.first
-    (ap (λ i. (s.job.new i).continuation) (sym (e ∙ h.whole)) ∙ half))
+pub not-first : (s : Scene) (n : ℕ) → IsScene s → (s.row_change.new n).continuation ≡ true → (n == s.row_change.start) ≡ false
+not-first s n h half = ne_eqb n s.row_change.start (λ e. both_ways (s.row_change.new 0).continuation h.new.paired.first
+    (ap (λ i. (s.row_change.new i).continuation) (sym (e ∙ h.whole)) ∙ half))
 
-half-past : (s : Scene) (n : ℕ) → IsScene s → (s.job.new n).continuation ≡ true
-    → past s.job n ≡ past s.job (n + 1)
+half-past : (s : Scene) (n : ℕ) → IsScene s → (s.row_change.new n).continuation ≡ true
+    → past s.row_change n ≡ past s.row_change (n + 1)
 half-past s n h half = grind (arith, nat_tests, h.new.paired.blank n half, h.new.paired.next n)
 
 -- ---- the columns, one by one
 
 module _ (s : Scene) (h : IsScene s) (C : ℕ → Type 0) (S : ℕ → ℕ → Type 0) (o : IsRoom s C S) where
   arrives : (F : ℕ → Bool) (f : ℕ → CellView) (r k : ℕ) (a : Attrs) (e : Erase) (lost : Bool) → IsProper a
-      → IsProper e.attrs → e.from < s.job.cols → C e.from → Line s.job.old s.job.new e.from f
+      → IsProper e.attrs → e.from < s.row_change.cols → C e.from → Line s.row_change.old s.row_change.new e.from f
       → Standing s F (pen r k a (Some e) lost) e.from
       → Arrives S s e (pen r k a (Some e) lost) (with_row s f F r k a)
   arrives F f r k a e lost ha he inside close l standing =
-      let j = s.job in
+      let j = s.row_change in
       let p = pen r k a (Some e) lost in
       elim (cases_Bool (wraps j 1 p && (e.from == 0))) [
         | inr stays ↦ record {
@@ -264,18 +264,18 @@ module _ (s : Scene) (h : IsScene s) (C : ℕ → Type 0) (S : ℕ → ℕ → T
       ]
 
   -- the columns from the mark up to n are to be empty
-  marked-room : (e : Erase) (n : ℕ) → Opens s.job n (Some e) → n ≤ s.job.cols → (k : ℕ) → e.from ≤ k → k < n → C k
+  marked-room : (e : Erase) (n : ℕ) → Opens s.row_change n (Some e) → n ≤ s.row_change.cols → (k : ℕ) → e.from ≤ k → k < n → C k
   marked-room e n opens up_to k low high =
       o.empty e.from k (let from = opens.0 in omega (arith, from, up_to)) opens.3 (omega (arith, high, up_to))
       (ap is_filled (opens.2 k low high))
 
   erases : (F : ℕ → Bool) (f : ℕ → CellView) (r k : ℕ) (a : Attrs) (e : Erase) (lost : Bool) (n : ℕ) → IsProper a
-      → Line s.job.old s.job.new e.from f → Opens s.job n (Some e) → n ≤ s.job.cols
+      → Line s.row_change.old s.row_change.new e.from f → Opens s.row_change n (Some e) → n ≤ s.row_change.cols
       → Standing s F (pen r k a (Some e) lost) e.from
-      → Erased S s (to_erase s.job e >> erasing (n - e.from) (wipe_unflags s.job.cols s.job.old e.from n))
-      (pen r k a (Some e) lost) (with_row s f F r k a) e n (wipe_unflags s.job.cols s.job.old e.from n)
+      → Erased S s (to_erase s.row_change e >> erasing (n - e.from) (wipe_unflags s.row_change.cols s.row_change.old e.from n))
+      (pen r k a (Some e) lost) (with_row s f F r k a) e n (wipe_unflags s.row_change.cols s.row_change.old e.from n)
   erases F f r k a e lost n ha l opens up_to standing =
-      let j = s.job in
+      let j = s.row_change in
       let some : e.from < n = opens.0 in
       let close = marked-room e n opens up_to in
       let there = arrives F f r k a e lost ha opens.1 (omega (arith, some, up_to)) (close e.from (omega arith) some) l
@@ -293,11 +293,11 @@ module _ (s : Scene) (h : IsScene s) (C : ℕ → Type 0) (S : ℕ → ℕ → T
       }
 
   pub clears : (F : ℕ → Bool) (f : ℕ → CellView) (r k : ℕ) (a : Attrs) (e : Erase) (lost : Bool) → IsProper a
-      → Line s.job.old s.job.new e.from f → Opens s.job s.job.cols (Some e)
+      → Line s.row_change.old s.row_change.new e.from f → Opens s.row_change s.row_change.cols (Some e)
       → Standing s F (pen r k a (Some e) lost) e.from
-      → Erased S s (to_erase s.job e >> clearing) (pen r k a (Some e) lost) (with_row s f F r k a) e s.job.cols true
+      → Erased S s (to_erase s.row_change e >> clearing) (pen r k a (Some e) lost) (with_row s f F r k a) e s.row_change.cols true
   clears F f r k a e lost ha l opens standing =
-      let j = s.job in
+      let j = s.row_change in
       let some : e.from < j.cols = opens.0 in
       let up_to : j.cols ≤ j.cols = omega arith in
       let close = marked-room e j.cols opens up_to in
@@ -313,11 +313,11 @@ module _ (s : Scene) (h : IsScene s) (C : ℕ → Type 0) (S : ℕ → ℕ → T
       }
 
   draw-closed : (F : ℕ → Bool) (f : ℕ → CellView) (r k : ℕ) (a : Attrs) (lost : Bool) (n : ℕ) → IsProper a
-      → n < s.job.cols → (s.job.new n).continuation ≡ false → Line s.job.old s.job.new n f
+      → n < s.row_change.cols → (s.row_change.new n).continuation ≡ false → Line s.row_change.old s.row_change.new n f
       → Standing s F (pen r k a None lost) n
-      → After S s (n + 1) (draw s.job n) (pen r k a None lost) (with_row s f F r k a)
+      → After S s (n + 1) (draw s.row_change n) (pen r k a None lost) (with_row s f F r k a)
   draw-closed F f r k a lost n ha inside single l standing =
-      let j = s.job in
+      let j = s.row_change in
       let x = j.new n in
       let p = pen r k a None lost in
       let next : n + span_of x ≡ past j (n + 1) = sym (next-past s h n) in
@@ -347,14 +347,14 @@ module _ (s : Scene) (h : IsScene s) (C : ℕ → Type 0) (S : ℕ → ℕ → T
       ]
 
   column-at : (F : ℕ → Bool) (f : ℕ → CellView) (r k : ℕ) (a : Attrs) (e : Option Erase) (lost : Bool) (n : ℕ)
-      → IsProper a → n < s.job.cols → (s.job.new n).continuation ≡ false → Line s.job.old s.job.new (edge e n) f
-      → Opens s.job n e → Standing s F (pen r k a e lost) (edge e n)
-      → After S s (n + 1) (flush s.job n >> draw s.job n) (pen r k a e lost) (with_row s f F r k a)
+      → IsProper a → n < s.row_change.cols → (s.row_change.new n).continuation ≡ false → Line s.row_change.old s.row_change.new (edge e n) f
+      → Opens s.row_change n e → Standing s F (pen r k a e lost) (edge e n)
+      → After S s (n + 1) (flush s.row_change n >> draw s.row_change n) (pen r k a e lost) (with_row s f F r k a)
   column-at F f r k a None lost n ha inside single l opens standing =
-      ends-then (reads-as (flush-is_none s.job n _ refl) reads-skip)
+      ends-then (reads-as (flush-is_none s.row_change n _ refl) reads-skip)
       (draw-closed F f r k a lost n ha inside single l standing)
   column-at F f r k a (Some e) lost n ha inside single l opens standing =
-      let j = s.job in
+      let j = s.row_change in
       let p = pen r k a (Some e) lost in
       elim (cases_Bool (is_end (j.new n) e.attrs)) [
         | inl ends_here ↦
@@ -377,20 +377,20 @@ module _ (s : Scene) (h : IsScene s) (C : ℕ → Type 0) (S : ℕ → ℕ → T
       ]
 
   column-half_at : (F : ℕ → Bool) (f : ℕ → CellView) (r k : ℕ) (a : Attrs) (e : Option Erase) (lost : Bool) (n : ℕ)
-      → IsProper a → (s.job.new n).continuation ≡ true → Line s.job.old s.job.new (edge e (past s.job n)) f
-      → Opens s.job n e → Standing s F (pen r k a e lost) (edge e (past s.job n))
-      → After S s (n + 1) (column s.job n) (pen r k a e lost) (with_row s f F r k a)
+      → IsProper a → (s.row_change.new n).continuation ≡ true → Line s.row_change.old s.row_change.new (edge e (past s.row_change n)) f
+      → Opens s.row_change n e → Standing s F (pen r k a e lost) (edge e (past s.row_change n))
+      → After S s (n + 1) (column s.row_change n) (pen r k a e lost) (with_row s f F r k a)
   column-half_at F f r k a (Some e) lost n ha half l opens standing = absurd (half-closed s n e h opens half)
   column-half_at F f r k a None lost n ha half l opens standing =
-      let j = s.job in
+      let j = s.row_change in
       let p = pen r k a None lost in
       let same = half-past s n h half in
       ends (reads-as (column-is_half j n p (and_from _ _ half (ap not (not-first s n h half)))) reads-skip)
       (at-row F f ha (subst (λ m. Line j.old j.new m f) same l) tt (subst (Standing s F p) same standing))
 
-  column-leads : (n : ℕ) (p : Pen) (t : Term) → n < s.job.cols → At s n p t → After S s (n + 1) (column s.job n) p t
+  column-leads : (n : ℕ) (p : Pen) (t : Term) → n < s.row_change.cols → At s n p t → After S s (n + 1) (column s.row_change n) p t
   column-leads n p t inside now =
-      let j = s.job in
+      let j = s.row_change in
       elim (cases_Bool (j.new n).continuation) [
         | inr single ↦
             (let whole = past-whole j n single in
@@ -405,12 +405,12 @@ module _ (s : Scene) (h : IsScene s) (C : ℕ → Type 0) (S : ℕ → ℕ → T
             now.opens now.standing)
       ]
 
-  pub columns-lead : (p : Pen) (t : Term) → At s 0 p t → (n : ℕ) → n ≤ s.job.cols
-      → After S s n (columns s.job n) p t
+  pub columns-lead : (p : Pen) (t : Term) → At s 0 p t → (n : ℕ) → n ≤ s.row_change.cols
+      → After S s n (columns s.row_change n) p t
   unfolding columns
   columns-lead p t now zero le = ends reads-skip now
   columns-lead p t now (suc n) le =
-      let j = s.job in
+      let j = s.row_change in
       let before = columns-lead p t now n (omega arith) in
       let q = (columns j n p).pen in
       let u = run (scene_size s) (columns j n p).forms t in

@@ -9,9 +9,9 @@ use Rattle.vt100_cells.specs.Cells.{AreSame, cell_at}
 use Rattle.row_drawing.specs.declared.drawing.Drawing.{Drawing}
 use Rattle.row_drawing.specs.declared.pen.Erase.{Erase}
 use Rattle.row_drawing.specs.declared.pen.Pen.{Pen}
-use Rattle.row_drawing.specs.Drawing.{job_of, AreQuiet, IsSettled}
+use Rattle.row_drawing.specs.Drawing.{row_change_of, AreQuiet, IsSettled}
 use Rattle.row_drawing.specs.Writer.{Drawn, Writer, ◌>>◌, skip}
-use Rattle.row_drawing.specs.RowWriter.{Job, opening, flush, finish, draw, column, columns, closing, is_end}
+use Rattle.row_drawing.specs.RowWriter.{RowChange, opening, flush, finish, draw, column, columns, closing, is_end}
 use Rattle.row_drawing.specs.RowWriter.{owes_end, row_redraw, row_difference, IsRowShown}
 use Rattle.row_drawing.specs.Writes.{Wrote}
 use Rattle.row_drawing.specs.Laws.{EachKeptRowIsLeft}
@@ -27,7 +27,7 @@ unfolding ◌>>◌ skip
 skips-then f g p e h =
     ap (λ (d : Drawn). record { pen = (g d.pen).pen; forms = d.forms ++ (g d.pen).forms }) e ∙ h
 
-column-skips : (j : Job) (c : ℕ) (p : Pen) → flush j c p ≡ skip p → draw j c p ≡ skip p → column j c p ≡ skip p
+column-skips : (j : RowChange) (c : ℕ) (p : Pen) → flush j c p ≡ skip p → draw j c p ≡ skip p → column j c p ≡ skip p
 column-skips j c p e h =
     elim (cases_Bool ((j.new c).continuation && not (c == j.start))) [
       | inl half ↦ column-is_half j c p half
@@ -35,14 +35,14 @@ column-skips j c p e h =
     ]
 
 -- columns that the terminal shows already
-pub same_is_quiet : (j : Job) (p : Pen) (a b : ℕ) → p.erase ≡ None → AreSame j.new j.old a b → AreQuiet j p a b
+pub same_is_quiet : (j : RowChange) (p : Pen) (a b : ℕ) → p.erase ≡ None → AreSame j.new j.old a b → AreQuiet j p a b
 same_is_quiet j p a b closed same c h l =
     column-skips j c p (flush-is_none j c p closed)
     (draw-is_same j c p (ap (cell_eq (j.new c)) (sym (same c h l)) ∙ cell_eq-refl (j.new c)))
 
 -- ---- what is erased with the columns before it
 
-column-is_kept : (j : Job) (c : ℕ) (p : Pen) (e : Erase) → p.erase ≡ Some e → j.new c ≡ empty_cell e.attrs
+column-is_kept : (j : RowChange) (c : ℕ) (p : Pen) (e : Erase) → p.erase ≡ Some e → j.new c ≡ empty_cell e.attrs
     → column j c p ≡ skip p
 column-is_kept j c p e h is =
     let blank : has_text (j.new c) ≡ false = ap has_text is in
@@ -50,13 +50,13 @@ column-is_kept j c p e h is =
     ap (λ x. is_end x e.attrs) is ∙ ap not (attrs_eq-refl e.attrs) in
     column-skips j c p (flush-is_kept j c p e _ h refl goes) (draw-passes j c p e h blank)
 
-pub erased_is_quiet : (j : Job) (p : Pen) (a b : ℕ) (e : Erase) (x : CellView) → p.erase ≡ Some e
+pub erased_is_quiet : (j : RowChange) (p : Pen) (a b : ℕ) (e : Erase) (x : CellView) → p.erase ≡ Some e
     → x ≡ empty_cell e.attrs → AreSame j.new (λ _. x) a b → AreQuiet j p a b
 erased_is_quiet j p a b e x h is same c l k = column-is_kept j c p e h (same c l k ∙ is)
 
 -- ---- several columns
 
-quiet_more : {p q : Pen} {s t : List ℕ} (j : Job) (n k : ℕ) → AreQuiet j q (j.start + n) (j.start + (n + k))
+quiet_more : {p q : Pen} {s t : List ℕ} (j : RowChange) (n k : ℕ) → AreQuiet j q (j.start + n) (j.start + (n + k))
     → Wrote (columns j n) p s q t → Wrote (columns j (n + k)) p s q t
 quiet_more {p = p} {q = q} {s = s} {t = t} j n zero quiet h =
     let none : n ≡ n + 0 = omega arith in subst (λ m. Wrote (columns j m) p s q t) none h
@@ -66,7 +66,7 @@ quiet_more {p = p} {q = q} {s = s} {t = t} j n (suc k) quiet h =
     (wrote_columns_next j (n + k) (quiet_more j n k (λ c a b. quiet c a (omega (arith, b))) h)
     (wrote_by (quiet (j.start + (n + k)) (omega arith) (omega arith)) (wrote_skip q t)))
 
-pub wrote_columns_quiet : {p q : Pen} {s t : List ℕ} (j : Job) (n m : ℕ) → n ≤ m
+pub wrote_columns_quiet : {p q : Pen} {s t : List ℕ} (j : RowChange) (n m : ℕ) → n ≤ m
     → AreQuiet j q (j.start + n) (j.start + m) → Wrote (columns j n) p s q t → Wrote (columns j m) p s q t
 wrote_columns_quiet {p = p} {q = q} {s = s} {t = t} j n m le quiet h =
     let all : n + (m - n) ≡ m = omega (arith, le) in
@@ -75,17 +75,17 @@ wrote_columns_quiet {p = p} {q = q} {s = s} {t = t} j n m le quiet h =
 
 -- ---- the whole row
 
-columns-kept : (j : Job) (n : ℕ) (p : Pen) → IsRowShown j p → columns j n p ≡ skip p
+columns-kept : (j : RowChange) (n : ℕ) (p : Pen) → IsRowShown j p → columns j n p ≡ skip p
 unfolding columns
 columns-kept j zero p h = refl
 columns-kept j (suc n) p h =
     skips-then (columns j n) (column j (j.start + n)) p (columns-kept j n p h)
     (same_is_quiet j p 0 (j.start + n + 1) h.closed (λ k _ _. h.cells k) (j.start + n) (omega arith) (omega arith))
 
-unowed-end : (j : Job) (p : Pen) → IsRowShown j p → owes_end j p ≡ false
+unowed-end : (j : RowChange) (p : Pen) → IsRowShown j p → owes_end j p ≡ false
 unowed-end j p h = grind (arith, nat_tests, h.flag, h.unlost)
 
-redraw-kept : (j : Job) (n : ℕ) (p : Pen) → IsRowShown j p → row_redraw j n p ≡ skip p
+redraw-kept : (j : RowChange) (n : ℕ) (p : Pen) → IsRowShown j p → row_redraw j n p ≡ skip p
 unfolding row_redraw
 redraw-kept j n p h =
     skips-then (opening j >> columns j n) (finish j) p
@@ -102,7 +102,7 @@ difference-kept j n p h =
 settled-unowed : (above was : Bool) (b : Bool) → (above ≡ true → was ≡ true) → ((above && not was) && b) ≡ false
 settled-unowed above was b h = grind (arith, nat_tests, h)
 
-pub settled_kept : (d : Drawing) (p : Pen) → IsSettled d p → IsRowShown (job_of d) p
+pub settled_kept : (d : Drawing) (p : Pen) → IsSettled d p → IsRowShown (row_change_of d) p
 settled_kept d p h = record {
   cells = λ k. ap (λ cells. cell_at cells k) h.cells;
   flag = h.flag;
@@ -111,14 +111,14 @@ settled_kept d p h = record {
   unlost = h.unlost;
 }
 
-pub redraw-is : (j : Job) (n : ℕ) (p : Pen) → row_redraw j n p ≡ (opening j >> columns j n >> finish j) p
+pub redraw-is : (j : RowChange) (n : ℕ) (p : Pen) → row_redraw j n p ≡ (opening j >> columns j n >> finish j) p
 unfolding row_redraw
 redraw-is j n p = refl
 
-pub difference-is : (j : Job) (n : ℕ) (p : Pen) → row_difference j n p ≡ (row_redraw j n >> closing j) p
+pub difference-is : (j : RowChange) (n : ℕ) (p : Pen) → row_difference j n p ≡ (row_redraw j n >> closing j) p
 unfolding row_difference
 difference-is j n p = refl
 
-pub wrote_difference_kept : (j : Job) (n : ℕ) (p : Pen) (s : List ℕ) → IsRowShown j p
+pub wrote_difference_kept : (j : RowChange) (n : ℕ) (p : Pen) (s : List ℕ) → IsRowShown j p
     → Wrote (row_difference j n) p s p s
 wrote_difference_kept j n p s h = wrote_by (difference-kept j n p h) (wrote_skip p s)

@@ -10,7 +10,7 @@ use Rattle.terminal_model.specs.Local.{IsNear, IsCloseCell, IsLocal}
 use Rattle.row_drawing.specs.declared.pen.Erase.{Erase}
 use Rattle.row_drawing.specs.declared.pen.Pen.{Pen}
 use Rattle.row_drawing.specs.Writer.{Drawn, Writer, ◌>>◌, skip}
-use Rattle.row_drawing.specs.RowWriter.{Job, is_same, owes_flag, opening, is_end, flush_of, flush}
+use Rattle.row_drawing.specs.RowWriter.{RowChange, is_same, owes_flag, opening, is_end, flush_of, flush}
 use Rattle.row_drawing.specs.RowWriter.{finish_of, finish, draw, column, columns, owes_end, row_redraw}
 use Rattle.row_drawing.specs.Scene.{Scene, IsScene, IsReady, scene_size}
 use Rattle.row_drawing.specs.Laws.{IsPictured, EachDifferenceIsLocal}
@@ -22,14 +22,14 @@ use Rattle.row_drawing.proofs.RowStart.{difference-drawn}
 -- ---- why a row may lose its flag
 
 -- K is true where a column differs, or the first cell is printed once more
-record IsCause (K : Type 0) (j : Job) (p : Pen) : Type 0 where
+record IsCause (K : Type 0) (j : RowChange) (p : Pen) : Type 0 where
   differs : (c : ℕ) → is_same j c ≡ false → K
   owes : owes_flag j p ≡ true → K
 
 abbrev IsBlamed : Type 0 → Pen → Type 0
 IsBlamed K q = q.lost ≡ true → K
 
-module _ (K : Type 0) (j : Job) (p : Pen) (h : IsCause K j p) where
+module _ (K : Type 0) (j : RowChange) (p : Pen) (h : IsCause K j p) where
   draw-blamed : (c : ℕ) (q : Pen) → IsBlamed K q → IsBlamed K (draw j c q).pen
   unfolding draw skip
   draw-blamed c q b =
@@ -77,17 +77,17 @@ module _ (K : Type 0) (j : Job) (p : Pen) (h : IsCause K j p) where
 
 -- ---- two pictures
 
-differs-there : (s : Scene) (old new : Shown) → IsPictured s old new → (k : ℕ) → is_same s.job k ≡ false
-    → old.cell s.job.row k ≡ new.cell s.job.row k → ⊥
+differs-there : (s : Scene) (old new : Shown) → IsPictured s old new → (k : ℕ) → is_same s.row_change k ≡ false
+    → old.cell s.row_change.row k ≡ new.cell s.row_change.row k → ⊥
 differs-there s old new h k differs e =
-    let j = s.job in
+    let j = s.row_change in
     let same : j.new k ≡ j.old k = ap (λ f. f k) (sym h.new_cells) ∙ sym e ∙ ap (λ f. f k) h.old_cells in
     both_ways (is_same j k) differs (cell_eq-of_same (j.new k) (j.old k) same)
 
 row-room : (s : Scene) (old new : Shown) → IsPictured s old new
-    → IsRoom s (IsCloseCell (scene_size s) old new s.job.row) (IsLocal (scene_size s) old new)
+    → IsRoom s (IsCloseCell (scene_size s) old new s.row_change.row) (IsLocal (scene_size s) old new)
 row-room s old new h =
-    let j = s.job in
+    let j = s.row_change in
     let r = j.row in
     let C = IsCloseCell (scene_size s) old new r in
     record {
@@ -114,18 +114,18 @@ row-room s old new h =
     }
 
 -- the row or the one above differs
-near-first : (s : Scene) (old new : Shown) (p : Pen) → IsPictured s old new → owes_flag s.job p ≡ true
-    → IsNear (scene_size s) old new s.job.row
+near-first : (s : Scene) (old new : Shown) (p : Pen) → IsPictured s old new → owes_flag s.row_change p ≡ true
+    → IsNear (scene_size s) old new s.row_change.row
 near-first s old new p h owed =
-    let above = and_parts s.job.above (not s.job.was_above) (and_parts (s.job.above && not s.job.was_above) _ owed).0 in
-    h.above above.0 (not-true s.job.was_above above.1)
+    let above = and_parts s.row_change.above (not s.row_change.was_above) (and_parts (s.row_change.above && not s.row_change.was_above) _ owed).0 in
+    h.above above.0 (not-true s.row_change.was_above above.1)
 
-inside-row : (s : Scene) → IsScene s → (k : ℕ) → is_same s.job k ≡ false → k < s.job.cols
+inside-row : (s : Scene) → IsScene s → (k : ℕ) → is_same s.row_change k ≡ false → k < s.row_change.cols
 inside-row s h k differs =
-    grind (arith, nat_tests, cell_eq-of_same (s.job.new k) (s.job.old k), h.new.beyond k, h.old.beyond k)
+    grind (arith, nat_tests, cell_eq-of_same (s.row_change.new k) (s.row_change.old k), h.new.beyond k, h.old.beyond k)
 
 near-cause : (s : Scene) (old new : Shown) (p : Pen) → IsScene s → IsPictured s old new
-    → IsCause (IsNear (scene_size s) old new s.job.row) s.job p
+    → IsCause (IsNear (scene_size s) old new s.row_change.row) s.row_change p
 near-cause s old new p scene h = record {
   differs = λ c q. inl (inl (c, inside-row s scene c q, differs-there s old new h c q));
   owes = near-first s old new p h;
@@ -135,9 +135,9 @@ flags-apart : (a b : Bool) → not (bool_eq a b) ≡ true → a ≡ b → ⊥
 flags-apart a b h e = grind (arith, nat_tests)
 
 near-last : (s : Scene) (old new : Shown) (p : Pen) → IsScene s → IsReady s p → IsPictured s old new
-    → owes_end s.job (row_redraw s.job s.job.cols p).pen ≡ true → IsNear (scene_size s) old new s.job.row
+    → owes_end s.row_change (row_redraw s.row_change s.row_change.cols p).pen ≡ true → IsNear (scene_size s) old new s.row_change.row
 near-last s old new p scene ready h needs =
-    let j = s.job in
+    let j = s.row_change in
     let q = (row_redraw j j.cols p).pen in
     elim (or-split (not (bool_eq j.wrapped j.was_wrapped)) (j.wrapped && q.lost) needs) [
       | inl flag ↦ inl (inr (λ e. flags-apart j.wrapped j.was_wrapped flag (sym h.new_flag ∙ sym e ∙ h.old_flag)))
@@ -147,7 +147,7 @@ near-last s old new p scene ready h needs =
 
 pub difference-local : EachDifferenceIsLocal
 difference-local s old new p scene ready h =
-    let j = s.job in
+    let j = s.row_change in
     let z = scene_size s in
     let end : j.cols - 1 + 1 ≡ j.cols = omega (arith, scene.some_col) in
     (difference-drawn s scene (IsCloseCell z old new j.row) (IsLocal z old new) (row-room s old new h) p ready

@@ -3,12 +3,12 @@ use Rattle.std.proofs.Common.{◌≡◌, ℕ, false, Option, Some, None, List, [
 use Rattle.row_drawing.specs.declared.pen.Erase.{Erase}
 use Rattle.row_drawing.specs.declared.pen.Pen.{Pen}
 use Rattle.row_drawing.specs.Writer.{goto, turn, color, print, space, back, erasing, clearing, marking}
-use Rattle.row_drawing.specs.RowWriter.{Job, is_same, columns}
+use Rattle.row_drawing.specs.RowWriter.{RowChange, is_same, columns}
 use Rattle.row_drawing.proofs.RowForms.{EachKeeps, keeps-columns}
 use Rattle.std.specs.List.{AllByRecursion}
 use Rattle.vt100_forms.specs.Form.{Form}
 
-abbrev pub IsMarked : Job → Option Erase → Type 0
+abbrev pub IsMarked : RowChange → Option Erase → Type 0
 IsMarked j None = Unit {0}
 IsMarked j (Some e) = is_same j e.from ≡ false
 
@@ -16,7 +16,7 @@ all-any : (fs : List Form) → AllByRecursion (λ _. Unit {0}) fs
 all-any [] = tt
 all-any (f ∷ fs) = (tt, all-any fs)
 
-pub each-marks : (j : Job) → EachKeeps (λ _. Unit {0}) (λ p. IsMarked j p.erase) (λ _. Unit {0}) j
+pub each-marks : (j : RowChange) → EachKeeps (λ _. Unit {0}) (λ p. IsMarked j p.erase) (λ _. Unit {0}) j
 unfolding goto turn color print space back erasing clearing marking
 each-marks j = record {
   goes = λ c _. record { at = λ p m. (all-any (goto j.row c p).forms, m) };
@@ -33,5 +33,5 @@ each-marks j = record {
   last = tt;
 }
 
-pub columns-marked : (j : Job) (n : ℕ) (p : Pen) → IsMarked j p.erase → IsMarked j (columns j n p).pen.erase
+pub columns-marked : (j : RowChange) (n : ℕ) (p : Pen) → IsMarked j p.erase → IsMarked j (columns j n p).pen.erase
 columns-marked j n p h = ((keeps-columns _ _ _ j (each-marks j) n (λ _ _. tt)).at p h).1

@@ -18,14 +18,14 @@ use Rattle.row_drawing.proofs.Lines.{Line, line-wide_is, space_narrow}
 -- column differs, the first if the row above needs its flag, and the last if this row does. S are the cells that may be
 -- touched: these, with their other halves.
 pub record IsRoom (s : Scene) (C : ℕ → Type 0) (S : ℕ → ℕ → Type 0) : Type 0 where
-  pub close : (k : ℕ) → k < s.job.cols → C k → S s.job.row k
-  pub second : (k : ℕ) → k + 1 < s.job.cols → C k → ((s.job.old k).wide || (s.job.new k).wide) ≡ true
-      → S s.job.row (k + 1)
-  pub first : (k : ℕ) → k + 1 < s.job.cols → C (k + 1)
-      → ((s.job.old (k + 1)).continuation || (s.job.new (k + 1)).continuation) ≡ true → S s.job.row k
-  pub differs : (k : ℕ) → k < s.job.cols → is_same s.job k ≡ false → C k
-  pub empty : (c k : ℕ) → c < s.job.cols → is_same s.job c ≡ false → k < s.job.cols
-      → is_filled (s.job.new k) ≡ false → C k
+  pub close : (k : ℕ) → k < s.row_change.cols → C k → S s.row_change.row k
+  pub second : (k : ℕ) → k + 1 < s.row_change.cols → C k → ((s.row_change.old k).wide || (s.row_change.new k).wide) ≡ true
+      → S s.row_change.row (k + 1)
+  pub first : (k : ℕ) → k + 1 < s.row_change.cols → C (k + 1)
+      → ((s.row_change.old (k + 1)).continuation || (s.row_change.new (k + 1)).continuation) ≡ true → S s.row_change.row k
+  pub differs : (k : ℕ) → k < s.row_change.cols → is_same s.row_change k ≡ false → C k
+  pub empty : (c k : ℕ) → c < s.row_change.cols → is_same s.row_change c ≡ false → k < s.row_change.cols
+      → is_filled (s.row_change.new k) ≡ false → C k
 
 -- any cell may be touched
 pub any-room : (s : Scene) → IsRoom s (λ _. Unit {0}) (λ _ _. Unit {0})
@@ -49,9 +49,9 @@ or-split true b h = inl refl
 or-split false b h = inr h
 
 -- where the earlier row has a wide cell
-wide-there : (s : Scene) → IsScene s → (n : ℕ) (f : ℕ → CellView) → Line s.job.old s.job.new n f
-    → (f n).wide ≡ true → (s.job.old n).wide ≡ true
-wide-there s h n f l wide = sym (line-wide_is s.job.old s.job.new n f h.old.paired l) ∙ wide
+wide-there : (s : Scene) → IsScene s → (n : ℕ) (f : ℕ → CellView) → Line s.row_change.old s.row_change.new n f
+    → (f n).wide ≡ true → (s.row_change.old n).wide ≡ true
+wide-there s h n f l wide = sym (line-wide_is s.row_change.old s.row_change.new n f h.old.paired l) ∙ wide
 
 -- behind a cell
 half-of : (f : ℕ → CellView) (k m : ℕ) (b : Bool) → IsPaired f → k ≡ m + 1 → (f m).wide ≡ b → (f k).continuation ≡ b
@@ -59,10 +59,10 @@ half-of f k m b p e w = ap (λ i. (f i).continuation) e ∙ p.next m ∙ w
 
 -- a cell that differs is put at n
 pub put-room : (s : Scene) (C : ℕ → Type 0) (S : ℕ → ℕ → Type 0) → IsScene s → IsRoom s C S → (n : ℕ) (f : ℕ → CellView)
-    → Line s.job.old s.job.new n f → (s.job.new n).continuation ≡ false → n < s.job.cols → C n → (k : ℕ)
-    → k < s.job.cols → put_touches f n (s.job.new n) k ≡ true → S s.job.row k
+    → Line s.row_change.old s.row_change.new n f → (s.row_change.new n).continuation ≡ false → n < s.row_change.cols → C n → (k : ℕ)
+    → k < s.row_change.cols → put_touches f n (s.row_change.new n) k ≡ true → S s.row_change.row k
 put-room s C S h o n f l single inside here k low touched =
-    let j = s.job in
+    let j = s.row_change in
     let x = j.new n in
     elim (or-four (k == n) ((k == (n + 1)) && (x.wide || (f n).wide)) (((k + 1) == n) && (f k).wide)
     ((k == (n + 2)) && (x.wide && (f (n + 1)).wide)) touched) [
@@ -84,12 +84,12 @@ put-room s C S h o n f l single inside here k low touched =
 -- columns that are to be empty are erased
 pub wipe-room : (s : Scene) (C : ℕ → Type 0) (S : ℕ → ℕ → Type 0) → IsScene s → IsRoom s C S → (a b : ℕ)
     (f : ℕ → CellView) (x : Attrs)
-    → ((k : ℕ) → k < a → f k ≡ s.job.new k)
-    → ((f b).continuation ≡ true → (s.job.old b).continuation ≡ true)
-    → a < b → b ≤ s.job.cols → ((k : ℕ) → a ≤ k → k < b → s.job.new k ≡ empty_cell x)
-    → ((k : ℕ) → a ≤ k → k < b → C k) → (k : ℕ) → k < s.job.cols → wipe_touches f a b k ≡ true → S s.job.row k
+    → ((k : ℕ) → k < a → f k ≡ s.row_change.new k)
+    → ((f b).continuation ≡ true → (s.row_change.old b).continuation ≡ true)
+    → a < b → b ≤ s.row_change.cols → ((k : ℕ) → a ≤ k → k < b → s.row_change.new k ≡ empty_cell x)
+    → ((k : ℕ) → a ≤ k → k < b → C k) → (k : ℕ) → k < s.row_change.cols → wipe_touches f a b k ≡ true → S s.row_change.row k
 wipe-room s C S h o a b f x written half some up_to blank close k low touched =
-    let j = s.job in
+    let j = s.row_change in
     let last : b - 1 + 1 ≡ b = omega (arith, some) in
     elim (or-split (nat_le a k && nat_lt k b) _ touched) [
       | inl between ↦ grind (arith, nat_tests, o.close k low, close k)
@@ -116,9 +116,9 @@ touches-wider f n x y k wider h = grind (arith, nat_tests, wider)
 
 -- a space is printed in the first column
 pub space-room : (s : Scene) (C : ℕ → Type 0) (S : ℕ → ℕ → Type 0) → IsScene s → IsRoom s C S → (f : ℕ → CellView)
-    (a : Attrs) → Line s.job.old s.job.new 0 f → C 0 → (k : ℕ) → k < s.job.cols
-    → put_touches f 0 (cell_of 32 a) k ≡ true → S s.job.row k
+    (a : Attrs) → Line s.row_change.old s.row_change.new 0 f → C 0 → (k : ℕ) → k < s.row_change.cols
+    → put_touches f 0 (cell_of 32 a) k ≡ true → S s.row_change.row k
 space-room s C S h o f a l here k low touched =
     put-room s C S h o 0 f l h.new.paired.first h.some_col here k low
-    (touches-wider f 0 (s.job.new 0) (cell_of 32 a) k
+    (touches-wider f 0 (s.row_change.new 0) (cell_of 32 a) k
     (λ wide. absurd (both_ways (cell_of 32 a).wide (space_narrow a) wide)) touched)

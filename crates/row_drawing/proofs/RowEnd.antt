@@ -15,7 +15,7 @@ use Rattle.terminal_model.proofs.Positions.{update-same, update-twice, update-ot
 use Rattle.row_drawing.specs.declared.pen.Erase.{Erase}
 use Rattle.row_drawing.specs.declared.pen.Pen.{Pen}
 use Rattle.row_drawing.specs.Writer.{◌>>◌, skip, goto, color, print, erasing}
-use Rattle.row_drawing.specs.RowWriter.{Job, finish, last_col_of, last_cell_of, unflag, print_last}
+use Rattle.row_drawing.specs.RowWriter.{RowChange, finish, last_col_of, last_cell_of, unflag, print_last}
 use Rattle.row_drawing.specs.RowWriter.{mend, owes_end, closing}
 use Rattle.row_drawing.specs.Scene.{Scene, IsScene, IsDrawn, with_row, flags_above}
 use Rattle.row_drawing.proofs.Lines.{Line, line-whole, line-reprinted, line-restored, line-erased_same}
@@ -30,18 +30,18 @@ use Rattle.row_drawing.proofs.Columns.{finish-is_none, finish-is_some, empty-is,
 
 pub record IsFilled (s : Scene) (p : Pen) (t : Term) : Type 0 where
   pub flags : ℕ → Bool
-  pub kept : Flags flags (flags_above s) s.job.row p.lost
-  pub state_after : t ≡ with_row s s.job.new flags p.pos.row p.pos.col p.attrs
+  pub kept : Flags flags (flags_above s) s.row_change.row p.lost
+  pub state_after : t ≡ with_row s s.row_change.new flags p.pos.row p.pos.col p.attrs
   pub closed : p.erase ≡ None
   pub proper : IsProper p.attrs
 
 module _ (s : Scene) (h : IsScene s) (C : ℕ → Type 0) (S : ℕ → ℕ → Type 0) (o : IsRoom s C S) where
   finish-at : (F : ℕ → Bool) (f : ℕ → CellView) (r k : ℕ) (a : Attrs) (e : Option Erase) (lost : Bool) → IsProper a
-      → Line s.job.old s.job.new (edge e s.job.cols) f → Opens s.job s.job.cols e
-      → Standing s F (pen r k a e lost) (edge e s.job.cols)
-      → Ends S s (IsFilled s) (finish s.job) (pen r k a e lost) (with_row s f F r k a)
+      → Line s.row_change.old s.row_change.new (edge e s.row_change.cols) f → Opens s.row_change s.row_change.cols e
+      → Standing s F (pen r k a e lost) (edge e s.row_change.cols)
+      → Ends S s (IsFilled s) (finish s.row_change) (pen r k a e lost) (with_row s f F r k a)
   finish-at F f r k a None lost ha l opens standing =
-      let j = s.job in
+      let j = s.row_change in
       ends (reads-as (finish-is_none j _ refl) reads-skip) (record {
         flags = F;
         kept = (elim standing [ inl kept ↦ kept | inr due ↦ absurd (omega (arith, due.none, h.some_col)) ]);
@@ -50,7 +50,7 @@ module _ (s : Scene) (h : IsScene s) (C : ℕ → Type 0) (S : ℕ → ℕ → T
         proper = ha;
       })
   finish-at F f r k a (Some e) lost ha l opens standing =
-      let j = s.job in
+      let j = s.row_change in
       let done = clears s h C S o F f r k a e lost ha l opens standing in
       ends (reads-as (finish-is_some j _ e refl) done.reads) (record {
         flags = done.flags;
@@ -61,9 +61,9 @@ module _ (s : Scene) (h : IsScene s) (C : ℕ → Type 0) (S : ℕ → ℕ → T
         proper = opens.1;
       })
 
-  pub finish-leads : (p : Pen) (t : Term) → At s s.job.cols p t → Ends S s (IsFilled s) (finish s.job) p t
+  pub finish-leads : (p : Pen) (t : Term) → At s s.row_change.cols p t → Ends S s (IsFilled s) (finish s.row_change) p t
   finish-leads p t now =
-      let j = s.job in
+      let j = s.row_change in
       let le : j.cols ≤ j.cols = omega arith in
       let whole : past j j.cols ≡ j.cols = ap (λ (x : CellView). cond x.continuation (j.cols + 1) j.cols)
       (h.new.beyond j.cols le) in
@@ -74,15 +74,15 @@ module _ (s : Scene) (h : IsScene s) (C : ℕ → Type 0) (S : ℕ → ℕ → T
 
 -- ---- the last cell
 
-pub record IsLast (j : Job) : Type 0 where
+pub record IsLast (j : RowChange) : Type 0 where
   pub up_to : last_col_of j + span_of (last_cell_of j) ≡ j.cols
   pub whole : (last_cell_of j).continuation ≡ false
 
 -- the last column is a second half
-wide-before : (s : Scene) → IsScene s → (s.job.new (s.job.cols - 1)).continuation ≡ true
-    → (1 < s.job.cols) × ((s.job.new (s.job.cols - 2)).wide ≡ true)
+wide-before : (s : Scene) → IsScene s → (s.row_change.new (s.row_change.cols - 1)).continuation ≡ true
+    → (1 < s.row_change.cols) × ((s.row_change.new (s.row_change.cols - 2)).wide ≡ true)
 wide-before s h half =
-    let j = s.job in
+    let j = s.row_change in
     elim (cases_lt 1 j.cols) [
       | inl more ↦ (
         more,
@@ -93,9 +93,9 @@ wide-before s h half =
           (ap (λ i. (j.new i).continuation) (omega (arith, h.some_col)) ∙ half))
     ]
 
-pub last-is : (s : Scene) → IsScene s → IsLast s.job
+pub last-is : (s : Scene) → IsScene s → IsLast s.row_change
 last-is s h =
-    let j = s.job in
+    let j = s.row_change in
     let n = j.cols in
     let end : n - 1 + 1 ≡ n = omega (arith, h.some_col) in
     let narrow : (j.new (n - 1)).wide ≡ false = sym (h.new.paired.next (n - 1)) ∙ ap (λ i. (j.new i).continuation) end
@@ -108,10 +108,10 @@ last-is s h =
           record { up_to = grind (arith, nat_tests, wide.0, wide.1); whole = grind (arith, nat_tests, whole) })
     ]
 
-wide-text : (s : Scene) → IsScene s → (k : ℕ) → (s.job.new k).wide ≡ true → has_text (s.job.new k) ≡ true
+wide-text : (s : Scene) → IsScene s → (k : ℕ) → (s.row_change.new k).wide ≡ true → has_text (s.row_change.new k) ≡ true
 wide-text s h k wide =
-    let single = whole_if_wide s.job.new k h.new.paired wide in
-    grind (arith, nat_tests, empty-is (s.job.new k) (h.cells k), single)
+    let single = whole_if_wide s.row_change.new k h.new.paired wide in
+    grind (arith, nat_tests, empty-is (s.row_change.new k) (h.cells k), single)
 
 or_off : (a b : Bool) → b ≡ false → (a || b) ≡ a
 or_off a b e = grind (arith, nat_tests)
@@ -138,36 +138,36 @@ pub unflag-empty : (x : CellView) (p : Pen) → has_text x ≡ false → unflag 
 unfolding unflag
 unflag-empty x p h = rw h refl
 
-pub mend-wraps : (j : Job) (x : CellView) (p : Pen) → j.wrapped ≡ true → mend j x p ≡ print_last x p
+pub mend-wraps : (j : RowChange) (x : CellView) (p : Pen) → j.wrapped ≡ true → mend j x p ≡ print_last x p
 unfolding mend
 mend-wraps j x p h = rw h refl
 
-pub mend-ends : (j : Job) (x : CellView) (p : Pen) → j.wrapped ≡ false → mend j x p ≡ (unflag x >> print_last x) p
+pub mend-ends : (j : RowChange) (x : CellView) (p : Pen) → j.wrapped ≡ false → mend j x p ≡ (unflag x >> print_last x) p
 unfolding mend
 mend-ends j x p h = rw h refl
 
 -- if the last column shows something, the last cell has a text
-pub last-text : (s : Scene) → IsScene s → is_filled (s.job.new (s.job.cols - 1)) ≡ true
-    → has_text (last_cell_of s.job) ≡ true
+pub last-text : (s : Scene) → IsScene s → is_filled (s.row_change.new (s.row_change.cols - 1)) ≡ true
+    → has_text (last_cell_of s.row_change) ≡ true
 last-text s h full =
-    let j = s.job in
+    let j = s.row_change in
     elim (cases_Bool (j.new (j.cols - 1)).continuation) [
       | inr single ↦ grind (arith, nat_tests)
       | inl half ↦ (let some = wide-text s h (j.cols - 2) (wide-before s h half).1 in grind (arith, nat_tests, some))
     ]
 
 no_third : (s : Scene) → IsScene s → (g : ℕ → CellView)
-    → put_unflags s.job.cols g (last_col_of s.job) (last_cell_of s.job) ≡ false
-no_third s h g = third_off s.job.cols (last_col_of s.job) (last_cell_of s.job) g (last-is s h).up_to
+    → put_unflags s.row_change.cols g (last_col_of s.row_change) (last_cell_of s.row_change) ≡ false
+no_third s h g = third_off s.row_change.cols (last_col_of s.row_change) (last_cell_of s.row_change) g (last-is s h).up_to
 
 -- ---- the flag
 
-own-flag : (s : Scene) → IsScene s → flags_above s s.job.row ≡ s.job.was_wrapped
+own-flag : (s : Scene) → IsScene s → flags_above s s.row_change.row ≡ s.row_change.was_wrapped
 own-flag s h =
-    elim (cases_Bool s.job.above) [
-      | inl above ↦ ap (λ G. G s.job.row) (flags-on s above) ∙ update-other s.flags (s.job.row - 1) s.job.row true
+    elim (cases_Bool s.row_change.above) [
+      | inl above ↦ ap (λ G. G s.row_change.row) (flags-on s above) ∙ update-other s.flags (s.row_change.row - 1) s.row_change.row true
           (λ e. let some = h.below_first above in absurd (omega (arith, e, some))) ∙ h.flag
-      | inr none ↦ ap (λ b. cond b (update s.flags (s.job.row - 1) true) s.flags s.job.row) none ∙ h.flag
+      | inr none ↦ ap (λ b. cond b (update s.flags (s.row_change.row - 1) true) s.flags s.row_change.row) none ∙ h.flag
     ]
 
 no-need : (a b lost : Bool) → (not (bool_eq a b) || (a && lost)) ≡ false → (a ≡ b) × ((lost ≡ true) → a ≡ false)
@@ -187,19 +187,19 @@ pub flags-off : (F V : ℕ → Bool) (i : ℕ) (lost b : Bool) → Flags F V i l
 flags-off F V i lost b (inl e) = ap (λ G. update G i b) e
 flags-off F V i lost b (inr e) = ap (λ G. update G i b) e.1 ∙ update-twice V i false b
 
-pub flags-kept : (s : Scene) (F : ℕ → Bool) (lost : Bool) → IsScene s → s.job.wrapped ≡ s.job.was_wrapped
-    → ((lost ≡ true) → s.job.wrapped ≡ false) → Flags F (flags_above s) s.job.row lost
-    → F ≡ update (flags_above s) s.job.row s.job.wrapped
+pub flags-kept : (s : Scene) (F : ℕ → Bool) (lost : Bool) → IsScene s → s.row_change.wrapped ≡ s.row_change.was_wrapped
+    → ((lost ≡ true) → s.row_change.wrapped ≡ false) → Flags F (flags_above s) s.row_change.row lost
+    → F ≡ update (flags_above s) s.row_change.row s.row_change.wrapped
 flags-kept s F lost h same ends (inl e) =
-    e ∙ sym (update-kept (flags_above s) s.job.row s.job.wrapped (same ∙ sym (own-flag s h)))
-flags-kept s F lost h same ends (inr e) = e.1 ∙ ap (update (flags_above s) s.job.row) (sym (ends e.0))
+    e ∙ sym (update-kept (flags_above s) s.row_change.row s.row_change.wrapped (same ∙ sym (own-flag s h)))
+flags-kept s F lost h same ends (inr e) = e.1 ∙ ap (update (flags_above s) s.row_change.row) (sym (ends e.0))
 
-pub closing-none : (j : Job) (p : Pen) → (not (bool_eq j.wrapped j.was_wrapped) || (j.wrapped && p.lost)) ≡ false
+pub closing-none : (j : RowChange) (p : Pen) → (not (bool_eq j.wrapped j.was_wrapped) || (j.wrapped && p.lost)) ≡ false
     → closing j p ≡ skip p
 unfolding closing
 closing-none j p h = rw h refl
 
-pub closing-some : (j : Job) (p : Pen) (c : ℕ) (x : CellView) → owes_end j p ≡ true → c ≡ last_col_of j → x ≡ j.new c
+pub closing-some : (j : RowChange) (p : Pen) (c : ℕ) (x : CellView) → owes_end j p ≡ true → c ≡ last_col_of j → x ≡ j.new c
     → closing j p ≡ (goto j.row c >> mend j x) p
 unfolding closing
 closing-some j p c x h e is = rw (is, e, h) refl
@@ -208,13 +208,13 @@ closing-some j p c x h e is = rw (is, e, h) refl
 
 -- its columns may be touched
 record IsEndRoom (s : Scene) (S : ℕ → ℕ → Type 0) : Type 0 where
-  here : S s.job.row (last_col_of s.job)
-  next : (last_cell_of s.job).wide ≡ true → S s.job.row (last_col_of s.job + 1)
+  here : S s.row_change.row (last_col_of s.row_change)
+  next : (last_cell_of s.row_change).wide ≡ true → S s.row_change.row (last_col_of s.row_change + 1)
 
-end-room : (s : Scene) (C : ℕ → Type 0) (S : ℕ → ℕ → Type 0) → IsScene s → IsRoom s C S → C (s.job.cols - 1)
+end-room : (s : Scene) (C : ℕ → Type 0) (S : ℕ → ℕ → Type 0) → IsScene s → IsRoom s C S → C (s.row_change.cols - 1)
     → IsEndRoom s S
 end-room s C S h o last =
-    let j = s.job in
+    let j = s.row_change in
     let c = last_col_of j in
     let l = last-is s h in
     let end : j.cols - 1 < j.cols = omega (arith, h.some_col) in
@@ -239,12 +239,12 @@ end-room s C S h o last =
 
 -- the line has no wide cell right before the last cell, and one in its place only if the last cell is wide
 record IsOverEnd (s : Scene) (g : ℕ → CellView) : Type 0 where
-  left : (k : ℕ) → k + 1 ≡ last_col_of s.job → (g k).wide ≡ false
-  there : (g (last_col_of s.job)).wide ≡ true → (last_cell_of s.job).wide ≡ true
+  left : (k : ℕ) → k + 1 ≡ last_col_of s.row_change → (g k).wide ≡ false
+  there : (g (last_col_of s.row_change)).wide ≡ true → (last_cell_of s.row_change).wide ≡ true
 
-new-over : (s : Scene) → IsScene s → IsOverEnd s s.job.new
+new-over : (s : Scene) → IsScene s → IsOverEnd s s.row_change.new
 new-over s h =
-    let j = s.job in
+    let j = s.row_change in
     record {
       left = λ k e. sym (h.new.paired.next k) ∙ ap (λ i. (j.new i).continuation) e ∙ (last-is s h).whole;
       there = λ q. q;
@@ -258,9 +258,9 @@ wiped-none : (f : ℕ → CellView) (c : ℕ) (a : Attrs) → (wiped f c (c + 1)
 wiped-none f c a = grind (arith, nat_tests)
 
 wiped-over : (s : Scene) (a : Attrs) → IsScene s
-    → IsOverEnd s (wiped s.job.new (last_col_of s.job) (last_col_of s.job + 1) a)
+    → IsOverEnd s (wiped s.row_change.new (last_col_of s.row_change) (last_col_of s.row_change + 1) a)
 wiped-over s a h =
-    let j = s.job in
+    let j = s.row_change in
     let c = last_col_of j in
     record {
       left = λ k e. wiped-narrow j.new c a k e ((new-over s h).left k e);
@@ -268,9 +268,9 @@ wiped-over s a h =
     }
 
 print-end : (s : Scene) (S : ℕ → ℕ → Type 0) → IsScene s → IsEndRoom s S → (g : ℕ → CellView) → IsOverEnd s g → (k : ℕ)
-    → k < s.job.cols → put_touches g (last_col_of s.job) (last_cell_of s.job) k ≡ true → S s.job.row k
+    → k < s.row_change.cols → put_touches g (last_col_of s.row_change) (last_cell_of s.row_change) k ≡ true → S s.row_change.row k
 print-end s S h room g over k low touched =
-    let j = s.job in
+    let j = s.row_change in
     let c = last_col_of j in
     let x = last_cell_of j in
     let l = last-is s h in
@@ -284,10 +284,10 @@ print-end s S h room g over k low touched =
           grind (arith, nat_tests, l.up_to, two))
     ]
 
-wipe-end : (s : Scene) (S : ℕ → ℕ → Type 0) → IsScene s → IsEndRoom s S → (k : ℕ) → k < s.job.cols
-    → wipe_touches s.job.new (last_col_of s.job) (last_col_of s.job + 1) k ≡ true → S s.job.row k
+wipe-end : (s : Scene) (S : ℕ → ℕ → Type 0) → IsScene s → IsEndRoom s S → (k : ℕ) → k < s.row_change.cols
+    → wipe_touches s.row_change.new (last_col_of s.row_change) (last_col_of s.row_change + 1) k ≡ true → S s.row_change.row k
 wipe-end s S h room k low touched =
-    let j = s.job in
+    let j = s.row_change in
     let c = last_col_of j in
     elim (or-split (nat_le c k && nat_lt k (c + 1)) _ touched) [
       | inl between ↦ (let is : k ≡ c = grind (arith, nat_tests) in subst (S j.row) (sym is) room.here)
@@ -298,29 +298,29 @@ wipe-end s S h room k low touched =
 
 -- a row that ends here is drawn
 drawn-ended : {r k : ℕ} {a : Attrs} {lost : Bool} {t : Term} (s : Scene) (F : ℕ → Bool) → IsProper a
-    → F ≡ update (flags_above s) s.job.row s.job.wrapped → s.job.wrapped ≡ false
-    → t ≡ with_row s s.job.new F r k a → IsDrawn s (pen r k a None lost) t
+    → F ≡ update (flags_above s) s.row_change.row s.row_change.wrapped → s.row_change.wrapped ≡ false
+    → t ≡ with_row s s.row_change.new F r k a → IsDrawn s (pen r k a None lost) t
 drawn-ended s F ha on off is = record {
   flags = F;
   state_after = is;
   proper = ha;
   closed = refl;
   flagged = inl on;
-  keeps = λ wraps _. absurd (both_ways s.job.wrapped off wraps);
-  waits = λ wraps _. absurd (both_ways s.job.wrapped off wraps);
+  keeps = λ wraps _. absurd (both_ways s.row_change.wrapped off wraps);
+  waits = λ wraps _. absurd (both_ways s.row_change.wrapped off wraps);
 }
 
 module _ (s : Scene) (h : IsScene s) (S : ℕ → ℕ → Type 0) (room : IsEndRoom s S) where
   -- the last cell is printed over a row that differs only there
   last-printed : (F : ℕ → Bool) (g : ℕ → CellView) (a : Attrs) (lost : Bool) → IsProper a → IsOverEnd s g
-      → has_text (last_cell_of s.job) ≡ true → put g (last_col_of s.job) (last_cell_of s.job)
-      (last_cell_of s.job).attrs ≡ s.job.new
-      → Reads S s (print_last (last_cell_of s.job)) (pen s.job.row (last_col_of s.job) a None lost)
-      (with_row s g F s.job.row (last_col_of s.job) a)
-      (pen s.job.row s.job.cols (last_cell_of s.job).attrs None (lost || false))
-      (with_row s s.job.new F s.job.row s.job.cols (last_cell_of s.job).attrs)
+      → has_text (last_cell_of s.row_change) ≡ true → put g (last_col_of s.row_change) (last_cell_of s.row_change)
+      (last_cell_of s.row_change).attrs ≡ s.row_change.new
+      → Reads S s (print_last (last_cell_of s.row_change)) (pen s.row_change.row (last_col_of s.row_change) a None lost)
+      (with_row s g F s.row_change.row (last_col_of s.row_change) a)
+      (pen s.row_change.row s.row_change.cols (last_cell_of s.row_change).attrs None (lost || false))
+      (with_row s s.row_change.new F s.row_change.row s.row_change.cols (last_cell_of s.row_change).attrs)
   last-printed F g a lost ha over some line =
-      let j = s.job in
+      let j = s.row_change in
       let c = last_col_of j in
       let x = last_cell_of j in
       let last = last-is s h in
@@ -335,12 +335,12 @@ module _ (s : Scene) (h : IsScene s) (S : ℕ → ℕ → Type 0) (room : IsEndR
 
   -- it is erased, and the flag is off
   last-erased : (F : ℕ → Bool) (a : Attrs) (lost : Bool)
-      → Reads S s (erasing 1 true) (pen s.job.row (last_col_of s.job) a None lost)
-      (with_row s s.job.new F s.job.row (last_col_of s.job) a) (pen s.job.row (last_col_of s.job) a None (lost || true))
-      (with_row s (wiped s.job.new (last_col_of s.job) (last_col_of s.job + 1) a) (update F s.job.row false) s.job.row
-      (last_col_of s.job) a)
+      → Reads S s (erasing 1 true) (pen s.row_change.row (last_col_of s.row_change) a None lost)
+      (with_row s s.row_change.new F s.row_change.row (last_col_of s.row_change) a) (pen s.row_change.row (last_col_of s.row_change) a None (lost || true))
+      (with_row s (wiped s.row_change.new (last_col_of s.row_change) (last_col_of s.row_change + 1) a) (update F s.row_change.row false) s.row_change.row
+      (last_col_of s.row_change) a)
   last-erased F a lost =
-      let j = s.job in
+      let j = s.row_change in
       let c = last_col_of j in
       let x = last_cell_of j in
       let last = last-is s h in
@@ -357,12 +357,12 @@ module _ (s : Scene) (h : IsScene s) (S : ℕ → ℕ → Type 0) (room : IsEndR
       (reads-erasing j.new 1 true (c + 1) refl (omega (arith, last.up_to, some)) (wipe-end s S h room))
 
   -- the row's flag changes, or it was lost
-  mends : (F : ℕ → Bool) (a : Attrs) (lost : Bool) → IsProper a → Flags F (flags_above s) s.job.row lost
-      → (not (bool_eq s.job.wrapped s.job.was_wrapped) || (s.job.wrapped && lost)) ≡ true
-      → Ends S s (IsDrawn s) (mend s.job (last_cell_of s.job)) (pen s.job.row (last_col_of s.job) a None lost)
-      (with_row s s.job.new F s.job.row (last_col_of s.job) a)
+  mends : (F : ℕ → Bool) (a : Attrs) (lost : Bool) → IsProper a → Flags F (flags_above s) s.row_change.row lost
+      → (not (bool_eq s.row_change.wrapped s.row_change.was_wrapped) || (s.row_change.wrapped && lost)) ≡ true
+      → Ends S s (IsDrawn s) (mend s.row_change (last_cell_of s.row_change)) (pen s.row_change.row (last_col_of s.row_change) a None lost)
+      (with_row s s.row_change.new F s.row_change.row (last_col_of s.row_change) a)
   mends F a lost ha kept needs =
-      let j = s.job in
+      let j = s.row_change in
       let x = last_cell_of j in
       let c = last_col_of j in
       let last = last-is s h in
@@ -397,11 +397,11 @@ module _ (s : Scene) (h : IsScene s) (S : ℕ → ℕ → Type 0) (room : IsEndR
 
 module _ (s : Scene) (h : IsScene s) (C : ℕ → Type 0) (S : ℕ → ℕ → Type 0) (o : IsRoom s C S) where
   closing-at : (F : ℕ → Bool) (r k : ℕ) (a : Attrs) (lost : Bool) → IsProper a
-      → Flags F (flags_above s) s.job.row lost
-      → (owes_end s.job (pen r k a None lost) ≡ true → C (s.job.cols - 1))
-      → Ends S s (IsDrawn s) (closing s.job) (pen r k a None lost) (with_row s s.job.new F r k a)
+      → Flags F (flags_above s) s.row_change.row lost
+      → (owes_end s.row_change (pen r k a None lost) ≡ true → C (s.row_change.cols - 1))
+      → Ends S s (IsDrawn s) (closing s.row_change) (pen r k a None lost) (with_row s s.row_change.new F r k a)
   closing-at F r k a lost ha kept owed =
-      let j = s.job in
+      let j = s.row_change in
       let p = pen r k a None lost in
       let last = last-is s h in
       let some = span-few (last_cell_of j) in
@@ -424,10 +424,10 @@ module _ (s : Scene) (h : IsScene s) (C : ℕ → Type 0) (S : ℕ → ℕ → T
             (mends s h S (end-room s C S h o (owed needs)) F a lost ha kept needs))
       ]
 
-  pub closing-leads : (p : Pen) (t : Term) → IsFilled s p t → (owes_end s.job p ≡ true → C (s.job.cols - 1))
-      → Ends S s (IsDrawn s) (closing s.job) p t
+  pub closing-leads : (p : Pen) (t : Term) → IsFilled s p t → (owes_end s.row_change p ≡ true → C (s.row_change.cols - 1))
+      → Ends S s (IsDrawn s) (closing s.row_change) p t
   closing-leads p t now owed =
-      let j = s.job in
+      let j = s.row_change in
       let P : Option Erase → Term → Type 0 = λ e x.
       Ends S s (IsDrawn s) (closing j) (pen p.pos.row p.pos.col p.attrs e p.lost) x in
       subst (λ e. P e t) (sym now.closed) (subst (P None) (sym now.state_after)

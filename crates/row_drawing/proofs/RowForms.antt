@@ -14,7 +14,7 @@ use Rattle.row_drawing.specs.declared.pen.Erase.{Erase}
 use Rattle.row_drawing.specs.declared.pen.Pen.{Pen}
 use Rattle.row_drawing.specs.Writer.{Drawn, Writer, ◌>>◌, skip, goto, turn, color, print, space, back, erasing}
 use Rattle.row_drawing.specs.Writer.{clearing, marking}
-use Rattle.row_drawing.specs.RowWriter.{Job, is_same, wraps, owes_flag, reprint, opening, to_erase, is_end, flush_of}
+use Rattle.row_drawing.specs.RowWriter.{RowChange, is_same, wraps, owes_flag, reprint, opening, to_erase, is_end, flush_of}
 use Rattle.row_drawing.specs.RowWriter.{flush, finish_of, finish, arrive, mark_of, mark, draw, column, columns}
 use Rattle.row_drawing.specs.RowWriter.{last_col_of, unflag, print_last, mend, owes_end, closing}
 use Rattle.row_drawing.specs.RowWriter.{row_redraw, row_difference}
@@ -70,7 +70,7 @@ kept-here {Q = Q} {I = I} b p {f = f} {g = g} h k s =
     cond_both b (f p) (g p) (AreKept Q I) (λ _. h.at p s) (λ _. k.at p s)
 
 -- the single writers of a row keep Q and I; the columns that they name fulfil B
-pub record EachKeeps (Q : Form → Type 0) (I : Pen → Type 0) (B : ℕ → Type 0) (j : Job) : Type 0 where
+pub record EachKeeps (Q : Form → Type 0) (I : Pen → Type 0) (B : ℕ → Type 0) (j : RowChange) : Type 0 where
   pub goes : (c : ℕ) → B c → Keeps Q I (goto j.row c)
   pub turns : Keeps Q I (turn j.row)
   pub colors : (k : ℕ) → Keeps Q I (color (j.new k).attrs)
@@ -84,7 +84,7 @@ pub record EachKeeps (Q : Form → Type 0) (I : Pen → Type 0) (B : ℕ → Typ
   pub marks : (c : ℕ) → B c → is_same j c ≡ false → Keeps Q I (marking c (j.new c).attrs)
   pub last : B (last_col_of j)
 
-module _ (Q : Form → Type 0) (I : Pen → Type 0) (B : ℕ → Type 0) (j : Job) (each : EachKeeps Q I B j) where
+module _ (Q : Form → Type 0) (I : Pen → Type 0) (B : ℕ → Type 0) (j : RowChange) (each : EachKeeps Q I B j) where
   keeps-reprint : (k : ℕ) → Keeps Q I (reprint j (j.new k))
   unfolding reprint
   keeps-reprint k =

@@ -19,7 +19,7 @@ use Rattle.terminal_model.proofs.TermLemmas.{span-some}
 use Rattle.row_drawing.specs.declared.pen.Erase.{Erase}
 use Rattle.row_drawing.specs.declared.pen.Pen.{Pen}
 use Rattle.row_drawing.specs.Writer.{Drawn, Writer, ◌>>◌, goto, turn, color, print, space}
-use Rattle.row_drawing.specs.RowWriter.{Job, is_same, wraps, arrive}
+use Rattle.row_drawing.specs.RowWriter.{RowChange, is_same, wraps, arrive}
 use Rattle.row_drawing.specs.Scene.{Scene, IsScene, scene_size, with_row, flags_above}
 use Rattle.row_drawing.proofs.Lines.{Line}
 use Rattle.row_drawing.proofs.Steps.{at, pen, Flags, kept_or_off, flags-step, flags-above, IsSendable}
@@ -32,7 +32,7 @@ use Rattle.row_drawing.proofs.RowReads.{Ends}
 
 -- the first column that is not yet right: after the second half of a wide cell that is drawn, or the first pending
 -- column
-abbrev pub past : Job → ℕ → ℕ
+abbrev pub past : RowChange → ℕ → ℕ
 past j n = cond (j.new n).continuation (n + 1) n
 
 abbrev pub edge : Option Erase → ℕ → ℕ
@@ -40,7 +40,7 @@ edge None n = n
 edge (Some e) n = e.from
 
 -- the pending columns become empty, with these attributes, and the first of them differs
-abbrev pub Opens : Job → ℕ → Option Erase → Type 0
+abbrev pub Opens : RowChange → ℕ → Option Erase → Type 0
 Opens j n None = Unit {0}
 Opens j n (Some e) = (e.from < n) × IsProper e.attrs × ((k : ℕ) → e.from ≤ k → k < n → j.new k ≡ empty_cell e.attrs)
     × (is_same j e.from ≡ false)
@@ -48,27 +48,27 @@ Opens j n (Some e) = (e.from < n) × IsProper e.attrs × ((k : ℕ) → e.from �
 -- nothing is drawn yet, and the row above has no flag: the first character comes into the first column
 pub record IsDue (s : Scene) (F : ℕ → Bool) (p : Pos) (m : ℕ) : Type 0 where
   pub unset : F ≡ s.flags
-  pub above : s.job.above ≡ true
-  pub row : p.row + 1 ≡ s.job.row
-  pub col : p.col ≡ s.job.cols
+  pub above : s.row_change.above ≡ true
+  pub row : p.row + 1 ≡ s.row_change.row
+  pub col : p.col ≡ s.row_change.cols
   pub none : m ≡ 0
-  pub differs : is_same s.job 0 ≡ false
+  pub differs : is_same s.row_change 0 ≡ false
 
 abbrev pub Standing : Scene → (ℕ → Bool) → Pen → ℕ → Type 0
-Standing s F p m = Flags F (flags_above s) s.job.row p.lost ⊎ IsDue s F p.pos m
+Standing s F p m = Flags F (flags_above s) s.row_change.row p.lost ⊎ IsDue s F p.pos m
 
 pub record At (s : Scene) (n : ℕ) (p : Pen) (t : Term) : Type 0 where
   pub line : ℕ → CellView
   pub flags : ℕ → Bool
   pub state_after : t ≡ with_row s line flags p.pos.row p.pos.col p.attrs
-  pub lines : Line s.job.old s.job.new (edge p.erase (past s.job n)) line
-  pub opens : Opens s.job n p.erase
+  pub lines : Line s.row_change.old s.row_change.new (edge p.erase (past s.row_change n)) line
+  pub opens : Opens s.row_change n p.erase
   pub proper : IsProper p.attrs
-  pub standing : Standing s flags p (edge p.erase (past s.job n))
+  pub standing : Standing s flags p (edge p.erase (past s.row_change n))
 
 pub at-row : {s : Scene} {n r k : ℕ} {a : Attrs} {e : Option Erase} {lost : Bool} (F : ℕ → Bool) (f : ℕ → CellView)
-    → IsProper a → Line s.job.old s.job.new (edge e (past s.job n)) f → Opens s.job n e
-    → Standing s F (pen r k a e lost) (edge e (past s.job n)) → At s n (pen r k a e lost) (with_row s f F r k a)
+    → IsProper a → Line s.row_change.old s.row_change.new (edge e (past s.row_change n)) f → Opens s.row_change n e
+    → Standing s F (pen r k a e lost) (edge e (past s.row_change n)) → At s n (pen r k a e lost) (with_row s f F r k a)
 at-row F f ha l opens standing = record {
   line = f;
   flags = F;
@@ -85,39 +85,39 @@ After S s n f p t = Ends S s (At s n) f p t
 -- ---- the row above
 
 -- its flag is to be on
-pub flags-on : (s : Scene) → s.job.above ≡ true → flags_above s ≡ update s.flags (s.job.row - 1) true
-flags-on s h = ap (λ b. cond b (update s.flags (s.job.row - 1) true) s.flags) h
+pub flags-on : (s : Scene) → s.row_change.above ≡ true → flags_above s ≡ update s.flags (s.row_change.row - 1) true
+flags-on s h = ap (λ b. cond b (update s.flags (s.row_change.row - 1) true) s.flags) h
 
 -- after a character is printed from its end
-pub wrapped-flags : (s : Scene) (F : ℕ → Bool) (p : Pen) (m r : ℕ) → IsScene s → s.job.above ≡ true
-    → r + 1 ≡ s.job.row → Standing s F p m → Flags (update F r true) (flags_above s) s.job.row p.lost
+pub wrapped-flags : (s : Scene) (F : ℕ → Bool) (p : Pen) (m r : ℕ) → IsScene s → s.row_change.above ≡ true
+    → r + 1 ≡ s.row_change.row → Standing s F p m → Flags (update F r true) (flags_above s) s.row_change.row p.lost
 wrapped-flags s F p m r h above next (inl kept) =
-    let is : s.job.row - 1 ≡ r = omega (arith, next) in
-    flags-above F (flags_above s) s.job.row r p.lost next
-    (ap (flags_above s) (sym is) ∙ ap (λ G. G (s.job.row - 1)) (flags-on s above)
-    ∙ update-same s.flags (s.job.row - 1) true) kept
+    let is : s.row_change.row - 1 ≡ r = omega (arith, next) in
+    flags-above F (flags_above s) s.row_change.row r p.lost next
+    (ap (flags_above s) (sym is) ∙ ap (λ G. G (s.row_change.row - 1)) (flags-on s above)
+    ∙ update-same s.flags (s.row_change.row - 1) true) kept
 wrapped-flags s F p m r h above next (inr due) =
-    let is : r ≡ s.job.row - 1 = omega (arith, next) in
+    let is : r ≡ s.row_change.row - 1 = omega (arith, next) in
     inl (ap (λ G. update G r true) due.unset ∙ ap (λ i. update s.flags i true) is ∙ sym (flags-on s above))
 
 -- if the flag is due, the first character wraps
 due-wraps : (s : Scene) (F : ℕ → Bool) (p : Pen) (m n : ℕ) → IsDue s F p.pos m → 0 < n
-    → (wraps s.job n p && (m == 0)) ≡ true
+    → (wraps s.row_change n p && (m == 0)) ≡ true
 due-wraps s F p m n d some = grind (arith, nat_tests, d.above, d.row, d.col, d.none)
 
-pub not-due : (s : Scene) (F : ℕ → Bool) (p : Pen) (m n : ℕ) → 0 < n → (wraps s.job n p && (m == 0)) ≡ false
-    → Standing s F p m → Flags F (flags_above s) s.job.row p.lost
+pub not-due : (s : Scene) (F : ℕ → Bool) (p : Pen) (m n : ℕ) → 0 < n → (wraps s.row_change n p && (m == 0)) ≡ false
+    → Standing s F p m → Flags F (flags_above s) s.row_change.row p.lost
 not-due s F p m n some off (inl kept) = kept
 not-due s F p m n some off (inr due) = absurd (both_ways _ off (due-wraps s F p m n due some))
 
 -- what a test of wrapping says
 pub record WrapsNow (s : Scene) (n : ℕ) (p : Pen) (m : ℕ) : Type 0 where
-  pub above : s.job.above ≡ true
-  pub row : p.pos.row + 1 ≡ s.job.row
-  pub over : s.job.cols < p.pos.col + n
+  pub above : s.row_change.above ≡ true
+  pub row : p.pos.row + 1 ≡ s.row_change.row
+  pub over : s.row_change.cols < p.pos.col + n
   pub first : m ≡ 0
 
-pub wraps-now : (s : Scene) (n : ℕ) (p : Pen) (m : ℕ) → (wraps s.job n p && (m == 0)) ≡ true → WrapsNow s n p m
+pub wraps-now : (s : Scene) (n : ℕ) (p : Pen) (m : ℕ) → (wraps s.row_change n p && (m == 0)) ≡ true → WrapsNow s n p m
 wraps-now s n p m h = record {
   above = grind (arith, nat_tests);
   row = grind (arith, nat_tests);
@@ -128,11 +128,11 @@ wraps-now s n p m h = record {
 -- from the end of the row above, a cell is printed at the start of this one
 pub reads-print_turned : {S : ℕ → ℕ → Type 0} {a : Attrs} {m : ℕ} (s : Scene) (F : ℕ → Bool) (f : ℕ → CellView)
     (r k : ℕ) (x : CellView) (e : Option Erase) (lost b : Bool) → IsScene s
-    → WrapsNow s (span_of x) (pen r k a e lost) m → IsSendable x → span_of x ≤ s.job.cols
-    → ((i : ℕ) → i < s.job.cols → put_touches f 0 x i ≡ true → S s.job.row i)
-    → Reads S s (print x b) (pen s.job.row 0 x.attrs e lost) (with_row s f F r k x.attrs)
-    (pen s.job.row (0 + span_of x) x.attrs e (lost || b))
-    (with_row s (put f 0 x x.attrs) (kept_or_off (put_unflags s.job.cols f 0 x) (update F r true) s.job.row) s.job.row
+    → WrapsNow s (span_of x) (pen r k a e lost) m → IsSendable x → span_of x ≤ s.row_change.cols
+    → ((i : ℕ) → i < s.row_change.cols → put_touches f 0 x i ≡ true → S s.row_change.row i)
+    → Reads S s (print x b) (pen s.row_change.row 0 x.attrs e lost) (with_row s f F r k x.attrs)
+    (pen s.row_change.row (0 + span_of x) x.attrs e (lost || b))
+    (with_row s (put f 0 x x.attrs) (kept_or_off (put_unflags s.row_change.cols f 0 x) (update F r true) s.row_change.row) s.row_change.row
     (0 + span_of x) x.attrs)
 unfolding print
 reads-print_turned {S = S} s F f r k x e lost b h now send fits touched =
@@ -146,7 +146,7 @@ reads-print_turned {S = S} s F f r k x e lost b h now send fits touched =
     let Q : ℕ → Type 0 = λ i. Reads S s (print x b) (pen i 0 x.attrs e lost)
     (at s.term (update s.cells i f) F r k x.attrs) (pen i (0 + span_of x) x.attrs e (lost || b))
     (at s.term (update s.cells i (put f 0 x x.attrs))
-    (kept_or_off (put_unflags s.job.cols f 0 x) (update F r true) i) i (0 + span_of x) x.attrs) in
+    (kept_or_off (put_unflags s.row_change.cols f 0 x) (update F r true) i) i (0 + span_of x) x.attrs) in
     subst Q now.row (record {
       takes = record {
         pen_is = refl;
@@ -163,9 +163,9 @@ reads-print_turned {S = S} s F f r k x e lost b h now send fits touched =
 
 pub reads-space_turned : {S : ℕ → ℕ → Type 0} {b : Attrs} {m : ℕ} (s : Scene) (F : ℕ → Bool) (f : ℕ → CellView)
     (r k : ℕ) (a : Attrs) (e : Option Erase) (lost : Bool) → IsScene s → WrapsNow s 1 (pen r k b e lost) m
-    → ((i : ℕ) → i < s.job.cols → put_touches f 0 (cell_of 32 a) i ≡ true → S s.job.row i)
-    → Reads S s space (pen s.job.row 0 a e lost) (with_row s f F r k a) (pen s.job.row 1 a e lost)
-    (with_row s (put f 0 (cell_of 32 a) a) (update F r true) s.job.row 1 a)
+    → ((i : ℕ) → i < s.row_change.cols → put_touches f 0 (cell_of 32 a) i ≡ true → S s.row_change.row i)
+    → Reads S s space (pen s.row_change.row 0 a e lost) (with_row s f F r k a) (pen s.row_change.row 1 a e lost)
+    (with_row s (put f 0 (cell_of 32 a) a) (update F r true) s.row_change.row 1 a)
 unfolding print space char_width
 reads-space_turned s F f r k a e lost h now touched =
     let printed = reads-print_turned s F f r k (cell_of 32 a) e lost false h now (sends-space a) (omega (arith, h.some_col))
@@ -177,20 +177,20 @@ reads-space_turned s F f r k a e lost h now touched =
 pub record Prints (S : ℕ → ℕ → Type 0) (s : Scene) (f : ℕ → CellView) (p : Pen) (t : Term) (g : Writer) (n : ℕ)
     (x : CellView) (b : Bool) : Type 0 where
   pub flags : ℕ → Bool
-  pub kept : Flags flags (flags_above s) s.job.row (p.lost || b)
-  pub reads : Reads S s g p t (pen s.job.row (n + span_of x) x.attrs None (p.lost || b))
-      (with_row s (put f n x x.attrs) flags s.job.row (n + span_of x) x.attrs)
+  pub kept : Flags flags (flags_above s) s.row_change.row (p.lost || b)
+  pub reads : Reads S s g p t (pen s.row_change.row (n + span_of x) x.attrs None (p.lost || b))
+      (with_row s (put f n x x.attrs) flags s.row_change.row (n + span_of x) x.attrs)
 
-pub arrive-turn : (j : Job) (c n : ℕ) (p : Pen) → (wraps j n p && (c == 0)) ≡ true → arrive j c n p ≡ turn j.row p
+pub arrive-turn : (j : RowChange) (c n : ℕ) (p : Pen) → (wraps j n p && (c == 0)) ≡ true → arrive j c n p ≡ turn j.row p
 unfolding arrive
 arrive-turn j c n p h = rw h refl
 
-pub arrive-goto : (j : Job) (c n : ℕ) (p : Pen) → (wraps j n p && (c == 0)) ≡ false → arrive j c n p ≡ goto j.row c p
+pub arrive-goto : (j : RowChange) (c n : ℕ) (p : Pen) → (wraps j n p && (c == 0)) ≡ false → arrive j c n p ≡ goto j.row c p
 unfolding arrive
 arrive-goto j c n p h = rw h refl
 
 -- the cursor moves there, and nothing else of the pen changes
-pub arrive-pen : (j : Job) (c n : ℕ) (p : Pen)
+pub arrive-pen : (j : RowChange) (c n : ℕ) (p : Pen)
     → (arrive j c n p).pen ≡ record p { pos = record { row = j.row; col = c } }
 unfolding turn goto
 arrive-pen j c n p =
@@ -203,13 +203,13 @@ arrive-pen j c n p =
 
 -- the cell x is drawn at n
 pub draws : (S : ℕ → ℕ → Type 0) (s : Scene) (F : ℕ → Bool) (f : ℕ → CellView) (r k : ℕ) (a : Attrs) (lost b : Bool)
-    (n : ℕ) (x : CellView) → IsScene s → IsProper a → IsProper x.attrs → IsSendable x → n + span_of x ≤ s.job.cols
-    → (put_unflags s.job.cols f n x ≡ true → b ≡ true) → Standing s F (pen r k a None lost) n
-    → ((i : ℕ) → i < s.job.cols → put_touches f n x i ≡ true → S s.job.row i)
+    (n : ℕ) (x : CellView) → IsScene s → IsProper a → IsProper x.attrs → IsSendable x → n + span_of x ≤ s.row_change.cols
+    → (put_unflags s.row_change.cols f n x ≡ true → b ≡ true) → Standing s F (pen r k a None lost) n
+    → ((i : ℕ) → i < s.row_change.cols → put_touches f n x i ≡ true → S s.row_change.row i)
     → Prints S s f (pen r k a None lost) (with_row s f F r k a)
-    (arrive s.job n (span_of x) >> color x.attrs >> print x b) n x b
+    (arrive s.row_change n (span_of x) >> color x.attrs >> print x b) n x b
 draws S s F f r k a lost b n x h ha hx send room loses standing touched =
-    let j = s.job in
+    let j = s.row_change in
     let p = pen r k a None lost in
     let some = span-some x in
     elim (cases_Bool (wraps j (span_of x) p && (n == 0))) [

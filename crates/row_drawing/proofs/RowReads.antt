@@ -67,19 +67,19 @@ unfolding turn
 reads-turn = record { takes = record { pen_is = refl; term_is = refl }; stays = tt }
 
 pub reads-goto : {S : ℕ → ℕ → Type 0} {s : Scene} {F : ℕ → Bool} {r k : ℕ} {a : Attrs} {e : Option Erase} {b : Bool}
-    {col : ℕ} (f : ℕ → CellView) → IsScene s → col < s.job.cols
-    → Reads S s (goto s.job.row col) (pen r k a e b) (with_row s f F r k a) (pen s.job.row col a e b)
-    (with_row s f F s.job.row col a)
+    {col : ℕ} (f : ℕ → CellView) → IsScene s → col < s.row_change.cols
+    → Reads S s (goto s.row_change.row col) (pen r k a e b) (with_row s f F r k a) (pen s.row_change.row col a e b)
+    (with_row s f F s.row_change.row col a)
 unfolding goto
 reads-goto {S = S} {s = s} {F = F} {r = r} {k = k} {a = a} {e = e} {b = b} {col = col} f h l =
     let t = with_row s f F r k a in
     record {
       takes = record {
         pen_is = refl;
-        term_is = moves-lead (scene_size s) t (record { row = r; col = k }) (record { row = s.job.row; col = col }) refl
+        term_is = moves-lead (scene_size s) t (record { row = r; col = k }) (record { row = s.row_change.row; col = col }) refl
             refl h.row_in l;
       };
-      stays = stays-goto S (scene_size s) s.job.row col (pen r k a e b) t refl h.row_in;
+      stays = stays-goto S (scene_size s) s.row_change.row col (pen r k a e b) t refl h.row_in;
     }
 
 pub reads-color : {S : ℕ → ℕ → Type 0} {s : Scene} {F : ℕ → Bool} {r k i l : ℕ} {a : Attrs} {e : Option Erase}
@@ -108,48 +108,48 @@ unfolding marking
 reads-marking = record { takes = record { pen_is = refl; term_is = refl }; stays = tt }
 
 pub reads-print : {S : ℕ → ℕ → Type 0} {s : Scene} {F : ℕ → Bool} {c : ℕ} {x : CellView} {e : Option Erase}
-    {lost : Bool} (f : ℕ → CellView) (b : Bool) → IsSendable x → c + span_of x ≤ s.job.cols
-    → ((k : ℕ) → k < s.job.cols → put_touches f c x k ≡ true → S s.job.row k)
-    → Reads S s (print x b) (pen s.job.row c x.attrs e lost) (with_row s f F s.job.row c x.attrs)
-    (pen s.job.row (c + span_of x) x.attrs e (lost || b))
-    (with_row s (put f c x x.attrs) (kept_or_off (put_unflags s.job.cols f c x) F s.job.row) s.job.row (c + span_of x)
+    {lost : Bool} (f : ℕ → CellView) (b : Bool) → IsSendable x → c + span_of x ≤ s.row_change.cols
+    → ((k : ℕ) → k < s.row_change.cols → put_touches f c x k ≡ true → S s.row_change.row k)
+    → Reads S s (print x b) (pen s.row_change.row c x.attrs e lost) (with_row s f F s.row_change.row c x.attrs)
+    (pen s.row_change.row (c + span_of x) x.attrs e (lost || b))
+    (with_row s (put f c x x.attrs) (kept_or_off (put_unflags s.row_change.cols f c x) F s.row_change.row) s.row_change.row (c + span_of x)
     x.attrs)
 reads-print {S = S} {s = s} {F = F} {c = c} {x = x} {e = e} {lost = lost} f b send l h = record {
-  takes = takes-print (scene_size s) s.term s.cells F s.job.row c f x e lost b send l;
-  stays = stays-print S (scene_size s) s.term s.cells F s.job.row c x.attrs f x b (pen s.job.row c x.attrs e lost) send l
+  takes = takes-print (scene_size s) s.term s.cells F s.row_change.row c f x e lost b send l;
+  stays = stays-print S (scene_size s) s.term s.cells F s.row_change.row c x.attrs f x b (pen s.row_change.row c x.attrs e lost) send l
       h;
 }
 
 -- the columns from c up to n are erased
 pub reads-erasing : {S : ℕ → ℕ → Type 0} {s : Scene} {F : ℕ → Bool} {c : ℕ} {a : Attrs} {e : Option Erase}
-    {lost : Bool} (f : ℕ → CellView) (m : ℕ) (b : Bool) (n : ℕ) → c + m ≡ n → n ≤ s.job.cols
-    → ((k : ℕ) → k < s.job.cols → wipe_touches f c n k ≡ true → S s.job.row k)
-    → Reads S s (erasing m b) (pen s.job.row c a e lost) (with_row s f F s.job.row c a)
-    (pen s.job.row c a None (lost || b))
-    (with_row s (wiped f c n a) (kept_or_off (wipe_unflags s.job.cols f c n) F s.job.row) s.job.row c a)
+    {lost : Bool} (f : ℕ → CellView) (m : ℕ) (b : Bool) (n : ℕ) → c + m ≡ n → n ≤ s.row_change.cols
+    → ((k : ℕ) → k < s.row_change.cols → wipe_touches f c n k ≡ true → S s.row_change.row k)
+    → Reads S s (erasing m b) (pen s.row_change.row c a e lost) (with_row s f F s.row_change.row c a)
+    (pen s.row_change.row c a None (lost || b))
+    (with_row s (wiped f c n a) (kept_or_off (wipe_unflags s.row_change.cols f c n) F s.row_change.row) s.row_change.row c a)
 reads-erasing {S = S} {s = s} {F = F} {c = c} {a = a} {e = e} {lost = lost} f m b n is l h =
     let z = scene_size s in
-    let p = pen s.job.row c a e lost in
+    let p = pen s.row_change.row c a e lost in
     record {
-      takes = subst (λ i. Takes z (erasing m b) p (with_row s f F s.job.row c a) (pen s.job.row c a None (lost || b))
-          (with_row s (wiped f c i a) (kept_or_off (wipe_unflags s.job.cols f c i) F s.job.row) s.job.row c a)) is
-          (takes-erasing z s.term s.cells F s.job.row c m f a e lost b (omega (arith, is, l)));
-      stays = stays-erasing S z s.term s.cells F s.job.row c m n a f b p is l h;
+      takes = subst (λ i. Takes z (erasing m b) p (with_row s f F s.row_change.row c a) (pen s.row_change.row c a None (lost || b))
+          (with_row s (wiped f c i a) (kept_or_off (wipe_unflags s.row_change.cols f c i) F s.row_change.row) s.row_change.row c a)) is
+          (takes-erasing z s.term s.cells F s.row_change.row c m f a e lost b (omega (arith, is, l)));
+      stays = stays-erasing S z s.term s.cells F s.row_change.row c m n a f b p is l h;
     }
 
 pub reads-clearing : {S : ℕ → ℕ → Type 0} {s : Scene} {F : ℕ → Bool} {c : ℕ} {a : Attrs} {e : Option Erase}
     {lost : Bool} (f : ℕ → CellView)
-    → ((k : ℕ) → k < s.job.cols → wipe_touches f c s.job.cols k ≡ true → S s.job.row k)
-    → Reads S s clearing (pen s.job.row c a e lost) (with_row s f F s.job.row c a)
-    (pen s.job.row c a None (lost || true))
-    (with_row s (wiped f c s.job.cols a) (kept_or_off (wipe_unflags s.job.cols f c s.job.cols) F s.job.row) s.job.row c
+    → ((k : ℕ) → k < s.row_change.cols → wipe_touches f c s.row_change.cols k ≡ true → S s.row_change.row k)
+    → Reads S s clearing (pen s.row_change.row c a e lost) (with_row s f F s.row_change.row c a)
+    (pen s.row_change.row c a None (lost || true))
+    (with_row s (wiped f c s.row_change.cols a) (kept_or_off (wipe_unflags s.row_change.cols f c s.row_change.cols) F s.row_change.row) s.row_change.row c
     a)
 unfolding clearing apply form_touches
 reads-clearing {S = S} {s = s} {F = F} {c = c} {a = a} {e = e} {lost = lost} f h =
     let z = scene_size s in
-    reads-to (ap (pen s.job.row c a None) (sym (or_right lost true refl))) refl (record {
-      takes = record { pen_is = refl; term_is = erase-line z s.term s.cells F s.job.row c s.job.cols a f };
-      stays = erase-within S z ClearRowForward s.term s.cells F s.job.row c s.job.cols a f (λ r k. refl) h;
+    reads-to (ap (pen s.row_change.row c a None) (sym (or_right lost true refl))) refl (record {
+      takes = record { pen_is = refl; term_is = erase-line z s.term s.cells F s.row_change.row c s.row_change.cols a f };
+      stays = erase-within S z ClearRowForward s.term s.cells F s.row_change.row c s.row_change.cols a f (λ r k. refl) h;
     })
 
 -- ---- what is true after a writer

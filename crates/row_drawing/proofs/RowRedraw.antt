@@ -10,7 +10,7 @@ use Rattle.vt100_cells.specs.Line.{span_of}
 use Rattle.row_drawing.specs.declared.pen.Erase.{Erase}
 use Rattle.row_drawing.specs.declared.pen.Pen.{Pen}
 use Rattle.row_drawing.specs.Writer.{Drawn, ◌>>◌, skip, color, print, erasing}
-use Rattle.row_drawing.specs.RowWriter.{Job, is_same, wraps, flush, draw}
+use Rattle.row_drawing.specs.RowWriter.{RowChange, is_same, wraps, flush, draw}
 use Rattle.row_drawing.specs.RowWriter.{column, columns, opening, last_col_of, last_cell_of, row_redraw}
 use Rattle.row_drawing.specs.Scene.{Scene, IsScene, flags_above}
 use Rattle.row_drawing.specs.Laws.{EachRedrawLeads}
@@ -23,12 +23,12 @@ use Rattle.row_drawing.proofs.RowStart.{redraw-filled}
 use Rattle.row_drawing.proofs.LocalRow.{any-room}
 
 -- the pen is behind column c, and no column is pending
-record IsBehind (j : Job) (n : ℕ) (p : Pen) : Type 0 where
+record IsBehind (j : RowChange) (n : ℕ) (p : Pen) : Type 0 where
   row : p.pos.row ≡ j.row
   col : p.pos.col ≡ n
   closed : p.erase ≡ None
 
-flushed : (j : Job) (n r k : ℕ) (a : Attrs) (e : Option Erase) (b : Bool) → has_text (j.new n) ≡ true
+flushed : (j : RowChange) (n r k : ℕ) (a : Attrs) (e : Option Erase) (b : Bool) → has_text (j.new n) ≡ true
     → (flush j n (pen r k a e b)).pen.erase ≡ None
 unfolding ◌>>◌ skip erasing
 flushed j n r k a None b some = ap (λ (d : Drawn). d.pen.erase) (flush-is_none j n _ refl)
@@ -36,11 +36,11 @@ flushed j n r k a (Some e) b some =
     ap (λ (d : Drawn). d.pen.erase) (flush-is_ended j n _ e _ _ _ refl refl
     (or_left (has_text (j.new n)) (not (attrs_eq (j.new n).attrs e.attrs)) some) refl refl)
 
-drawn-behind : (s : Scene) (n : ℕ) (p : Pen) → is_same s.job n ≡ false → has_text (s.job.new n) ≡ true
-    → p.erase ≡ None → IsBehind s.job (n + span_of (s.job.new n)) (draw s.job n p).pen
+drawn-behind : (s : Scene) (n : ℕ) (p : Pen) → is_same s.row_change n ≡ false → has_text (s.row_change.new n) ≡ true
+    → p.erase ≡ None → IsBehind s.row_change (n + span_of (s.row_change.new n)) (draw s.row_change n p).pen
 unfolding ◌>>◌ color print
 drawn-behind s n p differs some closed =
-    let j = s.job in
+    let j = s.row_change in
     let is = draw-full j n p _ _ _ refl differs some refl refl in
     let there = arrive-pen j n (span_of (j.new n)) p in
     record {
@@ -49,22 +49,22 @@ drawn-behind s n p differs some closed =
       closed = ap (λ (d : Drawn). d.pen.erase) is ∙ ap (λ (x : Pen). x.erase) there ∙ closed;
     }
 
-column-behind : (s : Scene) (n : ℕ) (p : Pen) → is_same s.job n ≡ false → has_text (s.job.new n) ≡ true
-    → (s.job.new n).continuation ≡ false → IsBehind s.job (n + span_of (s.job.new n)) (column s.job n p).pen
+column-behind : (s : Scene) (n : ℕ) (p : Pen) → is_same s.row_change n ≡ false → has_text (s.row_change.new n) ≡ true
+    → (s.row_change.new n).continuation ≡ false → IsBehind s.row_change (n + span_of (s.row_change.new n)) (column s.row_change n p).pen
 unfolding ◌>>◌
 column-behind s n p differs some single =
-    let j = s.job in
+    let j = s.row_change in
     let q = (flush j n p).pen in
     subst (λ (d : Drawn). IsBehind j (n + span_of (j.new n)) d.pen) (sym
     (column-is_whole j n p (ap (λ b. b && not (n == j.start)) single)))
     (drawn-behind s n q differs some (flushed j n p.pos.row p.pos.col p.attrs p.erase p.lost some))
 
 -- if the last cell is drawn, it is drawn last
-columns-behind : (s : Scene) (p : Pen) → IsScene s → is_same s.job (last_col_of s.job) ≡ false
-    → has_text (last_cell_of s.job) ≡ true → IsBehind s.job s.job.cols (columns s.job s.job.cols p).pen
+columns-behind : (s : Scene) (p : Pen) → IsScene s → is_same s.row_change (last_col_of s.row_change) ≡ false
+    → has_text (last_cell_of s.row_change) ≡ true → IsBehind s.row_change s.row_change.cols (columns s.row_change s.row_change.cols p).pen
 unfolding columns ◌>>◌ skip
 columns-behind s p h differs some =
-    let j = s.job in
+    let j = s.row_change in
     let c = last_col_of j in
     let last = last-is s h in
     let here : c ≡ j.start + c = omega (arith, h.whole) in
@@ -91,20 +91,20 @@ columns-behind s p h differs some =
           (subst (λ (d : Drawn). IsBehind j j.cols d.pen) (sym stays) one))
     ]
 
-redraw-behind : (s : Scene) (p : Pen) → IsScene s → is_same s.job (last_col_of s.job) ≡ false
-    → has_text (last_cell_of s.job) ≡ true → IsBehind s.job s.job.cols (row_redraw s.job s.job.cols p).pen
+redraw-behind : (s : Scene) (p : Pen) → IsScene s → is_same s.row_change (last_col_of s.row_change) ≡ false
+    → has_text (last_cell_of s.row_change) ≡ true → IsBehind s.row_change s.row_change.cols (row_redraw s.row_change s.row_change.cols p).pen
 unfolding row_redraw ◌>>◌ skip
 redraw-behind s p h differs some =
-    let j = s.job in
+    let j = s.row_change in
     let q = (columns j j.cols (opening j p).pen).pen in
     let at_end = columns-behind s (opening j p).pen h differs some in
     subst (λ (d : Drawn). IsBehind j j.cols d.pen) (sym (finish-is_none j q at_end.closed)) at_end
 
 -- if a row wraps, and no flag was set, its last cell is drawn last
-redraw-waits : (s : Scene) (p : Pen) → IsScene s → ((k : ℕ) → s.job.old k ≡ default_cell) → s.job.wrapped ≡ true
-    → IsBehind s.job s.job.cols (row_redraw s.job s.job.cols p).pen
+redraw-waits : (s : Scene) (p : Pen) → IsScene s → ((k : ℕ) → s.row_change.old k ≡ default_cell) → s.row_change.wrapped ≡ true
+    → IsBehind s.row_change s.row_change.cols (row_redraw s.row_change s.row_change.cols p).pen
 redraw-waits s p h blank wraps =
-    let j = s.job in
+    let j = s.row_change in
     let some = last-text s h (h.new.filled wraps) in
     let differs : is_same j (last_col_of j) ≡ false = (elim (cases_Bool (is_same j (last_col_of j))) [
       | inr differs ↦ differs
@@ -115,7 +115,7 @@ redraw-waits s p h blank wraps =
 
 pub redraw-leads : EachRedrawLeads
 redraw-leads s p h ready blank unflagged =
-    let j = s.job in
+    let j = s.row_change in
     let q = (row_redraw j j.cols p).pen in
     let all = (redraw-filled s h _ _ (any-room s) p ready (λ _. tt)).there in
     record {

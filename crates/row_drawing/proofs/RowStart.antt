@@ -13,7 +13,7 @@ use Rattle.terminal_model.proofs.Positions.{update-kept}
 use Rattle.row_drawing.specs.declared.pen.Erase.{Erase}
 use Rattle.row_drawing.specs.declared.pen.Pen.{Pen}
 use Rattle.row_drawing.specs.Writer.{◌>>◌, skip, turn, color, print, space, back, erasing}
-use Rattle.row_drawing.specs.RowWriter.{Job, is_same, wraps, owes_flag, reprint, opening, columns}
+use Rattle.row_drawing.specs.RowWriter.{RowChange, is_same, wraps, owes_flag, reprint, opening, columns}
 use Rattle.row_drawing.specs.RowWriter.{row_redraw, row_difference, owes_end}
 use Rattle.row_drawing.specs.Scene.{Scene, IsScene, IsReady, IsDrawn, with_row, flags_above}
 use Rattle.row_drawing.specs.Laws.{EachDifferenceLeads}
@@ -29,45 +29,45 @@ use Rattle.row_drawing.proofs.RowEnd.{IsFilled, finish-leads, closing-leads, spa
 
 -- ---- the tests
 
-waits-wraps : (j : Job) (n : ℕ) (p : Pen) → j.above ≡ true → p.pos.row + 1 ≡ j.row → p.pos.col ≡ j.cols → 0 < n
+waits-wraps : (j : RowChange) (n : ℕ) (p : Pen) → j.above ≡ true → p.pos.row + 1 ≡ j.row → p.pos.col ≡ j.cols → 0 < n
     → wraps j n p ≡ true
 waits-wraps j n p above row col some = grind (arith, nat_tests)
 
-pub opening-none : (j : Job) (p : Pen) → owes_flag j p ≡ false → opening j p ≡ skip p
+pub opening-none : (j : RowChange) (p : Pen) → owes_flag j p ≡ false → opening j p ≡ skip p
 unfolding opening
 opening-none j p h = rw h refl
 
-pub opening-some : (j : Job) (p : Pen) (x : CellView) → x ≡ j.new j.start → owes_flag j p ≡ true
+pub opening-some : (j : RowChange) (p : Pen) (x : CellView) → x ≡ j.new j.start → owes_flag j p ≡ true
     → opening j p ≡ (turn j.row >> color x.attrs >> reprint j x) p
 unfolding opening
 opening-some j p x is h = rw (is, h) refl
 
-pub reprint-wide : (j : Job) (x : CellView) (p : Pen) → has_text x ≡ true → x.wide ≡ true
+pub reprint-wide : (j : RowChange) (x : CellView) (p : Pen) → has_text x ≡ true → x.wide ≡ true
     → reprint j x p ≡ (print x false >> (back >> back)) p
 unfolding reprint
 reprint-wide j x p h g = rw (h, g) refl
 
-pub reprint-narrow : (j : Job) (x : CellView) (p : Pen) → has_text x ≡ true → x.wide ≡ false
+pub reprint-narrow : (j : RowChange) (x : CellView) (p : Pen) → has_text x ≡ true → x.wide ≡ false
     → reprint j x p ≡ (print x false >> back) p
 unfolding reprint
 reprint-narrow j x p h g = rw (h, g) refl
 
-pub reprint-some : (j : Job) (x : CellView) (p : Pen) → has_text x ≡ true
+pub reprint-some : (j : RowChange) (x : CellView) (p : Pen) → has_text x ≡ true
     → reprint j x p ≡ (print x false >> (if x.wide then (back >> back) else back)) p
 unfolding reprint
 reprint-some j x p h = rw h refl
 
-pub reprint-empty : (j : Job) (x : CellView) (p : Pen) (b : Bool) → has_text x ≡ false
+pub reprint-empty : (j : RowChange) (x : CellView) (p : Pen) (b : Bool) → has_text x ≡ false
     → b ≡ wipe_unflags j.cols j.old 0 1 → reprint j x p ≡ (space >> back >> erasing 1 b) p
 unfolding reprint
 reprint-empty j x p b h e = rw (e, h) refl
 
 -- ---- nothing is owed
 
-not-owed : (s : Scene) (p : Pen) → IsScene s → IsReady s p → owes_flag s.job p ≡ false
-    → Standing s s.flags p (edge p.erase (past s.job 0))
+not-owed : (s : Scene) (p : Pen) → IsScene s → IsReady s p → owes_flag s.row_change p ≡ false
+    → Standing s s.flags p (edge p.erase (past s.row_change 0))
 not-owed s p h ready off =
-    let j = s.job in
+    let j = s.row_change in
     elim (cases_Bool j.above) [
       | inr none ↦ inl (inl (sym (ap (λ b. cond b (update s.flags (j.row - 1) true) s.flags) none)))
       | inl above ↦ elim (cases_Bool j.was_above) [
@@ -95,19 +95,19 @@ not-owed s p h ready off =
 -- ---- the first cell once more
 
 -- over itself, a wide cell empties nothing else
-same_unflags : (s : Scene) → IsScene s → s.job.old 0 ≡ s.job.new 0
-    → put_unflags s.job.cols s.job.old 0 (s.job.new 0) ≡ false
+same_unflags : (s : Scene) → IsScene s → s.row_change.old 0 ≡ s.row_change.new 0
+    → put_unflags s.row_change.cols s.row_change.old 0 (s.row_change.new 0) ≡ false
 same_unflags s h same =
     let next = h.old.paired.next 0 in
     let blank = h.old.paired.blank 1 in
     grind (arith, nat_tests, next, blank)
 
 -- a space is printed over the empty cell and erased
-spaced-line : (s : Scene) (b : Attrs) → IsScene s → s.job.old 0 ≡ s.job.new 0
-    → s.job.new 0 ≡ empty_cell (s.job.new 0).attrs
-    → Line s.job.old s.job.new 0 (wiped (put s.job.old 0 (cell_of 32 b) b) 0 1 (s.job.new 0).attrs)
+spaced-line : (s : Scene) (b : Attrs) → IsScene s → s.row_change.old 0 ≡ s.row_change.new 0
+    → s.row_change.new 0 ≡ empty_cell (s.row_change.new 0).attrs
+    → Line s.row_change.old s.row_change.new 0 (wiped (put s.row_change.old 0 (cell_of 32 b) b) 0 1 (s.row_change.new 0).attrs)
 spaced-line s b h same is =
-    let j = s.job in
+    let j = s.row_change in
     let narrow : (j.old 0).wide ≡ false = ap (λ (x : CellView). x.wide) (same ∙ is) in
     let single = h.old.paired.next 0 ∙ narrow in
     let space = space_narrow b in
@@ -120,20 +120,20 @@ spaced-line s b h same is =
 
 -- no column is drawn yet
 begins : (s : Scene) (F : ℕ → Bool) (f : ℕ → CellView) (r k : ℕ) (a : Attrs) (lost : Bool) → IsScene s → IsProper a
-    → Line s.job.old s.job.new 0 f → Standing s F (pen r k a None lost) (past s.job 0)
+    → Line s.row_change.old s.row_change.new 0 f → Standing s F (pen r k a None lost) (past s.row_change 0)
     → At s 0 (pen r k a None lost) (with_row s f F r k a)
 begins s F f r k a lost h ha l standing =
-    at-row F f ha (subst (λ m. Line s.job.old s.job.new m f) (sym (past-whole s.job 0 h.new.paired.first)) l) tt
+    at-row F f ha (subst (λ m. Line s.row_change.old s.row_change.new m f) (sym (past-whole s.row_change 0 h.new.paired.first)) l) tt
     standing
 
 module _ (s : Scene) (h : IsScene s) (C : ℕ → Type 0) (S : ℕ → ℕ → Type 0) (o : IsRoom s C S) where
-  reprints-text : (r k : ℕ) (a : Attrs) (lost : Bool) → IsProper a → C 0 → s.job.old 0 ≡ s.job.new 0
-      → has_text (s.job.new 0) ≡ true → WrapsNow s (span_of (s.job.new 0)) (pen r k a None lost) 0
-      → Flags (update s.flags r true) (flags_above s) s.job.row lost
-      → After S s 0 (turn s.job.row >> color (s.job.new 0).attrs >> reprint s.job (s.job.new 0))
-      (pen r k a None lost) (with_row s s.job.old s.flags r k a)
+  reprints-text : (r k : ℕ) (a : Attrs) (lost : Bool) → IsProper a → C 0 → s.row_change.old 0 ≡ s.row_change.new 0
+      → has_text (s.row_change.new 0) ≡ true → WrapsNow s (span_of (s.row_change.new 0)) (pen r k a None lost) 0
+      → Flags (update s.flags r true) (flags_above s) s.row_change.row lost
+      → After S s 0 (turn s.row_change.row >> color (s.row_change.new 0).attrs >> reprint s.row_change (s.row_change.new 0))
+      (pen r k a None lost) (with_row s s.row_change.old s.flags r k a)
   reprints-text r k a lost ha here same some now kept =
-      let j = s.job in
+      let j = s.row_change in
       let x = j.new 0 in
       let fits = room-for s h 0 h.some_col in
       let begun = line-begun j.old j.new h.old.paired.first in
@@ -163,13 +163,13 @@ module _ (s : Scene) (h : IsScene s) (C : ℕ → Type 0) (S : ℕ → ℕ → T
       (begins s G j.old j.row 0 x.attrs (lost || false) h (h.proper 0) begun
       (inl (flags-step G (flags_above s) j.row lost false false kept (λ q. q))))
 
-  reprints-empty : (r k : ℕ) (a : Attrs) (lost : Bool) → IsProper a → C 0 → s.job.old 0 ≡ s.job.new 0
-      → has_text (s.job.new 0) ≡ false → WrapsNow s (span_of (s.job.new 0)) (pen r k a None lost) 0
-      → Flags (update s.flags r true) (flags_above s) s.job.row lost
-      → After S s 0 (turn s.job.row >> color (s.job.new 0).attrs >> reprint s.job (s.job.new 0))
-      (pen r k a None lost) (with_row s s.job.old s.flags r k a)
+  reprints-empty : (r k : ℕ) (a : Attrs) (lost : Bool) → IsProper a → C 0 → s.row_change.old 0 ≡ s.row_change.new 0
+      → has_text (s.row_change.new 0) ≡ false → WrapsNow s (span_of (s.row_change.new 0)) (pen r k a None lost) 0
+      → Flags (update s.flags r true) (flags_above s) s.row_change.row lost
+      → After S s 0 (turn s.row_change.row >> color (s.row_change.new 0).attrs >> reprint s.row_change (s.row_change.new 0))
+      (pen r k a None lost) (with_row s s.row_change.old s.flags r k a)
   reprints-empty r k a lost ha here same none now kept =
-      let j = s.job in
+      let j = s.row_change in
       let x = j.new 0 in
       let is : x ≡ empty_cell x.attrs = empty-is x (h.cells 0) none h.new.paired.first in
       let span : span_of x ≡ 1 = span-narrow x (ap (λ (y : CellView). y.wide) is) in
@@ -193,10 +193,10 @@ module _ (s : Scene) (h : IsScene s) (C : ℕ → Type 0) (S : ℕ → ℕ → T
       (inl (flags-step G (flags_above s) j.row lost b loses kept (wipe-loses j.cols j.old g 0 1 half))))
 
   opening-at : (r k : ℕ) (a : Attrs) (lost : Bool) → IsProper a → IsReady s (pen r k a None lost)
-      → (owes_flag s.job (pen r k a None lost) ≡ true → C 0)
-      → After S s 0 (opening s.job) (pen r k a None lost) (with_row s s.job.old s.flags r k a)
+      → (owes_flag s.row_change (pen r k a None lost) ≡ true → C 0)
+      → After S s 0 (opening s.row_change) (pen r k a None lost) (with_row s s.row_change.old s.flags r k a)
   opening-at r k a lost ha ready first =
-      let j = s.job in
+      let j = s.row_change in
       let p = pen r k a None lost in
       elim (cases_Bool (owes_flag j p)) [
         | inr off ↦ ends (reads-as (opening-none j p off) reads-skip) (begins s s.flags j.old r k a lost h ha
@@ -220,32 +220,32 @@ module _ (s : Scene) (h : IsScene s) (C : ℕ → Type 0) (S : ℕ → ℕ → T
             ]))
       ]
 
-  opening-leads : (p : Pen) → IsReady s p → (owes_flag s.job p ≡ true → C 0)
-      → After S s 0 (opening s.job) p (with_row s s.job.old s.flags p.pos.row p.pos.col p.attrs)
+  opening-leads : (p : Pen) → IsReady s p → (owes_flag s.row_change p ≡ true → C 0)
+      → After S s 0 (opening s.row_change) p (with_row s s.row_change.old s.flags p.pos.row p.pos.col p.attrs)
   opening-leads p ready first =
       let P : Option Erase → Type 0 = λ e. IsReady s (pen p.pos.row p.pos.col p.attrs e p.lost)
-      → After S s 0 (opening s.job) (pen p.pos.row p.pos.col p.attrs e p.lost)
-      (with_row s s.job.old s.flags p.pos.row p.pos.col p.attrs) in
+      → After S s 0 (opening s.row_change) (pen p.pos.row p.pos.col p.attrs e p.lost)
+      (with_row s s.row_change.old s.flags p.pos.row p.pos.col p.attrs) in
       let base : P None = λ q. opening-at p.pos.row p.pos.col p.attrs p.lost ready.proper q first in
       (subst P (sym ready.closed) base) ready
 
   -- every column is drawn
-  pub redraw-filled : (p : Pen) → IsReady s p → (owes_flag s.job p ≡ true → C 0)
-      → Ends S s (IsFilled s) (row_redraw s.job s.job.cols) p
-      (with_row s s.job.old s.flags p.pos.row p.pos.col p.attrs)
+  pub redraw-filled : (p : Pen) → IsReady s p → (owes_flag s.row_change p ≡ true → C 0)
+      → Ends S s (IsFilled s) (row_redraw s.row_change s.row_change.cols) p
+      (with_row s s.row_change.old s.flags p.pos.row p.pos.col p.attrs)
   unfolding row_redraw
   redraw-filled p ready first =
       let begun = opening-leads p ready first in
-      let drawn : Ends S s (At s s.job.cols) (opening s.job >> columns s.job s.job.cols) p
-      (with_row s s.job.old s.flags p.pos.row p.pos.col p.attrs) =
-      ends-next _ begun.stays (columns-lead s h C S o _ _ begun.there s.job.cols (omega arith)) in
+      let drawn : Ends S s (At s s.row_change.cols) (opening s.row_change >> columns s.row_change s.row_change.cols) p
+      (with_row s s.row_change.old s.flags p.pos.row p.pos.col p.attrs) =
+      ends-next _ begun.stays (columns-lead s h C S o _ _ begun.there s.row_change.cols (omega arith)) in
       ends-next _ drawn.stays (finish-leads s h C S o _ _ drawn.there)
 
   -- and the row has its flag
-  pub difference-drawn : (p : Pen) → IsReady s p → (owes_flag s.job p ≡ true → C 0)
-      → (owes_end s.job (row_redraw s.job s.job.cols p).pen ≡ true → C (s.job.cols - 1))
-      → Ends S s (IsDrawn s) (row_difference s.job s.job.cols) p
-      (with_row s s.job.old s.flags p.pos.row p.pos.col p.attrs)
+  pub difference-drawn : (p : Pen) → IsReady s p → (owes_flag s.row_change p ≡ true → C 0)
+      → (owes_end s.row_change (row_redraw s.row_change s.row_change.cols p).pen ≡ true → C (s.row_change.cols - 1))
+      → Ends S s (IsDrawn s) (row_difference s.row_change s.row_change.cols) p
+      (with_row s s.row_change.old s.flags p.pos.row p.pos.col p.attrs)
   unfolding row_difference
   difference-drawn p ready first last =
       let filled = redraw-filled p ready first in

@@ -18,7 +18,7 @@ use Rattle.vt100_cells.proofs.ListLemmas.{Bounded-row}
 use Rattle.row_drawing.specs.declared.pen.Pen.{Pen}
 use Rattle.row_drawing.specs.Drawing.{behind, BeginsRun, GoesTo, IsAt, JoinsRun}
 use Rattle.row_drawing.specs.Writer.{Writer, ◌>>◌, goto, turn, color, print, erasing, marking}
-use Rattle.row_drawing.specs.RowWriter.{Job, arrive, column, last_col_of, unflag}
+use Rattle.row_drawing.specs.RowWriter.{RowChange, arrive, column, last_col_of, unflag}
 use Rattle.row_drawing.specs.Writes.{Wrote, Appended}
 use Rattle.row_drawing.proofs.RowLeads.{arrive-pen, arrive-goto}
 use Rattle.row_drawing.proofs.Columns.{column-is_half, column-is_whole, draw-full, flush-is_none}
@@ -68,7 +68,7 @@ unflagged_col {p = p} x w =
     (λ (f : Writer). (f p).pen.pos.col ≡ p.pos.col) (λ _. refl) (λ _. refl)
 
 -- the attributes are set
-pub drawn_here : {p q r : Pen} {s t u : List ℕ} (j : Job) (c n : ℕ) (a : Attrs) → Wrote (arrive j c n) p s q t
+pub drawn_here : {p q r : Pen} {s t u : List ℕ} (j : RowChange) (c n : ℕ) (a : Attrs) → Wrote (arrive j c n) p s q t
     → Wrote (color a) q t r u → IsAt j c r
 unfolding color
 drawn_here {p = p} j c n a e f =
@@ -83,19 +83,19 @@ span_fits cells n x k is few paired inside here =
     rw is (grind (arith, nat_tests, within))
 
 -- the last cell is in the row
-pub last_inside : (j : Job) (c : ℕ) → 0 < j.cols → c ≡ last_col_of j → c < j.cols
+pub last_inside : (j : RowChange) (c : ℕ) → 0 < j.cols → c ≡ last_col_of j → c < j.cols
 last_inside j c some e = rw e (grind (arith, nat_tests))
 
 -- ---- a column that is drawn
 
-wrote_arrive_here : (j : Job) (c n : ℕ) (p : Pen) (s : List ℕ) → IsAt j c p → Wrote (arrive j c n) p s p s
+wrote_arrive_here : (j : RowChange) (c n : ℕ) (p : Pen) (s : List ℕ) → IsAt j c p → Wrote (arrive j c n) p s p s
 wrote_arrive_here j c n p s here =
     let below = here.row in
     wrote_by (arrive-goto j c n p (grind (arith, nat_tests)))
     (goto_here p (record { row = j.row; col = c }) s (λ i. record { row = here.row i; col = here.col i }))
 
 -- the cursor moves there, the attributes are set, and then the text is printed
-pub wrote_column_on : {p v r q : Pen} {s w u t : List ℕ} (j : Job) (c m : ℕ) (x : CellView) → x ≡ j.new c
+pub wrote_column_on : {p v r q : Pen} {s w u t : List ℕ} (j : RowChange) (c m : ℕ) (x : CellView) → x ≡ j.new c
     → m ≡ span_of x → BeginsRun j c p → Wrote (arrive j c m) p s v w → Wrote (color x.attrs) v w r u
     → Wrote (print x false) r u q t → Wrote (column j c) p s q t
 wrote_column_on {p = p} {s = s} j c m x is span on arrived colored printed =
@@ -108,7 +108,7 @@ unfolding color
 colored_attrs a h = sym (ap (λ (y : Pen). y.attrs) h.pen_is)
 
 -- moving the cursor there leaves the attributes
-pub arrived_attrs : {p v : Pen} {s w : List ℕ} (j : Job) (c n : ℕ) → Wrote (arrive j c n) p s v w → v.attrs ≡ p.attrs
+pub arrived_attrs : {p v : Pen} {s w : List ℕ} (j : RowChange) (c n : ℕ) → Wrote (arrive j c n) p s v w → v.attrs ≡ p.attrs
 arrived_attrs {p = p} j c n h = ap (λ (y : Pen). y.attrs) (sym h.pen_is ∙ arrive-pen j c n p)
 
 -- ---- the text of one cell
@@ -134,12 +134,12 @@ unfolding print
 pass-attrs x p q e = ap (λ (r : Pen). r.attrs) e
 
 -- it is drawn with the attributes of those before it
-pub joined_attrs : {j : Job} {c : ℕ} {p : Pen} {a : Attrs} (x : CellView) → x ≡ j.new c → JoinsRun j c p a
+pub joined_attrs : {j : RowChange} {c : ℕ} {p : Pen} {a : Attrs} (x : CellView) → x ≡ j.new c → JoinsRun j c p a
     → a ≡ x.attrs
 joined_attrs {a = a} x is h = sym (attrs_eq-true _ a h.attrs) ∙ ap (λ (y : CellView). y.attrs) (sym is)
 
 -- a cell joins the run
-pub wrote_joined : {j : Job} {c : ℕ} {p q : Pen} {a : Attrs} {s t : List ℕ} (x : CellView) → x ≡ j.new c → p.attrs ≡ a
+pub wrote_joined : {j : RowChange} {c : ℕ} {p q : Pen} {a : Attrs} {s t : List ℕ} (x : CellView) → x ≡ j.new c → p.attrs ≡ a
     → JoinsRun j c p a → Wrote (print x false) p s q t → Wrote (column j c) p s q t
 wrote_joined {j = j} {c = c} {p = p} {s = s} x is drawn h printed =
     wrote_column_on j c (span_of x) x is refl h.begins (wrote_arrive_here j c (span_of x) p s h.here)
@@ -147,18 +147,18 @@ wrote_joined {j = j} {c = c} {p = p} {s = s} x is drawn h printed =
 
 -- ---- several columns
 
-pub goes_none : {j : Job} {n : ℕ} {p : Pen} {s : List ℕ} → GoesTo j n n p s p s
+pub goes_none : {j : RowChange} {n : ℕ} {p : Pen} {s : List ℕ} → GoesTo j n n p s p s
 goes_none = record { goes = λ p0 s0 w. w }
 
-pub goes_then : {j : Job} {n m k : ℕ} {p q r : Pen} {s t u : List ℕ} → GoesTo j n m p s q t → GoesTo j m k q t r u
+pub goes_then : {j : RowChange} {n m k : ℕ} {p q r : Pen} {s t u : List ℕ} → GoesTo j n m p s q t → GoesTo j m k q t r u
     → GoesTo j n k p s r u
 goes_then a b = record { goes = λ p0 s0 w. b.goes p0 s0 (a.goes p0 s0 w) }
 
-goes_next : {j : Job} {n m : ℕ} {p q r : Pen} {s t u : List ℕ} → GoesTo j n m p s q t
+goes_next : {j : RowChange} {n m : ℕ} {p q r : Pen} {s t u : List ℕ} → GoesTo j n m p s q t
     → Wrote (column j (j.start + m)) q t r u → GoesTo j n (m + 1) p s r u
 goes_next {j = j} {m = m} a b = record { goes = λ p0 s0 w. wrote_columns_next j m (a.goes p0 s0 w) b }
 
-second_half : (j : Job) (m : ℕ) → IsPaired j.new → (j.new (j.start + m)).wide ≡ true
+second_half : (j : RowChange) (m : ℕ) → IsPaired j.new → (j.new (j.start + m)).wide ≡ true
     → ((j.new (j.start + (m + 1))).continuation && not (j.start + (m + 1) == j.start)) ≡ true
 second_half j m paired wide =
     let after : j.start + (m + 1) ≡ j.start + m + 1 = omega arith in
@@ -168,7 +168,7 @@ second_half j m paired wide =
     rw (next, apart) refl
 
 -- one cell more, with the second half of a wide one
-pub goes_on : {j : Job} {n m : ℕ} {p q r : Pen} {s t u : List ℕ} (i k : ℕ) (x : CellView) → i ≡ behind x m k
+pub goes_on : {j : RowChange} {n m : ℕ} {p q r : Pen} {s t u : List ℕ} (i k : ℕ) (x : CellView) → i ≡ behind x m k
     → IsPaired j.new → x ≡ j.new (j.start + m) → GoesTo j n m p s q t → Wrote (column j (j.start + m)) q t r u
     → GoesTo j n i p s r u
 goes_on {j = j} {n = n} {m = m} {p = p} {r = r} {s = s} {u = u} i k x behind_is paired is a b =
@@ -187,7 +187,7 @@ pub behind-within : (x : CellView) (n k i : ℕ) → i ≡ behind x n k → n < 
 behind-within x n k i e inside = rw e (grind (arith, nat_tests), grind (arith, nat_tests))
 
 -- the cursor is behind it
-pub here_behind : (j : Job) (n k i : ℕ) (p q : Pen) (x : CellView) → i ≡ behind x n k → q ≡ (print x false p).pen
+pub here_behind : (j : RowChange) (n k i : ℕ) (p q : Pen) (x : CellView) → i ≡ behind x n k → q ≡ (print x false p).pen
     → IsAt j (j.start + n) p → i < k → IsAt j (j.start + i) q
 unfolding print
 here_behind j n k i p q x e pen here inside =

@@ -10,7 +10,7 @@ use Rattle.vt100_forms.specs.Form.{changed_color, change, moves}
 use Rattle.vt100_forms.specs.Length.{IsByteOption, HasSmallNumbers}
 use Rattle.row_drawing.specs.declared.pen.Pen.{Pen}
 use Rattle.row_drawing.specs.Writer.{Writer, skip, goto, turn, color, print, space, back, erasing, clearing, marking}
-use Rattle.row_drawing.specs.RowWriter.{Job, last_col_of, row_redraw, row_difference}
+use Rattle.row_drawing.specs.RowWriter.{RowChange, last_col_of, row_redraw, row_difference}
 use Rattle.row_drawing.proofs.RowForms.{moves-cases, change-cases, EachKeeps, keeps-redraw, keeps-difference}
 use Rattle.row_drawing.specs.Small.{AreSmall, SmallErase, IsSmallPen, IsSmallJob, IsSmallDrawn, EachNumberIsSmall}
 
@@ -36,12 +36,12 @@ small-skip p s = record { forms = tt; pen = s }
 
 -- ---- a row
 
-last-within : (j : Job) → IsSmallJob j → last_col_of j < 2 ^ 16
+last-within : (j : RowChange) → IsSmallJob j → last_col_of j < 2 ^ 16
 last-within j h =
     cond_both (j.new (j.cols - 1)).continuation (j.cols - 2) (j.cols - 1) (λ c. c < 2 ^ 16)
     (λ _. omega (arith, h.cols)) (λ _. omega (arith, h.cols))
 
-each-small : (j : Job) → IsSmallJob j → EachKeeps HasSmallNumbers IsSmallPen (λ c. c < 2 ^ 16) j
+each-small : (j : RowChange) → IsSmallJob j → EachKeeps HasSmallNumbers IsSmallPen (λ c. c < 2 ^ 16) j
 unfolding goto turn color print space back erasing clearing marking IsSmallPen SmallErase
 each-small j h = record {
   goes = λ c l. record { at = λ p s. (moves-small p.pos (record { row = j.row; col = c }) h.row l, s) };
@@ -60,13 +60,13 @@ each-small j h = record {
   last = last-within j h;
 }
 
-pub small-row_redraw : (j : Job) (n : ℕ) → IsSmallJob j → j.start + n ≤ j.cols → Small (row_redraw j n)
+pub small-row_redraw : (j : RowChange) (n : ℕ) → IsSmallJob j → j.start + n ≤ j.cols → Small (row_redraw j n)
 small-row_redraw j n h l p s =
     let cols = h.cols in
     let kept = (keeps-redraw _ _ _ j (each-small j h) n (λ c low. omega (arith, low, l, cols))).at p s in
     record { forms = kept.0; pen = kept.1 }
 
-pub small-row_difference : (j : Job) (n : ℕ) → IsSmallJob j → j.start + n ≤ j.cols → Small (row_difference j n)
+pub small-row_difference : (j : RowChange) (n : ℕ) → IsSmallJob j → j.start + n ≤ j.cols → Small (row_difference j n)
 small-row_difference j n h l p s =
     let cols = h.cols in
     let kept = (keeps-difference _ _ _ j (each-small j h) n (λ c low. omega (arith, low, l, cols))).at p s in

@@ -8,7 +8,7 @@ use Rattle.terminal_model.proofs.PlainText.{all-append}
 use Rattle.vt100_cells.specs.Cell.{CellView, has_text}
 use Rattle.row_drawing.specs.declared.pen.Pen.{Pen}
 use Rattle.row_drawing.specs.Writer.{Writer, skip, goto, turn, color, print, space, back, erasing, clearing, marking}
-use Rattle.row_drawing.specs.RowWriter.{Job, row_redraw, row_difference}
+use Rattle.row_drawing.specs.RowWriter.{RowChange, row_redraw, row_difference}
 use Rattle.row_drawing.specs.Texts.{IsDrawing, AllDrawing, IsTextOf}
 use Rattle.row_drawing.specs.Laws.{EachTextIsDrawn}
 use Rattle.row_drawing.proofs.RowForms.{moves-cases, change-cases, EachKeeps, keeps-redraw, keeps-difference}
@@ -41,7 +41,7 @@ pub record AreTexts (P : List ℕ → Type 0) (f : ℕ → CellView) : Type 0 wh
   pub space : P (32 ∷ [])
   pub cells : (k : ℕ) → has_text (f k) ≡ true → P (f k).text
 
-each-draws : (P : List ℕ → Type 0) (j : Job) → AreTexts P j.new
+each-draws : (P : List ℕ → Type 0) (j : RowChange) → AreTexts P j.new
     → EachKeeps (IsDrawing P) (λ _. Unit {0}) (λ _. Unit {0}) j
 unfolding goto turn color print space back erasing clearing marking
 each-draws P j h = record {
@@ -59,10 +59,10 @@ each-draws P j h = record {
   last = tt;
 }
 
-pub draws-row_redraw : (P : List ℕ → Type 0) (j : Job) (n : ℕ) → AreTexts P j.new → Draws P (row_redraw j n)
+pub draws-row_redraw : (P : List ℕ → Type 0) (j : RowChange) (n : ℕ) → AreTexts P j.new → Draws P (row_redraw j n)
 draws-row_redraw P j n h p = ((keeps-redraw _ _ _ j (each-draws P j h) n (λ _ _. tt)).at p tt).0
 
-pub draws-row_difference : (P : List ℕ → Type 0) (j : Job) (n : ℕ) → AreTexts P j.new → Draws P (row_difference j n)
+pub draws-row_difference : (P : List ℕ → Type 0) (j : RowChange) (n : ℕ) → AreTexts P j.new → Draws P (row_difference j n)
 draws-row_difference P j n h p = ((keeps-difference _ _ _ j (each-draws P j h) n (λ _ _. tt)).at p tt).0
 
 row-texts : (f : ℕ → CellView) → AreTexts (IsTextOf f) f

@@ -12,7 +12,7 @@ use Rattle.std.proofs.lemmas.Bool.{and_parts, cases_lt, eqb-true, ne_eqb, eq-eqb
 use Rattle.vt100_cells.specs.Line.{span_of}
 use Rattle.row_drawing.specs.declared.pen.Pen.{Pen}
 use Rattle.row_drawing.specs.Writer.{Drawn, Writer, ◌>>◌, skip, goto, color, print, back, erasing}
-use Rattle.row_drawing.specs.RowWriter.{Job, column, columns}
+use Rattle.row_drawing.specs.RowWriter.{RowChange, column, columns}
 use Rattle.row_drawing.specs.Writes.{IsBegun, Wrote, Appended, Refused, Writes}
 
 pub bytes_of-joined : (fs gs : List Form) → bytes_of (fs ++ gs) ≡ bytes_of fs ++ bytes_of gs
@@ -205,12 +205,12 @@ module _ {Z : Type 0} where
 
 -- ---- several columns
 
-pub wrote_columns_none : (j : Job) (p : Pen) (s : List ℕ) → Wrote (columns j 0) p s p s
+pub wrote_columns_none : (j : RowChange) (p : Pen) (s : List ℕ) → Wrote (columns j 0) p s p s
 unfolding columns
 wrote_columns_none j p s = wrote_skip p s
 
 -- one column more
-pub wrote_columns_next : {p q r : Pen} {s t u : List ℕ} (j : Job) (n : ℕ) → Wrote (columns j n) p s q t
+pub wrote_columns_next : {p q r : Pen} {s t u : List ℕ} (j : RowChange) (n : ℕ) → Wrote (columns j n) p s q t
     → Wrote (column j (j.start + n)) q t r u → Wrote (columns j (n + 1)) p s r u
 unfolding columns
 wrote_columns_next {p = p} {r = r} {s = s} {u = u} j n a b =
@@ -219,7 +219,7 @@ wrote_columns_next {p = p} {r = r} {s = s} {u = u} j n a b =
     subst (λ k. Wrote (columns j k) p s r u) next both
 
 -- a prefix of what fewer columns append is one of what more columns do
-began_columns : {p : Pen} {s t : List ℕ} (j : Job) (n m : ℕ) → n ≤ m → Began (columns j n) p s t
+began_columns : {p : Pen} {s t : List ℕ} (j : RowChange) (n m : ℕ) → n ≤ m → Began (columns j n) p s t
     → Began (columns j m) p s t
 unfolding columns
 began_columns {p = p} {s = s} {t = t} j n zero le h =
@@ -231,12 +231,12 @@ began_columns {p = p} {s = s} {t = t} j n (suc m) le h =
     ]
 
 -- all of fewer columns
-pub began_columns_all : {p q : Pen} {s t : List ℕ} (j : Job) (n m : ℕ) → n ≤ m → Wrote (columns j n) p s q t
+pub began_columns_all : {p q : Pen} {s t : List ℕ} (j : RowChange) (n m : ℕ) → n ≤ m → Wrote (columns j n) p s q t
     → Began (columns j m) p s t
 began_columns_all j n m le h = began_columns j n m le (began_all h)
 
 -- a column is refused
-refused_columns : {Z : Type 0} {p : Pen} {s t : String Z} (j : Job) (n m : ℕ) → n ≤ m → Refused (columns j n) p s t
+refused_columns : {Z : Type 0} {p : Pen} {s t : String Z} (j : RowChange) (n m : ℕ) → n ≤ m → Refused (columns j n) p s t
     → Refused (columns j m) p s t
 unfolding columns
 refused_columns {p = p} {s = s} {t = t} j n zero le h =
@@ -247,7 +247,7 @@ refused_columns {p = p} {s = s} {t = t} j n (suc m) le h =
       | inr after ↦ (let all : n ≡ suc m = omega (arith, le, after) in subst (λ k. Refused (columns j k) p s t) all h)
     ]
 
-pub refused_columns_at : {Z : Type 0} {p q : Pen} {s t u : String Z} (j : Job) (n m : ℕ) → n < m
+pub refused_columns_at : {Z : Type 0} {p q : Pen} {s t u : String Z} (j : RowChange) (n m : ℕ) → n < m
     → Appended (columns j n) p s q t → Refused (column j (j.start + n)) q t u → Refused (columns j m) p s u
 unfolding columns
 refused_columns_at {p = p} {s = s} {u = u} j n m inside a b =
@@ -255,7 +255,7 @@ refused_columns_at {p = p} {s = s} {u = u} j n m inside a b =
     refused_columns j (suc n) m (omega (arith, inside)) next
 
 -- the bytes of the columns so far are appended, or none of those that were still to come
-pub began_columns_moved : {p q : Pen} {s t u : List ℕ} (j : Job) (n m : ℕ) (r : List ℕ) → n ≤ m
+pub began_columns_moved : {p q : Pen} {s t u : List ℕ} (j : RowChange) (n m : ℕ) (r : List ℕ) → n ≤ m
     → Wrote (columns j n) p s q (t ++ r) → Began (columns j m) p s t → (u ≡ t) ⊎ (u ≡ t ++ r)
     → Began (columns j m) p s u
 began_columns_moved {p = p} {s = s} j n m r le h begun moved =

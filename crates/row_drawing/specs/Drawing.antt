@@ -8,12 +8,12 @@ use Rattle.vt100_cells.specs.Cell.{CellView, has_text}
 use Rattle.vt100_cells.specs.Cells.{cell_at}
 use Rattle.row_drawing.specs.declared.drawing.Drawing.{Drawing}
 use Rattle.row_drawing.specs.declared.pen.Pen.{Pen}
-use Rattle.row_drawing.specs.RowWriter.{Job, is_same, column, columns}
+use Rattle.row_drawing.specs.RowWriter.{RowChange, is_same, column, columns}
 use Rattle.row_drawing.specs.Writer.{skip}
 use Rattle.row_drawing.specs.Writes.{Wrote}
 
-abbrev pub job_of : Drawing → Job
-job_of d = record {
+abbrev pub row_change_of : Drawing → RowChange
+row_change_of d = record {
   cols = length d.cells.now;
   row = d.row;
   start = d.start;
@@ -35,17 +35,17 @@ pub record IsSettled (d : Drawing) (p : Pen) : Type 0 where
 
 -- Nothing is written for the columns from a up to b: the terminal shows their cells already, or they are pending, to be
 -- erased with those before them.
-abbrev pub AreQuiet : Job → Pen → ℕ → ℕ → Type 0
+abbrev pub AreQuiet : RowChange → Pen → ℕ → ℕ → Type 0
 AreQuiet j p a b = (c : ℕ) → a ≤ c → c < b → column j c p ≡ skip p
 
 -- If drawing the first n columns ends with the pen p and the text s, drawing the first m ends with the pen q and the
 -- text t.
-pub record GoesTo (j : Job) (n m : ℕ) (p : Pen) (s : List ℕ) (q : Pen) (t : List ℕ) : Type 0 where
+pub record GoesTo (j : RowChange) (n m : ℕ) (p : Pen) (s : List ℕ) (q : Pen) (t : List ℕ) : Type 0 where
   pub goes : (p0 : Pen) (s0 : List ℕ) → Wrote (columns j n) p0 s0 p s → Wrote (columns j m) p0 s0 q t
 
 -- The cell at column c can begin a run of texts: its text has at most four bytes, differs, and keeps the row's flag,
 -- and no column is pending.
-pub record BeginsRun (j : Job) (c : ℕ) (p : Pen) : Type 0 where
+pub record BeginsRun (j : RowChange) (c : ℕ) (p : Pen) : Type 0 where
   pub filled : has_text (j.new c) ≡ true
   pub closed : p.erase ≡ None
   pub whole : ((j.new c).continuation && not (c == j.start)) ≡ false
@@ -54,13 +54,13 @@ pub record BeginsRun (j : Job) (c : ℕ) (p : Pen) : Type 0 where
   pub keeps : put_unflags j.cols j.old c (j.new c) ≡ false
 
 -- the cursor is at column c of the row
-pub record IsAt (j : Job) (c : ℕ) (p : Pen) : Type 0 where
+pub record IsAt (j : RowChange) (c : ℕ) (p : Pen) : Type 0 where
   pub row : p.pos.row ≡ j.row
   pub col : p.pos.col ≡ c
 
 -- The cell at column c can join a run of texts with these attributes: it could begin one, the cursor is there, and its
 -- attributes are equal.
-pub record JoinsRun (j : Job) (c : ℕ) (p : Pen) (a : Attrs) : Type 0 where
+pub record JoinsRun (j : RowChange) (c : ℕ) (p : Pen) (a : Attrs) : Type 0 where
   pub begins : BeginsRun j c p
   pub here : IsAt j c p
   pub attrs : attrs_eq (j.new c).attrs a ≡ true

@@ -7,7 +7,7 @@ use Rattle.vt100_forms.specs.Form.{Sgr, no_change}
 use Rattle.vt100_cells.specs.Cell.{CellView, empty_cell, default_cell, continuation_cell, cell_of}
 use Rattle.vt100_cells.specs.Cells.{cell_at}
 use Rattle.row_drawing.specs.declared.pen.Pen.{Pen}
-use Rattle.row_drawing.specs.RowWriter.{Job, row_redraw, row_difference}
+use Rattle.row_drawing.specs.RowWriter.{RowChange, row_redraw, row_difference}
 
 abbrev pub letters : List ℕ → List CellView
 letters cs = map (λ c. cell_of c default_attrs) cs
@@ -16,7 +16,7 @@ abbrev pub at_start : ℕ → ℕ → Pen
 at_start r c = record { pos = record { row = r; col = c }; attrs = default_attrs; erase = None; lost = false }
 
 -- row 1 of a screen
-abbrev pub row_job : ℕ → List CellView → List CellView → Job
+abbrev pub row_job : ℕ → List CellView → List CellView → RowChange
 row_job cols old new = record {
   cols = cols;
   row = 1;
@@ -47,11 +47,11 @@ abbrev pub reddened : Form
 reddened = Sgr (record no_change { bgcolor = Some (Idx 1) })
 
 -- a row of four columns that wraps, as the earlier one did
-abbrev pub goes_on : List CellView → List CellView → Job
+abbrev pub goes_on : List CellView → List CellView → RowChange
 goes_on old new = record (row_job 4 old new) { wrapped = true; was_wrapped = true }
 
 -- a row whose cells stay
-abbrev pub kept : Job
+abbrev pub kept : RowChange
 kept = row_job 3 (letters (codes "abc")) (letters (codes "abc"))
 
 pub record EachExampleIsWritten : Type 0 where

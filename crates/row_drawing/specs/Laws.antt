@@ -7,7 +7,7 @@ use Rattle.terminal_model.specs.Touch.{Within}
 use Rattle.terminal_model.specs.Local.{IsNear, IsLocal}
 use Rattle.row_drawing.specs.declared.pen.Pen.{Pen}
 use Rattle.row_drawing.specs.Writer.{skip}
-use Rattle.row_drawing.specs.RowWriter.{Job, IsRowShown, row_redraw, row_difference}
+use Rattle.row_drawing.specs.RowWriter.{RowChange, IsRowShown, row_redraw, row_difference}
 use Rattle.row_drawing.specs.Texts.{AllDrawing, IsTextOf}
 use Rattle.row_drawing.specs.Scene.{Scene, IsScene, IsReady, IsDrawn, scene_size, with_row}
 
@@ -15,37 +15,37 @@ use Rattle.row_drawing.specs.Scene.{Scene, IsScene, IsReady, IsDrawn, scene_size
 -- flag of the row above.
 abbrev pub EachDifferenceLeads : Type 0
 EachDifferenceLeads = (s : Scene) (p : Pen) → IsScene s → IsReady s p
-    → IsDrawn s (row_difference s.job s.job.cols p).pen (run (scene_size s) (row_difference s.job s.job.cols p).forms
-    (with_row s s.job.old s.flags p.pos.row p.pos.col p.attrs))
+    → IsDrawn s (row_difference s.row_change s.row_change.cols p).pen (run (scene_size s) (row_difference s.row_change s.row_change.cols p).forms
+    (with_row s s.row_change.old s.flags p.pos.row p.pos.col p.attrs))
 
 -- the same of the redraw, if the earlier row has default cells and no flag
 abbrev pub EachRedrawLeads : Type 0
-EachRedrawLeads = (s : Scene) (p : Pen) → IsScene s → IsReady s p → ((k : ℕ) → s.job.old k ≡ default_cell)
-    → s.job.was_wrapped ≡ false
-    → IsDrawn s (row_redraw s.job s.job.cols p).pen (run (scene_size s) (row_redraw s.job s.job.cols p).forms
-    (with_row s s.job.old s.flags p.pos.row p.pos.col p.attrs))
+EachRedrawLeads = (s : Scene) (p : Pen) → IsScene s → IsReady s p → ((k : ℕ) → s.row_change.old k ≡ default_cell)
+    → s.row_change.was_wrapped ≡ false
+    → IsDrawn s (row_redraw s.row_change s.row_change.cols p).pen (run (scene_size s) (row_redraw s.row_change s.row_change.cols p).forms
+    (with_row s s.row_change.old s.flags p.pos.row p.pos.col p.attrs))
 
 -- nothing is written for a row that stays, whatever number of its columns is drawn
 abbrev pub EachKeptRowIsLeft : Type 0
-EachKeptRowIsLeft = (j : Job) (n : ℕ) (p : Pen) → IsRowShown j p → row_difference j n p ≡ skip p
+EachKeptRowIsLeft = (j : RowChange) (n : ℕ) (p : Pen) → IsRowShown j p → row_difference j n p ≡ skip p
 
 -- The forms set no mode and no cursor style. Each text in them is a space or the text of a cell of the row, whichever
 -- columns are drawn.
 abbrev pub EachTextIsDrawn : Type 0
-EachTextIsDrawn = (j : Job) (n : ℕ) (p : Pen) → AllDrawing (IsTextOf j.new) (row_redraw j n p).forms
+EachTextIsDrawn = (j : RowChange) (n : ℕ) (p : Pen) → AllDrawing (IsTextOf j.new) (row_redraw j n p).forms
     × AllDrawing (IsTextOf j.new) (row_difference j n p).forms
 
 -- The row of the job is a row of two pictures of the screen, an earlier and a present one. If the row above wraps and
 -- has no flag in the terminal, one of the two rows differs.
 pub record IsPictured (s : Scene) (old new : Shown) : Type 0 where
-  pub old_cells : old.cell s.job.row ≡ s.job.old
-  pub new_cells : new.cell s.job.row ≡ s.job.new
-  pub old_flag : old.wrapped s.job.row ≡ s.job.was_wrapped
-  pub new_flag : new.wrapped s.job.row ≡ s.job.wrapped
-  pub above : s.job.above ≡ true → s.job.was_above ≡ false → IsNear (scene_size s) old new s.job.row
+  pub old_cells : old.cell s.row_change.row ≡ s.row_change.old
+  pub new_cells : new.cell s.row_change.row ≡ s.row_change.new
+  pub old_flag : old.wrapped s.row_change.row ≡ s.row_change.was_wrapped
+  pub new_flag : new.wrapped s.row_change.row ≡ s.row_change.wrapped
+  pub above : s.row_change.above ≡ true → s.row_change.was_above ≡ false → IsNear (scene_size s) old new s.row_change.row
 
 -- the difference touches only local cells
 abbrev pub EachDifferenceIsLocal : Type 0
 EachDifferenceIsLocal = (s : Scene) (old new : Shown) (p : Pen) → IsScene s → IsReady s p → IsPictured s old new
-    → Within (IsLocal (scene_size s) old new) (scene_size s) (row_difference s.job s.job.cols p).forms
-    (with_row s s.job.old s.flags p.pos.row p.pos.col p.attrs)
+    → Within (IsLocal (scene_size s) old new) (scene_size s) (row_difference s.row_change s.row_change.cols p).forms
+    (with_row s s.row_change.old s.flags p.pos.row p.pos.col p.attrs)

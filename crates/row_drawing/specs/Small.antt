@@ -7,7 +7,7 @@ use Rattle.vt100_forms.specs.Length.{HasSmallNumbers}
 use Rattle.row_drawing.specs.declared.pen.Erase.{Erase}
 use Rattle.row_drawing.specs.declared.pen.Pen.{Pen}
 use Rattle.row_drawing.specs.Writer.{Drawn}
-use Rattle.row_drawing.specs.RowWriter.{Job, row_redraw, row_difference}
+use Rattle.row_drawing.specs.RowWriter.{RowChange, row_redraw, row_difference}
 
 abbrev pub AreSmall : List Form → Type 0
 AreSmall fs = AllByRecursion HasSmallNumbers fs
@@ -20,7 +20,7 @@ SmallErase (Some e) = (e.from < 2 ^ 16) × HasByteColors e.attrs
 unfoldable pub IsSmallPen : Pen → Type 0
 IsSmallPen p = HasByteColors p.attrs × SmallErase p.erase
 
-pub record IsSmallJob (j : Job) : Type 0 where
+pub record IsSmallJob (j : RowChange) : Type 0 where
   pub cols : j.cols < 2 ^ 16
   pub row : j.row < 2 ^ 16
   pub colors : (k : ℕ) → HasByteColors (j.new k).attrs
@@ -31,5 +31,5 @@ pub record IsSmallDrawn (d : Drawn) : Type 0 where
 
 -- the forms' numbers fit, whichever columns are drawn and whatever the earlier row is
 abbrev pub EachNumberIsSmall : Type 0
-EachNumberIsSmall = (j : Job) (n : ℕ) (p : Pen) → IsSmallJob j → j.start + n ≤ j.cols → IsSmallPen p
+EachNumberIsSmall = (j : RowChange) (n : ℕ) (p : Pen) → IsSmallJob j → j.start + n ≤ j.cols → IsSmallPen p
     → IsSmallDrawn (row_redraw j n p) × IsSmallDrawn (row_difference j n p)

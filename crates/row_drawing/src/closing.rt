@@ -2,7 +2,7 @@
 ghost use Rattle.std.specs.Prelude.{◌≡◌, ◌+◌, ◌<◌, ◌≤◌, ◌^◌, length, is_ok, IsTrue};
 ghost use Rattle.vt100_cells.specs.Cells.{AreSame, cell_at};
 ghost use Rattle.vt100_cells.specs.Line.{span_of};
-ghost use Rattle.row_drawing.specs.Drawing.{job_of, IsSettled};
+ghost use Rattle.row_drawing.specs.Drawing.{row_change_of, IsSettled};
 ghost use Rattle.row_drawing.specs.RowWriter.{last_col_of, unflag, print_last, mend, owes_end, closing};
 ghost use Rattle.row_drawing.specs.RowWriter.{row_difference};
 ghost use Rattle.row_drawing.specs.Writes.{Writes};
@@ -17,7 +17,7 @@ use vt100_forms::position::Pos;
 impl<'a> Drawing<'a> {
     /// The column of the last cell, or of its first half.
     fn last_col(&self) -> u16
-        ensures { result ≡ last_col_of (job_of self.now) }
+        ensures { result ≡ last_col_of (row_change_of self.now) }
     {
         let cols = self.cols();
         let last = cols.saturating_sub(1);
@@ -30,7 +30,7 @@ impl<'a> Drawing<'a> {
 
     /// Whether the last cell must be drawn again: the row's flag changes, or the terminal may have lost it.
     fn owes_end(&self, pen: &Pen) -> bool
-        ensures { result ≡ owes_end (job_of self.now) pen.now }
+        ensures { result ≡ owes_end (row_change_of self.now) pen.now }
     {
         self.wrapped != self.was_wrapped || (self.wrapped && pen.lost)
     }
@@ -39,7 +39,7 @@ impl<'a> Drawing<'a> {
     /// the flag.
     fn mend(&self, pen: &mut Pen, contents: &mut String, cell: &Cell) -> Result<(), GridError>
         requires { pen.old.pos.col + span_of cell.now < 2 ^ 16 }
-        ensures { Writes (mend (job_of self.now) cell.now) pen.old contents.old (is_ok result) pen.new
+        ensures { Writes (mend (row_change_of self.now) cell.now) pen.old contents.old (is_ok result) pen.new
             contents.new }
     {
         if self.wrapped {
@@ -53,7 +53,7 @@ impl<'a> Drawing<'a> {
     /// next row's first character then wraps.
     pub(crate) fn closing(&self, pen: &mut Pen, contents: &mut String) -> Result<(), GridError>
         requires { 0 < length self.now.cells.now }
-        ensures { Writes (closing (job_of self.now)) pen.old contents.old (is_ok result) pen.new
+        ensures { Writes (closing (row_change_of self.now)) pen.old contents.old (is_ok result) pen.new
             contents.new }
     {
         if !self.owes_end(pen) {
@@ -110,7 +110,7 @@ impl<'a> Drawing<'a> {
     ) -> Result<(), GridError>
         requires starts_inside { self.now.start < length self.now.cells.now }
         requires ends_inside { self.now.start + count ≤ length self.now.cells.now }
-        ensures { Writes (row_difference (job_of self.now) count) pen.old contents.old (is_ok result)
+        ensures { Writes (row_difference (row_change_of self.now) count) pen.old contents.old (is_ok result)
             pen.new contents.new }
     {
         let same = self.same();

@@ -4,7 +4,7 @@ ghost use Rattle.std.specs.Prelude.{is_ok};
 ghost use Rattle.vt100_cells.specs.Cell.{has_text};
 ghost use Rattle.vt100_cells.specs.Cells.{cell_at};
 ghost use Rattle.vt100_cells.specs.Line.{put_unflags, wipe_unflags};
-ghost use Rattle.row_drawing.specs.Drawing.{job_of};
+ghost use Rattle.row_drawing.specs.Drawing.{row_change_of};
 ghost use Rattle.row_drawing.specs.RowWriter.{is_same, wraps, is_end, to_erase, flush, finish, arrive, draw, column};
 ghost use Rattle.row_drawing.specs.Writes.{Writes, Wrote};
 
@@ -27,7 +27,7 @@ impl<'a> Drawing<'a> {
     #[inline(always)]
     pub(crate) fn cell(&self, col: u16) -> &'a Cell
         requires { col < length self.now.cells.now }
-        ensures { result.now ≡ (job_of self.now).new col }
+        ensures { result.now ≡ (row_change_of self.now).new col }
     {
         at(self.cells, usize::from(col))
     }
@@ -36,7 +36,7 @@ impl<'a> Drawing<'a> {
     #[inline(always)]
     pub(crate) fn is_same(&self, col: u16) -> bool
         requires { col < length self.now.cells.now }
-        ensures { result ≡ is_same (job_of self.now) col }
+        ensures { result ≡ is_same (row_change_of self.now) col }
     {
         let place = usize::from(col);
         if place < self.earlier.len() {
@@ -49,7 +49,7 @@ impl<'a> Drawing<'a> {
 
     /// Whether printing `columns` columns now would wrap from the row above into this one.
     pub(crate) fn wraps(&self, pen: &Pen, columns: u16) -> bool
-        ensures { result ≡ wraps (job_of self.now) columns pen.now }
+        ensures { result ≡ wraps (row_change_of self.now) columns pen.now }
     {
         self.above
             && u32::from(pen.pos.row) + 1 == u32::from(self.row)
@@ -58,7 +58,7 @@ impl<'a> Drawing<'a> {
 
     /// Whether printing `columns` columns for column `col` reaches it by wrapping from the row above.
     fn is_wrapping(&self, pen: &Pen, columns: u16, col: u16) -> bool
-        ensures { result ≡ (wraps (job_of self.now) columns pen.now && (col == 0)) }
+        ensures { result ≡ (wraps (row_change_of self.now) columns pen.now && (col == 0)) }
     {
         self.wraps(pen, columns) && col == 0
     }
@@ -71,7 +71,7 @@ impl<'a> Drawing<'a> {
         col: u16,
         columns: u16,
     ) -> Result<(), GridError>
-        ensures { Writes (arrive (job_of self.now) col columns) pen.old contents.old (is_ok result)
+        ensures { Writes (arrive (row_change_of self.now) col columns) pen.old contents.old (is_ok result)
             pen.new contents.new }
     {
         if self.is_wrapping(pen, columns, col) {
@@ -84,7 +84,7 @@ impl<'a> Drawing<'a> {
     /// Moves the cursor as `arrive` does, and appends the bytes to `run`, 14 at most.
     pub(crate) fn arrive_in(&self, pen: &mut Pen, run: &mut TextRun, col: u16, columns: u16)
         requires { length run.old + 14 ≤ 128 }
-        ensures written { (t : List ℕ) → Wrote (arrive (job_of self.now) col columns) pen.old (t ++ run.old) pen.new
+        ensures written { (t : List ℕ) → Wrote (arrive (row_change_of self.now) col columns) pen.old (t ++ run.old) pen.new
             (t ++ run.new) }
         ensures room { length run.new ≤ length run.old + 14 }
     {
@@ -98,7 +98,7 @@ impl<'a> Drawing<'a> {
 
     /// Moves the cursor to the first of the columns that are to be erased, and sets their attributes.
     fn to_erase(&self, pen: &mut Pen, contents: &mut String, erase: Erase) -> Result<(), GridError>
-        ensures { Writes (to_erase (job_of self.now) erase) pen.old contents.old (is_ok result) pen.new
+        ensures { Writes (to_erase (row_change_of self.now) erase) pen.old contents.old (is_ok result) pen.new
             contents.new }
     {
         if self.is_wrapping(pen, 1, erase.from) {
@@ -118,7 +118,7 @@ impl<'a> Drawing<'a> {
     /// Erases the pending columns before `col`, if the cell at `col` isn't erased with them.
     fn flush(&self, pen: &mut Pen, contents: &mut String, col: u16) -> Result<(), GridError>
         requires { col < length self.now.cells.now }
-        ensures { Writes (flush (job_of self.now) col) pen.old contents.old (is_ok result) pen.new
+        ensures { Writes (flush (row_change_of self.now) col) pen.old contents.old (is_ok result) pen.new
             contents.new }
     {
         let Some(erase) = pen.erase else {
@@ -137,7 +137,7 @@ impl<'a> Drawing<'a> {
 
     /// Erases the pending columns, to the end of the row.
     pub(crate) fn finish(&self, pen: &mut Pen, contents: &mut String) -> Result<(), GridError>
-        ensures { Writes (finish (job_of self.now)) pen.old contents.old (is_ok result) pen.new
+        ensures { Writes (finish (row_change_of self.now)) pen.old contents.old (is_ok result) pen.new
             contents.new }
     {
         let Some(erase) = pen.erase else {
@@ -150,8 +150,8 @@ impl<'a> Drawing<'a> {
     /// Draws the cell at `col`, which differs from the terminal's. An empty cell becomes pending, and is erased later.
     fn draw(&self, pen: &mut Pen, contents: &mut String, col: u16) -> Result<(), GridError>
         requires in_row { col < length self.now.cells.now }
-        requires other { is_same (job_of self.now) col ≡ false }
-        ensures { Writes (draw (job_of self.now) col) pen.old contents.old (is_ok result) pen.new
+        requires other { is_same (row_change_of self.now) col ≡ false }
+        ensures { Writes (draw (row_change_of self.now) col) pen.old contents.old (is_ok result) pen.new
             contents.new }
     {
         let cell = self.cell(col);
@@ -171,7 +171,7 @@ impl<'a> Drawing<'a> {
     #[inline]
     fn is_half(&self, col: u16) -> bool
         requires { col < length self.now.cells.now }
-        ensures { result ≡ (((job_of self.now).new col).continuation && not (col == self.now.start)) }
+        ensures { result ≡ (((row_change_of self.now).new col).continuation && not (col == self.now.start)) }
     {
         self.cell(col).is_wide_continuation() && col != self.start
     }
@@ -186,7 +186,7 @@ impl<'a> Drawing<'a> {
         col: u16,
     ) -> Result<(), GridError>
         requires { col < length self.now.cells.now }
-        ensures { Writes (column (job_of self.now) col) pen.old contents.old (is_ok result) pen.new
+        ensures { Writes (column (row_change_of self.now) col) pen.old contents.old (is_ok result) pen.new
             contents.new }
     {
         if self.is_half(col) {
@@ -204,7 +204,7 @@ impl<'a> Drawing<'a> {
 impl<'a> Drawing<'a> {
     /// Whether erasing the columns from `from` up to `to` makes the terminal lose the row's flag.
     pub(crate) fn loses_by_erase(&self, from: u16, to: u16) -> bool
-        ensures { result ≡ wipe_unflags (job_of self.now).cols (job_of self.now).old from to }
+        ensures { result ≡ wipe_unflags (row_change_of self.now).cols (row_change_of self.now).old from to }
     {
         let to = usize::from(to);
         let cols = self.cells.len();
@@ -216,7 +216,7 @@ impl<'a> Drawing<'a> {
     #[inline]
     pub(crate) fn loses_by_print(&self, col: u16) -> bool
         requires { col < length self.now.cells.now }
-        ensures { result ≡ put_unflags (job_of self.now).cols (job_of self.now).old col ((job_of self.now).new col) }
+        ensures { result ≡ put_unflags (row_change_of self.now).cols (row_change_of self.now).old col ((row_change_of self.now).new col) }
     {
         let col = usize::from(col);
         at(self.cells, col).is_wide()

@@ -1,7 +1,7 @@
 //! The start of a row, and the redraw of a whole row.
 ghost use Rattle.std.specs.Prelude.{◌≡◌, ◌+◌, ◌<◌, ◌≤◌, ◌^◌, length, is_ok};
 ghost use Rattle.vt100_cells.specs.Cells.{AreSame, cell_at};
-ghost use Rattle.row_drawing.specs.Drawing.{job_of};
+ghost use Rattle.row_drawing.specs.Drawing.{row_change_of};
 ghost use Rattle.row_drawing.specs.RowWriter.{owes_flag, reprint, opening, row_redraw};
 ghost use Rattle.row_drawing.specs.Writes.{Writes};
 
@@ -14,7 +14,7 @@ impl<'a> Drawing<'a> {
     /// Whether the first cell must be printed although it stays: the row above wraps, and has no flag yet.
     fn owes_flag(&self, pen: &Pen) -> bool
         requires { self.now.start < length self.now.cells.now }
-        ensures { result ≡ owes_flag (job_of self.now) pen.now }
+        ensures { result ≡ owes_flag (row_change_of self.now) pen.now }
     {
         self.above
             && !self.was_above
@@ -25,7 +25,7 @@ impl<'a> Drawing<'a> {
     /// Prints a cell over itself, and moves back to its first column. An empty one is printed as a space and erased.
     fn reprint(&self, pen: &mut Pen, contents: &mut String, cell: &Cell) -> Result<(), GridError>
         requires { pen.old.pos.col + 2 < 2 ^ 16 }
-        ensures { Writes (reprint (job_of self.now) cell.now) pen.old contents.old (is_ok result)
+        ensures { Writes (reprint (row_change_of self.now) cell.now) pen.old contents.old (is_ok result)
             pen.new contents.new }
     {
         if !cell.has_contents() {
@@ -44,7 +44,7 @@ impl<'a> Drawing<'a> {
     /// Sets the flag of the row above, if it is missing and no other cell would set it.
     fn opening(&self, pen: &mut Pen, contents: &mut String) -> Result<(), GridError>
         requires { self.now.start < length self.now.cells.now }
-        ensures { Writes (opening (job_of self.now)) pen.old contents.old (is_ok result) pen.new
+        ensures { Writes (opening (row_change_of self.now)) pen.old contents.old (is_ok result) pen.new
             contents.new }
     {
         if !self.owes_flag(pen) {
@@ -62,7 +62,7 @@ impl<'a> Drawing<'a> {
     pub fn redraw(&self, pen: &mut Pen, contents: &mut String, count: u16) -> Result<(), GridError>
         requires starts_inside { self.now.start < length self.now.cells.now }
         requires ends_inside { self.now.start + count ≤ length self.now.cells.now }
-        ensures { Writes (row_redraw (job_of self.now) count) pen.old contents.old (is_ok result)
+        ensures { Writes (row_redraw (row_change_of self.now) count) pen.old contents.old (is_ok result)
             pen.new contents.new }
     {
         self.redraw_behind(pen, contents, 0, count)
@@ -80,7 +80,7 @@ impl<'a> Drawing<'a> {
         requires starts_inside { self.now.start < length self.now.cells.now }
         requires ends_inside { self.now.start + count ≤ length self.now.cells.now }
         requires same { AreSame (cell_at self.now.cells.now) (cell_at self.now.earlier.now) 0 same }
-        ensures { Writes (row_redraw (job_of self.now) count) pen.old contents.old (is_ok result)
+        ensures { Writes (row_redraw (row_change_of self.now) count) pen.old contents.old (is_ok result)
             pen.new contents.new }
     {
         self.opening(pen, contents)?;

@@ -2,7 +2,7 @@
 ghost use Rattle.std.specs.Prelude.{ℕ, ◌≡◌, ◌+◌, ◌<◌, ◌≤◌, List, ◌++◌, length, is_ok};
 ghost use Rattle.std.specs.Prelude.{IfSome, IsTrue};
 ghost use Rattle.vt100_cells.specs.Cells.{AreSame, cell_at};
-ghost use Rattle.row_drawing.specs.Drawing.{job_of, behind, AreQuiet, BeginsRun, GoesTo, IsAt, JoinsRun};
+ghost use Rattle.row_drawing.specs.Drawing.{row_change_of, behind, AreQuiet, BeginsRun, GoesTo, IsAt, JoinsRun};
 ghost use Rattle.row_drawing.specs.RowWriter.{columns};
 ghost use Rattle.row_drawing.specs.Writes.{Writes};
 
@@ -22,7 +22,7 @@ impl<'a> Drawing<'a> {
         requires some { from ≤ to }
         requires in_row { to ≤ length self.now.cells.now }
         ensures within { from ≤ result × result ≤ to }
-        ensures quiet { AreQuiet (job_of self.now) pen.now from result }
+        ensures quiet { AreQuiet (row_change_of self.now) pen.now from result }
     {
         match pen.erase {
             Some(erase) => alike_to(self.cells, &Cell::empty(erase.attrs), from, to),
@@ -37,7 +37,7 @@ impl<'a> Drawing<'a> {
         requires some { n ≤ count }
         requires in_row { self.now.start + count ≤ length self.now.cells.now }
         ensures within { n ≤ result × result ≤ count }
-        ensures quiet { AreQuiet (job_of self.now) pen.now (self.now.start + n) (self.now.start + result) }
+        ensures quiet { AreQuiet (row_change_of self.now) pen.now (self.now.start + n) (self.now.start + result) }
     {
         let start = usize::from(self.start);
         let to = self.quiet_to(pen, start + usize::from(n), start + usize::from(count));
@@ -48,7 +48,7 @@ impl<'a> Drawing<'a> {
     fn same_columns(&self, pen: &Pen, same: usize, count: u16) -> u16
         requires { AreSame (cell_at self.now.cells.now) (cell_at self.now.earlier.now) 0 same }
         ensures within { result ≤ count }
-        ensures quiet { AreQuiet (job_of self.now) pen.now self.now.start (self.now.start + result) }
+        ensures quiet { AreQuiet (row_change_of self.now) pen.now self.now.start (self.now.start + result) }
     {
         let start = usize::from(self.start);
         match pen.erase {
@@ -68,7 +68,7 @@ impl<'a> Drawing<'a> {
     ) -> Result<(), GridError>
         requires in_row { self.now.start + count ≤ length self.now.cells.now }
         requires same { AreSame (cell_at self.now.cells.now) (cell_at self.now.earlier.now) 0 same }
-        ensures { Writes (columns (job_of self.now) count) pen.old contents.old (is_ok result) pen.new
+        ensures { Writes (columns (row_change_of self.now) count) pen.old contents.old (is_ok result) pen.new
             contents.new }
     {
         // A cell with the terminal's current attributes.
@@ -106,7 +106,7 @@ impl<'a> Drawing<'a> {
     #[inline(always)]
     fn begins_run(&self, pen: &Pen, col: u16) -> bool
         requires { col < length self.now.cells.now }
-        ensures { IsTrue result → BeginsRun (job_of self.now) col pen.now }
+        ensures { IsTrue result → BeginsRun (row_change_of self.now) col pen.now }
     {
         !self.is_same(col)
             && self.cell(col).has_short_text()
@@ -119,8 +119,8 @@ impl<'a> Drawing<'a> {
     #[inline(always)]
     fn joins_run(&self, pen: &Pen, like: &Cell, col: u16) -> bool
         requires in_row { col < length self.now.cells.now }
-        requires here { IsAt (job_of self.now) col pen.now }
-        ensures { IsTrue result → JoinsRun (job_of self.now) col pen.now like.now.attrs }
+        requires here { IsAt (row_change_of self.now) col pen.now }
+        ensures { IsTrue result → JoinsRun (row_change_of self.now) col pen.now like.now.attrs }
     {
         self.begins_run(pen, col) && self.cell(col).has_attrs_of(like)
     }
@@ -133,9 +133,9 @@ impl<'a> Drawing<'a> {
         requires some { n ≤ count }
         requires in_row { self.now.start + count ≤ length self.now.cells.now }
         requires like { like.now.attrs ≡ pen.old.attrs }
-        requires here { n < count → IsAt (job_of self.now) (self.now.start + n) pen.old }
+        requires here { n < count → IsAt (row_change_of self.now) (self.now.start + n) pen.old }
         ensures within { n ≤ result × result ≤ count }
-        ensures written { (t : List ℕ) → GoesTo (job_of self.now) n result pen.old (t ++ run.old) pen.new
+        ensures written { (t : List ℕ) → GoesTo (row_change_of self.now) n result pen.old (t ++ run.old) pen.new
             (t ++ run.new) }
         ensures attrs { pen.new.attrs ≡ pen.old.attrs }
     {
@@ -170,11 +170,11 @@ impl<'a> Drawing<'a> {
         requires in_row { self.now.start + count ≤ length self.now.cells.now }
         requires room { length run.old + 76 ≤ 128 }
         requires like { IfSome like (λ x. x.now.attrs ≡ pen.old.attrs) }
-        requires begins { BeginsRun (job_of self.now) (self.now.start + n) pen.old }
+        requires begins { BeginsRun (row_change_of self.now) (self.now.start + n) pen.old }
         ensures within { n < result × result ≤ count }
-        ensures written { (t : List ℕ) → GoesTo (job_of self.now) n result pen.old (t ++ run.old) pen.new
+        ensures written { (t : List ℕ) → GoesTo (row_change_of self.now) n result pen.old (t ++ run.old) pen.new
             (t ++ run.new) }
-        ensures like { ((job_of self.now).new (self.now.start + n)).attrs ≡ pen.new.attrs }
+        ensures like { ((row_change_of self.now).new (self.now.start + n)).attrs ≡ pen.new.attrs }
     {
         let col = self.start + n;
         let cell = self.cell(col);

@@ -19,7 +19,7 @@ use Rattle.row_drawing.specs.declared.pen.Pen.{Pen}
 use Rattle.row_drawing.specs.Small.{AreSmall, SmallErase, IsSmallPen, IsSmallJob}
 use Rattle.row_drawing.specs.Writer.{Writer, ◌>>◌, skip, goto, turn, color, print, space, back, erasing}
 use Rattle.row_drawing.specs.Writer.{clearing, marking}
-use Rattle.row_drawing.specs.RowWriter.{Job, is_same, wraps, owes_flag, owes_end, reprint, opening, to_erase}
+use Rattle.row_drawing.specs.RowWriter.{RowChange, is_same, wraps, owes_flag, owes_end, reprint, opening, to_erase}
 use Rattle.row_drawing.specs.RowWriter.{is_end, flush_of, flush, finish_of, finish, arrive, mark_of, mark, draw}
 use Rattle.row_drawing.specs.RowWriter.{column, columns, last_col_of, unflag, print_last, mend, closing, row_redraw}
 use Rattle.row_drawing.specs.RowWriter.{row_difference}
@@ -126,12 +126,12 @@ costs-marking n a h k p s = record { forms = (tt, omega arith); pen = (s.0, (h, 
 -- ---- a row
 
 -- a row that is drawn from its first column on
-pub record IsRowJob (j : Job) : Type 0 where
+pub record IsRowJob (j : RowChange) : Type 0 where
   pub start : j.start ≡ 0
   pub cells : (k : ℕ) → IsCell (j.new k)
   pub small : IsSmallJob j
 
-module _ (j : Job) (h : IsRowJob j) where
+module _ (j : RowChange) (h : IsRowJob j) where
   colors : (k : ℕ) → Costs (color (j.new k).attrs) 48
   colors k = costs-color _ (h.small.colors k)
 

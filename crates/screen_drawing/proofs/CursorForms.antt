@@ -31,7 +31,7 @@ use Rattle.screen_drawing.specs.Laws.{IsDrawable, CursorIsAt}
 still : Size → Term → Shown → ℕ → Scene
 still z t s r = record {
   rows = z.rows;
-  job = record {
+  row_change = record {
     cols = z.cols;
     row = r;
     start = 0;

@@ -37,7 +37,7 @@ module _ (z : Size) (t : Term) (old new : Shown) (ho : IsShown z old) (hn : IsDr
           | inl unset ↦ inr (λ e. both_ways (new.wrapped i) (sym e ∙ unset) on)
           | inr kept ↦ elim (cases_Bool q.lost) [
             | inl lost ↦ lost-cause (DiffersIn z old new i) s (afresh p) h b.closed refl on
-                (λ c differs. inl (c, inside-row s h c differs, other-cell s.job c differs)) lost
+                (λ c differs. inl (c, inside-row s h c differs, other-cell s.row_change c differs)) lost
             | inr none ↦ absurd (both_ways (not q.lost) kept (subst (λ c. not c ≡ true) (sym none) refl))
           ]
         ])

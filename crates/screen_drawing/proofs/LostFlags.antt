@@ -9,7 +9,7 @@ use Rattle.vt100_cells.specs.CellEq.{cell_eq-true, cell_eq-of_same}
 use Rattle.row_drawing.specs.declared.pen.Erase.{Erase}
 use Rattle.row_drawing.specs.declared.pen.Pen.{Pen}
 use Rattle.row_drawing.specs.Writer.{Drawn, Writer, ◌>>◌, skip, goto, turn, color, print, space, back, erasing}
-use Rattle.row_drawing.specs.RowWriter.{Job, is_same, owes_flag, reprint, opening, is_end, flush_of, flush}
+use Rattle.row_drawing.specs.RowWriter.{RowChange, is_same, owes_flag, reprint, opening, is_end, flush_of, flush}
 use Rattle.row_drawing.specs.RowWriter.{finish_of, finish, draw, column, columns, last_col_of, last_cell_of, owes_end}
 use Rattle.row_drawing.specs.RowWriter.{print_last, mend, closing, row_redraw, row_difference}
 use Rattle.row_drawing.specs.Scene.{Scene, IsScene}
@@ -19,7 +19,7 @@ use Rattle.row_drawing.proofs.LocalColumns.{IsMarked, columns-marked}
 use Rattle.row_drawing.proofs.Local.{opening-marked}
 
 -- K is true if a column differs
-abbrev pub IsCause : Type 0 → Job → Type 0
+abbrev pub IsCause : Type 0 → RowChange → Type 0
 IsCause K j = (c : ℕ) → is_same j c ≡ false → K
 
 -- K is true if the pen says that the flag is lost
@@ -28,7 +28,7 @@ IsBlamed K q = q.lost ≡ true → K
 
 -- ---- columns
 
-module _ (K : Type 0) (j : Job) (cause : IsCause K j) where
+module _ (K : Type 0) (j : RowChange) (cause : IsCause K j) where
   draw-blamed : (c : ℕ) (q : Pen) → IsBlamed K q → IsBlamed K (draw j c q).pen
   unfolding draw skip
   draw-blamed c q b =
@@ -62,7 +62,7 @@ module _ (K : Type 0) (j : Job) (cause : IsCause K j) where
 
 -- ---- the first cell once more
 
-reprint-kept : (j : Job) (x : CellView) (p : Pen) → p.lost ≡ false
+reprint-kept : (j : RowChange) (x : CellView) (p : Pen) → p.lost ≡ false
     → (has_text x ≡ false → wipe_unflags j.cols j.old 0 1 ≡ false) → (reprint j x p).pen.lost ≡ false
 unfolding reprint ◌>>◌ print space back erasing
 reprint-kept j x p kept keeps =
@@ -73,7 +73,7 @@ reprint-kept j x p kept keeps =
     (λ _. cond_both x.wide (back >> back) back (λ (f : Writer). ((print x false >> f) p).pen.lost ≡ false) (λ _. still)
     (λ _. still)) (λ none. or_from p.lost w kept (keeps none))
 
-opening-kept : (j : Job) (p : Pen) → p.lost ≡ false
+opening-kept : (j : RowChange) (p : Pen) → p.lost ≡ false
     → (owes_flag j p ≡ true → has_text (j.new j.start) ≡ false → wipe_unflags j.cols j.old 0 1 ≡ false)
     → (opening j p).pen.lost ≡ false
 unfolding opening ◌>>◌ turn color skip
@@ -88,10 +88,10 @@ unflags-none : (n : ℕ) (f : ℕ → CellView) → 1 < n → (f 1).continuation
 unflags-none n f more single = grind (arith, nat_tests)
 
 -- an empty first cell isn't the last one of a row that wraps, nor right before a second half
-first-keeps : (s : Scene) (p : Pen) → IsScene s → s.job.wrapped ≡ true → owes_flag s.job p ≡ true
-    → has_text (s.job.new s.job.start) ≡ false → wipe_unflags s.job.cols s.job.old 0 1 ≡ false
+first-keeps : (s : Scene) (p : Pen) → IsScene s → s.row_change.wrapped ≡ true → owes_flag s.row_change p ≡ true
+    → has_text (s.row_change.new s.row_change.start) ≡ false → wipe_unflags s.row_change.cols s.row_change.old 0 1 ≡ false
 first-keeps s p h on owed none =
-    let j = s.job in
+    let j = s.row_change in
     let x = j.new 0 in
     let blank : has_text x ≡ false = ap (λ i. has_text (j.new i)) (sym h.whole) ∙ none in
     let is : x ≡ empty_cell x.attrs = empty-is x (h.cells 0) blank h.new.paired.first in
@@ -109,7 +109,7 @@ first-keeps s p h on owed none =
 
 -- ---- the last cell once more
 
-closing-blamed : (K : Type 0) (j : Job) (q : Pen) → j.wrapped ≡ true → IsBlamed K q → IsBlamed K (closing j q).pen
+closing-blamed : (K : Type 0) (j : RowChange) (q : Pen) → j.wrapped ≡ true → IsBlamed K q → IsBlamed K (closing j q).pen
 unfolding closing ◌>>◌ goto print_last color print skip
 closing-blamed K j q on b =
     let x = last_cell_of j in
@@ -127,10 +127,10 @@ closing-blamed K j q on b =
 -- ---- the row
 
 pub lost-cause : (K : Type 0) (s : Scene) (p : Pen) → IsScene s → p.erase ≡ None → p.lost ≡ false
-    → s.job.wrapped ≡ true → IsCause K s.job → (row_difference s.job s.job.cols p).pen.lost ≡ true → K
+    → s.row_change.wrapped ≡ true → IsCause K s.row_change → (row_difference s.row_change s.row_change.cols p).pen.lost ≡ true → K
 unfolding row_difference row_redraw ◌>>◌ finish
 lost-cause K s p h closed kept on cause =
-    let j = s.job in
+    let j = s.row_change in
     let q = (opening j p).pen in
     let u = (columns j j.cols q).pen in
     let m = opening-marked j p closed in
@@ -140,9 +140,9 @@ lost-cause K s p h closed kept on cause =
     (columns-blamed K j cause j.cols q m start))
 
 -- what differs is a column of the row
-pub inside-row : (s : Scene) → IsScene s → (k : ℕ) → is_same s.job k ≡ false → k < s.job.cols
+pub inside-row : (s : Scene) → IsScene s → (k : ℕ) → is_same s.row_change k ≡ false → k < s.row_change.cols
 inside-row s h k differs =
-    let j = s.job in
+    let j = s.row_change in
     elim (cases_lt k j.cols) [
       | inl inside ↦ inside
       | inr outside ↦
@@ -151,5 +151,5 @@ inside-row s h k differs =
           (h.new.beyond k past ∙ sym (h.old.beyond k past)))))
     ]
 
-pub other-cell : (j : Job) (k : ℕ) → is_same j k ≡ false → j.old k ≡ j.new k → ⊥
+pub other-cell : (j : RowChange) (k : ℕ) → is_same j k ≡ false → j.old k ≡ j.new k → ⊥
 other-cell j k differs e = both_ways (is_same j k) differs (cell_eq-of_same (j.new k) (j.old k) (sym e))

@@ -62,7 +62,7 @@ begun z t old new p ha closed = record {
 abbrev pub scene_of : Size → Term → Shown → Shown → ℕ → Bool → (ℕ → Bool) → Scene
 scene_of z t old new i flagged F = record {
   rows = z.rows;
-  job = row_job z old new i flagged;
+  row_change = row_job z old new i flagged;
   term = t;
   cells = splice old.cell 0 i new.cell;
   flags = F;

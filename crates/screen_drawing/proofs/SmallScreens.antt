@@ -25,9 +25,9 @@ use Rattle.screen_drawing.proofs.Texts.{each-both, texts-sent, texts-forms}
 
 -- ---- the parts
 
-row-job : (z : Size) (old s : Shown) (i : ℕ) (flagged : Bool) → IsSmallScreen z s → i < z.rows
+row-row_change : (z : Size) (old s : Shown) (i : ℕ) (flagged : Bool) → IsSmallScreen z s → i < z.rows
     → IsRowJob (row_job z old s i flagged)
-row-job z old s i flagged h l = record {
+row-row_change z old s i flagged h l = record {
   start = refl;
   cells = h.cells i;
   small = record { cols = h.cols; row = omega (arith, l, h.rows); colors = h.colors i };
@@ -58,9 +58,9 @@ small-rules z s h = record {
   held = λ p k. k.0;
   moved = λ p q k. k;
   redraw = λ i l p k.
-      costs-row_redraw _ (row-job z blank_shown s i false h l) z.cols h.shown.some_col (omega arith) (afresh p) k;
+      costs-row_redraw _ (row-row_change z blank_shown s i false h l) z.cols h.shown.some_col (omega arith) (afresh p) k;
   difference = λ old i l p k.
-      costs-row_difference _ (row-job z old s i (is_continued old.wrapped i && not p.lost) h l) z.cols h.shown.some_col
+      costs-row_difference _ (row-row_change z old s i (is_continued old.wrapped i && not p.lost) h l) z.cols h.shown.some_col
       (omega arith) (afresh p) k;
 }
 

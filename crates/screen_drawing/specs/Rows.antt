@@ -4,7 +4,7 @@ use Rattle.vt100_forms.specs.declared.attrs.Attrs.{Attrs}
 use Rattle.terminal_model.specs.Term.{Size, Shown, blank_shown}
 use Rattle.row_drawing.specs.declared.pen.Pen.{Pen}
 use Rattle.row_drawing.specs.Writer.{Writer, ◌>>◌, skip}
-use Rattle.row_drawing.specs.RowWriter.{Job, row_redraw, row_difference}
+use Rattle.row_drawing.specs.RowWriter.{RowChange, row_redraw, row_difference}
 
 -- the pen of a terminal with this cursor and these attributes
 abbrev pub pen_at : ℕ → ℕ → Attrs → Pen
@@ -43,7 +43,7 @@ no_flags i = false
 
 -- row i of the new picture, drawn over that of the old one; `flagged` says whether the terminal has the flag of the row
 -- above
-abbrev pub row_job : Size → Shown → Shown → ℕ → Bool → Job
+abbrev pub row_job : Size → Shown → Shown → ℕ → Bool → RowChange
 row_job z old new i flagged = record {
   cols = z.cols;
   row = i;

@@ -2,12 +2,12 @@
 
 ghost use Rattle.std.specs.Prelude.{◌≡◌, ◌≤◌, map, true, false};
 ghost use Rattle.byte_sinks.specs.Pump.{Tells};
-ghost use Rattle.screen_probe_command.specs.Words.{is_order, usage_line};
+ghost use Rattle.screen_probe_command.specs.Words.{is_invocation, usage_line};
 
 use crate::dumping::dump_stream;
 use crate::error::DumpError;
 use crate::script::run_script;
-use crate::words::{Order, parse};
+use crate::words::{Invocation, parse};
 use byte_sinks::{ByteSink, FlushSink};
 use command_line::{FAULT, SUCCESS, USAGE, report};
 use std::alloc::Global;
@@ -25,20 +25,20 @@ pub fn command<R: Read, W: FlushSink, V: ByteSink>(
     output: &mut W,
     errors: &mut V,
 ) -> u8
-    ensures usage { is_order (map (λ w. w.now) words.now) ≡ false → (result ≡ 2) × (input.new ≡ input.old)
+    ensures usage { is_invocation (map (λ w. w.now) words.now) ≡ false → (result ≡ 2) × (input.new ≡ input.old)
         × (output.new ≡ output.old) × Tells V.takes errors.old usage_line errors.new }
-    ensures understood { is_order (map (λ w. w.now) words.now) ≡ true → result ≤ 1 }
+    ensures understood { is_invocation (map (λ w. w.now) words.now) ≡ true → result ≤ 1 }
 {
-    let Some(order) = parse(words) else {
+    let Some(invocation) = parse(words) else {
         report(
             errors,
             b"usage: screen_probe run|ROWS COLS [CAPACITY [TIMES]]\n",
         );
         return USAGE;
     };
-    let outcome = match order {
-        Order::Dump(dump) => dump_stream(alloc, dump, input, output),
-        Order::Run => run_script(alloc, input, output),
+    let outcome = match invocation {
+        Invocation::Dump(dump) => dump_stream(alloc, dump, input, output),
+        Invocation::Run => run_script(alloc, input, output),
     };
     match outcome {
         Ok(()) => SUCCESS,

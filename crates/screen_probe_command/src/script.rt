@@ -15,7 +15,7 @@ use vt100::{Parser, Screen};
 
 /// One line of a script.
 #[derive(Drop)]
-enum Step {
+enum ScriptLine {
     /// Nothing: an empty line or a comment.
     Nothing,
     /// `new ROWS COLS CAPACITY`: a fresh parser.
@@ -59,32 +59,32 @@ enum Question {
 }
 
 /// Reads a line of a script. What comes after ` #`, and words past those that are wanted, don't count.
-fn parse_step(alloc: Global, line: &str) -> Result<Step, DumpError> {
+fn parse_step(alloc: Global, line: &str) -> Result<ScriptLine, DumpError> {
     let line = match line.split_once(" #") {
         Some((line, _)) => line,
         None => line,
     };
     let mut words = line.split_whitespace();
     match words.next() {
-        None | Some("#") => Ok(Step::Nothing),
+        None | Some("#") => Ok(ScriptLine::Nothing),
         Some("feed") => {
             let bytes = unhex(alloc, words.next().unwrap_or(""))?;
-            Ok(Step::Feed(bytes))
+            Ok(ScriptLine::Feed(bytes))
         }
         Some(name) => parse_call(name, &mut words),
     }
 }
 
 // A name, and the numbers that follow it.
-fn parse_call(name: &str, words: &mut SplitWhitespace<'_>) -> Result<Step, DumpError> {
+fn parse_call(name: &str, words: &mut SplitWhitespace<'_>) -> Result<ScriptLine, DumpError> {
     match name {
-        "new" => Ok(Step::New(size(words)?, size(words)?, number(words)?)),
-        "resize" => Ok(Step::Resize(size(words)?, size(words)?)),
-        "screen_resize" => Ok(Step::ScreenResize(size(words)?, size(words)?)),
-        "set_scrollback" => Ok(Step::SetScrollback(number(words)?)),
-        "clear_scrollback" => Ok(Step::ClearScrollback),
-        "base" => Ok(Step::Base),
-        _ => Ok(Step::Ask(parse_question(name, words)?)),
+        "new" => Ok(ScriptLine::New(size(words)?, size(words)?, number(words)?)),
+        "resize" => Ok(ScriptLine::Resize(size(words)?, size(words)?)),
+        "screen_resize" => Ok(ScriptLine::ScreenResize(size(words)?, size(words)?)),
+        "set_scrollback" => Ok(ScriptLine::SetScrollback(number(words)?)),
+        "clear_scrollback" => Ok(ScriptLine::ClearScrollback),
+        "base" => Ok(ScriptLine::Base),
+        _ => Ok(ScriptLine::Ask(parse_question(name, words)?)),
     }
 }
 
@@ -222,26 +222,26 @@ impl Replay {
         self.take_step(&step, answer)
     }
 
-    fn take_step(&mut self, step: &Step, answer: &mut String) -> Result<(), DumpError> {
+    fn take_step(&mut self, step: &ScriptLine, answer: &mut String) -> Result<(), DumpError> {
         let Replay {
             alloc,
             parser,
             base,
         } = self;
         match step {
-            Step::Nothing => {}
-            Step::New(rows, cols, capacity) => {
+            ScriptLine::Nothing => {}
+            ScriptLine::New(rows, cols, capacity) => {
                 *parser = Parser::new(*alloc, *rows, *cols, *capacity)?;
                 *base = parser.screen().clone()?;
                 answer.push_str("new\n")?;
             }
-            Step::Feed(bytes) => parser.process(bytes)?,
-            Step::Resize(rows, cols) => parser.set_size(*rows, *cols)?,
-            Step::ScreenResize(rows, cols) => parser.screen_mut().set_size(*rows, *cols)?,
-            Step::SetScrollback(rows) => parser.screen_mut().set_scrollback(*rows)?,
-            Step::ClearScrollback => parser.screen_mut().clear_scrollback(),
-            Step::Base => *base = parser.screen().clone()?,
-            Step::Ask(question) => self.tell(*question, answer)?,
+            ScriptLine::Feed(bytes) => parser.process(bytes)?,
+            ScriptLine::Resize(rows, cols) => parser.set_size(*rows, *cols)?,
+            ScriptLine::ScreenResize(rows, cols) => parser.screen_mut().set_size(*rows, *cols)?,
+            ScriptLine::SetScrollback(rows) => parser.screen_mut().set_scrollback(*rows)?,
+            ScriptLine::ClearScrollback => parser.screen_mut().clear_scrollback(),
+            ScriptLine::Base => *base = parser.screen().clone()?,
+            ScriptLine::Ask(question) => self.tell(*question, answer)?,
         }
         Ok(())
     }

@@ -4,14 +4,14 @@ ghost use Rattle.std.specs.Prelude.{◌≡◌, ◌&&◌, map, codes};
 ghost use Rattle.std.specs.Option.{is_some};
 ghost use Rattle.std.specs.Str.{bytes_eq};
 ghost use Rattle.command_line.specs.Numbers.{is_size, is_count};
-ghost use Rattle.screen_probe_command.specs.Words.{is_order};
+ghost use Rattle.screen_probe_command.specs.Words.{is_invocation};
 
 use crate::dumping::Dump;
 use command_line::{parse_count, parse_size};
 
 /// What the program is asked to do.
 #[derive(Clone, Copy, Debug, PartialEq, Eq)]
-pub(crate) enum Order {
+pub(crate) enum Invocation {
     /// Print the state that a stream leaves.
     Dump(Dump),
     /// Replay a script.
@@ -19,8 +19,8 @@ pub(crate) enum Order {
 }
 
 /// Reads `ROWS COLS [CAPACITY [TIMES]]` or `run`.
-pub(crate) fn parse(words: &[&str]) -> Option<Order>
-    ensures { is_some result ≡ is_order (map (λ w. w.now) words.now) }
+pub(crate) fn parse(words: &[&str]) -> Option<Invocation>
+    ensures { is_some result ≡ is_invocation (map (λ w. w.now) words.now) }
 {
     match words {
         [word] => parse_run(word),
@@ -31,21 +31,21 @@ pub(crate) fn parse(words: &[&str]) -> Option<Order>
     }
 }
 
-fn parse_run(word: &str) -> Option<Order>
+fn parse_run(word: &str) -> Option<Invocation>
     ensures { is_some result ≡ bytes_eq word.now (codes "run") }
 {
     if word == "run" {
-        Some(Order::Run)
+        Some(Invocation::Run)
     } else {
         None
     }
 }
 
-fn parse_dump(rows: &str, cols: &str, capacity: &str, times: &str) -> Option<Order>
+fn parse_dump(rows: &str, cols: &str, capacity: &str, times: &str) -> Option<Invocation>
     ensures { is_some result ≡ (is_size rows.now && (is_size cols.now && (is_count capacity.now
         && is_count times.now))) }
 {
-    Some(Order::Dump(Dump {
+    Some(Invocation::Dump(Dump {
         rows: parse_size(rows)?,
         cols: parse_size(cols)?,
         capacity: parse_count(capacity)?,

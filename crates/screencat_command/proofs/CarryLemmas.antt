@@ -88,7 +88,7 @@ module _ (S W : Type 0) (gives : S → ℕ → Result (List ℕ) Error → S →
     (flushed : (w : W) (answer : Result (Unit {0}) Error) (v : W) → flushes w answer v
     → Keeps (contents w) (contents v))
   where
-    -- what was printed, where the source and the writer tell their bytes
+    -- what was printed, where the bytes of the source and the writer are known
     pub far-text : (lines : LineDrawing) (rows cols : ℕ) (s : S) (w : W) (answer : Result (Unit {0}) RelayError) (t : S)
         (v : W) → PrintsFar lines gives takes flushes rows cols s w answer t v
         → OnOk answer (IfSome (left s) (λ bytes. (text : List ℕ) × IsFarText lines rows cols bytes text

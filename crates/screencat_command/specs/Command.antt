@@ -22,14 +22,14 @@ fault_line Memory = line (codes "screencat: memory")
 fault_line TooManyReads = line (codes "screencat: too many reads")
 fault_line FrameTooLong = line (codes "screencat: frame too long")
 
--- the exit status that goes with an answer, and what is told of it on the error output
+-- the exit status that goes with an answer, and what is reported on the error output
 abbrev pub Reports : {V : Type 0} → (V → List ℕ → Result ℕ Error → V → Type 0) → Result (Unit {0}) RelayError → V → ℕ → V
     → Type 0
 Reports reported (Ok u) e status f = (status ≡ 0) × (f ≡ e)
 Reports reported (Err fault) e status f = (status ≡ 1) × Tells reported e (fault_line fault) f
 
 -- The screen was printed as a far terminal of this size shows it, from a source, a writer and an error output: what was
--- answered, and so what was read, written and told.
+-- answered, and so what was read, written and reported.
 pub record CarriesOut {S W V : Type 0} (gives : S → ℕ → Result (List ℕ) Error → S → Type 0)
     (takes : W → List ℕ → Result ℕ Error → W → Type 0) (flushes : W → Result (Unit {0}) Error → W → Type 0)
     (reported : V → List ℕ → Result ℕ Error → V → Type 0) (order : Order) (s : S) (w : W) (e : V) (status : ℕ) (t : S)

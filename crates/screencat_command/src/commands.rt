@@ -16,10 +16,10 @@ use std::alloc::Global;
 
 /// Runs the program on the words after its name, and answers its exit status.
 ///
-/// A fault is told in a line on `errors`: `screencat: read`, `write`, `memory`, `too many reads` or `frame too long`. Any
-/// other command line than `ROWS COLS [--no-line-drawing]` gets the usage line there, and then nothing is read or written;
-/// the option may also come first. Such a line is written whole, unless a write of it fails or takes nothing; that changes
-/// nothing else.
+/// A fault is reported in a line on `errors`: `screencat: read`, `write`, `memory`, `too many reads` or
+/// `frame too long`. Any other command line than `ROWS COLS [--no-line-drawing]` gets the usage line there, and then
+/// nothing is read or written; the option may also come first. Such a line is written whole, unless a write of it fails
+/// or takes nothing; that changes nothing else.
 pub fn command<S: Source, W: FlushSink, V: ByteSink>(
     alloc: Global,
     words: &[&str],
@@ -46,7 +46,7 @@ pub fn command<S: Source, W: FlushSink, V: ByteSink>(
     }
 }
 
-/// Tells a fault in a line on `errors`, and answers the exit status that goes with it.
+/// Reports a fault in a line on `errors`, and returns its exit status.
 pub fn report_fault<V: ByteSink>(errors: &mut V, error: RelayError) -> u8
     ensures status { result ≡ 1 }
     ensures reports { Tells V.takes errors.old (fault_line error) errors.new }

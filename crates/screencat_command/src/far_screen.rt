@@ -67,6 +67,7 @@ fn carry_frames<S: Source>(
 {
     let mut piece = [0; PIECE_LEN];
     let mut reads = 0;
+    // The label names the loop's invariant.
     'pieces: loop {
         let n = fill(input, &mut piece, &mut reads)?;
         filter.pass(&piece[..n])?;
@@ -109,6 +110,7 @@ fn carry_frame(
 fn read_line(view: &mut View<UntilCleared>, line: &[u8])
     ensures { Carries view.old line.now view.new }
 {
+    // A law for the proof; it does nothing at run time.
     until_cleared_is_exact();
     for bytes in line.chunks(STEP) {
         view.advance(bytes);

@@ -1,4 +1,4 @@
-//! The command line of `screenlive`: its words, its statuses, and the lines that tell a fault.
+//! The command line of `screenlive`: its words, its statuses, and the lines that report a fault.
 #![tactic(auto)]
 
 ghost use Rattle.std.specs.Prelude.{◌≡◌, ℕ, List, [], map, None, IfSome};

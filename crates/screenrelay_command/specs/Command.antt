@@ -10,15 +10,15 @@ use Rattle.relay_streams.specs.Pieces.{pieces_of}
 use Rattle.relay_streams.specs.Relayed.{Relays}
 use Rattle.relay_streams.specs.Sessions.{IsRelayText}
 use Rattle.relay_streams.specs.Shown.{IsTextShown, Shows, sized}
-use Rattle.screenrelay_command.specs.Words.{Order}
+use Rattle.screenrelay_command.specs.Words.{Invocation}
 
 abbrev pub WantsBy : Job → ℕ → ℕ → List ℕ → List ℕ → Type 0
 WantsBy Relay rows cols bytes text = IsRelayText rows cols bytes text
 WantsBy Show rows cols bytes text = IsTextShown (sized rows cols) (pieces_of bytes) text
 
 -- an order writes this text if the input is these bytes
-abbrev pub Wants : Order → List ℕ → List ℕ → Type 0
-Wants order bytes text = WantsBy order.job order.rows order.cols bytes text
+abbrev pub Wants : Invocation → List ℕ → List ℕ → Type 0
+Wants invocation bytes text = WantsBy invocation.job invocation.rows invocation.cols bytes text
 
 abbrev pub DoesBy : {S W : Type 0} → (S → ℕ → Result (List ℕ) Error → S → Type 0)
     → (W → List ℕ → Result ℕ Error → W → Type 0) → (W → Result (Unit {0}) Error → W → Type 0) → Job → ℕ → ℕ → S → W
@@ -51,8 +51,8 @@ Reports reported (Err fault) e status f = (status ≡ 1) × Tells reported e (fa
 -- written, and the line on the error output.
 pub record CarriesOut {S W V : Type 0} (gives : S → ℕ → Result (List ℕ) Error → S → Type 0)
     (takes : W → List ℕ → Result ℕ Error → W → Type 0) (flushes : W → Result (Unit {0}) Error → W → Type 0)
-    (reported : V → List ℕ → Result ℕ Error → V → Type 0) (order : Order) (s : S) (w : W) (e : V) (status : ℕ) (t : S)
+    (reported : V → List ℕ → Result ℕ Error → V → Type 0) (invocation : Invocation) (s : S) (w : W) (e : V) (status : ℕ) (t : S)
     (v : W) (f : V) : Type 0 where
   pub answer : Result (Unit {0}) RelayError
-  pub does : DoesBy gives takes flushes order.job order.rows order.cols s w answer t v
+  pub does : DoesBy gives takes flushes invocation.job invocation.rows invocation.cols s w answer t v
   pub reports : Reports reported answer e status f

@@ -4,9 +4,9 @@ ghost use Rattle.std.specs.Prelude.{◌≡◌, ℕ, List, map, None, IfSome};
 ghost use Rattle.std.specs.Io.KnownBytes.{Appends};
 ghost use Rattle.byte_sinks.specs.Pump.{Tells};
 ghost use Rattle.screenrelay_command.specs.Command.{CarriesOut, DoesBy, Wants, fault_line, usage_line};
-ghost use Rattle.screenrelay_command.specs.Words.{order_of};
+ghost use Rattle.screenrelay_command.specs.Words.{invocation_of};
 
-use crate::words::{Job, Order, parse};
+use crate::words::{Invocation, Job, parse};
 use byte_sinks::{ByteSink, FlushSink};
 use command_line::{FAULT, SUCCESS, USAGE, report};
 use relay_streams::{RelayError, Source, relay, show};
@@ -26,19 +26,19 @@ pub fn command<S: Source, W: FlushSink, V: ByteSink>(
     output: &mut W,
     errors: &mut V,
 ) -> u8
-    ensures usage { order_of (map (λ w. w.now) words.now) ≡ None → (result ≡ 2) × (input.new ≡ input.old)
+    ensures usage { invocation_of (map (λ w. w.now) words.now) ≡ None → (result ≡ 2) × (input.new ≡ input.old)
         × (output.new ≡ output.old) × Tells V.takes errors.old usage_line errors.new }
-    ensures does { IfSome (order_of (map (λ w. w.now) words.now)) (λ order. CarriesOut S.gives W.takes W.flushes V.takes order
+    ensures does { IfSome (invocation_of (map (λ w. w.now) words.now)) (λ invocation. CarriesOut S.gives W.takes W.flushes V.takes invocation
         input.old output.old errors.old result input.new output.new errors.new) }
-    ensures done { result ≡ 0 → IfSome (order_of (map (λ w. w.now) words.now))
-        (λ order. IfSome (S.left input.old) (λ bytes. (text : List ℕ) × Wants order bytes text
+    ensures done { result ≡ 0 → IfSome (invocation_of (map (λ w. w.now) words.now))
+        (λ invocation. IfSome (S.left input.old) (λ bytes. (text : List ℕ) × Wants invocation bytes text
         × Appends (W.contents output.old) (W.contents output.new) text)) }
 {
-    let Some(order) = parse(words) else {
+    let Some(invocation) = parse(words) else {
         report(errors, b"usage: screenrelay relay|show ROWS COLS\n");
         return USAGE;
     };
-    match carry_out(alloc, order, input, output) {
+    match carry_out(alloc, invocation, input, output) {
         Ok(()) => SUCCESS,
         Err(error) => report_fault(errors, error),
     }
@@ -47,16 +47,16 @@ pub fn command<S: Source, W: FlushSink, V: ByteSink>(
 // Carries out the job that is asked for.
 fn carry_out<S: Source, W: FlushSink>(
     alloc: Global,
-    order: Order,
+    invocation: Invocation,
     input: &mut S,
     output: &mut W,
 ) -> Result<(), RelayError>
-    ensures { DoesBy S.gives W.takes W.flushes order.job order.rows.value order.cols.value input.old output.old result
+    ensures { DoesBy S.gives W.takes W.flushes invocation.job invocation.rows.value invocation.cols.value input.old output.old result
         input.new output.new }
 {
-    match order.job {
-        Job::Relay => relay(alloc, order.rows, order.cols, input, output),
-        Job::Show => show(alloc, order.rows, order.cols, input, output),
+    match invocation.job {
+        Job::Relay => relay(alloc, invocation.rows, invocation.cols, input, output),
+        Job::Show => show(alloc, invocation.rows, invocation.cols, input, output),
     }
 }
 

@@ -2,7 +2,7 @@
 
 ghost use Rattle.std.specs.Prelude.{◌≡◌, map};
 ghost use Rattle.std.specs.Option.{option_map};
-ghost use Rattle.screenrelay_command.specs.Words.{asked_for, order_of};
+ghost use Rattle.screenrelay_command.specs.Words.{asked_for, invocation_of};
 
 use command_line::parse_size;
 use std::num::NonZeroU16;
@@ -18,21 +18,21 @@ pub enum Job {
 
 /// A job, and the size of the screen.
 #[derive(Clone, Copy, Debug, PartialEq, Eq)]
-pub(crate) struct Order {
+pub(crate) struct Invocation {
     pub(crate) job: Job,
     pub(crate) rows: NonZeroU16,
     pub(crate) cols: NonZeroU16,
 }
 
 /// Parses `relay ROWS COLS` or `show ROWS COLS`. Gives `None` for any other command line.
-pub(crate) fn parse(words: &[&str]) -> Option<Order>
+pub(crate) fn parse(words: &[&str]) -> Option<Invocation>
     ensures { option_map (λ o. record { job = o.job; rows = o.rows.value; cols = o.cols.value }) result
-        ≡ order_of (map (λ w. w.now) words.now) }
+        ≡ invocation_of (map (λ w. w.now) words.now) }
 {
     let [job, rows, cols] = words else {
         return None;
     };
-    Some(Order {
+    Some(Invocation {
         job: parse_job(job)?,
         rows: parse_size(rows)?,
         cols: parse_size(cols)?,

@@ -1,4 +1,4 @@
--- What `clap` is told of the words.
+-- How the words are described to `clap`.
 use Rattle.std.proofs.Common.{◌≡◌, ◌∙◌, ap, ap₂, Bool, false, ℕ, nat_lt, List, ◌++◌, map, inl, inr, true, refl, sym, [], ◌∷◌, subst, Err, Result, IfOk, Option, is_some}
 use Rattle.std.proofs.lemmas.Result.{IfOk-weaker}
 use Rattle.std.proofs.lemmas.List.{map-append}
@@ -7,7 +7,7 @@ use Rattle.clap.specs.Words.{AddsAliases, AddsArg, App, IsAmong, Kinds, Row, Rul
 use Rattle.clap.specs.Words.{rule_of, with_rule}
 use Rattle.clap.specs.declared.error.ErrorKind.{ErrorKind}
 use Rattle.clap.proofs.OnLiterals.{clap_on_literals}
-use Rattle.screentext_command.specs.Words.{are_words, is_form, is_order_of, is_request, known}
+use Rattle.screentext_command.specs.Words.{are_words, is_form, is_invocation_of, is_request, known}
 use Rattle.screentext_command.proofs.KindLemmas.{IsSingle}
 use Rattle.clap.specs.declared.Arg.{Arg}
 use Rattle.clap.specs.declared.Command.{Command}
@@ -33,15 +33,15 @@ unfolding clap_on_literals
 known_is_free = refl
 
 -- words that `clap` takes, by their values
-pub taken : (kinds : Kinds) (rows reported : List Row) → kinds ≡ [] → reported ≡ rows → are_words reported ≡ is_order_of kinds rows
-taken kinds rows reported none same = ap are_words same ∙ ap (λ ks. is_order_of ks rows) (sym none)
+pub taken : (kinds : Kinds) (rows reported : List Row) → kinds ≡ [] → reported ≡ rows → are_words reported ≡ is_invocation_of kinds rows
+taken kinds rows reported none same = ap are_words same ∙ ap (λ ks. is_invocation_of ks rows) (sym none)
 
 -- words that it doesn't take, by the kind of its error
 pub not_taken : (k : ErrorKind) (kinds reported : Kinds) (rows : List Row) → reported ≡ kinds → IsSingle kinds → IsAmong k reported
-    → is_request k ≡ is_order_of kinds rows
+    → is_request k ≡ is_invocation_of kinds rows
 not_taken k kinds reported rows same single among = go kinds single (subst (IsAmong k) same among)
   where
-    go : (ks : Kinds) → IsSingle ks → IsAmong k ks → is_request k ≡ is_order_of ks rows
+    go : (ks : Kinds) → IsSingle ks → IsAmong k ks → is_request k ≡ is_invocation_of ks rows
     go [] s a = absurd a
     go (x ∷ []) s (inl e) = ap is_request e
     go (x ∷ []) s (inr a) = absurd a

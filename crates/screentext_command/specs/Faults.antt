@@ -1,4 +1,4 @@
--- What a fault of the input is told as.
+-- How a fault of the input is reported.
 use Rattle.command_line.specs.declared.input.InputError.{InputError}
 use Rattle.command_line.specs.declared.input.InputError.TheVariants as input
 use Rattle.screentext_command.specs.declared.error.TextError.{TextError}

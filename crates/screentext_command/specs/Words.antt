@@ -48,7 +48,8 @@ abbrev pub with_films : App → App
 with_films a = with_rule (with_rule (with_rule a (flag_rule (codes "animate"))) (value_rule (codes "speed")))
     (value_rule (codes "idle"))
 
--- what `clap` is told of `[ROWS COLS] [--at TIME] [--diff TIME] [--history N] [--joined] [--colours] [--html | --svg]
+-- the description for `clap` of
+-- `[ROWS COLS] [--at TIME] [--diff TIME] [--history N] [--joined] [--colours] [--html | --svg]
 -- [--list] [--kind NAME] [--timing FILE] [--no-line-drawing] [--html-block] [--theme NAME] [--font NAME] [--bold-is-bright]
 -- [--animate] [--speed N] [--idle SECONDS]`
 abbrev pub known : App
@@ -102,20 +103,20 @@ is_request DisplayHelp = true
 is_request DisplayVersion = true
 is_request _ = false
 
-abbrev pub is_order_of : Kinds → List Row → Bool
-is_order_of [] rows = are_words rows
-is_order_of (k ∷ ks) rows = is_request k
+abbrev pub is_invocation_of : Kinds → List Row → Bool
+is_invocation_of [] rows = are_words rows
+is_invocation_of (k ∷ ks) rows = is_request k
 
 -- `clap` takes the words, and their values have the right form; or the first of its errors, which is the only one, is
 -- that the help or the version is asked for
-abbrev pub is_order : List Text → Bool
-is_order words = is_order_of (fault_of known words) (matches_of known words)
+abbrev pub is_invocation : List Text → Bool
+is_invocation words = is_invocation_of (fault_of known words) (matches_of known words)
 
--- what words that aren't understood are told
+-- what is printed for words that aren't understood
 abbrev pub usage_line : List ℕ
 usage_line = codes "usage: screentext [ROWS COLS] [--at SECONDS] [--diff SECONDS] [--history N] [--joined] [--colours] [--html | --html-block | --svg [--animate]] [--speed N] [--idle SECONDS] [--theme NAME] [--font NAME] [--bold-is-bright] [--list] [--kind NAME] [--timing FILE] [--no-line-drawing]"
     ++ 0x0A ∷ []
 
--- what is told where memory is refused
+-- what is printed where memory is refused
 abbrev pub memory_line : List ℕ
 memory_line = codes "screentext: memory" ++ 0x0A ∷ []

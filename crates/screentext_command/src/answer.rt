@@ -5,7 +5,9 @@ use crate::error::TextError;
 use crate::pictures::Pictures;
 use crate::text::push_lines;
 use crate::words::{Form, Request};
-use recorded_screen::{Look, Recording, Size, Theme, film, html, html_block, svg, terminal_at};
+use recorded_screen::{
+    Look, Recording, ScreenSize, Theme, film, html, html_block, svg, terminal_at,
+};
 use std::alloc::Global;
 use std::num::NonZeroU16;
 use vt100::{Parser, Screen};
@@ -47,7 +49,7 @@ fn theme_of(recording: &Recording) -> Option<Theme> {
 fn film_of(
     alloc: Global,
     recording: &Recording,
-    size: Size,
+    size: ScreenSize,
     moment: u64,
     pictures: &Pictures,
 ) -> Result<Vec<u8>, TextError> {
@@ -84,11 +86,11 @@ fn changes_since(
 }
 
 // The size of the screen at first.
-fn size_of(recording: &Recording, request: Request) -> Size {
+fn size_of(recording: &Recording, request: Request) -> ScreenSize {
     match (request.size, recording.size) {
         (Some(size), _) => size,
         (None, Some(size)) => size,
-        (None, None) => Size {
+        (None, None) => ScreenSize {
             rows: Parser::<()>::DEFAULT_ROWS,
             cols: Parser::<()>::DEFAULT_COLS,
         },

@@ -2,7 +2,7 @@
 
 ghost use Rattle.std.specs.Prelude.{◌≡◌, ◌≤◌, ◌⊎◌, map, true, false};
 ghost use Rattle.byte_sinks.specs.Pump.{Tells};
-ghost use Rattle.screentext_command.specs.Words.{is_order, memory_line, usage_line};
+ghost use Rattle.screentext_command.specs.Words.{is_invocation, memory_line, usage_line};
 ghost use Rattle.screentext_command.specs.declared.error.TextError.TheVariants.{Memory};
 
 use crate::answer::answer_of;
@@ -11,7 +11,7 @@ use crate::files::{Files, NoFiles};
 use crate::list::list_of;
 use crate::source::{Source, with_markers};
 use crate::streams::write_all;
-use crate::words::{Order, parse};
+use crate::words::{Invocation, parse};
 use byte_sinks::{ByteSink, FlushSink};
 use command_line::{FAULT, SUCCESS, USAGE, read_all, report};
 use recording_filter::with_lines_drawn;
@@ -36,10 +36,10 @@ pub fn command<R: Read, W: FlushSink, V: ByteSink>(
     output: &mut W,
     errors: &mut V,
 ) -> u8
-    ensures refused { is_order (map (λ w. w.now) words.now) ≡ false → (input.new ≡ input.old)
+    ensures refused { is_invocation (map (λ w. w.now) words.now) ≡ false → (input.new ≡ input.old)
         × (output.new ≡ output.old) × (((result ≡ 2) × Tells V.takes errors.old usage_line errors.new)
         ⊎ ((result ≡ 1) × Tells V.takes errors.old memory_line errors.new)) }
-    ensures understood { is_order (map (λ w. w.now) words.now) ≡ true → result ≤ 1 }
+    ensures understood { is_invocation (map (λ w. w.now) words.now) ≡ true → result ≤ 1 }
 
     // Whatever the words are:
     ensures usage { result ≡ 2 → (input.new ≡ input.old) × (output.new ≡ output.old)
@@ -52,9 +52,9 @@ pub fn command<R: Read, W: FlushSink, V: ByteSink>(
 
 /// Runs the program on the words after its name, and answers its exit status.
 ///
-/// A fault is told in a line on `errors`. Words that aren't understood get the usage line there, and then nothing is read
-/// or written, unless memory is refused before that is known: that is a fault. Such a line is written whole, unless a
-/// write of it fails or takes nothing; that changes nothing else.
+/// A fault is reported in a line on `errors`. Words that aren't understood get the usage line there, and then nothing
+/// is read or written, unless memory is refused before that is known: that is a fault. Such a line is written whole,
+/// unless a write of it fails or takes nothing; that changes nothing else.
 pub fn command_with<F: Files, R: Read, W: FlushSink, V: ByteSink>(
     alloc: Global,
     words: &[&str],
@@ -63,10 +63,10 @@ pub fn command_with<F: Files, R: Read, W: FlushSink, V: ByteSink>(
     output: &mut W,
     errors: &mut V,
 ) -> u8
-    ensures refused { is_order (map (λ w. w.now) words.now) ≡ false → (input.new ≡ input.old)
+    ensures refused { is_invocation (map (λ w. w.now) words.now) ≡ false → (input.new ≡ input.old)
         × (output.new ≡ output.old) × (((result ≡ 2) × Tells V.takes errors.old usage_line errors.new)
         ⊎ ((result ≡ 1) × Tells V.takes errors.old memory_line errors.new)) }
-    ensures understood { is_order (map (λ w. w.now) words.now) ≡ true → result ≤ 1 }
+    ensures understood { is_invocation (map (λ w. w.now) words.now) ≡ true → result ≤ 1 }
 
     // Whatever the words are:
     ensures usage { result ≡ 2 → (input.new ≡ input.old) × (output.new ≡ output.old)
@@ -74,21 +74,21 @@ pub fn command_with<F: Files, R: Read, W: FlushSink, V: ByteSink>(
     ensures done { result ≡ 0 → errors.new ≡ errors.old }
     ensures status { result ≤ 2 }
 {
-    let order = match parse(alloc, words) {
-        Ok(Some(order)) => order,
+    let invocation = match parse(alloc, words) {
+        Ok(Some(invocation)) => invocation,
         Ok(None) => {
             report(errors, USAGE_LINE);
             return USAGE;
         }
         Err(error) => return report_fault(alloc, errors, error),
     };
-    match obey(alloc, order, files, input, output) {
+    match obey(alloc, invocation, files, input, output) {
         Ok(()) => SUCCESS,
         Err(error) => report_fault(alloc, errors, error),
     }
 }
 
-/// Tells a fault in a line on `errors`, and answers the exit status that goes with it.
+/// Reports a fault in a line on `errors`, and returns its exit status.
 pub fn report_fault<V: ByteSink>(alloc: Global, errors: &mut V, error: TextError) -> u8
     ensures status { result ≡ 1 }
     ensures memory { error ≡ Memory → Tells V.takes errors.old memory_line errors.new }
@@ -106,14 +106,14 @@ pub fn report_fault<V: ByteSink>(alloc: Global, errors: &mut V, error: TextError
 
 fn obey<F: Files, R: Read, W: FlushSink>(
     alloc: Global,
-    order: Order,
+    invocation: Invocation,
     files: &F,
     input: &mut R,
     output: &mut W,
 ) -> Result<(), TextError> {
-    match order {
-        Order::Tell(text) => write_all(output, text.as_bytes()),
-        Order::Print(request, source, pictures) => {
+    match invocation {
+        Invocation::Tell(text) => write_all(output, text.as_bytes()),
+        Invocation::Print(request, source, pictures) => {
             let recording = recording_of(alloc, &source, files, input)?;
             let request = with_markers(alloc, &recording, &source, request)?;
             let answer = if source.list {

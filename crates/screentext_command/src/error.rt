@@ -28,7 +28,7 @@ pub enum TextError {
     /// A file that the words name can't be read.
     #[error("the timing file can't be read")]
     File,
-    /// The recording has no marker of the name that the words tell.
+    /// The recording has no marker of the name that the words give.
     #[error("no such marker")]
     Marker,
     /// The film would be longer than the longest one.

@@ -6,7 +6,7 @@ use std::fmt;
 use std::fmt::Write;
 use vt100::Color;
 
-/// Appends the SGR sequence that leads from any attributes to these.
+/// Appends the SGR sequence that sets these attributes, whichever were set before.
 pub(crate) fn push_sgr(out: &mut String, style: Style) -> Result<(), AllocError> {
     out.push_str("\x1b[0")?;
     push_flag(out, style.bold, ";1")?;

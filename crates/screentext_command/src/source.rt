@@ -16,7 +16,7 @@ use std::alloc::{AllocError, Global};
 /// What the words say of the recording.
 #[derive(Drop)]
 pub(crate) struct Source {
-    /// The kind, where it is told.
+    /// The kind, where it is given.
     pub(crate) kind: Option<Kind>,
     /// The path of the timing file of a typescript.
     pub(crate) timing: Option<String>,

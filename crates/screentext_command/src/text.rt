@@ -58,8 +58,8 @@ pub(crate) fn row_text(
     Ok(text)
 }
 
-// The cells of a row up to the last that shows anything. With colours each change of the attributes is told, and the row
-// ends with the default ones.
+// The cells of a row up to the last that shows anything. With colours each change of the attributes is written, and the
+// row ends with the default ones.
 fn push_row(out: &mut String, screen: &Screen, row: u16, look: Look) -> Result<(), AllocError> {
     let mut style = Style::PLAIN;
     for col in 0..row_end(screen, row, look) {

@@ -7,7 +7,7 @@ ghost use Rattle.clap.specs.declared.error.ErrorKind.TheVariants.{OutOfMemory};
 ghost use Rattle.command_line.specs.Numbers.{is_count};
 ghost use Rattle.recordings.specs.Times.{json_in};
 ghost use Rattle.screentext_command.specs.declared.error.TextError.TheVariants.{Memory};
-ghost use Rattle.screentext_command.specs.Words.{are_values, are_words, is_form, is_moment, is_order, is_request, is_screen, is_time};
+ghost use Rattle.screentext_command.specs.Words.{are_values, are_words, is_form, is_moment, is_invocation, is_request, is_screen, is_time};
 
 use crate::error::TextError;
 use crate::known::known_words;
@@ -16,15 +16,15 @@ use crate::source::{Source, source_of};
 use clap::error::ErrorKind;
 use clap::{ArgMatches, Error};
 use command_line::{parse_count, parse_size};
-use recorded_screen::{END, Size};
+use recorded_screen::{END, ScreenSize};
 use recordings::{microseconds, parse_json};
 use std::alloc::Global;
 use std::fmt::Write;
 
 /// What the program is asked to do.
 #[derive(Drop)]
-pub(crate) enum Order {
-    /// Tell this text: the help or the version.
+pub(crate) enum Invocation {
+    /// Print this text: the help or the version.
     Tell(String),
     /// Print a screen, or describe the recording.
     Print(Request, Source, Pictures),
@@ -50,7 +50,7 @@ pub(crate) enum Form {
 pub(crate) struct Look {
     /// Whether a row that goes on in the next has no newline, and rows keep the spaces at their ends.
     pub(crate) joined: bool,
-    /// Whether colours and other attributes are told, by SGR.
+    /// Whether colours and other attributes are written, as SGR.
     pub(crate) colors: bool,
 }
 
@@ -58,7 +58,7 @@ pub(crate) struct Look {
 #[derive(Clone, Copy)]
 pub(crate) struct Request {
     /// The size at first, where the command line has one.
-    pub(crate) size: Option<Size>,
+    pub(crate) size: Option<ScreenSize>,
     /// The moment, in microseconds.
     pub(crate) moment: u64,
     /// The other moment, where what changed from it on is wanted.
@@ -70,34 +70,34 @@ pub(crate) struct Request {
 }
 
 /// Reads the words. Words that aren't understood are no order, and the only fault is that memory is refused.
-pub(crate) fn parse(alloc: Global, words: &[&str]) -> Result<Option<Order>, TextError>
+pub(crate) fn parse(alloc: Global, words: &[&str]) -> Result<Option<Invocation>, TextError>
     ensures fault { IfErr result (λ e. e ≡ Memory) }
-    ensures order { IfOk result (λ o. is_some o ≡ is_order (map (λ w. w.now) words.now)) }
+    ensures invocation { IfOk result (λ o. is_some o ≡ is_invocation (map (λ w. w.now) words.now)) }
 {
     match known_words(alloc)?.try_get_matches_from(words) {
-        Ok(matches) => order_of(alloc, &matches),
+        Ok(matches) => invocation_of(alloc, &matches),
         Err(error) => asked(alloc, &error),
     }
 }
 
 // What words ask for with which `clap` doesn't go on: the help, the version or nothing.
-fn asked(alloc: Global, error: &Error) -> Result<Option<Order>, TextError>
+fn asked(alloc: Global, error: &Error) -> Result<Option<Invocation>, TextError>
     ensures fault { IfErr result (λ e. e ≡ Memory) }
-    ensures order { IfOk result (λ o. is_some o ≡ is_request (kind_of error.now)) }
+    ensures invocation { IfOk result (λ o. is_some o ≡ is_request (kind_of error.now)) }
     ensures memory { kind_of error.now ≡ OutOfMemory → result ≡ Err Memory }
 {
     match error.kind() {
         ErrorKind::OutOfMemory => Err(TextError::Memory),
         ErrorKind::DisplayHelp | ErrorKind::DisplayVersion => {
-            Ok(Some(Order::Tell(format!(in alloc; "{error}")?)))
+            Ok(Some(Invocation::Tell(format!(in alloc; "{error}")?)))
         }
         _ => Ok(None),
     }
 }
 
-fn order_of(alloc: Global, matches: &ArgMatches<'_>) -> Result<Option<Order>, TextError>
+fn invocation_of(alloc: Global, matches: &ArgMatches<'_>) -> Result<Option<Invocation>, TextError>
     ensures fault { IfErr result (λ e. e ≡ Memory) }
-    ensures order { IfOk result (λ o. is_some o ≡ are_words (rows_of (found_of matches.now))) }
+    ensures invocation { IfOk result (λ o. is_some o ≡ are_words (rows_of (found_of matches.now))) }
 {
     let request = request_of(alloc, matches)?;
     let source = source_of(alloc, matches)?;
@@ -109,10 +109,10 @@ fn all(
     request: Option<Request>,
     source: Option<Source>,
     pictures: Option<Pictures>,
-) -> Option<Order>
+) -> Option<Invocation>
     ensures { is_some result ≡ (is_some request && (is_some source && is_some pictures)) }
 {
-    Some(Order::Print(request?, source?, pictures?))
+    Some(Invocation::Print(request?, source?, pictures?))
 }
 
 fn request_of(alloc: Global, matches: &ArgMatches<'_>) -> Result<Option<Request>, TextError>
@@ -137,7 +137,7 @@ fn request_of(alloc: Global, matches: &ArgMatches<'_>) -> Result<Option<Request>
 }
 
 fn new_request(
-    size: Option<Option<Size>>,
+    size: Option<Option<ScreenSize>>,
     moment: Option<Option<u64>>,
     since: Option<Option<u64>>,
     history: Option<usize>,
@@ -158,12 +158,12 @@ fn new_request(
 }
 
 // A size: of rows and columns, or none where there is neither.
-fn size_of(rows: Option<&str>, cols: Option<&str>) -> Option<Option<Size>>
+fn size_of(rows: Option<&str>, cols: Option<&str>) -> Option<Option<ScreenSize>>
     ensures { is_some result ≡ is_screen (option_map (λ w. w.now) rows.entry) (option_map (λ w. w.now) cols.entry) }
 {
     match (rows, cols) {
         (None, None) => Some(None),
-        (Some(rows), Some(cols)) => Some(Some(Size {
+        (Some(rows), Some(cols)) => Some(Some(ScreenSize {
             rows: parse_size(rows)?,
             cols: parse_size(cols)?,
         })),

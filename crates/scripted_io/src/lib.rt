@@ -5,5 +5,5 @@
 mod reader;
 mod writer;
 
-pub use reader::{Few, Script, Step};
-pub use writer::Narrow;
+pub use reader::{ReadStep, ScriptedReader, SmallReader};
+pub use writer::LimitedWriter;

@@ -7,7 +7,7 @@ use std::io::{ErrorKind, Write};
 /// A writer that keeps the bytes it takes, a few bytes a write. Once it has taken `room` bytes, each write of more
 /// fails with `BrokenPipe`.
 #[derive(Drop)]
-pub struct Narrow {
+pub struct LimitedWriter {
     /// The bytes that it took.
     pub kept: Vec<u8>,
     /// How many bytes it takes altogether.
@@ -20,10 +20,10 @@ pub struct Narrow {
     pub flushed: u64,
 }
 
-impl Narrow {
+impl LimitedWriter {
     /// A writer that takes `room` bytes altogether, one a write, and whose flushes succeed.
     pub fn new(alloc: Global, room: usize) -> Self {
-        Narrow {
+        LimitedWriter {
             kept: Vec::new(alloc),
             room,
             step: 1,
@@ -33,7 +33,7 @@ impl Narrow {
     }
 }
 
-impl Write for Narrow {
+impl Write for LimitedWriter {
     fn write(&mut self, buf: &[u8]) -> io::Result<usize> {
         if buf.is_empty() {
             return Ok(0);

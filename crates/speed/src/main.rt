@@ -28,7 +28,7 @@ use command_line::{lend, parse_count, parse_size, words_of};
 use std::alloc::Global;
 use std::env;
 use std::io::Read;
-use work::{Job, WORKS, Work};
+use work::{WORKS, Work, Workload};
 
 fn main(rt: HostRuntime) -> anyhow::Result<()> {
     let words = words_of(rt.alloc(), env::args(&rt))?;
@@ -37,42 +37,47 @@ fn main(rt: HostRuntime) -> anyhow::Result<()> {
 
 /// Does what the words ask for.
 fn obey(rt: &HostRuntime, words: &[&str]) -> anyhow::Result<()> {
-    let Some((name, job)) = parse(rt.alloc(), words) else {
+    let Some((name, workload)) = parse(rt.alloc(), words) else {
         bail!("usage: speed WORK ROWS COLS TIMES");
     };
-    let mut stream = Vec::new(job.alloc);
+    let mut stream = Vec::new(workload.alloc);
     rt.stdin().read_to_end(&mut stream)?;
-    print_counts(rt, &job.with_stream(&stream), name)
+    print_counts(rt, &workload.with_stream(&stream), name)
 }
 
 /// The name of the work, and what it is done with, but for the stream.
-fn parse<'a>(alloc: Global, words: &[&'a str]) -> Option<(&'a str, Job<'static>)> {
+fn parse<'a>(alloc: Global, words: &[&'a str]) -> Option<(&'a str, Workload<'static>)> {
     let [name, rows, cols, times] = words else {
         return None;
     };
-    let job = Job {
+    let workload = Workload {
         alloc,
         rows: parse_size(rows)?,
         cols: parse_size(cols)?,
         times: parse_count(times)?,
         stream: &[],
     };
-    Some((name, job))
+    Some((name, workload))
 }
 
 /// Does the work of this name, or all, and prints what it counts.
-fn print_counts(rt: &HostRuntime, job: &Job<'_>, name: &str) -> anyhow::Result<()> {
+fn print_counts(rt: &HostRuntime, workload: &Workload<'_>, name: &str) -> anyhow::Result<()> {
     let is_all = name == "all";
     for (word, work) in WORKS {
         if is_all || name == *word {
-            print_count(rt, job, word, *work)?;
+            print_count(rt, workload, word, *work)?;
         }
     }
     Ok(())
 }
 
-fn print_count(rt: &HostRuntime, job: &Job<'_>, name: &str, work: Work) -> anyhow::Result<()> {
-    let Some(count) = job.count(work) else {
+fn print_count(
+    rt: &HostRuntime,
+    workload: &Workload<'_>,
+    name: &str,
+    work: Work,
+) -> anyhow::Result<()> {
+    let Some(count) = workload.count(work) else {
         bail!("memory");
     };
     println!(rt; "{name} {count}")?;

@@ -1,12 +1,12 @@
 //! Work that reads the stream each time.
 
 use crate::counting::Counting;
-use crate::work::{Job, PIECE_LEN};
+use crate::work::{PIECE_LEN, Workload};
 use termview::{UntilCleared, View};
 use vt100::Parser;
 use vte::ansi::Processor;
 
-impl<'a> Job<'a> {
+impl<'a> Workload<'a> {
     pub(crate) fn events(&self) -> usize {
         let mut counting = Counting::new();
         for _ in 0..self.times {

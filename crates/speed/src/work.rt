@@ -52,7 +52,7 @@ pub(crate) fn row_at(time: usize) -> &'static [u8] {
 
 /// Some work, so many times, with screens of this size.
 #[derive(Clone, Copy)]
-pub(crate) struct Job<'a> {
+pub(crate) struct Workload<'a> {
     pub(crate) alloc: Global,
     pub(crate) rows: NonZeroU16,
     pub(crate) cols: NonZeroU16,
@@ -60,10 +60,10 @@ pub(crate) struct Job<'a> {
     pub(crate) stream: &'a [u8],
 }
 
-impl<'a> Job<'a> {
+impl<'a> Workload<'a> {
     /// The same with this stream.
-    pub(crate) fn with_stream<'b>(&self, stream: &'b [u8]) -> Job<'b> {
-        Job {
+    pub(crate) fn with_stream<'b>(&self, stream: &'b [u8]) -> Workload<'b> {
+        Workload {
             alloc: self.alloc,
             rows: self.rows,
             cols: self.cols,

@@ -1,13 +1,13 @@
 //! Work that writes a screen.
 
 use crate::reading::process;
-use crate::work::{Job, Work, row_at};
+use crate::work::{Work, Workload, row_at};
 use vt100::{Parser, Screen};
 
 /// How many of the stream's last bytes a difference shows.
 const LAST_LEN: usize = 2000;
 
-impl<'a> Job<'a> {
+impl<'a> Workload<'a> {
     /// Writes the screen that the stream leaves.
     pub(crate) fn written(&self, work: Work) -> Option<usize> {
         let mut parser = self.filled(self.stream)?;

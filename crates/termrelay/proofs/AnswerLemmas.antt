@@ -11,7 +11,7 @@ use Rattle.termrelay.specs.declared.answer.Answer.{Answer}
 use Rattle.termrelay.specs.declared.answer.Answer.TheVariants.{Held, TooLong}
 use Rattle.termrelay.specs.Frame.{frame_text, IsShortFrame}
 use Rattle.termrelay.specs.Answers.{ClientState, is_frame, due, wanted_to, wanted_of, longest_frame}
-use Rattle.termrelay.specs.Answers.{is_too_long, unless_too_long, answer_to, answer_for, may_take_memory, EachSmallScreenFits}
+use Rattle.termrelay.specs.Answers.{is_too_long, unless_too_long, answer_to, answer_for, may_allocate, EachSmallScreenFits}
 use Rattle.termrelay.proofs.FrameLengths.{frame-short}
 
 -- ---- what is wanted
@@ -51,7 +51,7 @@ answer-capped now base [] =
 answer-capped now base (b ∷ bs) = refl
 
 may-take : (long : Bool) (wanted : Answer) → is_frame wanted ≡ true
-    → may_take_memory (if is_frame wanted && long then TooLong else wanted) ≡ true
+    → may_allocate (if is_frame wanted && long then TooLong else wanted) ≡ true
 may-take long wanted frame = grind arith
 
 module _ (now : State) (c : ClientState) (answer : Answer) (is : answer ≡ wanted_of now c) where
@@ -63,7 +63,7 @@ module _ (now : State) (c : ClientState) (answer : Answer) (is : answer ≡ want
   answer-none none = rw (capped, none)
 
   -- a frame was wanted, for which memory may be taken, and which is too long or not
-  pub answer-memory : is_frame answer ≡ true → may_take_memory (answer_for now c) ≡ true
+  pub answer-memory : is_frame answer ≡ true → may_allocate (answer_for now c) ≡ true
   answer-memory frame = rw capped (may-take (is_too_long (grid_size now.shown) (shown_state now) c.base) answer frame)
 
   pub answer-long : is_frame answer ≡ true → is_too_long (grid_size now.shown) (shown_state now) c.base ≡ true

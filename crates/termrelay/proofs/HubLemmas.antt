@@ -12,7 +12,7 @@ use Rattle.vt100.specs.Copies.{copy_of}
 use Rattle.vt100.specs.Parsing.{ParserView}
 use Rattle.vt100.proofs.CopyLemmas.{copies-same}
 use Rattle.termrelay.specs.Frame.{IsShortFrame}
-use Rattle.termrelay.specs.Record.{RecordView, client_of, IsBaseOf, IsRecordOf}
+use Rattle.termrelay.specs.ClientRecord.{RecordView, client_of, IsBaseOf, IsRecordOf}
 use Rattle.termrelay.specs.Answers.{ClientState}
 use Rattle.termrelay.specs.Hub.{HubState, as_kept, Puts, no_clients}
 use Rattle.termrelay.specs.HubFields.{IsMade, IsHub}

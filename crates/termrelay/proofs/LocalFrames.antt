@@ -12,7 +12,7 @@ use Rattle.vt100.proofs.ShownLemmas.{shown-is, screen-drawable}
 use Rattle.vt100.proofs.FormLists.{small-screen}
 use Rattle.termrelay.specs.Frame.{is_unsure, frame_text, HasByteBase, IsShortFrame, IsLocalFrame}
 use Rattle.termrelay.specs.Answers.{due}
-use Rattle.termrelay.specs.Record.{RecordView, client_of, IsBaseOf, IsRecordOf}
+use Rattle.termrelay.specs.ClientRecord.{RecordView, client_of, IsBaseOf, IsRecordOf}
 use Rattle.termrelay.specs.declared.answer.Answer.TheVariants.{Difference}
 use Rattle.termrelay.proofs.DueLemmas.{difference-body}
 use Rattle.termrelay.proofs.SureLemmas.{sure-plain}

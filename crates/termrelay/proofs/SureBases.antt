@@ -11,7 +11,7 @@ use Rattle.vt100.specs.WriterLaws.{IsUnscrolled}
 use Rattle.vt100.proofs.ShownLemmas.{shown-is}
 use Rattle.termrelay.specs.Frame.{is_unsure}
 use Rattle.termrelay.specs.Answers.{due, same_shown, is_frame, wanted_to}
-use Rattle.termrelay.specs.Record.{IsBaseOf, is_unsure_screen, sure_base}
+use Rattle.termrelay.specs.ClientRecord.{IsBaseOf, is_unsure_screen, sure_base}
 use Rattle.termrelay.specs.contracts.answer.Answer.{the_type}
 use Rattle.termrelay.specs.declared.answer.Answer.{Answer}
 use Rattle.termrelay.specs.declared.answer.Answer.TheVariants.{Full, Difference, Unsure, Unchanged}

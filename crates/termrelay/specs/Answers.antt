@@ -106,9 +106,9 @@ abbrev pub answer_for : State → ClientState → Answer
 answer_for now c = answer_to now c.base c.owed
 
 -- whether the request may allocate memory: it does for a frame's text, also if that turns out too long
-abbrev pub may_take_memory : Answer → Bool
-may_take_memory TooLong = true
-may_take_memory answer = is_frame answer
+abbrev pub may_allocate : Answer → Bool
+may_allocate TooLong = true
+may_allocate answer = is_frame answer
 
 -- the client after that answer
 abbrev pub after_answer : Size → Shown → ClientState → Answer → ClientState
@@ -153,8 +153,8 @@ pub record EachExampleIsAnswered : Type 0 where
       → is_frame (due (grid_size now.shown) (shown_state now) base) ≡ true
       → is_too_long (grid_size now.shown) (shown_state now) base ≡ true
       → answer_for now (record { owed = []; base = base }) ≡ TooLong
-  pub held_takes_none : may_take_memory Held ≡ false
-  pub too_long_takes : may_take_memory TooLong ≡ true
+  pub held_takes_none : may_allocate Held ≡ false
+  pub too_long_takes : may_allocate TooLong ≡ true
 
 -- ---- small screens
 

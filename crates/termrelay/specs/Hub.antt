@@ -12,14 +12,14 @@ use Rattle.vt100_core.specs.Picture.{grid_size}
 use Rattle.screen_model.specs.Call.{ScreenView}
 use Rattle.screen_model.specs.Made.{Act, Fed, Resized, events_added}
 use Rattle.screen_model.specs.Shown.{shown_state}
-use Rattle.vt100.specs.Memory.{some_may_take}
+use Rattle.vt100.specs.Memory.{some_may_allocate}
 use Rattle.vt100.specs.Parsing.{ParserView, HasRead, ParserIsAfter}
 use Rattle.vt100.specs.declared.error.ScreenError.{ScreenError}
 use Rattle.vt100.specs.declared.error.ScreenError.TheVariants as screen
 use Rattle.byte_sinks.specs.Pump.{Pumps}
-use Rattle.termrelay.specs.Answers.{ClientState, answer_for, after_answer, may_take_memory}
+use Rattle.termrelay.specs.Answers.{ClientState, answer_for, after_answer, may_allocate}
 use Rattle.termrelay.specs.Frame.{IsShortFrame, IsLocalFrame}
-use Rattle.termrelay.specs.Record.{RecordView, client_of}
+use Rattle.termrelay.specs.ClientRecord.{RecordView, client_of}
 use Rattle.termrelay.specs.declared.answer.Answer.{Answer}
 use Rattle.termrelay.specs.declared.error.HubError.{HubError}
 use Rattle.termrelay.specs.declared.error.HubError.TheVariants.{Memory, Failed, UnknownClient, Write}
@@ -51,7 +51,7 @@ GoesOn p act q =
 abbrev pub FailsAt : ParserView (Unit {0}) → List ℕ → ParserView (Unit {0}) → Type 0
 FailsAt p bytes q =
     (q.screen.failed ≡ true)
-    × ((past : List ℕ) → HasRead p past → some_may_take (events_added past bytes) p.screen.state ≡ true)
+    × ((past : List ℕ) → HasRead p past → some_may_allocate (events_added past bytes) p.screen.state ≡ true)
 
 -- hubs described by the code's fields: the parser, with its state inside a sequence, and a record at each key
 abbrev pub as_kept : Telling
@@ -89,7 +89,7 @@ pump_answer (Err e) = Err (Write e)
 abbrev pub CanFrame : ScreenView → Option ClientState → Result Answer HubError → Type 0
 CanFrame now None result = result ≡ Err UnknownClient
 CanFrame now (Some c) (Ok answer) = (now.failed ≡ false) × (answer ≡ answer_for now.state c)
-CanFrame now (Some c) (Err Memory) = (now.failed ≡ false) × (may_take_memory (answer_for now.state c) ≡ true)
+CanFrame now (Some c) (Err Memory) = (now.failed ≡ false) × (may_allocate (answer_for now.state c) ≡ true)
 CanFrame now (Some c) (Err Failed) = now.failed ≡ true
 CanFrame now (Some c) (Err UnknownClient) = ⊥
 CanFrame now (Some c) (Err (Write e)) = ⊥

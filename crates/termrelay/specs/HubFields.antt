@@ -6,7 +6,7 @@ use Rattle.screen_model.specs.Holds.{AreActs}
 use Rattle.vt100.specs.Copies.{copy_of}
 use Rattle.vt100.specs.Parsing.{ParserView, ParserIsAfter}
 use Rattle.termrelay.specs.Hub.{HubState, as_kept}
-use Rattle.termrelay.specs.Record.{IsRecordOf}
+use Rattle.termrelay.specs.ClientRecord.{IsRecordOf}
 use Rattle.termrelay.specs.declared.hub.Hub.TheInside.{Inside}
 
 abbrev pub hub_of : Inside → HubState as_kept

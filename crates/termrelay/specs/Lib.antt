@@ -1,7 +1,7 @@
 pub mod Frame
 pub mod Answers
 pub mod Hub
-pub mod Record
+pub mod ClientRecord
 pub mod HubFields
 pub mod Laws
 pub mod Calls

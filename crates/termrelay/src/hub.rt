@@ -4,14 +4,14 @@ ghost use Rattle.std.specs.Prelude.{IsSome, IfSome, slice_index_or};
 ghost use Rattle.vt100.specs.Copies.{copy_of};
 ghost use Rattle.vt100.specs.WriterLaws.{IsUnscrolled};
 ghost use Rattle.termrelay.specs.Frame.{IsShortFrame};
-ghost use Rattle.termrelay.specs.Record.{is_unsure_screen};
+ghost use Rattle.termrelay.specs.ClientRecord.{is_unsure_screen};
 ghost use Rattle.termrelay.specs.declared.answer.Answer.TheVariants.{Difference, TooLong};
 ghost use Rattle.termrelay.specs.declared.error.HubError.TheVariants.{Memory, UnknownClient};
 
 use crate::answer::Answer;
 use crate::client::Client;
+use crate::client_record::{ClientRecord, is_too_long};
 use crate::error::HubError;
-use crate::record::{Record, is_too_long};
 use byte_sinks::ByteSink;
 use slab::Slab;
 use std::alloc::Global;
@@ -30,7 +30,7 @@ use vt100::{Parser, Screen};
 #[derive(Drop)]
 pub struct Hub {
     parser: Parser<()>,
-    clients: Slab<Record>,
+    clients: Slab<ClientRecord>,
     /// A copy of what the present screen shows, if one was made since the last change.
     present: Option<Rc<Screen>>,
     /// A copy that no client needs any more. The next one is made in its memory.
@@ -127,7 +127,7 @@ impl Hub {
         if self.has_failed() {
             return Err(HubError::Failed);
         }
-        match self.clients.insert(Record::new(self.alloc)) {
+        match self.clients.insert(ClientRecord::new(self.alloc)) {
             Ok(key) => Ok(Client::from_key(key)),
             Err(_) => Err(HubError::Memory),
         }

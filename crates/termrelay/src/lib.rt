@@ -6,12 +6,12 @@ pub mod answer;
 mod body;
 pub mod call;
 pub mod client;
+mod client_record;
 pub mod error;
 pub mod hub;
 pub mod laws;
 pub mod log;
-mod record;
-mod script;
+mod scripted_writer;
 pub mod session;
 mod shown;
 

@@ -8,7 +8,7 @@ ghost use Rattle.termrelay.specs.Log.{is_of, change_last, bytes_taken, grown, en
 use crate::call::{Reply, Take};
 use crate::client::Client;
 use crate::hub::Hub;
-use crate::script::Script;
+use crate::scripted_writer::ScriptedWriter;
 use std::alloc::{AllocError, Global};
 use std::marker::Model;
 use std::num::NonZeroU16;
@@ -146,7 +146,7 @@ fn pump_into(
 pub(crate) fn pump(hub: &mut Hub, client: Client, takes: &[Take]) -> Reply
     ensures { Serves hub.old (Pump client takes.now) result hub.new }
 {
-    match hub.pump(client, &mut Script::new(takes)) {
+    match hub.pump(client, &mut ScriptedWriter::new(takes)) {
         Ok(()) => Reply::Done,
         Err(error) => Reply::Refused(error),
     }

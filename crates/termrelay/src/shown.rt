@@ -108,7 +108,7 @@ fn has_same_cells(screen: &Screen, other: &Screen, row: u16) -> bool
     are_same(cells_of(screen, row), cells_of(other, row), filled)
 }
 
-/// Whether one of a row's cells asks for an emoji, where none of a screen does that may have the same row.
+/// Like [`is_row_unsure`], given a screen without U+FE0F: a row that equals its row there is skipped.
 fn is_row_unsure_since(base: &Screen, now: &Screen, row: u16) -> bool
     requires base_state { IsState base.now.state }
     requires state { IsState now.now.state }
@@ -124,8 +124,7 @@ fn is_row_unsure_since(base: &Screen, now: &Screen, row: u16) -> bool
     is_row_unsure(now, row)
 }
 
-/// Whether the screen `now` is unsure, where the screen `base` is sure. Only rows that differ between them are looked
-/// through.
+/// Like [`is_unsure`], given an earlier screen without U+FE0F: rows that equal its rows are skipped.
 pub(crate) fn is_unsure_since(base: &Screen, now: &Screen) -> bool
     requires base_state { IsState base.now.state }
     requires state { IsState now.now.state }

@@ -17,7 +17,7 @@ use vt100_cells::columns;
 const RUN_LEN: usize = 32;
 
 impl Picture {
-    /// Prints the wide characters at the front of a text, up to `RUN_LEN` of them. Returns the rest, or `None` if there
+    /// Prints the wide characters at the start of a text, up to `RUN_LEN` of them. Returns the rest, or `None` if there
     /// is none or the screen has one column. The effect is that of [`input`](Self::input) for each character.
     pub(crate) fn input_wide<'a>(&mut self, text: &'a str) -> Option<&'a str>
         ensures shorter { IfSome result (λ rest. length rest.now < length text.now) }
@@ -85,7 +85,7 @@ impl Picture {
     }
 }
 
-/// Takes the wide characters at the front of a text into an empty run, as many as it holds, and returns the rest.
+/// Takes the wide characters at the start of a text into an empty run, as many as it holds, and returns the rest.
 fn take_wide<'a>(text: &'a str, run: &mut ArrayVec<char, RUN_LEN>) -> &'a str
     requires { run.old.items ≡ [] }
     ensures parts { chars text.now ≡ run.new.items ++ chars result.now }

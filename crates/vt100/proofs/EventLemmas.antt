@@ -13,10 +13,10 @@ use Rattle.vt100.specs.declared.error.ScreenError.{ScreenError}
 use Rattle.vt100.specs.declared.error.ScreenError.TheVariants.{Memory, Failed}
 use Rattle.vt100_rows.proofs.TextLemmas.{on-err}
 use Rattle.vt100.specs.declared.screen.wrapped.WrappedScreen.{WrappedScreen}
-use Rattle.vt100.specs.Memory.{keeps_row, plain_may_take, private_may_take}
+use Rattle.vt100.specs.Memory.{keeps_row, plain_may_allocate, private_may_allocate}
 use Rattle.vt100.specs.Tries.{Changes, MayScroll, Tries, TriesParts, Counts, SameBounds, alive}
-use Rattle.vt100.specs.Goes.{Either, Tells, Acts, Fails, Does}
-use Rattle.vt100.proofs.HearLemmas.{refused_keeps}
+use Rattle.vt100.specs.Goes.{Either, MakesCalls, Acts, Fails, Does}
+use Rattle.vt100.proofs.ReceiveLemmas.{refused_keeps}
 
 pub is_alive : (v : ScreenView) → v.failed ≡ false → v ≡ alive v.state
 is_alive v h = λ i. record { state = v.state; failed = h i }
@@ -24,16 +24,16 @@ is_alive v h = λ i. record { state = v.state; failed = h i }
 -- ---- calls one after another
 
 pub tells_failed : {C : Type 0} (step : C → ScreenView → Call → C → ScreenView → Type 0) (c : C) (v : ScreenView)
-    (ks : List Call) → v.failed ≡ true → Tells step c v ks c v
+    (ks : List Call) → v.failed ≡ true → MakesCalls step c v ks c v
 tells_failed step c v [] h = (refl, refl)
 tells_failed step c v (k ∷ ks) h = rw h (refl, refl)
 
 pub tells_more : {C : Type 0} (step : C → ScreenView → Call → C → ScreenView → Type 0) (c : C) (v : ScreenView)
     (k : Call) (ks : List Call) (b : C) (u : ScreenView) (d : C) (w : ScreenView) → v.failed ≡ false → step c v k b u
-    → Tells step b u ks d w → Tells step c v (k ∷ ks) d w
+    → MakesCalls step b u ks d w → MakesCalls step c v (k ∷ ks) d w
 tells_more {C} step c v k ks b u d w h one more =
     subst (λ (x : Bool). Either x ((d ≡ c) × (w ≡ v)) ((a : C) × (z : ScreenView) × step c v k a z
-    × Tells step a z ks d w)) (sym h) (b, u, one, more)
+    × MakesCalls step a z ks d w)) (sym h) (b, u, one, more)
 
 module _ {C : Type 0} {step : C → ScreenView → Call → C → ScreenView → Type 0}
     {scrolls : C → RowView → Bool → C → Type 0} where
@@ -74,7 +74,7 @@ module _ {C : Type 0} {step : C → ScreenView → Call → C → ScreenView →
   does_steps f (Err Memory) x k takes = record {
     dead = λ e. ((x.dead e).2, (x.dead e).1);
     live = λ e. inr (record {
-      may_take = takes e refl;
+      is_allocating = takes e refl;
       failed = x.memory refl;
       bounds = k;
       reported = x.reported refl;
@@ -97,7 +97,7 @@ module _ {C : Type 0} {step : C → ScreenView → Call → C → ScreenView →
 
   -- a call, and then others
   does_calls : {t : Bool} {c d : C} {v w : ScreenView} (k : Call) (ks : List Call) (b : C) (u : ScreenView)
-      → v.failed ≡ false → step c v k b u → Tells step b u ks d w → Does step scrolls (calling (k ∷ ks)) t c v d w
+      → v.failed ≡ false → step c v k b u → MakesCalls step b u ks d w → Does step scrolls (calling (k ∷ ks)) t c v d w
   does_calls {t} {c} {d} {v} k ks b u h one more =
       does_live (calling (k ∷ ks)) h
       (inl (c, refl, (b, u, subst (λ (z : ScreenView). step c z k b u) (is_alive v h) one, more)))
@@ -120,18 +120,18 @@ module _ {C : Type 0} {step : C → ScreenView → Call → C → ScreenView →
   -- a call of which parts can be unknown, and then the calls that report these
   does_unhandled : {t : Bool} {c d : C} {v w : ScreenView} (f : State → Partly) (k : Call) (n : ℕ) (b : C)
       (u : ScreenView) → v.failed ≡ false → Receives scrolls c (f v.state).reports b → u ≡ alive (f v.state).state
-      → n ≡ (f v.state).unhandled → Tells step b u (replicate n k) d w → Does step scrolls (λ s. partly (f s) k) t c v d w
+      → n ≡ (f v.state).unhandled → MakesCalls step b u (replicate n k) d w → Does step scrolls (λ s. partly (f s) k) t c v d w
   does_unhandled f k n b u h receives screen count calls =
       does_live (λ s. partly (f s) k) h (inl (b, receives, rw (count, screen) at calls))
 
   pub does_counts : {t : Bool} {c b d : C} {v u w : ScreenView} {n : ℕ} {f : State → Partly} (k : Call)
-      → v.failed ≡ false → Counts scrolls f v c n u b → Tells step b u (replicate n k) d w
+      → v.failed ≡ false → Counts scrolls f v c n u b → MakesCalls step b u (replicate n k) d w
       → Does step scrolls (λ s. partly (f s) k) t c v d w
   does_counts {t} {c} {b} {d} {v} {u} {w} {n} {f} k h x calls =
       does_unhandled f k _ _ _ h (x.receives h) (x.screen h) (x.count h) calls
 
   pub does_parts : {t : Bool} {c b d : C} {v u w : ScreenView} {n : ℕ} {f : State → Partly} (k : Call)
-      → v.failed ≡ false → TriesParts scrolls f v c (Ok n) u b → Tells step b u (replicate n k) d w
+      → v.failed ≡ false → TriesParts scrolls f v c (Ok n) u b → MakesCalls step b u (replicate n k) d w
       → Does step scrolls (λ s. partly (f s) k) t c v d w
   does_parts {t} {c} {b} {d} {v} {u} {w} {n} {f} k h x calls =
       does_unhandled f k _ _ _ h x.tries.receives x.tries.screen x.count calls
@@ -152,13 +152,13 @@ module _ {C : Type 0} {step : C → ScreenView → Call → C → ScreenView →
   -- ---- rows of tables
 
   pub plain_does : {a b : ℕ} {c d : C} {v w : ScreenView} (gs : List (List ℕ)) → a ≡ b
-      → Does step scrolls (plain_effect (lookup b plain_rows) gs b) (plain_may_take gs b v.state) c v d w
-      → Does step scrolls (plain_effect (lookup a plain_rows) gs a) (plain_may_take gs a v.state) c v d w
+      → Does step scrolls (plain_effect (lookup b plain_rows) gs b) (plain_may_allocate gs b v.state) c v d w
+      → Does step scrolls (plain_effect (lookup a plain_rows) gs a) (plain_may_allocate gs a v.state) c v d w
   plain_does gs e x = rw e x
 
   pub private_does : {a b : ℕ} {c d : C} {v w : ScreenView} (gs : List (List ℕ)) (k : Call) → a ≡ b
-      → Does step scrolls (row_effect (lookup b private_rows) gs k) (private_may_take gs b v.state) c v d w
-      → Does step scrolls (row_effect (lookup a private_rows) gs k) (private_may_take gs a v.state) c v d w
+      → Does step scrolls (row_effect (lookup b private_rows) gs k) (private_may_allocate gs b v.state) c v d w
+      → Does step scrolls (row_effect (lookup a private_rows) gs k) (private_may_allocate gs a v.state) c v d w
   private_does gs k e x = rw e x
 
   pub other_does : {t : Bool} {a b : ℕ} {c d : C} {v w : ScreenView} (gs : List (List ℕ)) (k : Call) → a ≡ b

@@ -1,5 +1,5 @@
 pub mod EventLemmas
-pub mod HearLemmas
+pub mod ReceiveLemmas
 pub mod RepeatLemmas
 pub mod PlayLemmas
 pub mod LastLemmas

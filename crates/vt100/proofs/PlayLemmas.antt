@@ -19,8 +19,8 @@ use Rattle.screen_model.specs.Made.{Act, Fed, Resized, played, events_added, byt
 use Rattle.vt100.specs.declared.screen.wrapped.WrappedScreen.{WrappedScreen}
 use Rattle.vt100.specs.declared.error.ScreenError.{ScreenError}
 use Rattle.vt100.specs.Tries.{Tries, SameBounds, alive}
-use Rattle.vt100.specs.Goes.{Tells, Fails, Goes, GoesThrough}
-use Rattle.vt100.specs.Memory.{may_take_memory, some_may_take}
+use Rattle.vt100.specs.Goes.{MakesCalls, Fails, Goes, GoesThrough}
+use Rattle.vt100.specs.Memory.{may_allocate, some_may_allocate}
 use Rattle.vt100.specs.Parsing.{ParserView, ParserIsAfter, KeepsScreens}
 use Rattle.vt100.specs.Laws.{PlaysEvents, FeedsMake, FeedsJoin, FeedsNothing, ActsFollow, ResizedScreensArePutIn}
 use Rattle.screen_model.specs.Holds.{AreActs}
@@ -110,7 +110,7 @@ module _ {C : Type 0} (step : C → ScreenView → Call → C → ScreenView →
     (scrolls : C → RowView → Bool → C → Type 0) (keeps : KeepsScreens step) where
   -- ---- callbacks that leave the screen as it is
 
-  tells_keeps : (c : C) (v : ScreenView) (ks : List Call) (d : C) (w : ScreenView) → Tells step c v ks d w → w ≡ v
+  tells_keeps : (c : C) (v : ScreenView) (ks : List Call) (d : C) (w : ScreenView) → MakesCalls step c v ks d w → w ≡ v
   tells_keeps c v [] d w h = h.1
   tells_keeps c v (k ∷ ks) d w h = elim (cases_Bool v.failed) [
     | inl f ↦ (rw f at h).1 ∙ sym (λ i. record { state = v.state; failed = f i })
@@ -167,7 +167,7 @@ module _ {C : Type 0} (step : C → ScreenView → Call → C → ScreenView →
   -- an event after which the screen has failed
   one_failed : (e : Event) (c : C) (v : ScreenView) (d : C) (w : ScreenView) → v.failed ≡ false
       → Goes step scrolls e c v d w → w.failed ≡ true
-      → Fails scrolls (may_take_memory e v.state) (effect e v.state).reports c v d w
+      → Fails scrolls (may_allocate e v.state) (effect e v.state).reports c v d w
   one_failed e c v d w h g failed =
       elim (g.live h) [
         | inl a ↦
@@ -205,17 +205,17 @@ module _ {C : Type 0} (step : C → ScreenView → Call → C → ScreenView →
   -- ---- where memory may be taken
 
   pub some_taken : (es : List Event) (c : C) (v : ScreenView) (d : C) (w : ScreenView) → v.failed ≡ false
-      → GoesThrough step scrolls es c v d w → w.failed ≡ true → some_may_take es v.state ≡ true
+      → GoesThrough step scrolls es c v d w → w.failed ≡ true → some_may_allocate es v.state ≡ true
   some_taken [] c v d w h g failed =
       absurd (false≢true (sym h ∙ sym (ap (λ (x : ScreenView). x.failed) g.1) ∙ failed))
   some_taken (e ∷ es) c v d w h (b, u, one, more) failed =
-      let rest = some_may_take es (effect e v.state).state in
+      let rest = some_may_allocate es (effect e v.state).state in
       elim (cases_Bool u.failed) [
-        | inl f ↦ ap (λ (x : Bool). x || rest) (one_failed e c v b u h one f).may_take
+        | inl f ↦ ap (λ (x : Bool). x || rest) (one_failed e c v b u h one f).is_allocating
         | inr f ↦
             let is = ap (λ (x : ScreenView). x.state) (one_played e c v b u h one f) in
-            ap (λ (x : Bool). may_take_memory e v.state || x) (ap (some_may_take es) (sym is)
-            ∙ some_taken es b u d w f more failed) ∙ or-true (may_take_memory e v.state)
+            ap (λ (x : Bool). may_allocate e v.state || x) (ap (some_may_allocate es) (sym is)
+            ∙ some_taken es b u d w f more failed) ∙ or-true (may_allocate e v.state)
       ]
 
 pub plays_events : PlaysEvents

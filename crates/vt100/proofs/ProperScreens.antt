@@ -18,8 +18,8 @@ use Rattle.screen_model.proofs.ProperSheets.{proper_cells_inserted, proper_cells
 use Rattle.screen_model.proofs.ProperSheets.{proper_row_erased, proper_all_erased, proper_all_erased_forward}
 use Rattle.screen_model.proofs.ProperSheets.{proper_all_erased_backward, proper_lines_inserted, proper_lines_deleted}
 use Rattle.screen_model.proofs.ProperSheets.{proper_scrolled_down}
-use Rattle.vt100.specs.declared.screen.reported.Drawing.{Drawing}
-use Rattle.vt100.specs.declared.screen.reported.Drawing.TheVariants.{Character, Characters, LineFeed, ScrollUp}
+use Rattle.vt100.specs.declared.screen.reported.ScrollingEdit.{ScrollingEdit}
+use Rattle.vt100.specs.declared.screen.reported.ScrollingEdit.TheVariants.{Character, Characters, LineFeed, ScrollUp}
 use Rattle.vt100.specs.Runs.{characters}
 use Rattle.vt100.specs.Draws.{drawn}
 use Rattle.vt100.specs.ScreenFields.{IsInside}
@@ -54,7 +54,7 @@ drawn_screen s g last i some limits proper =
     changed-screen s g s.other_grid last s.failed i some i.main (λ live. i.height live ∙ sym limits.height)
     (λ live. i.width live ∙ sym limits.width) limits.kept.keeps refl (λ live. proper (i.proper live)) i.other_proper
 
-pub proper_drawn : (d : Drawing) (g : GridView) (a : Attrs) → IsProper a → IsProperSheet g
+pub proper_drawn : (d : ScrollingEdit) (g : GridView) (a : Attrs) → IsProper a → IsProperSheet g
     → IsProperSheet (drawn d g a).grid
 proper_drawn (Character c) g a h p = proper_printed g c a h p
 proper_drawn (Characters run) g a h p = proper_printed_all g (characters run) a h p

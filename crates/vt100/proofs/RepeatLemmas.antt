@@ -12,7 +12,7 @@ use Rattle.vt100.specs.Tries.{MayScroll, ReceivesPrefix}
 use Rattle.vt100.specs.declared.error.ScreenError.{ScreenError}
 use Rattle.vt100.specs.declared.screen.wrapped.WrappedScreen.{WrappedScreen}
 use Rattle.vt100.proofs.EventLemmas.{is_alive}
-use Rattle.vt100.proofs.HearLemmas.{receives_append, tries_ok}
+use Rattle.vt100.proofs.ReceiveLemmas.{receives_append, tries_ok}
 use Rattle.vt100.proofs.LimitsLemmas.{bounds_same, bounds_trans, capacity_times}
 
 -- of n times, the reports of the first i, those of the next one, and others

@@ -37,12 +37,12 @@ use Rattle.vt100.specs.Tries.{MayScroll, SameBounds, ReceivesPrefix, alive}
 use Rattle.vt100.specs.Goes.{Fails, Goes, GoesThrough}
 use Rattle.vt100.specs.Runs.{IsHandled, IsRun, characters, typed_all, last_of, PrintsPrefix}
 use Rattle.vt100.specs.Draws.{Draws, drawn_on}
-use Rattle.vt100.specs.declared.screen.reported.Drawing.TheVariants.{Characters}
-use Rattle.vt100.specs.declared.screen.reported.Run.{Run}
-use Rattle.vt100.specs.declared.screen.reported.Run.TheVariants.{Narrow, Wide}
+use Rattle.vt100.specs.declared.screen.reported.ScrollingEdit.TheVariants.{Characters}
+use Rattle.vt100.specs.declared.screen.reported.CharRun.{CharRun}
+use Rattle.vt100.specs.declared.screen.reported.CharRun.TheVariants.{Narrow, Wide}
 use Rattle.vt100.specs.declared.screen.reported.Reporter.{Reporter}
-use Rattle.vt100.proofs.HearLemmas.{Reports, receives_all, receives_whole, draws_all, scroll_as, refused_keeps}
-use Rattle.vt100.proofs.HearLemmas.{not_grown}
+use Rattle.vt100.proofs.ReceiveLemmas.{Reports, receives_all, receives_whole, draws_all, scroll_as, refused_keeps}
+use Rattle.vt100.proofs.ReceiveLemmas.{not_grown}
 use Rattle.vt100_rows.proofs.PrintableLemmas.{printable-chars}
 use Rattle.vt100.proofs.EventLemmas.{is_alive, does_as, does_live, does_none, does_where}
 use Rattle.vt100.proofs.LimitsLemmas.{bounds_typed, bounds_back, capacity_typed}
@@ -59,7 +59,7 @@ pub record IsSpacing (w c : ℕ) : Type 0 where
 spacing : (w n c : ℕ) → 0 < n → n ≤ w → (is_undrawable c ≡ false) × (columns_of c ≡ n) → IsSpacing w c
 spacing w n c some fits h = record { drawn = h.0; some = omega (arith, h.1); fits = omega (arith, h.1) }
 
-run-spacing : (w : ℕ) → 0 < w → (run : Run) → IsRun w run → All (IsSpacing w) (characters run)
+run-spacing : (w : ℕ) → 0 < w → (run : CharRun) → IsRun w run → All (IsSpacing w) (characters run)
 run-spacing w some (Narrow text) p k d l = spacing w 1 _ (omega arith) some (printable-is _ (p k d l))
 run-spacing w some (Wide text) p k d l = spacing w 2 _ (omega arith) p.1 (drawn-is _ 2 (p.0 k d l))
 
@@ -133,7 +133,7 @@ printable-handled c p = grind (arith, nat_tests)
 
 module _ {C : Type 0} (scrolls : C → RowView → Bool → C → Type 0) where
   -- drawing a run is typing it
-  pub run_scrolls : {p q : WrappedScreen C} {result : Result (Unit {0}) ScreenError} (run : Run)
+  pub run_scrolls : {p q : WrappedScreen C} {result : Result (Unit {0}) ScreenError} (run : CharRun)
       → IsRun p.screen.state.shown.width run → 0 < p.screen.state.shown.width
       → MayScroll scrolls (drawn_on (Characters run)) p result q
       → MayScroll scrolls (typed_all (characters run)) p result q
@@ -296,7 +296,7 @@ module _ {C : Type 0} (step : C → ScreenView → Call → C → ScreenView →
   goes-here x xs c v d w h live failed keeps bounds reported =
       let one : Fails scrolls (keeps_row v.state (typed x v.state).state) (typed x v.state).reports
       c v d w =
-      record { may_take = keeps; failed = failed; bounds = bounds; reported = reported } in
+      record { is_allocating = keeps; failed = failed; bounds = bounds; reported = reported } in
       (d, w, goes-typed x c v d w h live (inr one), goes-failed xs d w failed)
 
   -- or at one of them, by which a row is kept: if the callbacks haven't got rows that leave by the others

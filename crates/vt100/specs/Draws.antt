@@ -10,14 +10,14 @@ use Rattle.vt100_core.specs.declared.printed.Printed.TheVariants.{Nothing, Spaci
 use Rattle.screen_model.specs.State.{State}
 use Rattle.screen_model.specs.Step.{Stepped, last_after, reports_of}
 use Rattle.screen_model.specs.Call.{Receives}
-use Rattle.vt100.specs.declared.screen.reported.Drawing.{Drawing}
-use Rattle.vt100.specs.declared.screen.reported.Drawing.TheVariants.{Character, Characters, LineFeed, ScrollUp}
+use Rattle.vt100.specs.declared.screen.reported.ScrollingEdit.{ScrollingEdit}
+use Rattle.vt100.specs.declared.screen.reported.ScrollingEdit.TheVariants.{Character, Characters, LineFeed, ScrollUp}
 use Rattle.vt100.specs.declared.screen.reported.Reporter.{Reporter}
 use Rattle.vt100.specs.Runs.{IsRun, characters, last_of}
 use Rattle.vt100.specs.Tries.{ReceivesPrefix}
 
 -- a sheet of w columns has room for what is drawn
-abbrev pub IsDrawable : ℕ → Drawing → Type 0
+abbrev pub IsDrawable : ℕ → ScrollingEdit → Type 0
 IsDrawable w (Character c) = Unit {0}
 IsDrawable w (Characters run) = IsRun w run
 IsDrawable w LineFeed = Unit {0}
@@ -28,28 +28,28 @@ abbrev pub scrolled_of : PrintedGrid → Scrolled
 scrolled_of d = record { grid = d.grid; sunk = d.sunk }
 
 -- the same of what is drawn with these attributes
-abbrev pub drawn : Drawing → GridView → Attrs → Scrolled
+abbrev pub drawn : ScrollingEdit → GridView → Attrs → Scrolled
 drawn (Character c) g a = scrolled_of (printed g c a)
 drawn (Characters run) g a = printed_all g (characters run) a
 drawn LineFeed g a = fed g 1
 drawn (ScrollUp n) g a = scrolled_up g n
 
 -- what becomes of the last character
-abbrev pub printed_by : Drawing → GridView → Attrs → Printed
+abbrev pub printed_by : ScrollingEdit → GridView → Attrs → Printed
 printed_by (Character c) g a = (printed g c a).printed
 printed_by (Characters run) g a = Spacing
 printed_by LineFeed g a = Nothing
 printed_by (ScrollUp n) g a = Nothing
 
 -- the last character that was drawn in a cell of its own, where there was one before
-abbrev pub last_drawn : Drawing → Printed → Option ℕ → Option ℕ
+abbrev pub last_drawn : ScrollingEdit → Printed → Option ℕ → Option ℕ
 last_drawn (Character c) p last = last_after p c last
 last_drawn (Characters run) p last = last_of (characters run) last
 last_drawn LineFeed p last = last
 last_drawn (ScrollUp n) p last = last
 
 -- what becomes of the shown sheet
-abbrev pub drawn_on : Drawing → State → Stepped
+abbrev pub drawn_on : ScrollingEdit → State → Stepped
 drawn_on d s =
     let x = drawn d s.shown s.attrs in
     record {

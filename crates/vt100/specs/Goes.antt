@@ -7,7 +7,7 @@ use Rattle.screen_model.specs.Step.{Report}
 use Rattle.screen_model.specs.Call.{Call, ScreenView, Receives}
 use Rattle.screen_model.specs.Effect.{Effect, effect}
 use Rattle.vt100.specs.declared.screen.wrapped.WrappedScreen.{WrappedScreen}
-use Rattle.vt100.specs.Memory.{may_take_memory}
+use Rattle.vt100.specs.Memory.{may_allocate}
 use Rattle.vt100.specs.Tries.{SameBounds, ReceivesPrefix, alive}
 
 -- P where it is so, else Q
@@ -17,23 +17,23 @@ Either false P Q = Q
 
 -- Callbacks c and the screen v that they are lent have gone through these calls, in order and each once, and are d and
 -- w. `step` says what one call does; it may change the screen. Once the screen has failed no further call is made.
-abbrev pub Tells : {C : Type 0} → (C → ScreenView → Call → C → ScreenView → Type 0) → C → ScreenView → List Call → C
+abbrev pub MakesCalls : {C : Type 0} → (C → ScreenView → Call → C → ScreenView → Type 0) → C → ScreenView → List Call → C
     → ScreenView → Type 0
-Tells step c v [] d w = (d ≡ c) × (w ≡ v)
-Tells {C} step c v (k ∷ ks) d w =
-    Either v.failed ((d ≡ c) × (w ≡ v)) ((b : C) × (u : ScreenView) × step c v k b u × Tells step b u ks d w)
+MakesCalls step c v [] d w = (d ≡ c) × (w ≡ v)
+MakesCalls {C} step c v (k ∷ ks) d w =
+    Either v.failed ((d ≡ c) × (w ≡ v)) ((b : C) × (u : ScreenView) × step c v k b u × MakesCalls step b u ks d w)
 
 -- an effect on callbacks c, which are then d, and on their screen, which is then w: the change is made, the rows that
 -- leave are reported to c, and then the calls are made
 abbrev pub Acts : {C : Type 0} → (C → ScreenView → Call → C → ScreenView → Type 0) → (C → RowView → Bool → C → Type 0)
     → C → Effect → C → ScreenView → Type 0
-Acts {C} step scrolls c x d w = (b : C) × Receives scrolls c x.reports b × Tells step b (alive x.state) x.calls d w
+Acts {C} step scrolls c x d w = (b : C) × Receives scrolls c x.reports b × MakesCalls step b (alive x.state) x.calls d w
 
 -- A change of a screen v and callbacks c that finds no memory, where it may take some: the screen is then w, which has
 -- failed, with sheets of the same size, and the callbacks d got only the first of these rows.
 pub record Fails {C : Type 0} (scrolls : C → RowView → Bool → C → Type 0) (takes : Bool) (rows : List Report) (c : C)
     (v : ScreenView) (d : C) (w : ScreenView) : Type 0 where
-  pub may_take : takes ≡ true
+  pub is_allocating : takes ≡ true
   pub failed : w.failed ≡ true
   pub bounds : SameBounds v.state w.state
   pub reported : ReceivesPrefix scrolls c rows d
@@ -54,7 +54,7 @@ Handles step scrolls f takes p q = Does step scrolls f takes p.callbacks p.scree
 -- an event
 abbrev pub Goes : {C : Type 0} → (C → ScreenView → Call → C → ScreenView → Type 0) → (C → RowView → Bool → C → Type 0)
     → Event → C → ScreenView → C → ScreenView → Type 0
-Goes step scrolls e c v d w = Does step scrolls (effect e) (may_take_memory e v.state) c v d w
+Goes step scrolls e c v d w = Does step scrolls (effect e) (may_allocate e v.state) c v d w
 
 -- events, one after another
 abbrev pub GoesThrough : {C : Type 0} → (C → ScreenView → Call → C → ScreenView → Type 0)

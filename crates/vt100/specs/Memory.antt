@@ -25,42 +25,42 @@ shows_alternate (n ∷ []) = nat_eq n 47 || nat_eq n 1049
 shows_alternate ns = false
 
 -- private modes are set
-abbrev pub modes_may_take : List (List ℕ) → State → Bool
-modes_may_take gs s = list_any shows_alternate gs && is_unused s
+abbrev pub modes_may_allocate : List (List ℕ) → State → Bool
+modes_may_allocate gs s = list_any shows_alternate gs && is_unused s
 
 -- LF, VT, FF
-abbrev pub control_may_take : ℕ → State → Bool
-control_may_take b s = is_in_range 10 12 b && keeps_row s (line_fed s).state
+abbrev pub control_may_allocate : ℕ → State → Bool
+control_may_allocate b s = is_in_range 10 12 b && keeps_row s (line_fed s).state
 
 -- RIS
-abbrev pub escape_may_take : List ℕ → ℕ → Bool
-escape_may_take [] b = nat_eq b 0x63
-escape_may_take (i ∷ is) b = false
+abbrev pub escape_may_allocate : List ℕ → ℕ → Bool
+escape_may_allocate [] b = nat_eq b 0x63
+escape_may_allocate (i ∷ is) b = false
 
 -- SU and REP; after `?` the setting of modes
-abbrev pub plain_may_take : List (List ℕ) → ℕ → State → Bool
-plain_may_take gs b s =
+abbrev pub plain_may_allocate : List (List ℕ) → ℕ → State → Bool
+plain_may_allocate gs b s =
     (nat_eq b 0x53 || nat_eq b 0x62) && keeps_row s (plain_effect (lookup b plain_rows) gs b s).state
 
-abbrev pub private_may_take : List (List ℕ) → ℕ → State → Bool
-private_may_take gs b s = nat_eq b 0x68 && modes_may_take gs s
+abbrev pub private_may_allocate : List (List ℕ) → ℕ → State → Bool
+private_may_allocate gs b s = nat_eq b 0x68 && modes_may_allocate gs s
 
-abbrev pub csi_may_take : List (List ℕ) → List ℕ → ℕ → State → Bool
-csi_may_take gs [] b s = plain_may_take gs b s
-csi_may_take gs (m ∷ ms) b s = nat_eq m 0x3F && private_may_take gs b s
+abbrev pub csi_may_allocate : List (List ℕ) → List ℕ → ℕ → State → Bool
+csi_may_allocate gs [] b s = plain_may_allocate gs b s
+csi_may_allocate gs (m ∷ ms) b s = nat_eq m 0x3F && private_may_allocate gs b s
 
 -- an event, in this state
-abbrev pub may_take_memory : Event → State → Bool
-may_take_memory (Print c) s = not (is_unhandled c) && keeps_row s (typed c s).state
-may_take_memory (Execute b) s = control_may_take b s
-may_take_memory (Hook gs ms ignore b) s = false
-may_take_memory (Put b) s = false
-may_take_memory Unhook s = false
-may_take_memory (Osc ps bell) s = false
-may_take_memory (Csi gs ms ignore b) s = csi_may_take gs ms b s
-may_take_memory (Esc ms ignore b) s = escape_may_take ms b
+abbrev pub may_allocate : Event → State → Bool
+may_allocate (Print c) s = not (is_unhandled c) && keeps_row s (typed c s).state
+may_allocate (Execute b) s = control_may_allocate b s
+may_allocate (Hook gs ms ignore b) s = false
+may_allocate (Put b) s = false
+may_allocate Unhook s = false
+may_allocate (Osc ps bell) s = false
+may_allocate (Csi gs ms ignore b) s = csi_may_allocate gs ms b s
+may_allocate (Esc ms ignore b) s = escape_may_allocate ms b
 
 -- one of some events, each in the state that those before it make
-abbrev pub some_may_take : List Event → State → Bool
-some_may_take [] s = false
-some_may_take (e ∷ es) s = may_take_memory e s || some_may_take es (effect e s).state
+abbrev pub some_may_allocate : List Event → State → Bool
+some_may_allocate [] s = false
+some_may_allocate (e ∷ es) s = may_allocate e s || some_may_allocate es (effect e s).state

@@ -9,17 +9,17 @@ use Rattle.screen_model.specs.State.{State}
 use Rattle.screen_model.specs.Step.{Stepped, quietly, typed}
 use Rattle.screen_model.specs.Call.{Call, ScreenView}
 use Rattle.screen_model.specs.Effect.{is_unhandled}
-use Rattle.vt100.specs.declared.screen.reported.Run.{Run}
-use Rattle.vt100.specs.declared.screen.reported.Run.TheVariants.{Narrow, Wide}
+use Rattle.vt100.specs.declared.screen.reported.CharRun.{CharRun}
+use Rattle.vt100.specs.declared.screen.reported.CharRun.TheVariants.{Narrow, Wide}
 use Rattle.vt100.specs.Goes.{GoesThrough}
 
 -- the characters of a run
-abbrev pub characters : Run → List ℕ
+abbrev pub characters : CharRun → List ℕ
 characters (Narrow text) = text.now
 characters (Wide text) = text.now
 
 -- printable ASCII, or characters of two columns, for a sheet of w
-abbrev pub IsRun : ℕ → Run → Type 0
+abbrev pub IsRun : ℕ → CharRun → Type 0
 IsRun w (Narrow text) = All IsPrintable text.now
 IsRun w (Wide text) = All IsWide text.now × (2 ≤ w)
 

@@ -40,7 +40,7 @@ number_led (Ok (true, k)) a ns = read_groups (each_alone (drop k ns)) 0 a
 number_led (Ok (false, k)) a ns = one_more (read_groups (each_alone (drop k ns)) 0 a)
 number_led (Err e) a ns = ended e a
 
--- what the numbers at the front ask for, with the 38 or 48 before them: a colour, with so many of them
+-- what the numbers at the start ask for, with the 38 or 48 before them: a colour, with so many of them
 abbrev pub color_asked : Bool → Result (Color × ℕ) End → Asks
 color_asked t (Ok (x, k)) = change (colored t x) k
 color_asked t (Err Value) = ends

@@ -10,7 +10,7 @@ ghost use Rattle.screen_model.specs.State.{fresh_state};
 ghost use Rattle.screen_model.specs.Step.{resized_to};
 ghost use Rattle.screen_model.specs.Made.{Act, Fed, Resized, events_added};
 ghost use Rattle.screen_model.specs.Holds.{AreActs};
-ghost use Rattle.vt100.specs.Memory.{some_may_take};
+ghost use Rattle.vt100.specs.Memory.{some_may_allocate};
 ghost use Rattle.vt100.specs.Tries.{Tries, TakesNone, SameBounds, Stops, alive};
 ghost use Rattle.vt100.specs.declared.error.ScreenError.TheVariants.{Memory, Failed};
 
@@ -120,7 +120,7 @@ impl<CB: Callbacks> Parser<CB> {
     /// Where memory is refused, and where a call of the callbacks left a screen that has failed, the later events do
     /// nothing, and the answer is [`ScreenError::Memory`]; but for what the callbacks change, the screen keeps its size
     /// and its capacity. If an allocation fails during an event, the callbacks have got only the first of the rows that
-    /// leave by it, and no other call. Only events that allocate can fail (`takes`). On a screen that had failed before
+    /// leave by it, and no other call. Only events that allocate can fail (`allocates`). On a screen that had failed before
     /// nothing is done.
     pub fn process(&mut self, bytes: &[u8]) -> Result<(), ScreenError>
         ensures alive { OnOk result (self.new.screen.failed ≡ false) }
@@ -138,8 +138,8 @@ impl<CB: Callbacks> Parser<CB> {
         ensures bounds { KeepsScreens CB.step → (rows cols capacity : ℕ) (acts : List Act)
             → AreActs rows cols capacity acts → ParserIsAfter self.old rows cols capacity acts
             → SameBounds self.old.screen.state self.new.screen.state }
-        ensures takes { KeepsScreens CB.step → result ≡ Err Memory → (past : List ℕ) → HasRead self.old past
-            → some_may_take (events_added past bytes.now) self.old.screen.state ≡ true }
+        ensures allocates { KeepsScreens CB.step → result ≡ Err Memory → (past : List ℕ) → HasRead self.old past
+            → some_may_allocate (events_added past bytes.now) self.old.screen.state ≡ true }
     {
         if self.screen.screen.failed() {
             return Err(ScreenError::Failed);
@@ -218,7 +218,7 @@ impl<CB: Callbacks> Parser<CB> {
 
 /// Writing is feeding. It answers the whole length; else an error of kind `OutOfMemory` where memory was refused, and
 /// of kind `Other` where the screen had failed. The screen has failed then; bytes without an event that may take memory
-/// aren't refused (`takes`).
+/// aren't refused (`allocates`).
 impl Write for Parser<()> {
     ghost use Rattle.vt100.specs.Goes.{GoesThrough};
     ghost use Rattle.vt100.specs.Parsing.{HasRead, ParserIsAfter};
@@ -240,8 +240,8 @@ impl Write for Parser<()> {
             → OnOk result (ParserIsAfter self.new rows cols capacity (acts ++ Fed buf.now ∷ [])) }
         ensures bounds { (rows cols capacity : ℕ) (acts : List Act) → AreActs rows cols capacity acts
             → ParserIsAfter self.old rows cols capacity acts → SameBounds self.old.screen.state self.new.screen.state }
-        ensures takes { IfErr result (λ e. self.old.screen.failed ≡ false → (past : List ℕ) → HasRead self.old past
-            → some_may_take (events_added past buf.now) self.old.screen.state ≡ true) }
+        ensures allocates { IfErr result (λ e. self.old.screen.failed ≡ false → (past : List ℕ) → HasRead self.old past
+            → some_may_allocate (events_added past buf.now) self.old.screen.state ≡ true) }
     {
         match self.process(buf) {
             Ok(()) => Ok(buf.len()),

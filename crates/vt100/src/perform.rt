@@ -9,13 +9,13 @@ ghost use Rattle.screen_model.specs.Effect.{first, second, effect_or, escape_row
 ghost use Rattle.screen_model.specs.Effect.{is_selector, is_question, is_base64};
 ghost use Rattle.screen_model.specs.Lookup.{lookup};
 ghost use Rattle.screen_model.specs.Call as said;
-ghost use Rattle.vt100.specs.Goes.{Handles, Tells};
-ghost use Rattle.vt100.specs.Memory.{escape_may_take, plain_may_take, private_may_take};
+ghost use Rattle.vt100.specs.Goes.{Handles, MakesCalls};
+ghost use Rattle.vt100.specs.Memory.{escape_may_allocate, plain_may_allocate, private_may_allocate};
 ghost use Rattle.vt100.specs.Runs.{PrintsPrefix};
 
 use crate::callbacks::Callbacks;
 use crate::screen::WrappedScreen;
-use crate::screen::reported::Run;
+use crate::screen::reported::CharRun;
 use arrayvec::ArrayVec;
 use std::num::NonZeroU16;
 use vt100_rows::printable::printable_len;
@@ -65,6 +65,7 @@ impl<CB: Callbacks> Perform for WrappedScreen<CB> {
         if is_unhandled(c) {
             self.callbacks.unhandled_char(&mut self.screen, c);
         } else {
+            // A refusal is kept in the screen, which has failed then.
             let _ = self.text(c);
         }
     }
@@ -85,6 +86,7 @@ impl<CB: Callbacks> Perform for WrappedScreen<CB> {
             8 => self.bs(),
             9 => self.tab(),
             10 => {
+                // A refusal is kept in the screen, which has failed then.
                 let _ = self.lf();
             }
             11 => {
@@ -141,7 +143,7 @@ impl<CB: Callbacks> Perform for WrappedScreen<CB> {
 }
 
 impl<CB: Callbacks> WrappedScreen<CB> {
-    /// Prints the printable ASCII at the front of a text at once, or the wide characters there, or else its first
+    /// Prints the printable ASCII at the start of a text at once, or the wide characters there, or else its first
     /// character; returns what is left.
     fn print_some<'a>(&mut self, text: &'a str) -> &'a str
         requires { 0 < length text.now }
@@ -152,7 +154,8 @@ impl<CB: Callbacks> WrappedScreen<CB> {
         let len = printable_len(text.as_bytes());
         if len > 0 {
             prove!(self.screen.is_live() || self.screen.failed());
-            let _ = self.run(Run::Narrow(&text.as_bytes()[..len]));
+            // A refusal is kept in the screen, which has failed then.
+            let _ = self.run(CharRun::Narrow(&text.as_bytes()[..len]));
             return &text[len..];
         }
         if let Some(rest) = self.print_wide(text) {
@@ -169,7 +172,7 @@ impl<CB: Callbacks> WrappedScreen<CB> {
     fn plain_esc(&mut self, byte: u8)
         requires { self.old.screen.failed ≡ false }
         ensures { Handles CB.step CB.scrolls (effect_or (lookup byte escape_rows)
-            (said.unhandled_escape None None byte)) (escape_may_take [] byte) self.old self.new }
+            (said.unhandled_escape None None byte)) (escape_may_allocate [] byte) self.old self.new }
     {
         match byte {
             b'7' => self.decsc(),
@@ -178,6 +181,7 @@ impl<CB: Callbacks> WrappedScreen<CB> {
             b'>' => self.deckpnm(),
             b'M' => self.ri(),
             b'c' => {
+                // A refusal is kept in the screen, which has failed then.
                 let _ = self.ris();
             }
             b'g' => self.callbacks.visual_bell(&mut self.screen),
@@ -192,7 +196,7 @@ impl<CB: Callbacks> WrappedScreen<CB> {
     fn sgr_csi(&mut self, params: &Params)
         requires { self.old.screen.failed ≡ false }
         ensures { Handles CB.step CB.scrolls (plain_effect (lookup 0x6D plain_rows) params.now 0x6D)
-            (plain_may_take params.now 0x6D self.old.screen.state) self.old self.new }
+            (plain_may_allocate params.now 0x6D self.old.screen.state) self.old self.new }
     {
         let unhandled = self.sgr(params);
         self.unhandled_groups(unhandled, params, &[], 'm');
@@ -203,7 +207,7 @@ impl<CB: Callbacks> WrappedScreen<CB> {
     fn plain_csi(&mut self, params: &Params, action: char)
         requires { self.old.screen.failed ≡ false }
         ensures { Handles CB.step CB.scrolls (plain_effect (lookup action plain_rows) params.now action)
-            (plain_may_take params.now action self.old.screen.state) self.old self.new }
+            (plain_may_allocate params.now action self.old.screen.state) self.old self.new }
     {
         match action {
             '@' => self.ich(canonicalize_params_1(params, 1)),
@@ -219,12 +223,14 @@ impl<CB: Callbacks> WrappedScreen<CB> {
             'M' => self.dl(canonicalize_params_1(params, 1)),
             'P' => self.dch(canonicalize_params_1(params, 1)),
             'S' => {
+                // A refusal is kept in the screen, which has failed then.
                 let _ = self.su(canonicalize_params_1(params, 1));
             }
             'T' => self.sd(canonicalize_params_1(params, 1)),
             'X' => self.ech(canonicalize_params_1(params, 1)),
             '`' => self.hpa(canonicalize_params_1(params, 1)),
             'b' => {
+                // A refusal is kept in the screen, which has failed then.
                 let _ = self.rep(canonicalize_params_1(params, 1));
             }
             'd' => self.vpa(canonicalize_params_1(params, 1)),
@@ -297,7 +303,7 @@ impl<CB: Callbacks> WrappedScreen<CB> {
     fn private_csi(&mut self, params: &Params, intermediates: &[u8], action: char)
         requires { self.old.screen.failed ≡ false }
         ensures { Handles CB.step CB.scrolls (row_effect (lookup action private_rows) params.now
-            (csi_call intermediates.now params.now action)) (private_may_take params.now action self.old.screen.state)
+            (csi_call intermediates.now params.now action)) (private_may_allocate params.now action self.old.screen.state)
             self.old self.new }
     {
         match action {
@@ -322,7 +328,7 @@ impl<CB: Callbacks> WrappedScreen<CB> {
         }
     }
 
-    /// Tells of an unhandled sequence, once for each of its groups that are, while the screen hasn't failed.
+    /// Reports an unhandled sequence, once for each of its groups that are, while the screen hasn't failed.
     fn unhandled_groups(
         &mut self,
         count: usize,
@@ -330,14 +336,14 @@ impl<CB: Callbacks> WrappedScreen<CB> {
         intermediates: &[u8],
         action: char,
     )
-        ensures { Tells CB.step self.old.callbacks self.old.screen
+        ensures { MakesCalls CB.step self.old.callbacks self.old.screen
             (replicate count (csi_call intermediates.now params.now action)) self.new.callbacks self.new.screen }
     {
         for _i in 0..count {
             if self.screen.failed() {
                 return;
             }
-            self.tell_csi(params, intermediates, action);
+            self.report_csi(params, intermediates, action);
         }
     }
 
@@ -347,11 +353,11 @@ impl<CB: Callbacks> WrappedScreen<CB> {
         ensures { Handles CB.step CB.scrolls (calling (csi_call intermediates.now params.now action ∷ [])) false
             self.old self.new }
     {
-        self.tell_csi(params, intermediates, action);
+        self.report_csi(params, intermediates, action);
     }
 
-    /// Tells of an unhandled sequence: its first two intermediates, its parameters and its final byte.
-    fn tell_csi(&mut self, params: &Params, intermediates: &[u8], action: char)
+    /// Reports an unhandled sequence: its first two intermediates, its parameters and its final byte.
+    fn report_csi(&mut self, params: &Params, intermediates: &[u8], action: char)
         ensures { CB.step self.old.callbacks self.old.screen (csi_call intermediates.now params.now action)
             self.new.callbacks self.new.screen }
     {
@@ -417,7 +423,7 @@ impl<CB: Callbacks> WrappedScreen<CB> {
     }
 }
 
-/// Whether a character isn't drawn, but told of: U+FFFD, and the controls from U+0080 to U+009F.
+/// Whether a character isn't drawn, but reported: U+FFFD, and the controls from U+0080 to U+009F.
 #[inline]
 fn is_unhandled(c: char) -> bool
     ensures { result ≡ is_unhandled c }

@@ -110,7 +110,7 @@ impl Screen {
 }
 
 /// Marks a screen as failed where a change of it has found no memory, and hands the answer on.
-fn settle<T, E: Drop>(failed: &mut bool, answer: Result<T, E>) -> Result<T, ScreenError>
+fn note_failure<T, E: Drop>(failed: &mut bool, answer: Result<T, E>) -> Result<T, ScreenError>
     ensures done { IfOk result (λ x. answer ≡ Ok x) }
     ensures same { OnOk result (failed.new ≡ failed.old) }
     ensures refused { OnErr result (IsErr answer) }

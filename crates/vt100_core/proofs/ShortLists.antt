@@ -50,8 +50,8 @@ costs-part width cols f h some =
     (λ _. costs-skip)
 
 module _ (g : GridView) (h : IsGrid g) (colors : HasByteCells g) (shown : HasByteVisibleCells g) where
-  redraw-job : (i : ℕ) (above : Bool) → i < g.height → IsRowJob (redraw_job (visible_at g i) 0 i above)
-  redraw-job i above l =
+  redraw-row_change : (i : ℕ) (above : Bool) → i < g.height → IsRowJob (redraw_job (visible_at g i) 0 i above)
+  redraw-row_change i above l =
       let v = visible-row g i h in
       record {
         start = refl;
@@ -65,11 +65,11 @@ module _ (g : GridView) (h : IsGrid g) (colors : HasByteCells g) (shown : HasByt
       let v = visible_at g i in
       let above = is_below_wrapped g i in
       costs-part g.width (length v.cells) (row_redraw (redraw_job v 0 i above))
-      (costs-row_redraw _ (redraw-job i above l)) h.some_cols (afresh p) k
+      (costs-row_redraw _ (redraw-row_change i above l)) h.some_cols (afresh p) k
 
-  difference-job : (old : RowView) (i : ℕ) (above was_above : Bool) → i < g.height
+  difference-row_change : (old : RowView) (i : ℕ) (above was_above : Bool) → i < g.height
       → IsRowJob (difference_job (visible_at g i) old 0 i above was_above)
-  difference-job old i above was_above l =
+  difference-row_change old i above was_above l =
       let v = visible-row g i h in
       record {
         start = refl;
@@ -87,7 +87,7 @@ module _ (g : GridView) (h : IsGrid g) (colors : HasByteCells g) (shown : HasByt
       let was_above = is_below_wrapped old i && not p.lost in
       costs-part g.width (min (length v.cells) (length earlier.cells))
       (row_difference (difference_job v earlier 0 i above was_above))
-      (λ n some m. costs-row_difference _ (difference-job earlier i above was_above l) n some (omega (arith, m)))
+      (λ n some m. costs-row_difference _ (difference-row_change earlier i above was_above l) n some (omega (arith, m)))
       h.some_cols (afresh p) k
 
   -- ---- the grid

@@ -2,7 +2,7 @@
 ghost use Rattle.std.specs.Prelude.{◌≡◌, ℕ, ◌+◌, ◌-◌, ◌<◌, ◌≤◌, ◌==◌, List, [], length, true, false, IsOk, OnOk, OnErr};
 ghost use Rattle.std.specs.Prelude.{IfOk};
 
-mod basic;
+mod capture;
 mod contents;
 mod copy;
 mod cursor;

@@ -49,7 +49,7 @@ module _ (rows : ℕ) (t : Term) (v earlier : RowView) (row : ℕ) (was_above : 
   scene : Scene
   scene = record {
     rows = rows;
-    job = difference_job v earlier 0 row false was_above;
+    row_change = difference_job v earlier 0 row false was_above;
     term = t;
     cells = t.cell;
     flags = t.wrapped;
@@ -138,10 +138,10 @@ row-drawn rows t v row width pos attrs h plain inside some wide at =
     let none = blank_row 0 in
     let s = scene rows t v none row false in
     leads-there rows t v none row false (formatted v 0 width row false pos attrs)
-    (row_redraw s.job s.job.cols (starting row)) pos attrs at
+    (row_redraw s.row_change s.row_change.cols (starting row)) pos attrs at
     (ap (redraw v 0 width row false) (pen-reported v row pos attrs at.reported_pos at.reported_attrs)
-    ∙ ap (λ b. cond b (row_redraw s.job (min width (length v.cells - 0))) skip (starting row))
-    (lt-ltb 0 (length v.cells) some) ∙ ap (λ n. row_redraw s.job n (starting row)) (omega (arith, wide)))
+    ∙ ap (λ b. cond b (row_redraw s.row_change (min width (length v.cells - 0))) skip (starting row))
+    (lt-ltb 0 (length v.cells) some) ∙ ap (λ n. row_redraw s.row_change n (starting row)) (omega (arith, wide)))
     (redraw-leads s (starting row) (is-scene rows t v none row false h plain (blank-line (length v.cells)) inside some
     at.wrapped) (row-ready rows t v none row false) (λ k. refl) refl)
 
@@ -160,10 +160,10 @@ difference-drawn rows t v earlier row width was_above pos attrs h plain was same
     } in
     let old = subst (λ n. IsLine n (cell_at earlier.cells) earlier.wrapped) same (line-of earlier was) in
     leads-there rows t v earlier row was_above (differing v earlier 0 width row false was_above pos attrs)
-    (row_difference s.job s.job.cols (starting row)) (Some pos) (Some attrs) at
+    (row_difference s.row_change s.row_change.cols (starting row)) (Some pos) (Some attrs) at
     (ap (difference v earlier 0 width row false was_above) reported
-    ∙ ap (λ b. cond b (row_difference s.job (min width (cols - 0))) skip (starting row))
+    ∙ ap (λ b. cond b (row_difference s.row_change (min width (cols - 0))) skip (starting row))
     (lt-ltb 0 cols (omega (arith, same, some)))
-    ∙ ap (λ n. row_difference s.job n (starting row)) (omega (arith, same, wide)))
+    ∙ ap (λ n. row_difference s.row_change n (starting row)) (omega (arith, same, wide)))
     (difference-leads s (starting row) (is-scene rows t v earlier row was_above h plain old inside some at.wrapped)
     (row-ready rows t v earlier row was_above))

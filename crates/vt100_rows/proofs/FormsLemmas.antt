@@ -40,13 +40,13 @@ pub wrote_difference_same : (v earlier : RowView) (start width row : ℕ) (above
     → Wrote (difference v earlier start width row above was_above) p s p s
 wrote_difference_same v earlier start width row above was_above p s e up closed kept =
     let cols = min (length v.cells) (length earlier.cells) in
-    let job = difference_job v earlier start row above was_above in
-    let shown : IsRowShown job p = record {
+    let row_change = difference_job v earlier start row above was_above in
+    let shown : IsRowShown row_change p = record {
       cells = λ k. ap (λ (x : RowView). cell_at x.cells k) e;
       flag = ap (λ (x : RowView). x.wrapped) e;
       unowed = unowed above was_above _ up;
       closed = closed;
       unlost = kept;
     } in
-    cond_both (nat_lt start cols) (row_difference job (min width (cols - start))) skip (λ f. Wrote f p s p s)
-    (λ _. wrote_difference_kept job (min width (cols - start)) p s shown) (λ _. wrote_skip p s)
+    cond_both (nat_lt start cols) (row_difference row_change (min width (cols - start))) skip (λ f. Wrote f p s p s)
+    (λ _. wrote_difference_kept row_change (min width (cols - start)) p s shown) (λ _. wrote_skip p s)

@@ -7,12 +7,12 @@ use Rattle.vt100_forms.specs.Attrs.{default_attrs}
 use Rattle.vt100_cells.specs.Cells.{cell_at}
 use Rattle.row_drawing.specs.declared.pen.Pen.{Pen}
 use Rattle.row_drawing.specs.Writer.{Drawn, Writer, skip}
-use Rattle.row_drawing.specs.RowWriter.{Job, row_redraw, row_difference}
+use Rattle.row_drawing.specs.RowWriter.{RowChange, row_redraw, row_difference}
 use Rattle.vt100_rows.specs.Row.{RowView}
 
 -- The row is drawn from column `start` on, as row `row` of a terminal that shows default cells there, and no flag;
 -- `above` says whether the row above goes on in this one.
-abbrev pub redraw_job : RowView → ℕ → ℕ → Bool → Job
+abbrev pub redraw_job : RowView → ℕ → ℕ → Bool → RowChange
 redraw_job v start row above = record {
   cols = length v.cells;
   row = row;
@@ -51,7 +51,7 @@ formatted v start width row above pos attrs = redraw v start width row above (pe
 
 -- The same, where the terminal shows an earlier row and its flag; `was_above` says whether it has the flag of the row
 -- above.
-abbrev pub difference_job : RowView → RowView → ℕ → ℕ → Bool → Bool → Job
+abbrev pub difference_job : RowView → RowView → ℕ → ℕ → Bool → Bool → RowChange
 difference_job v earlier start row above was_above = record {
   cols = length v.cells;
   row = row;

@@ -8,7 +8,7 @@
 //! where their conditions hold.
 #![tactic(auto)]
 
-mod basic;
+mod attributed_text;
 mod join;
 pub mod kept_rows;
 pub mod laws;

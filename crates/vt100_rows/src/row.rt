@@ -31,8 +31,8 @@ use vt100_cells::line::{
 use vt100_forms::GridError;
 use vt100_forms::attrs::Attrs;
 
-/// Stands for a column behind every cell, where a row's cells may all show something.
-const ANY: u16 = u16::MAX;
+/// A column past every cell: any cell of the row may show something.
+const UNKNOWN: u16 = u16::MAX;
 
 /// One row of a terminal: its cells, and whether its text goes on in the row below.
 #[derive(Debug, Drop)]
@@ -105,7 +105,7 @@ impl Row {
         } else {
             clear(&mut self.cells, attrs);
             self.wrapped = false;
-            self.filled = ANY;
+            self.filled = UNKNOWN;
         }
     }
 
@@ -159,7 +159,7 @@ impl Row {
             self.wrapped = false;
         }
         wipe(&mut self.cells, i, i + 1, attrs);
-        self.filled = ANY;
+        self.filled = UNKNOWN;
     }
 
     /// Empties the cells of the range, as [`erase`](Self::erase) of each of them does. For the grid alone.
@@ -183,7 +183,7 @@ impl Row {
     {
         self.cells.truncate(usize::from(len));
         self.wrapped = false;
-        self.filled = ANY;
+        self.filled = UNKNOWN;
         clear_cut_half(&mut self.cells);
     }
 
@@ -201,7 +201,7 @@ impl Row {
             self.cells.reserve_exact(len - self.cells.len())?;
             self.cells.resize(len, cell)?;
             self.wrapped = false;
-            self.filled = ANY;
+            self.filled = UNKNOWN;
         }
         Ok(())
     }
@@ -228,7 +228,7 @@ impl Row {
         ensures { self.new ≡ trimmed self.old }
     {
         let len = trimmed_len(&self.cells);
-        self.filled = ANY;
+        self.filled = UNKNOWN;
         self.cells.truncate(len);
         self.cells.shrink_to_fit();
     }
@@ -253,7 +253,7 @@ impl Row {
         requires { col < length self.old.cells }
         ensures { self.new ≡ pair_cleared self.old col }
     {
-        self.filled = ANY;
+        self.filled = UNKNOWN;
         let filled = clear_pair(&mut self.cells, usize::from(col));
         self.wrapped = self.wrapped && filled;
     }
@@ -427,14 +427,13 @@ impl Row {
     }
 }
 
-/// From which column on a row is blank that was so from `filled` on, and whose cells of the range have been emptied with
-/// these attributes.
+/// The new `filled` after the cells of `range` were erased with `attrs`.
 #[inline]
 fn filled_after(filled: u16, range: Range<u16>, attrs: Attrs) -> u16
     ensures { IsFilledAfter filled range.start range.end attrs result }
 {
     if attrs != Attrs::new() {
-        ANY
+        UNKNOWN
     } else if filled <= range.end {
         filled.min(range.start)
     } else {
@@ -442,8 +441,7 @@ fn filled_after(filled: u16, range: Range<u16>, attrs: Attrs) -> u16
     }
 }
 
-/// From which column on a row is blank that was so from `filled` on, and into which `count` default cells came at column
-/// `i`.
+/// The new `filled` after `count` default cells were inserted at column `i`.
 #[inline]
 fn filled_between(filled: u16, i: u16, count: u16) -> u16
     ensures { result ≡ (if nat_lt i filled then min (filled + count) 65535 else filled) }
@@ -473,8 +471,7 @@ fn is_widened(cell: &Cell, joined: &Cell) -> bool
     joined.is_wide() && !cell.is_wide()
 }
 
-/// Whether a cell with no text is an empty column of a text, in which it is the first column or a later one. The second
-/// half of a wide character is none but in the first column.
+/// Whether an empty cell counts as a space. The second half of a wide character doesn't, unless the text starts there.
 fn is_empty_column(cell: &Cell, is_first: bool) -> bool
     ensures { result ≡ not (cell.now.continuation && not is_first) }
 {

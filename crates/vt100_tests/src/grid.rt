@@ -37,7 +37,7 @@ impl RowSink for Counter {
 
 /// What is done to a grid.
 #[derive(Clone, Copy)]
-enum Step {
+enum GridStep {
     Print(&'static str),
     Go(Move),
     Edit(Edit),
@@ -52,7 +52,12 @@ pub type Start = (u16, u16, Option<usize>);
 
 /// A new grid, what is done to it, and then: its rows and the cursor's row and column; how many rows are kept, how many
 /// of these are shown, and how many went to the sink.
-type Case = (Start, &'static [Step], &'static str, (usize, usize, u64));
+type Case = (
+    Start,
+    &'static [GridStep],
+    &'static str,
+    (usize, usize, u64),
+);
 
 fn size(rows: u16, cols: u16) -> Size {
     Size {
@@ -97,24 +102,24 @@ fn print(grid: &mut Grid, text: &str, sink: &mut Counter) -> Result<(), GridErro
     Ok(())
 }
 
-fn take(grid: &mut Grid, step: Step, sink: &mut Counter) -> Result<(), GridError>
+fn take(grid: &mut Grid, step: GridStep, sink: &mut Counter) -> Result<(), GridError>
     requires { IsAllocated grid.old }
     ensures { IsAllocated grid.new }
 {
     match step {
-        Step::Print(text) => print(grid, text, sink)?,
-        Step::Go(step) => go(grid, step),
-        Step::Edit(edit) => apply(grid, edit, sink)?,
-        Step::Size(rows, cols) => grid.set_size(size(rows, cols), sink)?,
-        Step::Show(rows) => grid.set_scrollback(rows)?,
-        Step::EraseScrollback => grid.erase_all_scrollback(sink),
-        Step::Clear => grid.clear(),
+        GridStep::Print(text) => print(grid, text, sink)?,
+        GridStep::Go(step) => go(grid, step),
+        GridStep::Edit(edit) => apply(grid, edit, sink)?,
+        GridStep::Size(rows, cols) => grid.set_size(size(rows, cols), sink)?,
+        GridStep::Show(rows) => grid.set_scrollback(rows)?,
+        GridStep::EraseScrollback => grid.erase_all_scrollback(sink),
+        GridStep::Clear => grid.clear(),
     }
     Ok(())
 }
 
 /// A grid after these steps, and how many rows went to the sink.
-fn run(alloc: Global, start: Start, steps: &[Step]) -> Result<(Grid, u64), Fail> {
+fn run(alloc: Global, start: Start, steps: &[GridStep]) -> Result<(Grid, u64), Fail> {
     let mut grid = grid(alloc, start)?;
     let mut sink = Counter::default();
     for step in steps {

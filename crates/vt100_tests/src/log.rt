@@ -11,16 +11,16 @@ use vt100::{Call, Callbacks, Parser, Screen, ScreenError};
 /// The calls so far, each as a few words with the cursor's place at that time, and the capture of the rows that left.
 /// What asks for a size gets it.
 #[derive(Drop)]
-pub struct Log {
+pub struct CallLog {
     pub text: String,
     pub capture: String,
     pub state: BasicFormattedCaptureState,
     pub failed: bool,
 }
 
-impl Log {
-    fn new(alloc: Global) -> Log {
-        Log {
+impl CallLog {
+    fn new(alloc: Global) -> CallLog {
+        CallLog {
             text: String::new(alloc),
             capture: String::new(alloc),
             state: BasicFormattedCaptureState::default(),
@@ -83,7 +83,7 @@ impl Log {
     }
 }
 
-impl Callbacks for Log {
+impl Callbacks for CallLog {
     ghost step = { λ _ _ _ _ _. ⊤ };
 
     ghost scrolls = { λ _ _ _ _. ⊤ };
@@ -119,7 +119,13 @@ impl Callbacks for Log {
 }
 
 /// A parser of this size with a log.
-pub fn logging_parser(alloc: Global, start: Start) -> Result<Parser<Log>, ScreenError> {
+pub fn logging_parser(alloc: Global, start: Start) -> Result<Parser<CallLog>, ScreenError> {
     let (rows, cols, capacity) = start;
-    Parser::new_with_callbacks(alloc, count(rows), count(cols), capacity, Log::new(alloc))
+    Parser::new_with_callbacks(
+        alloc,
+        count(rows),
+        count(cols),
+        capacity,
+        CallLog::new(alloc),
+    )
 }

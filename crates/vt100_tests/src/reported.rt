@@ -1,6 +1,6 @@
 //! The calls that callbacks get, in order, each call after its event's change, and captures of what they keep.
 
-use crate::log::{Log, logging_parser};
+use crate::log::{CallLog, logging_parser};
 use crate::owners::with;
 use crate::same::{same, same_for};
 use crate::start::{Start, count};
@@ -15,7 +15,7 @@ type Reported = (Start, &'static [u8], &'static str);
 /// A stream makes these calls.
 fn check_stream(
     rt: &impl Abort,
-    parser: &mut Parser<Log>,
+    parser: &mut Parser<CallLog>,
     stream: &[u8],
     reported: &str,
 ) -> Result<(), Fail> {
@@ -151,7 +151,7 @@ fn rows_are_reported(rt: HostRuntime) -> Result<(), Fail> {
     check_reported(&rt, ROWS)
 }
 
-fn check_two_sizes(rt: &impl Abort, parser: &mut Parser<Log>) -> Result<(), Fail> {
+fn check_two_sizes(rt: &impl Abort, parser: &mut Parser<CallLog>) -> Result<(), Fail> {
     parser.process(b"\x1b[8;3;4tabcd\r\ne\r\nf")?;
     parser.callbacks_mut().text.clear();
     parser.set_size(count(1), count(3))?;
@@ -175,7 +175,7 @@ fn sizes_are_reported(rt: HostRuntime) -> Result<(), Fail> {
 }
 
 /// Captures the kept rows and those that are drawn on, and then those that are shown.
-fn capture(parser: &mut Parser<Log>) -> Result<(), Fail> {
+fn capture(parser: &mut Parser<CallLog>) -> Result<(), Fail> {
     parser.screen_mut().set_scrollback(1)?;
     let (screen, log) = parser.screen_and_callbacks_mut();
     let range = BasicFormattedCaptureRange::Full(&mut log.state);
@@ -185,7 +185,7 @@ fn capture(parser: &mut Parser<Log>) -> Result<(), Fail> {
     Ok(())
 }
 
-fn check_capture(rt: &impl Abort, parser: &mut Parser<Log>) -> Result<(), Fail> {
+fn check_capture(rt: &impl Abort, parser: &mut Parser<CallLog>) -> Result<(), Fail> {
     parser.process("ab\x1b[31mcdef\x1b[m\r\n中\r\n\x1b[1;4mg".as_bytes())?;
     capture(parser)?;
     let log = parser.callbacks();

@@ -104,6 +104,7 @@ fn append_pieces(text: &mut ArrayString<TEXT>, mut pieces: Pieces<'_>)
 fn begin(text: &mut ArrayString<TEXT>, first: &str)
     ensures { text.old.bytes ≡ [] → length first.now ≤ 1040 → text.new.bytes ≡ first.now }
 {
+    // It fits: a command has at most 1,040 bytes.
     let _ = text.try_push_str(first);
 }
 
@@ -111,6 +112,7 @@ fn begin(text: &mut ArrayString<TEXT>, first: &str)
 fn append(text: &mut ArrayString<TEXT>, more: &str)
     ensures { length (text.old.bytes ++ 59 ∷ more.now) ≤ 1040 → text.new.bytes ≡ text.old.bytes ++ 59 ∷ more.now }
 {
+    // It fits, as above.
     let _ = text.try_push(';');
     let _ = text.try_push_str(more);
 }

@@ -203,6 +203,7 @@ fn take_in<A: Allocator>(held: &mut Vec<u8, A>, piece: &[u8])
     ensures items { held.new.items ≡ held.old.items ++ piece.now }
     ensures capacity { vec_capacity held.old ≤ vec_capacity held.new }
 {
+    // It fits, and so can't be refused.
     let _ = held.extend_from_slice(piece);
 }
 

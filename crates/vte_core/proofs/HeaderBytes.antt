@@ -5,7 +5,7 @@ use Rattle.std.specs.Int.{is_in_range}
 use Rattle.vte_core.specs.Byte.{ReadsOther}
 use Rattle.vte_core.specs.Bytes.{is_abort, is_control, is_header, ends_header}
 use Rattle.vte_core.specs.Event.{Event, Performs}
-use Rattle.vte_core.specs.Heard.{byte_heard}
+use Rattle.vte_core.specs.StepEvents.{byte_events}
 use Rattle.vte_core.specs.Pending.{Pending, InEscape, InCsi, InHook, byte_rest, byte_reported}
 use Rattle.vte_core.specs.Standing.{IsAt}
 use Rattle.vte_core.specs.declared.parser.Parser.{Parser}
@@ -20,27 +20,27 @@ module _ {S : Type 0} {step : S → Event → S → Type 0} {n : ℕ} {p r : Par
     (done : Performs step old es new) where
   -- a byte whose events are es
   pub reads_by : (s : State) (f : List ℕ → Pending) → ((q : Pending) → IsOf s q → (h : List ℕ) × (q ≡ f h))
-      → p.state ≡ s → byte_heard n s p r b ≡ es
+      → p.state ≡ s → byte_events n s p r b ≡ es
       → ((h : List ℕ) → IsAt n p (f h) → (byte_reported n (f h) b ≡ es) × IsAt n r (byte_rest (f h) b))
       → ReadsOther step n s p old b r new
-  reads_by s f of is heard one = record {
+  reads_by s f of is step_events one = record {
     state_after = λ q at. let (h, e) = of q (by_state n p s q is at) in rw e (one h (rw e at at)).1;
-    reported = rw heard done;
-    is_reported = λ q at. let (h, e) = of q (by_state n p s q is at) in rw e (heard ∙ sym (one h (rw e at at)).0);
+    reported = rw step_events done;
+    is_reported = λ q at. let (h, e) = of q (by_state n p s q is at) in rw e (step_events ∙ sym (one h (rw e at at)).0);
   }
 
-  pub reads_escape : p.state ≡ Escape → byte_heard n Escape p r b ≡ es
+  pub reads_escape : p.state ≡ Escape → byte_events n Escape p r b ≡ es
       → ((is : List ℕ) → IsAt n p (InEscape is) → (byte_reported n (InEscape is) b ≡ es)
       × IsAt n r (byte_rest (InEscape is) b))
       → ReadsOther step n Escape p old b r new
   reads_escape = reads_by Escape InEscape (λ q is. is)
 
-  pub reads_csi : p.state ≡ Csi → byte_heard n Csi p r b ≡ es
+  pub reads_csi : p.state ≡ Csi → byte_events n Csi p r b ≡ es
       → ((h : List ℕ) → IsAt n p (InCsi h) → (byte_reported n (InCsi h) b ≡ es) × IsAt n r (byte_rest (InCsi h) b))
       → ReadsOther step n Csi p old b r new
   reads_csi = reads_by Csi InCsi (λ q is. is)
 
-  pub reads_hook : p.state ≡ DcsHeader → byte_heard n DcsHeader p r b ≡ es
+  pub reads_hook : p.state ≡ DcsHeader → byte_events n DcsHeader p r b ≡ es
       → ((h : List ℕ) → IsAt n p (InHook h) → (byte_reported n (InHook h) b ≡ es) × IsAt n r (byte_rest (InHook h) b))
       → ReadsOther step n DcsHeader p old b r new
   reads_hook = reads_by DcsHeader InHook (λ q is. is)

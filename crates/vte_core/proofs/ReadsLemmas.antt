@@ -4,7 +4,7 @@ use Rattle.std.proofs.Common.{◌∙◌, ap, arith, append-nil}
 use Rattle.std.proofs.lemmas.List.{take_more}
 use Rattle.vte_core.specs.Byte.{ReadsByte}
 use Rattle.vte_core.specs.Event.{Event}
-use Rattle.vte_core.specs.Heard.{heard}
+use Rattle.vte_core.specs.StepEvents.{step_events}
 use Rattle.vte_core.specs.Pending.{Pending, InText, pending, events_of_byte, events_from, after_bytes}
 use Rattle.vte_core.specs.Reads.{Reads, ReadsQuietly}
 use Rattle.vte_core.specs.Shapes.{events}
@@ -65,8 +65,8 @@ module _ {S : Type 0} {step : S → Event → S → Type 0} {n : ℕ} {p mid r :
     state_after = λ q at. rw (take_more bs i 0 less, after_bytes-append q (take i bs) (get_or bs i 0 ∷ []))
         (b.state_after (after_bytes q (take i bs)) (a.state_after q at));
     reported = record {
-      reported = a.reported.reported ++ heard n mid r (get_or bs i 0);
-      performed = performs-append step old between new a.reported.reported (heard n mid r (get_or bs i 0)) a.reported.performed
+      reported = a.reported.reported ++ step_events n mid r (get_or bs i 0);
+      performed = performs-append step old between new a.reported.reported (step_events n mid r (get_or bs i 0)) a.reported.performed
           b.reported;
       added = λ q at. rw (
         take_more bs i 0 less,

@@ -69,8 +69,8 @@ abbrev pub NothingPendingIsGround : Type 0
 NothingPendingIsGround = (n : ℕ) (past : List ℕ) → pending past ≡ InText [] → AtGround n past
 
 -- the event of such a sequence, and those of such a text: each character printed, or executed
-abbrev pub EscapesTell : Type 0
-EscapesTell = (n : ℕ) (between : List ℕ) (final : ℕ) → IsEscape between final
+abbrev pub EscapesAreEvents : Type 0
+EscapesAreEvents = (n : ℕ) (between : List ℕ) (final : ℕ) → IsEscape between final
     → events n (0x1B ∷ (between ++ final ∷ [])) ≡ Esc (take 2 between) (nat_lt 2 (length between)) final ∷ []
 
 -- none where the header is malformed
@@ -79,9 +79,9 @@ header_event header final =
     if is_well_formed header then Csi (kept_groups header) (kept_intermediates header) (overflows header) final ∷ []
     else []
 
-abbrev pub ControlSequencesTell : Type 0
-ControlSequencesTell = (n : ℕ) (header : List ℕ) (final : ℕ) → IsSequence header final
+abbrev pub ControlSequencesAreEvents : Type 0
+ControlSequencesAreEvents = (n : ℕ) (header : List ℕ) (final : ℕ) → IsSequence header final
     → events n (0x1B ∷ 0x5B ∷ (header ++ final ∷ [])) ≡ header_event header final
 
-abbrev pub TextsTell : Type 0
-TextsTell = (n : ℕ) (text : List ℕ) → IsText text → events n text ≡ map char_event (chars text)
+abbrev pub TextsAreEvents : Type 0
+TextsAreEvents = (n : ℕ) (text : List ℕ) → IsText text → events n text ≡ map char_event (chars text)

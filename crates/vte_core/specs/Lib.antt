@@ -14,7 +14,7 @@ pub mod Reading
 pub mod Phases
 pub mod Standing
 pub mod Stopping
-pub mod Heard
+pub mod StepEvents
 pub mod Byte
 pub mod Laws
 pub mod Reported

@@ -4,7 +4,7 @@ use Rattle.std.specs.Prelude.{◌≡◌, ◌<◌, ◌≤◌, ℕ, List, [], take
 use Rattle.vte_core.specs.Event.{Event}
 use Rattle.vte_core.specs.Pending.{Pending, events_from, after_bytes}
 use Rattle.vte_core.specs.Plain.{IsPlain}
-use Rattle.vte_core.specs.Runs.{Tells, IsStep}
+use Rattle.vte_core.specs.Runs.{PerformsEvents, IsStep}
 use Rattle.vte_core.specs.Standing.{IsAt}
 use Rattle.vte_core.specs.declared.parser.Parser.{Parser}
 
@@ -18,7 +18,7 @@ pub record Reads {S : Type 0} (step : S → Event → S
     → Type 0) (n : ℕ) (p : Parser n) (old : S) (bs : List ℕ) (k : ℕ) (r : Parser n) (new : S) : Type 0 where
   pub within : k ≤ length bs
   pub state_after : (q : Pending) → IsAt n p q → IsAt n r (after_bytes q (take k bs))
-  pub reported : Tells step n p old (take k bs) new
+  pub reported : PerformsEvents step n p old (take k bs) new
 
 -- the same, and there are some
 pub record ReadsSome {S : Type 0} (step : S → Event → S

@@ -51,7 +51,7 @@ pub record IsStep (n : ℕ) (q : Pending) (bs rest : List ℕ) : Type 0 where
   pub one : (last ≡ []) ⊎ (is_one_step (after_bytes q quiet) last rest ≡ true)
 
 -- the performer has gone through some events, and they are those of the bytes, whatever is pending
-pub record Tells {S : Type 0} (step : S → Event → S
+pub record PerformsEvents {S : Type 0} (step : S → Event → S
     → Type 0) (n : ℕ) (parser : Parser n) (old : S) (bytes : List ℕ) (new : S) : Type 0 where
   pub reported : List Event
   pub performed : Performs step old reported new

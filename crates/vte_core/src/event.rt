@@ -1,4 +1,4 @@
-//! What a parser tells its performer.
+//! What a parser reports to its performer.
 
 use crate::params::Params;
 

@@ -6,7 +6,7 @@ ghost use Rattle.std.specs.Prelude.{if◌then◌else◌, true, false, slice_inde
 ghost use Rattle.vte_core.specs.Bytes.{each, is_header, is_private, is_numeric, is_intermediate};
 ghost use Rattle.vte_core.specs.Header.{is_well_formed, kept_groups, kept_intermediates, overflows};
 ghost use Rattle.vte_core.specs.Event.{Csi, Hook};
-ghost use Rattle.vte_core.specs.Heard.{csi_event, hook_event};
+ghost use Rattle.vte_core.specs.StepEvents.{csi_event, hook_event};
 ghost use Rattle.vte_core.specs.Phases.{ReadsHeader, next_by, is_kept};
 
 use crate::Perform;
@@ -71,7 +71,7 @@ fn after_other(phase: Phase, byte: u8) -> Phase
     }
 }
 
-/// Whether a header that ends here is told.
+/// Whether a header that ends here is reported.
 #[inline(always)]
 fn is_kept(phase: Phase) -> bool
     ensures { result ≡ is_kept phase }
@@ -104,7 +104,7 @@ impl Header {
         self.intermediates.clear();
     }
 
-    /// Reads the digits, `:` and `;` at the front of the bytes, and returns how many they are.
+    /// Reads the digits, `:` and `;` at the start of the bytes, and returns how many they are.
     #[inline(always)]
     fn read_numbers(&mut self, bytes: &[u8]) -> usize
         ensures within { result ≤ length bytes.now }
@@ -123,7 +123,7 @@ impl Header {
         len
     }
 
-    /// Reads the bytes of a header at the front, and returns how many they are.
+    /// Reads the bytes of a header at the start, and returns how many they are.
     #[inline(always)]
     pub fn read(&mut self, bytes: &[u8]) -> usize
         ensures within { result ≤ length bytes.now }
@@ -159,7 +159,7 @@ impl Header {
         self.intermediates.push(byte);
     }
 
-    /// Whether a sequence with this header is told.
+    /// Whether a sequence with this header is reported.
     #[inline]
     pub fn is_kept(&self) -> bool
         ensures kept { result ≡ is_kept self.now.phase }

@@ -4,7 +4,7 @@ ghost use Rattle.vte_core.specs.Laws.{KeepsBeginnings, AddsInOrder, CutsBeforeEs
 ghost use Rattle.vte_core.specs.Laws.{TellsCharacters, PrintsTextAlone, AsksAtEnds, AsksAfterSequences, AsksOutsideRuns};
 ghost use Rattle.vte_core.specs.Ground.{AddsAsAlone, NothingIsAtGround, GroundJoins, EscLeavesGround, LeadsToGround};
 ghost use Rattle.vte_core.specs.Ground.{EscapesEndAtGround, ControlSequencesEndAtGround, TextsEndAtGround};
-ghost use Rattle.vte_core.specs.Ground.{NothingPendingIsGround, EscapesTell, ControlSequencesTell, TextsTell};
+ghost use Rattle.vte_core.specs.Ground.{NothingPendingIsGround, EscapesAreEvents, ControlSequencesAreEvents, TextsAreEvents};
 
 /// The events of a beginning of a stream are a beginning of the stream's events; pieces that follow one another add
 /// their events one after the other.
@@ -70,10 +70,10 @@ pub fn ends_at_ground()
     ensures anew { EscLeavesGround }
 {}
 
-/// What such sequences and texts tell: an escape or a control sequence its one event (none where the control sequence
-/// is ignored), and a text its characters, each printed or, where it is a control, executed.
+/// The events of such sequences and texts: an escape or a control sequence its one event (none where the control
+/// sequence is ignored), and a text its characters, each printed or, where it is a control, executed.
 pub fn sequences_and_texts()
-    ensures escapes { EscapesTell }
-    ensures sequences { ControlSequencesTell }
-    ensures texts { TextsTell }
+    ensures escapes { EscapesAreEvents }
+    ensures sequences { ControlSequencesAreEvents }
+    ensures texts { TextsAreEvents }
 {}

@@ -111,7 +111,7 @@ impl Numbers {
         self.number = self.after_byte(number, byte);
     }
 
-    /// Reads the digits, `:` and `;` at the front of the bytes, and returns how many they are.
+    /// Reads the digits, `:` and `;` at the start of the bytes, and returns how many they are.
     #[inline(always)]
     pub fn read(&mut self, bytes: &[u8]) -> usize
         ensures within { result ≤ length bytes.now }

@@ -4,7 +4,7 @@ ghost use Rattle.std.specs.Prelude.{◌≡◌, ◌+◌, ◌<◌, ◌≤◌, ℕ,
 ghost use Rattle.std.specs.Prelude.{false, slice_index};
 ghost use Rattle.vte_core.specs.Event.{Osc as OscEvent};
 ghost use Rattle.vte_core.specs.Bytes.{each, is_data};
-ghost use Rattle.vte_core.specs.Heard.{osc_event};
+ghost use Rattle.vte_core.specs.StepEvents.{osc_event};
 ghost use Rattle.vte_core.specs.Shapes.{osc_pieces};
 ghost use Rattle.vte_core.specs.Store.{ReadsOsc, cut_at, ends_from, pieces_of, EndsRise};
 
@@ -31,8 +31,8 @@ impl<const N: usize> Model for OscData<N> {
     ghost invariant = { λ x. EndsRise 0 x.ends.items x.bytes.items };
 }
 
-/// Tells a command, whose pieces end at these places.
-fn tell<P: Perform>(performer: &mut P, bytes: &[u8], ends: &[usize], bell_terminated: bool)
+/// Reports a command, whose pieces end at these places.
+fn report<P: Perform>(performer: &mut P, bytes: &[u8], ends: &[usize], bell_terminated: bool)
     requires few { length ends.now ≤ 16 }
     requires rise { EndsRise 0 ends.now bytes.now }
     ensures { P.step performer.old (OscEvent (cut_at 0 ends.now bytes.now) bell_terminated) performer.new }
@@ -86,7 +86,7 @@ impl<const N: usize> OscData<N> {
         }
     }
 
-    /// Reads the bytes at the front that aren't controls, and returns how many they are.
+    /// Reads the bytes at the start that aren't controls, and returns how many they are.
     #[inline(always)]
     pub fn read(&mut self, bytes: &[u8]) -> usize
         ensures within { result ≤ length bytes.now }
@@ -108,7 +108,7 @@ impl<const N: usize> OscData<N> {
         ensures is_reported { (s : List ℕ) → ReadsOsc N self.old s → cut_at 0 self.new.1 self.new.0 ≡ osc_pieces N s }
     {
         self.end_piece();
-        tell(
+        report(
             performer,
             self.bytes.as_slice(),
             self.ends.as_slice(),

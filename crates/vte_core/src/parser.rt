@@ -1,4 +1,4 @@
-//! The parser: what each byte does where the bytes before it have led, and how bytes are read many at a time.
+//! The parser: what each byte does in each state, and how bytes are read many at a time.
 
 ghost use Rattle.std.specs.Prelude.{◌≡◌, ◌≢◌, ◌<◌, ◌≤◌, ℕ, List, [], ◌++◌, length, IsTrue, take, slice_index};
 ghost use Rattle.std.specs.Prelude.{true, not, ◌&&◌, IfSome};
@@ -7,7 +7,7 @@ ghost use Rattle.vte_core.specs.Byte.{ReadsByte, ReadsOther};
 ghost use Rattle.vte_core.specs.Bytes.{each, is_device_data, is_esc, is_swallowed};
 ghost use Rattle.vte_core.specs.Event as e;
 ghost use Rattle.vte_core.specs.Event.{Performs};
-ghost use Rattle.vte_core.specs.Heard.{final_heard};
+ghost use Rattle.vte_core.specs.StepEvents.{final_events};
 ghost use Rattle.vte_core.specs.Pending.{Pending, InEscape, final_rest, final_reported};
 ghost use Rattle.vte_core.specs.Reads.{BeginsPlain, BeginsWithEsc, Reads, ReadsSome, ReadsStep, ReadsQuietly};
 ghost use Rattle.vte_core.specs.Runs.{TellsEach};
@@ -34,7 +34,7 @@ pub enum State {
     SosPmApcString,
 }
 
-/// Reads bytes and tells a performer of their events. It keeps the first N data bytes of an operating system command.
+/// Reads bytes and reports their events to a performer. It keeps the first N data bytes of an operating system command.
 ///
 /// Each call's contract speaks of every past at which the parser stands: the bytes that it has read since it was made.
 /// A new parser stands at the empty past.
@@ -120,13 +120,13 @@ impl<const N: usize> Parser<N> {
         }
     }
 
-    /// The final byte of an escape sequence: it begins a control sequence or a string, or is told.
+    /// The final byte of an escape sequence: it begins a control sequence or a string, or is reported.
     fn end_escape<P: Perform>(&mut self, performer: &mut P, byte: u8)
         requires { self.old.state ≡ State.Escape }
         ensures state_after { (is : List ℕ) → IsAt N self.old (InEscape is) → IsAt N self.new (final_rest is byte) }
-        ensures reported { Performs P.step performer.old (final_heard self.old.intermediates byte) performer.new }
+        ensures reported { Performs P.step performer.old (final_events self.old.intermediates byte) performer.new }
         ensures is_reported { (is : List ℕ) → IsAt N self.old (InEscape is)
-            → final_heard self.old.intermediates byte ≡ final_reported is byte }
+            → final_events self.old.intermediates byte ≡ final_reported is byte }
     {
         let plain = self.intermediates.kept.is_empty();
         match byte {
@@ -314,7 +314,7 @@ impl<const N: usize> Parser<N> {
         }
     }
 
-    /// Reads the `[` or `P` after ESC that begins a header, and the header that follows, if they stand at the front.
+    /// Reads the `[` or `P` after ESC that begins a header, and the header that follows, if they stand at the start.
     /// Returns how many bytes they are.
     #[inline(always)]
     fn begin_header(&mut self, bytes: &[u8]) -> usize
@@ -337,7 +337,7 @@ impl<const N: usize> Parser<N> {
         }
     }
 
-    /// Reads the bytes at the front that tell nothing: a header, the data of a command, or what is swallowed. Returns
+    /// Reads the bytes at the start that have no event: a header, the data of a command, or what is swallowed. Returns
     /// how many they are.
     #[inline(always)]
     fn read_quiet(&mut self, bytes: &[u8]) -> usize
@@ -352,7 +352,7 @@ impl<const N: usize> Parser<N> {
         }
     }
 
-    /// Reads `ESC [` after whole ground text, and the header that follows, if they stand at the front. Returns how many
+    /// Reads `ESC [` after whole ground text, and the header that follows, if they stand at the start. Returns how many
     /// bytes they are.
     #[inline(always)]
     fn begin_csi(&mut self, bytes: &[u8]) -> usize
@@ -414,8 +414,8 @@ impl<const N: usize> Parser<N> {
         1 + self.read_header(performer, &bytes[1..])
     }
 
-    /// Reads the numbers of a plain control sequence after whole ground text, if one stands whole at the front: `ESC [`,
-    /// numbers that `;` alone separates, and a final byte. Returns how many bytes the numbers are.
+    /// Reads the numbers of a plain control sequence after whole ground text, if one stands whole at the start:
+    /// `ESC [`, numbers that `;` alone separates, and a final byte. Returns how many bytes the numbers are.
     #[inline(always)]
     fn read_plain(&mut self, bytes: &[u8]) -> Option<usize>
         requires { self.old.state ≡ State.Ground }
@@ -432,7 +432,7 @@ impl<const N: usize> Parser<N> {
         }
     }
 
-    /// Reads a control sequence that ESC begins after ground text, up to the first byte that tells something, and with
+    /// Reads a control sequence that ESC begins after ground text, up to the first byte that has an event, and with
     /// it; or else ESC alone. Returns how many bytes it read.
     fn read_begun<P: Perform>(&mut self, performer: &mut P, bytes: &[u8]) -> usize
         requires begins { BeginsWithEsc bytes.now }
@@ -480,7 +480,7 @@ impl<const N: usize> Parser<N> {
         1
     }
 
-    /// Reads bytes up to the first that tells something, and with it, or ground text up to the next ESC. Returns how
+    /// Reads bytes up to the first that has an event, and with it, or ground text up to the next ESC. Returns how
     /// many bytes it read.
     #[inline(always)]
     fn read_step<P: Perform>(&mut self, performer: &mut P, bytes: &[u8]) -> usize
@@ -534,14 +534,14 @@ impl<const N: usize> Parser<N> {
         self.read_one(performer, bytes)
     }
 
-    /// Reads the bytes of a sequence at the front that don't end it, if there are any: a header or data. Returns how
+    /// Reads the bytes of a sequence at the start that don't end it, if there are any: a header or data. Returns how
     /// many they are.
     #[inline(always)]
     fn read_inside<P: Perform>(&mut self, performer: &mut P, bytes: &[u8]) -> usize
         ensures { Reads P.step N self.old performer.old bytes.now result self.new performer.new }
     {
         match self.state {
-            State::DcsPassthrough => put_front(performer, bytes),
+            State::DcsPassthrough => put_prefix(performer, bytes),
             State::Escape => 0,
             _ => self.read_quiet(bytes),
         }
@@ -589,8 +589,8 @@ impl<const N: usize> Parser<N> {
         }
     }
 
-    /// Reads the next bytes of the stream, and tells the performer of their events, in order. A character or a sequence
-    /// that the bytes leave unfinished is kept for the next call.
+    /// Reads the next bytes of the stream, and reports their events to the performer, in order. A character or a
+    /// sequence that the bytes leave unfinished is kept for the next call.
     pub fn advance<P: Perform>(&mut self, performer: &mut P, bytes: &[u8])
         ensures state_after { (past : List ℕ) → IsAfter N self.old past → IsAfter N self.new (past ++ bytes.now) }
         ensures reported { Reported P.step N self.old performer.old bytes.now performer.new }
@@ -653,7 +653,7 @@ fn is_final(byte: u8) -> bool
     (0x40..=0x7E).contains(&byte)
 }
 
-/// How many bytes at the front are swallowed: neither ESC nor CAN nor SUB.
+/// How many bytes at the start are swallowed: neither ESC nor CAN nor SUB.
 #[inline(always)]
 fn swallowed_len(bytes: &[u8]) -> usize
     ensures within { result ≤ length bytes.now }
@@ -666,9 +666,9 @@ fn swallowed_len(bytes: &[u8]) -> usize
     len
 }
 
-/// Puts the bytes at the front that are a device control string's data, and returns how many they are.
+/// Puts the bytes at the start that are a device control string's data, and returns how many they are.
 #[inline(always)]
-fn put_front<P: Perform>(performer: &mut P, bytes: &[u8]) -> usize
+fn put_prefix<P: Perform>(performer: &mut P, bytes: &[u8]) -> usize
     ensures { TellsEach P.step is_device_data e.Put performer.old bytes.now result performer.new }
 {
     let mut read = 0;

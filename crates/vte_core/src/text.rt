@@ -2,7 +2,7 @@
 //!
 //! What lies between two controls is checked at once; a character that is cut, or malformed, is read byte by byte.
 //!
-//! A malformed sequence is the longest front of what follows that also begins a well-formed character, at least one
+//! A malformed sequence is the longest prefix of what follows that also begins a well-formed character, at least one
 //! byte: the length that `str::from_utf8` reports.
 
 ghost use Rattle.std.specs.Prelude.{◌≡◌, ◌==◌, ◌+◌, ◌-◌, ◌<◌, ◌≤◌, ℕ, List, [], ◌∷◌, ◌++◌, length, drop, map, IfSome};
@@ -69,8 +69,8 @@ fn goes_on(bytes: &[u8], byte: u8) -> bool
     }
 }
 
-/// Tells of a character: a control is executed, any other is printed.
-fn tell<P: Perform>(performer: &mut P, c: char)
+/// Reports a character: a control is executed, any other is printed.
+fn report<P: Perform>(performer: &mut P, c: char)
     ensures { P.step performer.old (char_event c) performer.new }
 {
     if c < ' ' || ('\u{80}'..='\u{9F}').contains(&c) {
@@ -107,9 +107,9 @@ fn character(bytes: &[u8]) -> char
     }
 }
 
-/// Tells of a byte that is a malformed sequence alone.
+/// Reports a byte that alone is a malformed sequence.
 #[inline(always)]
-fn tell_malformed<P: Perform>(performer: &mut P, byte: u8)
+fn report_malformed<P: Perform>(performer: &mut P, byte: u8)
     ensures { P.step performer.old (malformed_event 1 byte) performer.new }
 {
     if (0x80..=0x9F).contains(&byte) {
@@ -126,8 +126,8 @@ fn begin<P: Perform>(unfinished: &mut ArrayVec<u8, 4>, performer: &mut P, byte: 
     ensures rest { unfinished.new.items ≡ begun_rest byte }
 {
     match char_len(byte) {
-        1 => tell(performer, byte as char),
-        0 => tell_malformed(performer, byte),
+        1 => report(performer, byte as char),
+        0 => report_malformed(performer, byte),
         _ => unfinished.push(byte),
     }
 }
@@ -146,7 +146,7 @@ fn text_byte<P: Perform>(unfinished: &mut ArrayVec<u8, 4>, performer: &mut P, by
         if unfinished.len() == char_len(unfinished.as_slice()[0]) {
             let c = character(unfinished.as_slice());
             *unfinished = ArrayVec::new();
-            tell(performer, c);
+            report(performer, c);
         }
     } else {
         *unfinished = ArrayVec::new();
@@ -206,7 +206,7 @@ impl Unfinished {
     }
 }
 
-/// Whether no control that is executed begins at the byte, before the others.
+/// Whether `byte`, followed by `rest`, starts a printable character.
 fn is_printed(byte: u8, rest: &[u8]) -> bool
     ensures { result ≡ is_printed byte rest.now }
 {
@@ -219,7 +219,7 @@ fn is_printed(byte: u8, rest: &[u8]) -> bool
     }
 }
 
-/// Whether no control that is executed begins at the byte, before the next.
+/// Whether `byte`, followed by `next`, starts a printable character.
 #[inline(always)]
 fn is_printed_before(byte: u8, next: u8) -> bool
     ensures { result ≡ is_printed byte (next ∷ []) }
@@ -227,7 +227,7 @@ fn is_printed_before(byte: u8, next: u8) -> bool
     (byte >= 0x20) & ((byte != 0xC2) | !(0x80..=0x9F).contains(&next))
 }
 
-/// Whether no control that is executed begins in the first block.
+/// Whether every byte of the first block starts or continues a printable character.
 #[inline(always)]
 fn begins_printed(bytes: &[u8]) -> bool
     requires { 16 < length bytes.now }
@@ -327,7 +327,7 @@ fn text_len(bytes: &[u8]) -> usize
     printed_len(bytes)
 }
 
-/// The control from U+0080 to U+009F at the front, which has two bytes.
+/// The control from U+0080 to U+009F at the start, which has two bytes.
 #[inline(always)]
 fn c1(bytes: &[u8]) -> Option<u8>
     ensures { IfSome result (λ b. IsTrue (is_in_range 0x80 0x9F b) × (take 2 bytes.now ≡ 0xC2 ∷ b ∷ [])) }
@@ -358,7 +358,7 @@ fn are_plain(bytes: &[u8]) -> bool
     are_plain
 }
 
-/// How many bytes at the front, a short block or none, are characters of ASCII that are printed.
+/// How many bytes at the start, a short block or none, are characters of ASCII that are printed.
 #[inline(always)]
 fn short_len(bytes: &[u8]) -> usize
     ensures within { result ≤ length bytes.now }
@@ -370,7 +370,7 @@ fn short_len(bytes: &[u8]) -> usize
     SHORT_LEN
 }
 
-/// How many bytes at the front are characters of ASCII that are printed.
+/// How many bytes at the start are characters of ASCII that are printed.
 #[inline(always)]
 fn ascii_len(bytes: &[u8]) -> usize
     ensures within { result ≤ length bytes.now }
@@ -427,7 +427,7 @@ fn execute_all<P: Perform>(performer: &mut P, bytes: &[u8])
     }
 }
 
-/// Executes the controls of ASCII at the front, up to ESC, and returns how many they are.
+/// Executes the controls of ASCII at the start, up to ESC, and returns how many they are.
 #[inline(always)]
 fn execute_controls<P: Perform>(performer: &mut P, bytes: &[u8]) -> usize
     ensures { TellsEach P.step is_c0 Execute performer.old bytes.now result performer.new }
@@ -444,7 +444,7 @@ fn execute_controls<P: Perform>(performer: &mut P, bytes: &[u8]) -> usize
     read
 }
 
-/// The longest text at the front of the bytes.
+/// The longest text at the start of the bytes.
 fn text_prefix(bytes: &[u8]) -> &str
     ensures text { IsUtf8 result.now }
     ensures prefix { result.now ≡ take (length result.now) bytes.now }
@@ -457,7 +457,7 @@ fn text_prefix(bytes: &[u8]) -> &str
 }
 
 impl Unfinished {
-    /// Reads the text at the front of bytes without controls, or else one byte, and returns how many it read.
+    /// Reads the text at the start of bytes without controls, or else one byte, and returns how many it read.
     fn read_prefix<P: Perform>(&mut self, performer: &mut P, bytes: &[u8]) -> usize
         requires not_empty { 0 < length bytes.now }
         requires printed { printed_len bytes.now ≡ length bytes.now }
@@ -509,7 +509,7 @@ impl Unfinished {
         len
     }
 
-    /// Reads the characters of ASCII at the front, and with them the text after them, and returns how many bytes it
+    /// Reads the characters of ASCII at the start, and with them the text after them, and returns how many bytes it
     /// read.
     #[inline(always)]
     fn read_ascii<P: Perform>(&mut self, performer: &mut P, bytes: &[u8]) -> usize
@@ -545,7 +545,7 @@ impl Unfinished {
         self.bytes = kept;
     }
 
-    /// Reads the malformed sequence of two or three bytes at the front, or else one byte, and returns how many bytes it
+    /// Reads the malformed sequence of two or three bytes at the start, or else one byte, and returns how many bytes it
     /// read.
     #[inline(always)]
     fn read_malformed<P: Perform>(&mut self, performer: &mut P, bytes: &[u8]) -> usize
@@ -575,7 +575,7 @@ impl Unfinished {
     }
 
     /// Reads a character of two bytes or more and the text after it, or the malformed sequence of two bytes or more at
-    /// the front, or else one byte, and returns how many bytes it read.
+    /// the start, or else one byte, and returns how many bytes it read.
     #[inline(always)]
     fn read_character<P: Perform>(&mut self, performer: &mut P, bytes: &[u8]) -> usize
         requires begins { BeginsLong bytes.now }
@@ -591,7 +591,7 @@ impl Unfinished {
             return self.read_malformed(performer, bytes);
         }
         if ends_text(&bytes[len..]) {
-            tell(performer, character(&bytes[..len]));
+            report(performer, character(&bytes[..len]));
             return len;
         }
         self.read_mixed(performer, bytes)
@@ -611,7 +611,7 @@ impl Unfinished {
                 performer, bytes,
             ),
             [first, second, ..] if *second != 0x1B => {
-                tell_malformed(performer, *first);
+                report_malformed(performer, *first);
                 1
             }
             _ => {

@@ -7,7 +7,7 @@ use crate::refusals::again::{again, first_key, new_far_view, new_view};
 use crate::same::same_for;
 use crate::seen::{Drawn, cell_of, count};
 use relay_streams::{RelayError, relay, show};
-use scripted_io::Narrow;
+use scripted_io::LimitedWriter;
 use std::alloc::{AllocError, Global};
 use std::process::Abort;
 use std::test::Fail;
@@ -82,9 +82,9 @@ fn a_far_view_is_made_or_refused(rt: HostRuntime) -> Result<(), Fail> {
 const HI: &[u8] = b"\x1b[?2026h\x1b[?25h\x1b[m\x1b[H\x1b[Jhi\x1b>\x1b[?1l\x1b[?2004l\x1b[?2026l";
 
 /// A writer that has room for all, so that it needs no memory later.
-fn narrow(alloc: Global) -> Result<Narrow, AllocError> {
+fn narrow(alloc: Global) -> Result<LimitedWriter, AllocError> {
     let kept = room(alloc, 64)?;
-    Ok(Narrow {
+    Ok(LimitedWriter {
         kept,
         room: 64,
         step: 64,
@@ -99,11 +99,11 @@ fn check_prefix(rt: &impl Abort, answer: Result<(), RelayError>, kept: &[u8], te
     same_for(rt, &text, &found, &(Err(RelayError::Memory), true));
 }
 
-fn relay_hi(alloc: Global, output: &mut Narrow) -> Result<(), RelayError> {
+fn relay_hi(alloc: Global, output: &mut LimitedWriter) -> Result<(), RelayError> {
     relay(alloc, count(2), count(4), &mut b"hi".as_slice(), output)
 }
 
-fn check_relay(rt: &(impl Abort + AllocGlobal), output: &mut Narrow) {
+fn check_relay(rt: &(impl Abort + AllocGlobal), output: &mut LimitedWriter) {
     let mut answer = relay_hi(rt.alloc(), output);
     if answer.is_err() {
         check_prefix(rt, answer, &output.kept, HI);
@@ -121,11 +121,11 @@ fn a_relay_without_memory_is_refused(rt: HostRuntime) -> Result<(), Fail> {
     Ok(())
 }
 
-fn show_hi(alloc: Global, output: &mut Narrow) -> Result<(), RelayError> {
+fn show_hi(alloc: Global, output: &mut LimitedWriter) -> Result<(), RelayError> {
     show(alloc, count(2), count(4), &mut &HI[..], output)
 }
 
-fn check_show(rt: &(impl Abort + AllocGlobal), output: &mut Narrow) {
+fn check_show(rt: &(impl Abort + AllocGlobal), output: &mut LimitedWriter) {
     let mut answer = show_hi(rt.alloc(), output);
     if answer.is_err() {
         check_prefix(rt, answer, &output.kept, b"");

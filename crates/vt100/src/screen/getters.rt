@@ -18,9 +18,9 @@ impl Screen {
         self.failed
     }
 
-    /// Whether no call found no memory. Such a screen is in a state of a terminal: its sheets are grids of one size,
-    /// the main one alone keeps rows, and its attributes are proper, those of the cells too. The sheets of a failed one
-    /// are grids too.
+    /// Whether the screen is usable: no allocation has failed in an earlier call. Such a screen is in a state of a
+    /// terminal: its sheets are grids of one size, only the main one keeps rows, and its attributes and those of the
+    /// cells are proper. The sheets of a failed screen are grids too.
     pub fn is_live(&self) -> bool
         ensures answer { result ≡ not self.now.failed }
         ensures live { self.now.failed ≡ false → IsState self.now.state }
@@ -154,14 +154,14 @@ impl Screen {
         self.synchronized_update
     }
 
-    /// Which events of the mouse the program is told of.
+    /// Which events of the mouse are reported to the program.
     pub fn mouse_protocol_mode(&self) -> MouseProtocolMode
         ensures { result ≡ self.now.state.modes.mouse }
     {
         self.mouse_protocol_mode
     }
 
-    /// How it is told of them.
+    /// How they are reported.
     pub fn mouse_protocol_encoding(&self) -> MouseProtocolEncoding
         ensures { result ≡ self.now.state.modes.encoding }
     {

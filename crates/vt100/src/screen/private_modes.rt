@@ -3,13 +3,13 @@ ghost use Rattle.std.specs.Prelude.{◌≡◌, OnOk, OnErr, IfOk, Err, is_some, 
 ghost use Rattle.screen_model.specs.Step.{alternate_shown, alternate_cleared, main_shown, saved, restored};
 ghost use Rattle.screen_model.specs.PrivateModes.{modes_set, modes_reset, row_of, row_state, set_rows, reset_rows};
 ghost use Rattle.screen_model.specs.PrivateModes.{mouse_reset, encoding_reset};
-ghost use Rattle.vt100.specs.Memory.{modes_may_take, shows_alternate, is_unused};
+ghost use Rattle.vt100.specs.Memory.{modes_may_allocate, shows_alternate, is_unused};
 ghost use Rattle.vt100.specs.Tries.{TriesParts, Counts, SameBounds, alive};
 ghost use Rattle.vt100.specs.declared.error.ScreenError.TheVariants.{Memory};
 
 use crate::callbacks::Callbacks;
 use crate::error::ScreenError;
-use crate::screen::{Screen, WrappedScreen, settle};
+use crate::screen::{Screen, WrappedScreen, note_failure};
 use vt100_cells::PackedAttrs;
 use vt100_core::{MouseProtocolEncoding, MouseProtocolMode};
 use vte_core::Params;
@@ -23,7 +23,7 @@ impl<CB: Callbacks> WrappedScreen<CB> {
         ensures tries { TriesParts CB.scrolls (modes_set params.now) self.old.screen self.old.callbacks result
             self.new.screen self.new.callbacks }
         ensures bounds { SameBounds self.old.screen.state self.new.screen.state }
-        ensures takes { result ≡ Err Memory → modes_may_take params.now self.old.screen.state ≡ true }
+        ensures allocates { result ≡ Err Memory → modes_may_allocate params.now self.old.screen.state ≡ true }
     {
         if self.screen.failed {
             return Err(ScreenError::Failed);
@@ -172,8 +172,8 @@ impl Screen {
         ensures bounds { SameBounds self.old.state self.new.state }
         ensures unused { OnErr result (is_unused self.old.state ≡ true) }
     {
-        settle(&mut self.failed, self.grid.set_scrollback(0))?;
-        settle(&mut self.failed, self.other_grid.allocate_rows())?;
+        note_failure(&mut self.failed, self.grid.set_scrollback(0))?;
+        note_failure(&mut self.failed, self.other_grid.allocate_rows())?;
         if !self.alternate_screen {
             std::mem::swap(&mut self.grid, &mut self.other_grid);
             self.alternate_screen = true;

@@ -1,4 +1,4 @@
-//! Calls on a sheet that tell callbacks of the rows that leave it.
+//! Calls on a sheet that report the rows that leave it to callbacks.
 ghost use Rattle.std.specs.Prelude.{◌≡◌, ◌⊎◌, ◌≤◌, ◌++◌, OnOk, OnErr, IfOk, IsOk, true, false};
 ghost use Rattle.vt100_core.specs.Grid.{IsGrid, IsAllocated};
 ghost use Rattle.vt100_core.specs.Scroll.{scrollback_erased};
@@ -13,7 +13,7 @@ use vt100_cells::PackedAttrs;
 use vt100_core::capture::RowContents;
 use vt100_core::{Grid, GridError, Printed, Row, RowSink, Size};
 
-/// Tells callbacks of the rows that leave a sheet.
+/// Reports the rows that leave a sheet to callbacks.
 #[derive(Drop)]
 pub(super) struct Reporter<'a, CB> {
     pub(super) callbacks: &'a mut CB,
@@ -30,20 +30,20 @@ impl<'a, CB: Callbacks> RowSink for Reporter<'a, CB> {
     }
 }
 
-/// Characters that each stand in cells of their own, one after another.
+/// Characters, each in cells of its own, one after another.
 #[derive(Clone, Copy)]
-pub(crate) enum Run<'a> {
+pub(crate) enum CharRun<'a> {
     /// Printable ASCII.
     Narrow(&'a [u8]),
     /// Characters of two columns, where a row has room for one.
     Wide(&'a [char]),
 }
 
-/// What may have rows leave a sheet.
+/// Operations that can scroll rows off a sheet.
 #[derive(Clone, Copy)]
-pub(super) enum Drawing<'a> {
+pub(super) enum ScrollingEdit<'a> {
     Character(char),
-    Characters(Run<'a>),
+    Characters(CharRun<'a>),
     LineFeed,
     /// The scroll region moves up.
     ScrollUp(u16),
@@ -54,7 +54,7 @@ pub(super) enum Drawing<'a> {
 pub(super) fn draw<CB: Callbacks>(
     grid: &mut Grid,
     reporter: &mut Reporter<'_, CB>,
-    drawing: Drawing<'_>,
+    drawing: ScrollingEdit<'_>,
     attrs: &PackedAttrs,
 ) -> Result<Printed, GridError>
     requires allocated { IsAllocated grid.old }
@@ -64,20 +64,20 @@ pub(super) fn draw<CB: Callbacks>(
     ensures answer { IfOk result (λ p. p ≡ printed_by drawing.entry grid.old attrs.now) }
 {
     match drawing {
-        Drawing::Character(c) => grid.print(c, attrs, reporter),
-        Drawing::Characters(Run::Narrow(text)) => {
+        ScrollingEdit::Character(c) => grid.print(c, attrs, reporter),
+        ScrollingEdit::Characters(CharRun::Narrow(text)) => {
             grid.print_run(text, attrs, reporter)?;
             Ok(Printed::Spacing)
         }
-        Drawing::Characters(Run::Wide(text)) => {
+        ScrollingEdit::Characters(CharRun::Wide(text)) => {
             grid.wide_run(text, attrs.attrs(), reporter)?;
             Ok(Printed::Spacing)
         }
-        Drawing::LineFeed => {
+        ScrollingEdit::LineFeed => {
             grid.row_inc_scroll(1, reporter)?;
             Ok(Printed::Nothing)
         }
-        Drawing::ScrollUp(count) => {
+        ScrollingEdit::ScrollUp(count) => {
             grid.scroll_up(count, reporter)?;
             Ok(Printed::Nothing)
         }
@@ -121,7 +121,7 @@ fn resize<CB: Callbacks>(
 }
 
 /// Another size of the main sheet, and then of the alternate one.
-#[tactic(auto, using(crate::proofs::HearLemmas::receives_append))]
+#[tactic(auto, using(crate::proofs::ReceiveLemmas::receives_append))]
 pub(super) fn resize_both<CB: Callbacks>(
     main: &mut Grid,
     alternate: &mut Grid,

@@ -128,7 +128,7 @@ fn read_number(attrs: &mut PackedAttrs, code: u16, others: &[u16]) -> Result<(bo
     }
 }
 
-/// The colour at the front, its kind and its values, and how many numbers they are.
+/// The colour at the start, its kind and its values, and how many numbers they are.
 #[inline(always)]
 fn color_in_numbers(numbers: &[u16]) -> Result<(Color, usize), End>
     ensures asks { (t : Bool) → separate_color t (each_alone numbers.now) ≡ color_asked t result }

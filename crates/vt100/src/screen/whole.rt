@@ -9,14 +9,14 @@ ghost use Rattle.vt100.specs.declared.error.ScreenError.TheVariants.{Memory};
 use crate::callbacks::Callbacks;
 use crate::error::ScreenError;
 use crate::screen::reported::resize_both;
-use crate::screen::{Screen, WrappedScreen, settle};
+use crate::screen::{Screen, WrappedScreen, note_failure};
 use std::num::NonZeroU16;
 use vt100_cells::PackedAttrs;
 use vt100_core::attrs::Attrs;
 use vt100_core::{CursorStyle, Grid, MouseProtocolEncoding, MouseProtocolMode, Scrollback, Size};
 
 impl Screen {
-    /// Gives the screen another size, and tells no callbacks of the rows that leave it. A synchronized update of the
+    /// Gives the screen another size, and reports the rows that leave it to no callbacks. A synchronized update of the
     /// program's ends. The same size changes nothing else.
     ///
     /// Refused is only what makes the screen wider or higher, or keeps a row more. Then the answer is
@@ -33,7 +33,7 @@ impl Screen {
         self.resize(&mut (), Size { rows, cols })
     }
 
-    /// Gives both sheets another size, tells callbacks of the rows that leave them, and ends the program's update.
+    /// Gives both sheets another size, reports the rows that leave them, and ends the program's update.
     fn resize<CB: Callbacks>(&mut self, callbacks: &mut CB, size: Size) -> Result<(), ScreenError>
         ensures resizes { Resizes CB.scrolls (resized_to size.rows.value size.cols.value) size.rows.value
             size.cols.value self.old callbacks.old result self.new callbacks.new }
@@ -45,7 +45,7 @@ impl Screen {
         Ok(())
     }
 
-    /// Gives both sheets another size, the main one first, and tells callbacks of the rows that leave them.
+    /// Gives both sheets another size, the main one first, and reports the rows that leave them.
     fn resize_sheets<CB: Callbacks>(
         &mut self,
         callbacks: &mut CB,
@@ -61,10 +61,10 @@ impl Screen {
         }
         if self.alternate_screen {
             let resized = resize_both(&mut self.other_grid, &mut self.grid, callbacks, size);
-            return settle(&mut self.failed, resized);
+            return note_failure(&mut self.failed, resized);
         }
         let resized = resize_both(&mut self.grid, &mut self.other_grid, callbacks, size);
-        settle(&mut self.failed, resized)
+        note_failure(&mut self.failed, resized)
     }
 
     /// Shows the newest `rows` of the kept rows above the others, or all of them if there are fewer. What the screen
@@ -87,11 +87,11 @@ impl Screen {
         if self.failed {
             return Err(ScreenError::Failed);
         }
-        settle(&mut self.failed, self.grid.set_scrollback(rows))?;
+        note_failure(&mut self.failed, self.grid.set_scrollback(rows))?;
         Ok(())
     }
 
-    /// Takes the kept rows of the shown sheet away, and tells no callbacks of them.
+    /// Takes the kept rows of the shown sheet away, and reports them to no callbacks.
     pub fn clear_scrollback(&mut self)
         ensures { self.new ≡ unless_failed kept_dropped self.old }
     {
@@ -162,7 +162,7 @@ fn renew_sheet(grid: &mut Grid)
 }
 
 impl<CB: Callbacks> WrappedScreen<CB> {
-    /// Makes everything as at first, at this size and capacity (RIS). The callbacks are told of no row.
+    /// Makes everything as at first, at this size and capacity (RIS). No row is reported to the callbacks.
     pub fn ris(&mut self) -> Result<(), ScreenError>
         ensures tries { Tries CB.scrolls (λ s. quietly (made_anew s)) self.old.screen self.old.callbacks result
             self.new.screen self.new.callbacks }
@@ -175,7 +175,7 @@ impl<CB: Callbacks> WrappedScreen<CB> {
         Ok(())
     }
 
-    /// Gives the screen another size, and tells the callbacks of the rows that leave it: those of the main sheet first.
+    /// Gives the screen another size, and reports the rows that leave it: those of the main sheet first.
     /// A synchronized update of the program's ends. The same size changes nothing else.
     ///
     /// Refused is only what makes the screen wider or higher, or keeps a row more. Then the call has stopped at the sheet

@@ -6,7 +6,7 @@ ghost use Rattle.vt100.specs.Runs.{IsHandled, PrintsPrefix};
 
 use crate::callbacks::Callbacks;
 use crate::screen::WrappedScreen;
-use crate::screen::reported::Run;
+use crate::screen::reported::CharRun;
 use arrayvec::ArrayVec;
 use vt100_cells::columns;
 
@@ -14,7 +14,7 @@ use vt100_cells::columns;
 const RUN_LEN: usize = 32;
 
 impl<CB: Callbacks> WrappedScreen<CB> {
-    /// Prints the wide characters at the front of a text, up to `RUN_LEN` of them, and returns what is left. Where
+    /// Prints the wide characters at the start of a text, up to `RUN_LEN` of them, and returns what is left. Where
     /// there is none, or no room for one in a row, nothing is done.
     pub(crate) fn print_wide<'a>(&mut self, text: &'a str) -> Option<&'a str>
         ensures shorter { IfSome result (λ rest. length rest.now < length text.now) }
@@ -32,12 +32,13 @@ impl<CB: Callbacks> WrappedScreen<CB> {
             return None;
         }
         prove!(self.screen.is_live() || self.screen.failed());
-        let _ = self.run(Run::Wide(run.as_slice()));
+        // A refusal is kept in the screen, which has failed then.
+        let _ = self.run(CharRun::Wide(run.as_slice()));
         Some(rest)
     }
 }
 
-/// Takes the wide characters at the front of a text into an empty run, as many as it holds, and returns what is left.
+/// Takes the wide characters at the start of a text into an empty run, as many as it holds, and returns what is left.
 fn take_wide<'a>(text: &'a str, run: &mut ArrayVec<char, RUN_LEN>) -> &'a str
     requires { run.old.items ≡ [] }
     ensures parts { chars text.now ≡ run.new.items ++ chars result.now }
@@ -73,7 +74,7 @@ fn next_wide(text: &str) -> Option<(char, &str)>
     }
 }
 
-/// Whether a character from U+2E80 on, where the wide scripts begin, is wide. U+FFFD, of which callbacks are told,
+/// Whether a character from U+2E80 on, where the wide scripts begin, is wide. U+FFFD, which is reported to callbacks,
 /// is not.
 #[inline]
 fn is_wide(c: char) -> bool

@@ -8,21 +8,21 @@ ghost use Rattle.vt100.specs.declared.error.ScreenError.TheVariants.{Memory};
 
 use crate::callbacks::Callbacks;
 use crate::error::ScreenError;
-use crate::screen::reported::{Drawing, Reporter, Run, draw};
-use crate::screen::{Screen, settle};
+use crate::screen::reported::{CharRun, Reporter, ScrollingEdit, draw};
+use crate::screen::{Screen, note_failure};
 use vt100_core::Printed;
 
-/// A screen with the callbacks that it tells of its events.
+/// A screen with the callbacks that get its events.
 ///
 /// A call that finds no memory answers [`ScreenError::Memory`] and marks the screen as failed: what it shows is open,
-/// but its sheets keep their sizes, unless another size was asked for, and the callbacks were told of rows alone, the
-/// first of those that the call tells of. On a failed screen no call does anything; those that answer a `Result` answer
+/// but its sheets keep their sizes, unless another size was asked for, and the callbacks got rows only, the first
+/// of those that the call reports. On a failed screen no call does anything; those that answer a `Result` answer
 /// [`ScreenError::Failed`].
 #[derive(Drop)]
 pub struct WrappedScreen<CB> {
-    /// The screen. It can be read and changed here, and the callbacks aren't told of that.
+    /// The screen. It can be read and changed here without a call of the callbacks.
     pub screen: Screen,
-    /// Who is told.
+    /// The callbacks.
     pub callbacks: CB,
 }
 
@@ -32,22 +32,22 @@ impl<CB: Callbacks> WrappedScreen<CB> {
     pub fn text(&mut self, c: char) -> Result<(), ScreenError>
         ensures { MayScroll CB.scrolls (typed c) self.old result self.new }
     {
-        self.draw(Drawing::Character(c))
+        self.draw(ScrollingEdit::Character(c))
     }
 
     /// Prints the characters of a run as [`text`](Self::text) of each in turn does.
     #[inline(always)]
-    pub(crate) fn run(&mut self, run: Run<'_>) -> Result<(), ScreenError>
+    pub(crate) fn run(&mut self, run: CharRun<'_>) -> Result<(), ScreenError>
         requires { IsRun self.old.screen.state.shown.width run }
         ensures { MayScroll CB.scrolls (typed_all (characters run.entry)) self.old result self.new }
     {
         prove!(self.screen.size().1.get() > 0);
-        self.draw(Drawing::Characters(run))
+        self.draw(ScrollingEdit::Characters(run))
     }
 
-    /// Draws on the shown sheet, and tells the callbacks of the rows that leave it.
+    /// Draws on the shown sheet, and reports the rows that leave it to the callbacks.
     #[inline(always)]
-    fn draw(&mut self, drawing: Drawing<'_>) -> Result<(), ScreenError>
+    fn draw(&mut self, drawing: ScrollingEdit<'_>) -> Result<(), ScreenError>
         requires { IsDrawable self.old.screen.state.shown.width drawing }
         ensures { MayScroll CB.scrolls (drawn_on drawing.entry) self.old result self.new }
     {
@@ -64,7 +64,7 @@ impl<CB: Callbacks> WrappedScreen<CB> {
             drawing,
             &self.screen.attrs,
         );
-        let printed = settle(&mut self.screen.failed, drawn)?;
+        let printed = note_failure(&mut self.screen.failed, drawn)?;
         self.screen.last_char = last_drawn(drawing, printed, self.screen.last_char);
         Ok(())
     }
@@ -73,7 +73,7 @@ impl<CB: Callbacks> WrappedScreen<CB> {
     pub fn lf(&mut self) -> Result<(), ScreenError>
         ensures { MayScroll CB.scrolls line_fed self.old result self.new }
     {
-        self.draw(Drawing::LineFeed)
+        self.draw(ScrollingEdit::LineFeed)
     }
 
     /// Moves the cursor down one row, as [`lf`](Self::lf) does (VT).
@@ -94,7 +94,7 @@ impl<CB: Callbacks> WrappedScreen<CB> {
     pub fn su(&mut self, count: u16) -> Result<(), ScreenError>
         ensures { MayScroll CB.scrolls (region_up count) self.old result self.new }
     {
-        self.draw(Drawing::ScrollUp(count))
+        self.draw(ScrollingEdit::ScrollUp(count))
     }
 
     /// Prints the last character that was drawn in a cell of its own, so many times more, if there is one (REP).
@@ -115,13 +115,13 @@ impl<CB: Callbacks> WrappedScreen<CB> {
 
 /// The last character of what is drawn, or where there is none the one before it.
 #[inline(always)]
-fn last_drawn(drawing: Drawing<'_>, printed: Printed, last: Option<char>) -> Option<char>
+fn last_drawn(drawing: ScrollingEdit<'_>, printed: Printed, last: Option<char>) -> Option<char>
     ensures { result ≡ last_drawn drawing.entry printed last }
 {
     match drawing {
-        Drawing::Character(c) => last_after(printed, c, last),
-        Drawing::Characters(Run::Narrow([.., byte])) => Some(*byte as char),
-        Drawing::Characters(Run::Wide([.., c])) => Some(*c),
+        ScrollingEdit::Character(c) => last_after(printed, c, last),
+        ScrollingEdit::Characters(CharRun::Narrow([.., byte])) => Some(*byte as char),
+        ScrollingEdit::Characters(CharRun::Wide([.., c])) => Some(*c),
         _ => last,
     }
 }

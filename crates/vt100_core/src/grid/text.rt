@@ -48,7 +48,7 @@ impl Grid {
         self.any_text(c, attrs, sink)
     }
 
-    /// Has the cursor stand where one column is left, as [`col_wrap`](Self::col_wrap) does.
+    /// Wraps to the next row if the cursor is past the last column, as [`col_wrap`](Self::col_wrap) does.
     #[inline]
     fn make_room<S: RowSink>(&mut self, sink: &mut S) -> Result<(), GridError>
         requires allocated { IsAllocated self.old }
@@ -215,7 +215,8 @@ impl Grid {
     /// Prints the characters of `text`, which are printable ASCII, as [`text`](Self::text) of each in turn does.
     ///
     /// Refused is only a text that scrolls, as [`scroll_up`](Self::scroll_up) is. After a refusal the sink has been given
-    /// the rows that leave for good while a front of the text is printed, the grid is whole, and what it shows is open.
+    /// the rows that leave for good while a prefix of the text is printed, the grid is whole, and what it shows is
+    /// open.
     pub fn text_run<S: RowSink>(
         &mut self,
         text: &[u8],

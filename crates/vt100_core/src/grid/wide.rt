@@ -15,7 +15,7 @@ impl Grid {
     /// Prints the characters of `text`, each of which takes two columns, as [`text`](Self::text) of each in turn does.
     /// For a screen of two columns or more.
     ///
-    /// Where memory is refused, a front of the characters was printed, as [`text_run`](Self::text_run) says.
+    /// Where memory is refused, a prefix of the characters was printed, as [`text_run`](Self::text_run) says.
     pub fn wide_run<S: RowSink>(
         &mut self,
         text: &[char],

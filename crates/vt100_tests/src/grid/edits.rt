@@ -68,9 +68,9 @@ const AROUND: &[(Edit, &str)] = &[
 fn edits_around_the_cursor(rt: HostRuntime) -> Result<(), Fail> {
     for (edit, want) in AROUND {
         let steps = [
-            Step::Print("abcd\r\nefgh\r\nijkl"),
-            Step::Go(Move::To(1, 1)),
-            Step::Edit(*edit),
+            GridStep::Print("abcd\r\nefgh\r\nijkl"),
+            GridStep::Go(Move::To(1, 1)),
+            GridStep::Edit(*edit),
         ];
         let (grid, _) = run(rt.alloc(), (3, 4, None), &steps)?;
         same(&rt, &drawn(rt.alloc(), &grid)?.as_str(), want);
@@ -83,32 +83,35 @@ const CASES: &[Case] = &[
     (
         (3, 1, None),
         &[
-            Step::Print("a\r\nb"),
-            Step::Go(Move::Region(1, 2)),
-            Step::Edit(Edit::RowDecScroll(1)),
+            GridStep::Print("a\r\nb"),
+            GridStep::Go(Move::Region(1, 2)),
+            GridStep::Edit(Edit::RowDecScroll(1)),
         ],
         "a/./b/ 1 0",
         (0, 0, 0),
     ),
     (
         (2, 1, None),
-        &[Step::Print("a\r\nb"), Step::Clear],
+        &[GridStep::Print("a\r\nb"), GridStep::Clear],
         "././ 0 0",
         (0, 0, 0),
     ),
     // The row that was kept goes, and of the two that leave then the first, which is never kept.
     (
         (2, 2, Some(1)),
-        &[Step::Print("a\r\nb\r\nc"), Step::Edit(Edit::ScrollUp(3))],
+        &[
+            GridStep::Print("a\r\nb\r\nc"),
+            GridStep::Edit(Edit::ScrollUp(3)),
+        ],
         "../../ 1 1",
         (1, 0, 2),
     ),
     (
         (2, 2, Some(1)),
         &[
-            Step::Print("a\r\nb\r\nc"),
-            Step::Edit(Edit::ScrollUp(3)),
-            Step::EraseScrollback,
+            GridStep::Print("a\r\nb\r\nc"),
+            GridStep::Edit(Edit::ScrollUp(3)),
+            GridStep::EraseScrollback,
         ],
         "../../ 1 1",
         (0, 0, 3),
@@ -122,7 +125,7 @@ fn edits_of_lines(rt: HostRuntime) -> Result<(), Fail> {
 
 #[test]
 fn a_copy_is_a_grid_of_its_own(rt: HostRuntime) -> Result<(), Fail> {
-    let (mut grid, _) = run(rt.alloc(), (2, 1, None), &[Step::Print("a\r\nb")])?;
+    let (mut grid, _) = run(rt.alloc(), (2, 1, None), &[GridStep::Print("a\r\nb")])?;
     let copy = grid.clone()?;
     grid.clear();
     check(&rt, &copy, "a/b/ 1 1")

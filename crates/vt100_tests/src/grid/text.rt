@@ -8,25 +8,25 @@ const CASES: &[Case] = &[
     (
         (1, 4, None),
         &[
-            Step::Print("中文"),
-            Step::Go(Move::To(0, 1)),
-            Step::Print("x"),
+            GridStep::Print("中文"),
+            GridStep::Go(Move::To(0, 1)),
+            GridStep::Print("x"),
         ],
         ".x文_/ 0 2",
         (0, 0, 0),
     ),
     (
         (2, 2, None),
-        &[Step::Print("abc")],
+        &[GridStep::Print("abc")],
         "ab>/c./ 1 1",
         (0, 0, 0),
     ),
     (
         (2, 2, None),
         &[
-            Step::Print("abc"),
-            Step::Go(Move::To(0, 1)),
-            Step::Edit(Edit::EraseCells(1)),
+            GridStep::Print("abc"),
+            GridStep::Go(Move::To(0, 1)),
+            GridStep::Edit(Edit::EraseCells(1)),
         ],
         "a./c./ 0 1",
         (0, 0, 0),
@@ -34,7 +34,7 @@ const CASES: &[Case] = &[
     // A cell that is widened in the last column goes to the next row.
     (
         (2, 2, None),
-        &[Step::Print("ab\r\nc\u{2764}\u{fe0f}")],
+        &[GridStep::Print("ab\r\nc\u{2764}\u{fe0f}")],
         "c./\u{2764}\u{fe0f}_/ 1 2",
         (0, 0, 1),
     ),
@@ -47,7 +47,7 @@ fn prints_characters(rt: HostRuntime) -> Result<(), Fail> {
 
 #[test]
 fn wraps_at_the_last_of_65535_columns(rt: HostRuntime) -> Result<(), Fail> {
-    let steps = [Step::Go(Move::To(0, 65534)), Step::Print("ab")];
+    let steps = [GridStep::Go(Move::To(0, 65534)), GridStep::Print("ab")];
     let (grid, _) = run(rt.alloc(), (1, 65535, None), &steps)?;
     let mut text = String::new(rt.alloc());
     grid.write_contents(&mut text)?;

@@ -2,7 +2,7 @@
 use super::*;
 
 /// A new grid, what is done to it, its redraw, and how a cursor at a place that isn't known comes to its place.
-type Redraw = (Start, &'static [Step], &'static str, &'static str);
+type Redraw = (Start, &'static [GridStep], &'static str, &'static str);
 
 fn check_redraw(rt: &(impl Abort + AllocGlobal), grid: &Grid, want: &str) -> Result<(), Fail> {
     let mut text = String::new(rt.alloc());
@@ -31,38 +31,38 @@ const PRINTED: &[Redraw] = &[
     ((2, 4, None), &[], "\x1b[m\x1b[H\x1b[J", "\x1b[H"),
     (
         (2, 4, None),
-        &[Step::Print("abcdxyz")],
+        &[GridStep::Print("abcdxyz")],
         "\x1b[m\x1b[H\x1b[Jabcdxyz",
         "\x1b[2;4H",
     ),
     (
         (3, 4, None),
-        &[Step::Print("ab\r\n\r\nc")],
+        &[GridStep::Print("ab\r\n\r\nc")],
         "\x1b[m\x1b[H\x1b[Jab\x1b[3;1Hc",
         "\x1b[3;2H",
     ),
     (
         (2, 4, None),
-        &[Step::Print("中文x")],
+        &[GridStep::Print("中文x")],
         "\x1b[m\x1b[H\x1b[J中文x",
         "\x1b[2;2H",
     ),
     (
         (3, 3, None),
-        &[Step::Print("ab中")],
+        &[GridStep::Print("ab中")],
         "\x1b[m\x1b[H\x1b[Jab\r\n中",
         "\x1b[2;3H",
     ),
     // A cursor that waits behind the last column.
     (
         (2, 4, None),
-        &[Step::Print("abcd")],
+        &[GridStep::Print("abcd")],
         "\x1b[m\x1b[H\x1b[Jabcd",
         "\x1b[1;4Hd",
     ),
     (
         (2, 4, None),
-        &[Step::Print("ab中")],
+        &[GridStep::Print("ab中")],
         "\x1b[m\x1b[H\x1b[Jab中",
         "\x1b[1;3H中",
     ),
@@ -78,35 +78,38 @@ const ERASED_OR_MOVED: &[Redraw] = &[
     (
         (3, 4, None),
         &[
-            Step::Print("\nab"),
-            Step::Go(Move::To(1, 0)),
-            Step::Print("abcd"),
-            Step::Edit(Edit::EraseRow),
+            GridStep::Print("\nab"),
+            GridStep::Go(Move::To(1, 0)),
+            GridStep::Print("abcd"),
+            GridStep::Edit(Edit::EraseRow),
         ],
         "\x1b[m\x1b[H\x1b[J\x1b[2;4H \x1b7\x08\x1b[X\x1b8",
         "\x1b[2;4H \x1b7\x08\x1b[X\x1b8",
     ),
     (
         (3, 2, None),
-        &[Step::Print("ab\r\ncd"), Step::Edit(Edit::EraseRow)],
+        &[GridStep::Print("ab\r\ncd"), GridStep::Edit(Edit::EraseRow)],
         "\x1b[m\x1b[H\x1b[Jab\n",
         "\x1b[1;2Hb\n",
     ),
     (
         (3, 2, None),
-        &[Step::Print("ab\r\n\ncd"), Step::Edit(Edit::EraseRow)],
+        &[
+            GridStep::Print("ab\r\n\ncd"),
+            GridStep::Edit(Edit::EraseRow),
+        ],
         "\x1b[m\x1b[H\x1b[Jab\n\n",
         "\x1b[1;2Hb\n\n",
     ),
     (
         (2, 2, None),
-        &[Step::Print("ab"), Step::Edit(Edit::EraseRow)],
+        &[GridStep::Print("ab"), GridStep::Edit(Edit::EraseRow)],
         "\x1b[m\x1b[H\x1b[J\x1b[C \x1b7\x08\x1b[X\x1b8",
         "\x1b[1;2H \x1b7\x08\x1b[X\x1b8",
     ),
     (
         (3, 2, None),
-        &[Step::Print("abcde"), Step::Go(Move::To(0, 0))],
+        &[GridStep::Print("abcde"), GridStep::Go(Move::To(0, 0))],
         "\x1b[m\x1b[H\x1b[Jabcde\x1b[H",
         "\x1b[H",
     ),
@@ -118,7 +121,12 @@ fn redraws_empty_cells(rt: HostRuntime) -> Result<(), Fail> {
 }
 
 /// A new grid, what is done to the earlier one, what to the later one, and the difference.
-type Difference = (Start, &'static [Step], &'static [Step], &'static str);
+type Difference = (
+    Start,
+    &'static [GridStep],
+    &'static [GridStep],
+    &'static str,
+);
 
 fn check_diff(
     rt: &(impl Abort + AllocGlobal),
@@ -144,39 +152,39 @@ fn check_differences(rt: &(impl Abort + AllocGlobal), cases: &[Difference]) -> R
 const OF_TEXT: &[Difference] = &[
     (
         (2, 4, None),
-        &[Step::Print("abcd")],
-        &[Step::Print("abcd")],
+        &[GridStep::Print("abcd")],
+        &[GridStep::Print("abcd")],
         "",
     ),
     (
         (2, 4, None),
-        &[Step::Print("abcd")],
-        &[Step::Print("abcd"), Step::Print("\rxyz")],
+        &[GridStep::Print("abcd")],
+        &[GridStep::Print("abcd"), GridStep::Print("\rxyz")],
         "\x1b[Hxyz",
     ),
     (
         (2, 4, None),
-        &[Step::Print("abcdxyz")],
+        &[GridStep::Print("abcdxyz")],
         &[
-            Step::Print("abcdxyz"),
-            Step::Print("\r"),
-            Step::Edit(Edit::EraseRowForward),
+            GridStep::Print("abcdxyz"),
+            GridStep::Print("\r"),
+            GridStep::Edit(Edit::EraseRowForward),
         ],
         "\x1b[2;1H\x1b[K",
     ),
     (
         (2, 4, None),
-        &[Step::Print("abcd")],
-        &[Step::Print("abcd"), Step::Print("x")],
+        &[GridStep::Print("abcd")],
+        &[GridStep::Print("abcd"), GridStep::Print("x")],
         "\x1b[1;4Hdx",
     ),
     (
         (2, 4, None),
-        &[Step::Print("abcdx")],
+        &[GridStep::Print("abcdx")],
         &[
-            Step::Print("abcdx"),
-            Step::Go(Move::To(0, 0)),
-            Step::Edit(Edit::EraseRow),
+            GridStep::Print("abcdx"),
+            GridStep::Go(Move::To(0, 0)),
+            GridStep::Edit(Edit::EraseRow),
         ],
         "\x1b[H\x1b[K\x1b[3C\x1b[X\x1b[H",
     ),
@@ -190,43 +198,43 @@ fn writes_differences_of_text(rt: HostRuntime) -> Result<(), Fail> {
 const OF_LINES_AND_HALVES: &[Difference] = &[
     (
         (3, 2, None),
-        &[Step::Print("ab\r\ncd")],
+        &[GridStep::Print("ab\r\ncd")],
         &[
-            Step::Print("ab\r\ncd"),
-            Step::Go(Move::To(0, 0)),
-            Step::Edit(Edit::InsertLines(1)),
+            GridStep::Print("ab\r\ncd"),
+            GridStep::Go(Move::To(0, 0)),
+            GridStep::Edit(Edit::InsertLines(1)),
         ],
         "\x1b[H\x1b[K\r\nab\r\ncd\x1b[H",
     ),
     (
         (2, 3, None),
-        &[Step::Print("abcd")],
+        &[GridStep::Print("abcd")],
         &[
-            Step::Print("abcd"),
-            Step::Go(Move::To(0, 2)),
-            Step::Edit(Edit::EraseCells(1)),
+            GridStep::Print("abcd"),
+            GridStep::Go(Move::To(0, 2)),
+            GridStep::Edit(Edit::EraseCells(1)),
         ],
         "\x1b[1;3H\x1b[K\x1b[X",
     ),
     (
         (2, 4, None),
-        &[Step::Print("ab")],
-        &[Step::Print("ab"), Step::Print("中")],
+        &[GridStep::Print("ab")],
+        &[GridStep::Print("ab"), GridStep::Print("中")],
         "中",
     ),
     (
         (3, 2, None),
-        &[Step::Print("ab\r\ncd")],
-        &[Step::Print("ab\r\ncd"), Step::Edit(Edit::EraseRow)],
+        &[GridStep::Print("ab\r\ncd")],
+        &[GridStep::Print("ab\r\ncd"), GridStep::Edit(Edit::EraseRow)],
         "\x1b[2;1H\x1b[K\x1b[1;2Hb\n",
     ),
     (
         (2, 4, None),
-        &[Step::Print("a中b")],
+        &[GridStep::Print("a中b")],
         &[
-            Step::Print("a中b"),
-            Step::Go(Move::To(0, 1)),
-            Step::Print("x"),
+            GridStep::Print("a中b"),
+            GridStep::Go(Move::To(0, 1)),
+            GridStep::Print("x"),
         ],
         "\x1b[1;2Hx \x1b[1;3H",
     ),

@@ -1,6 +1,6 @@
 //! Synchronized updates.
 
-use super::log::{Flagged, Log, Processor, Still, Watching, feed, with_processor};
+use super::log::{CallLog, Flagged, Processor, Still, Watching, feed, with_processor};
 use super::table::calls;
 use crate::same::same;
 use std::alloc::Global;
@@ -17,7 +17,7 @@ type Piece = (&'static [u8], &'static str, usize);
 fn takes(
     rt: &(impl Abort + AllocGlobal),
     processor: &mut Processor,
-    log: &mut Log,
+    log: &mut CallLog,
     piece: Piece,
 ) -> usize {
     let (bytes, wanted, count) = piece;
@@ -35,7 +35,7 @@ fn takes(
 fn takes_all(
     rt: &(impl Abort + AllocGlobal),
     processor: &mut Processor,
-    log: &mut Log,
+    log: &mut CallLog,
     pieces: &[Piece],
 ) -> bool {
     for piece in pieces {
@@ -63,7 +63,7 @@ const HELD: &[Piece] = &[
 
 #[test]
 fn holds_until_the_end_mark(rt: HostRuntime) -> Result<(), Fail> {
-    with_processor(rt.alloc(), Log::new(&rt), |processor, log| {
+    with_processor(rt.alloc(), CallLog::new(&rt), |processor, log| {
         let pending = takes_all(&rt, processor, log, HELD);
         same(&rt, &pending, &false);
     })
@@ -75,7 +75,7 @@ const STOPPED: &[Piece] = &[(b"", BOLD, 0)];
 
 #[test]
 fn begins_and_stops(rt: HostRuntime) -> Result<(), Fail> {
-    with_processor(rt.alloc(), Log::new(&rt), |processor, log| {
+    with_processor(rt.alloc(), CallLog::new(&rt), |processor, log| {
         takes_all(&rt, processor, log, BEGUN);
         processor.stop_sync(log);
         let pending = takes_all(&rt, processor, log, STOPPED);
@@ -99,7 +99,7 @@ const AMONG_OTHERS: &[Piece] = &[
 /// An update that is opened among other modes is closed only by the end mark.
 #[test]
 fn opens_among_other_modes(rt: HostRuntime) -> Result<(), Fail> {
-    with_processor(rt.alloc(), Log::new(&rt), |processor, log| {
+    with_processor(rt.alloc(), CallLog::new(&rt), |processor, log| {
         takes_all(&rt, processor, log, AMONG_OTHERS);
     })
 }
@@ -130,7 +130,7 @@ const SET_AGAIN: &[(Piece, usize)] = &[
     ((b"bcd", OPENED, 21), 3),
 ];
 
-fn check_sets(rt: &(impl Abort + AllocGlobal), processor: &mut Processor, log: &mut Log) {
+fn check_sets(rt: &(impl Abort + AllocGlobal), processor: &mut Processor, log: &mut CallLog) {
     for (piece, sets) in SET_AGAIN {
         let reported = takes(rt, processor, log, *piece);
         same(rt, &reported, sets);
@@ -141,7 +141,7 @@ fn check_sets(rt: &(impl Abort + AllocGlobal), processor: &mut Processor, log: &
 /// A start mark in the held bytes sets the timeout again, also where a cut goes through it.
 #[test]
 fn sets_the_timeout_again(rt: HostRuntime) -> Result<(), Fail> {
-    with_processor(rt.alloc(), Log::new(&rt), |processor, log| {
+    with_processor(rt.alloc(), CallLog::new(&rt), |processor, log| {
         check_sets(&rt, processor, log);
     })
 }
@@ -149,7 +149,7 @@ fn sets_the_timeout_again(rt: HostRuntime) -> Result<(), Fail> {
 /// Hands a piece over. How many bytes are held then.
 fn held_after(
     processor: &mut ansi::Processor<Flagged<'_>, Global>,
-    log: &mut Log,
+    log: &mut CallLog,
     piece: &[u8],
 ) -> usize {
     processor.advance(log, piece);
@@ -163,7 +163,7 @@ const HELD_FIRST: &str =
 #[test]
 fn parses_held_bytes_first(rt: HostRuntime) -> Result<(), Fail> {
     let pending = Cell::new(false);
-    let mut log = Log::new(&rt);
+    let mut log = CallLog::new(&rt);
     let mut processor = ansi::Processor::new(rt.alloc(), Flagged(&pending))?;
     let held = held_after(&mut processor, &mut log, b"\x1b[?2026hab");
     pending.set(false);
@@ -176,7 +176,7 @@ fn parses_held_bytes_first(rt: HostRuntime) -> Result<(), Fail> {
 #[test]
 fn begins_while_the_timeout_is_pending(rt: HostRuntime) -> Result<(), Fail> {
     let pending = Cell::new(true);
-    let mut log = Log::new(&rt);
+    let mut log = CallLog::new(&rt);
     let mut processor = ansi::Processor::new(rt.alloc(), Flagged(&pending))?;
     let held = held_after(&mut processor, &mut log, b"x");
     let before = log.text.len();
@@ -203,7 +203,7 @@ const WATCHED: &str =
 fn sets_the_timeout_first_and_clears_it_last(rt: HostRuntime) -> Result<(), Fail> {
     let flag = Cell::new(false);
     let mut watching = Watching {
-        log: Log::new(&rt),
+        log: CallLog::new(&rt),
         flag: &flag,
     };
     let mut processor = ansi::Processor::new(rt.alloc(), Flagged(&flag))?;
@@ -220,7 +220,7 @@ fn sets_the_timeout_first_and_clears_it_last(rt: HostRuntime) -> Result<(), Fail
 /// How many bytes are held after a piece, and when the update's time is over.
 fn time_after(
     processor: &mut ansi::Processor<StdSyncHandler<Still>, Global>,
-    log: &mut Log,
+    log: &mut CallLog,
     piece: &[u8],
 ) -> (usize, Option<Duration>) {
     processor.advance(log, piece);
@@ -233,7 +233,7 @@ fn time_after(
 /// An update's time is over 150 milliseconds after it was opened, and is forgotten where it is closed.
 #[test]
 fn keeps_the_time_of_an_update(rt: HostRuntime) -> Result<(), Fail> {
-    let mut log = Log::new(&rt);
+    let mut log = CallLog::new(&rt);
     let timeout = StdSyncHandler::new(Still(Duration::from_secs(1)));
     let mut processor = ansi::Processor::new(rt.alloc(), timeout)?;
     for (piece, wanted, count) in HELD {
@@ -253,7 +253,7 @@ fn keeps_the_time_of_an_update(rt: HostRuntime) -> Result<(), Fail> {
 }
 
 /// Fills the hold up to two bytes.
-fn fill(processor: &mut Processor, log: &mut Log) {
+fn fill(processor: &mut Processor, log: &mut CallLog) {
     for _ in 0..1_048_573 {
         feed(processor, log, b"aa");
     }
@@ -261,7 +261,7 @@ fn fill(processor: &mut Processor, log: &mut Log) {
 
 const FILLED: &[Piece] = &[(b"\x1b[?2026h", OPENED, 0), (b"\x1b[1m", OPENED, 4)];
 
-fn check_full(rt: &(impl Abort + AllocGlobal), processor: &mut Processor, log: &mut Log) {
+fn check_full(rt: &(impl Abort + AllocGlobal), processor: &mut Processor, log: &mut CallLog) {
     takes_all(rt, processor, log, FILLED);
     fill(processor, log);
     takes(rt, processor, log, (b"", OPENED, 2_097_150));
@@ -272,7 +272,7 @@ fn check_full(rt: &(impl Abort + AllocGlobal), processor: &mut Processor, log: &
 
 #[test]
 fn empties_a_full_hold(rt: HostRuntime) -> Result<(), Fail> {
-    with_processor(rt.alloc(), Log::with_count(&rt), |processor, log| {
+    with_processor(rt.alloc(), CallLog::with_count(&rt), |processor, log| {
         check_full(&rt, processor, log);
     })
 }

@@ -10,15 +10,15 @@ use vte::ansi::{self, Call, Clock, Handler, Timeout};
 
 /// The calls so far. Where inputs are counted they aren't written down.
 #[derive(Drop)]
-pub struct Log {
+pub struct CallLog {
     pub text: String,
     pub inputs: Option<usize>,
     pub failed: bool,
 }
 
-impl Log {
-    pub fn new(rt: &impl AllocGlobal) -> Log {
-        Log {
+impl CallLog {
+    pub fn new(rt: &impl AllocGlobal) -> CallLog {
+        CallLog {
             text: String::new(rt.alloc()),
             inputs: None,
             failed: false,
@@ -26,8 +26,8 @@ impl Log {
     }
 
     /// Counts inputs.
-    pub fn with_count(rt: &impl AllocGlobal) -> Log {
-        Log {
+    pub fn with_count(rt: &impl AllocGlobal) -> CallLog {
+        CallLog {
             text: String::new(rt.alloc()),
             inputs: Some(0),
             failed: false,
@@ -35,7 +35,7 @@ impl Log {
     }
 }
 
-impl Handler for Log {
+impl Handler for CallLog {
     ghost step = { λ _ _ _. ⊤ };
 
     fn call(&mut self, call: Call<'_>) {
@@ -88,9 +88,9 @@ pub fn processor(alloc: Global) -> Result<Processor, Fail> {
 }
 
 /// Does this with a new processor and a log.
-pub fn with_processor<F: FnOnce(&mut Processor, &mut Log)>(
+pub fn with_processor<F: FnOnce(&mut Processor, &mut CallLog)>(
     alloc: Global,
-    mut log: Log,
+    mut log: CallLog,
     check: F,
 ) -> Result<(), Fail>
     requires { F.IsAlwaysCallable check }
@@ -101,7 +101,7 @@ pub fn with_processor<F: FnOnce(&mut Processor, &mut Log)>(
 }
 
 /// Hands a piece to a processor.
-pub fn feed(processor: &mut Processor, log: &mut Log, piece: &[u8]) {
+pub fn feed(processor: &mut Processor, log: &mut CallLog, piece: &[u8]) {
     processor.advance(log, piece);
 }
 
@@ -128,7 +128,7 @@ impl<'a> Timeout for Flagged<'a> {
 /// Writes down each call, and whether the flag beside it is up then.
 #[derive(Drop)]
 pub struct Watching<'a> {
-    pub log: Log,
+    pub log: CallLog,
     pub flag: &'a Cell<bool>,
 }
 

@@ -2,7 +2,7 @@
 
 ghost use Rattle.std.specs.Prelude.{◌<◌};
 
-use super::log::{Log, Processor, feed, processor};
+use super::log::{CallLog, Processor, feed, processor};
 use crate::same::same;
 use std::process::Abort;
 use std::test::Fail;
@@ -21,7 +21,7 @@ fn gives(
 ) -> Result<(), Fail>
     requires { 0 < len }
 {
-    let mut log = Log::new(rt);
+    let mut log = CallLog::new(rt);
     let mut processor = processor(rt.alloc())?;
     feed(&mut processor, &mut log, prefix);
     feed_all(&mut processor, &mut log, rest, len);
@@ -35,7 +35,7 @@ fn gives(
 }
 
 /// Hands bytes over in pieces of so many.
-fn feed_all(processor: &mut Processor, log: &mut Log, bytes: &[u8], len: usize)
+fn feed_all(processor: &mut Processor, log: &mut CallLog, bytes: &[u8], len: usize)
     requires { 0 < len }
 {
     for piece in bytes.chunks(len) {

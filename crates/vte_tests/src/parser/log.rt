@@ -14,16 +14,16 @@ pub enum Until {
 
 /// The events so far, each as a few words.
 #[derive(Drop)]
-pub struct Log {
+pub struct EventLog {
     pub text: String,
     pub failed: bool,
     until: Until,
     terminated: bool,
 }
 
-impl Log {
-    pub fn new(rt: &impl AllocGlobal, until: Until) -> Log {
-        Log {
+impl EventLog {
+    pub fn new(rt: &impl AllocGlobal, until: Until) -> EventLog {
+        EventLog {
             text: String::new(rt.alloc()),
             failed: false,
             until,
@@ -78,7 +78,7 @@ impl Log {
     }
 }
 
-impl Perform for Log {
+impl Perform for EventLog {
     ghost step = { λ _ _ _. ⊤ };
 
     ghost is_terminated = { λ log. log.terminated };

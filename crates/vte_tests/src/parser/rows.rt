@@ -2,7 +2,7 @@
 
 ghost use Rattle.std.specs.Prelude.{⊤, false};
 
-use super::log::{Log, Until};
+use super::log::{EventLog, Until};
 use crate::same::same;
 use std::process::Abort;
 use std::test::Fail;
@@ -19,7 +19,7 @@ fn reads<const N: usize>(
     back: &[u8],
     wanted: &str,
 ) {
-    let mut log = Log::new(rt, Until::Never);
+    let mut log = EventLog::new(rt, Until::Never);
     parser.advance(&mut log, prefix);
     parser.advance(&mut log, back);
     same(
@@ -178,7 +178,7 @@ const STOPS: &[Stop] = &[
 ];
 
 /// Read until the performer is terminated, and then read again, which reads nothing.
-fn check_stop(rt: &impl Abort, parser: &mut Parser<1024>, log: &mut Log, stop: &Stop) {
+fn check_stop(rt: &impl Abort, parser: &mut Parser<1024>, log: &mut EventLog, stop: &Stop) {
     let (_, bytes, wanted, text) = stop;
     let read = parser.advance_until_terminated(log, bytes);
     let more = parser.advance_until_terminated(log, &bytes[read..]);
@@ -188,7 +188,7 @@ fn check_stop(rt: &impl Abort, parser: &mut Parser<1024>, log: &mut Log, stop: &
 #[test]
 fn a_performer_stops_the_parser(rt: HostRuntime) {
     for stop in STOPS {
-        let mut log = Log::new(&rt, stop.0);
+        let mut log = EventLog::new(&rt, stop.0);
         check_stop(&rt, &mut Parser::default(), &mut log, stop);
     }
 }
@@ -208,7 +208,7 @@ fn default_params_are_empty(rt: HostRuntime) -> Result<(), Fail> {
 
 #[test]
 fn a_new_parser_reads_bytes(rt: HostRuntime) {
-    let mut log = Log::new(&rt, Until::Never);
+    let mut log = EventLog::new(&rt, Until::Never);
     Parser::new().advance(&mut log, b"a\x1b[1:2;3m");
     same(&rt, &log.text.as_str(), &"print 97 csi [1:2;3] | kept 109 ");
 }
@@ -216,7 +216,7 @@ fn a_new_parser_reads_bytes(rt: HostRuntime) {
 /// Writes down where each text begins that it is handed over.
 #[derive(Drop)]
 struct Texts {
-    log: Log,
+    log: EventLog,
 }
 
 impl Texts {
@@ -253,7 +253,7 @@ impl Perform for Texts {
 #[test]
 fn text_comes_in_runs(rt: HostRuntime) {
     let mut texts = Texts {
-        log: Log::new(&rt, Until::Never),
+        log: EventLog::new(&rt, Until::Never),
     };
     let bytes = b"ab\r\n\xE4\xB8\xADc\xC2\xA9\x7F\xC2\x85\xC2d\x1B7\xFFe\xE4";
     Parser::new().advance(&mut texts, bytes);
@@ -267,7 +267,7 @@ fn text_comes_in_runs(rt: HostRuntime) {
 
 #[test]
 fn text_comes_by_characters_without_runs(rt: HostRuntime) {
-    let mut log = Log::new(&rt, Until::Never);
+    let mut log = EventLog::new(&rt, Until::Never);
     log.print_str("a\u{4E2D}");
     same(&rt, &log.text.as_str(), &"print 97 print 20013 ");
 }

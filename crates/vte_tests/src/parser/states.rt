@@ -1,6 +1,6 @@
 //! Each byte in each state, against the table of states written out.
 
-use super::log::{Log, Until};
+use super::log::{EventLog, Until};
 use crate::same::same;
 use std::process::Abort;
 use vte_core::Parser;
@@ -134,9 +134,9 @@ struct Reading {
     before: &'static str,
     number: u32,
     /// The intermediates, or a command's data, as a log writes them, and how many intermediates or pieces there are.
-    content: Log,
+    content: EventLog,
     parts: usize,
-    log: Log,
+    log: EventLog,
 }
 
 impl Reading {
@@ -147,9 +147,9 @@ impl Reading {
             count: 0,
             before: "",
             number: 0,
-            content: Log::new(rt, Until::Never),
+            content: EventLog::new(rt, Until::Never),
             parts: 0,
-            log: Log::new(rt, Until::Never),
+            log: EventLog::new(rt, Until::Never),
         }
     }
 
@@ -290,8 +290,8 @@ impl Reading {
 }
 
 /// The events that the parser gives.
-fn parsed(rt: &impl AllocGlobal, prefix: &[u8], byte: u8, end: &[u8]) -> Log {
-    let mut log = Log::new(rt, Until::Never);
+fn parsed(rt: &impl AllocGlobal, prefix: &[u8], byte: u8, end: &[u8]) -> EventLog {
+    let mut log = EventLog::new(rt, Until::Never);
     let mut parser = Parser::new();
     parser.advance(&mut log, prefix);
     parser.advance(&mut log, &[byte]);
@@ -300,7 +300,7 @@ fn parsed(rt: &impl AllocGlobal, prefix: &[u8], byte: u8, end: &[u8]) -> Log {
 }
 
 /// The events that the table gives.
-fn read(rt: &impl AllocGlobal, prefix: &[u8], byte: u8, end: &[u8]) -> Log {
+fn read(rt: &impl AllocGlobal, prefix: &[u8], byte: u8, end: &[u8]) -> EventLog {
     let mut reading = Reading::new(rt);
     reading.bytes(prefix);
     reading.byte(byte);
@@ -321,7 +321,7 @@ fn reads_alike(rt: &(impl Abort + AllocGlobal), prefix: &[u8], byte: u8, end: &[
 }
 
 /// Bytes that bring the parser to each state, also with all numbers, intermediates or pieces that are kept.
-const FRONTS: &[&[u8]] = &[
+const PREFIXES: &[&[u8]] = &[
     b"",
     b"\x1b",
     b"\x1b(",
@@ -353,7 +353,7 @@ const FRONTS: &[&[u8]] = &[
 
 #[test]
 fn every_byte_in_every_state(rt: HostRuntime) {
-    for prefix in FRONTS {
+    for prefix in PREFIXES {
         for byte in 0..=255u8 {
             reads_alike(&rt, prefix, byte, b"7mx\x18y");
             reads_alike(&rt, prefix, byte, b"?mx\x1bc");

@@ -1,6 +1,6 @@
 //! Malformed text, cut everywhere, against what `str::from_utf8` says of the whole.
 
-use super::log::{Log, Until};
+use super::log::{EventLog, Until};
 use crate::same::same;
 use std::process::Abort;
 use std::str;
@@ -8,7 +8,7 @@ use std::test::Fail;
 use vte_core::Parser;
 
 /// A character, or a control that is executed.
-fn character(log: &mut Log, c: char) {
+fn character(log: &mut EventLog, c: char) {
     let word = match c {
         '\0'..='\u{1F}' | '\u{80}'..='\u{9F}' => "execute",
         _ => "print",
@@ -17,7 +17,7 @@ fn character(log: &mut Log, c: char) {
 }
 
 /// A malformed sequence.
-fn malformed(log: &mut Log, bytes: &[u8]) {
+fn malformed(log: &mut EventLog, bytes: &[u8]) {
     match bytes {
         [byte @ 0x80..=0x9F] => character(log, *byte as char),
         _ => character(log, '\u{FFFD}'),
@@ -25,7 +25,7 @@ fn malformed(log: &mut Log, bytes: &[u8]) {
 }
 
 /// The characters of a text.
-fn characters(log: &mut Log, text: &str) {
+fn characters(log: &mut EventLog, text: &str) {
     for c in text.chars() {
         character(log, c);
     }
@@ -40,7 +40,7 @@ fn parts_of(bytes: &[u8]) -> (usize, Option<usize>) {
 }
 
 /// The events of bytes without ESC.
-fn events(log: &mut Log, bytes: &[u8]) {
+fn events(log: &mut EventLog, bytes: &[u8]) {
     let mut rest = bytes;
     for _ in 0..=bytes.len() {
         let (valid, error_len) = parts_of(rest);
@@ -56,8 +56,8 @@ fn events(log: &mut Log, bytes: &[u8]) {
 }
 
 /// The events of bytes in two pieces.
-fn parsed(rt: &impl AllocGlobal, prefix: &[u8], back: &[u8]) -> Log {
-    let mut log = Log::new(rt, Until::Never);
+fn parsed(rt: &impl AllocGlobal, prefix: &[u8], back: &[u8]) -> EventLog {
+    let mut log = EventLog::new(rt, Until::Never);
     let mut parser = Parser::new();
     parser.advance(&mut log, prefix);
     parser.advance(&mut log, back);
@@ -65,7 +65,7 @@ fn parsed(rt: &impl AllocGlobal, prefix: &[u8], back: &[u8]) -> Log {
 }
 
 /// The bytes in two pieces have the events that were wanted of them.
-fn agrees_cut(rt: &(impl Abort + AllocGlobal), prefix: &[u8], back: &[u8], wanted: &Log) {
+fn agrees_cut(rt: &(impl Abort + AllocGlobal), prefix: &[u8], back: &[u8], wanted: &EventLog) {
     let log = parsed(rt, prefix, back);
     let failed = log.failed || wanted.failed;
     same(
@@ -76,7 +76,7 @@ fn agrees_cut(rt: &(impl Abort + AllocGlobal), prefix: &[u8], back: &[u8], wante
 }
 
 /// The bytes, cut once at each place.
-fn agrees(rt: &(impl Abort + AllocGlobal), bytes: &[u8], wanted: &Log) {
+fn agrees(rt: &(impl Abort + AllocGlobal), bytes: &[u8], wanted: &EventLog) {
     for cut in 0..=bytes.len() {
         agrees_cut(rt, &bytes[..cut], &bytes[cut..], wanted);
     }
@@ -84,7 +84,7 @@ fn agrees(rt: &(impl Abort + AllocGlobal), bytes: &[u8], wanted: &Log) {
 
 /// The same of bytes without ESC.
 fn agrees_as_text(rt: &(impl Abort + AllocGlobal), bytes: &[u8]) {
-    let mut wanted = Log::new(rt, Until::Never);
+    let mut wanted = EventLog::new(rt, Until::Never);
     events(&mut wanted, bytes);
     agrees(rt, bytes, &wanted);
 }
@@ -114,7 +114,7 @@ fn goes_on(rt: &(impl Abort + AllocGlobal), unfinished: &[u8], byte: u8) -> Resu
     let mut bytes = Vec::new(rt.alloc());
     bytes.extend_from_slice(unfinished)?;
     bytes.extend_from_slice(&[byte, b'c'])?;
-    let mut wanted = Log::new(rt, Until::Never);
+    let mut wanted = EventLog::new(rt, Until::Never);
     if byte == 0x1B {
         malformed(&mut wanted, unfinished);
         wanted.word("esc |");

@@ -3,7 +3,7 @@ use Rattle.relay_streams.specs.Fill.{max_reads}
 use Rattle.relay_streams.proofs.FillLemmas.{GoesOn}
 use Rattle.relay_streams.proofs.source.fill.Given as goal
 
--- the front of the piece is what the reads so far gave
+-- the start of the piece is what the reads so far gave
 abbrev pub invariant-reading : goal.invariant-reading
 invariant-reading g l = record {
   within : l.len ≤ length l.piece;

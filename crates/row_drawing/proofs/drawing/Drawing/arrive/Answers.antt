@@ -1,5 +1,5 @@
 use Rattle.std.proofs.Common.{sym, ◌∙◌}
-use Rattle.row_drawing.specs.Drawing.{job_of}
+use Rattle.row_drawing.specs.Drawing.{row_change_of}
 use Rattle.row_drawing.specs.RowWriter.{arrive}
 use Rattle.row_drawing.specs.Writer.{goto}
 use Rattle.row_drawing.proofs.RowLeads.{arrive-turn, arrive-goto}
@@ -14,5 +14,5 @@ returns-then-is_wrapping c =
 
 pub returns : goal.returns
 returns c =
-    writes_by (goto c.args.self.now.row c.args.col) (arrive (job_of c.args.self.now) c.args.col c.args.columns)
+    writes_by (goto c.args.self.now.row c.args.col) (arrive (row_change_of c.args.self.now) c.args.col c.args.columns)
     c.args.pen.now _ _ _ _ (arrive-goto _ _ _ _ (sym c.is_wrapping.ensures ∙ c.if-is_wrapping.false)) c.goto.ensures

@@ -1,5 +1,5 @@
 use Rattle.std.proofs.Common.{sym, ◌∙◌}
-use Rattle.row_drawing.specs.Drawing.{job_of}
+use Rattle.row_drawing.specs.Drawing.{row_change_of}
 use Rattle.row_drawing.specs.RowWriter.{column}
 use Rattle.row_drawing.proofs.Columns.{draw-is_same, column-is_half, column-is_whole}
 use Rattle.row_drawing.proofs.WritesLemmas.{refused_first, refused, appended_both, appended_by, appended_skip, writes_last}
@@ -11,7 +11,7 @@ returns-then-is_half c =
 
 pub returns-in_err-flush : goal.returns-in_err-flush
 returns-in_err-flush c =
-    refused _ (column (job_of c.args.self.now) c.args.col) c.args.pen.now _ c.from_residual.ensures.0
+    refused _ (column (row_change_of c.args.self.now) c.args.col) c.args.pen.now _ c.from_residual.ensures.0
     (column-is_whole _ _ _ (sym c.is_half.ensures ∙ c.if-is_half.false))
     (refused_first _ c.in_err-flush.ensures)
 
@@ -25,5 +25,5 @@ draw-requires c = record { in_row = c.requires; other = sym c.is_same.ensures �
 
 pub returns : goal.returns
 returns c =
-    writes_last (column (job_of c.args.self.now) c.args.col) c.args.pen.now _ _ _ _
+    writes_last (column (row_change_of c.args.self.now) c.args.col) c.args.pen.now _ _ _ _
     (column-is_whole _ _ _ (sym c.is_half.ensures ∙ c.if-is_half.false)) c.in_ok-flush.ensures c.draw.ensures

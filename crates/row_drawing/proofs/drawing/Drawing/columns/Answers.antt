@@ -2,7 +2,7 @@ use Rattle.std.proofs.Common.{◌≡◌, ◌+◌, ◌≤◌, ap, arith, append-n
 use Rattle.std.specs.Prelude.{string_bytes, string_capacity}
 use Rattle.vt100_forms.specs.Form.{bytes_of}
 use Rattle.vt100_cells.specs.Cell.{CellView}
-use Rattle.row_drawing.specs.Drawing.{job_of, AreQuiet}
+use Rattle.row_drawing.specs.Drawing.{row_change_of, AreQuiet}
 use Rattle.row_drawing.specs.RowWriter.{columns}
 use Rattle.row_drawing.specs.Writes.{Appended, IsBegun, Wrote}
 use Rattle.row_drawing.proofs.KeptRows.{wrote_columns_quiet}
@@ -12,7 +12,7 @@ use Rattle.row_drawing.proofs.drawing.Drawing.columns.Goals as goal
 
 pub loop-n-init : goal.loop-n-init
 loop-n-init c =
-    let j = job_of c.args.self.now in
+    let j = row_change_of c.args.self.now in
     let p = c.args.pen.now in
     let s = string_bytes c.args.contents.now in
     let n = c.same_columns-n.result in
@@ -29,7 +29,7 @@ loop-n-init c =
 
 pub returns-in_err-make_room : goal.returns-in_err-make_room
 returns-in_err-make_room c =
-    let j = job_of c.args.self.now in
+    let j = row_change_of c.args.self.now in
     let inv = c.loop-n.invariant in
     refused _ {f = columns j c.args.count} (columns j c.args.count) c.args.pen.now _ c.from_residual.ensures.0 refl
     (record {
@@ -40,7 +40,7 @@ returns-in_err-make_room c =
 
 pub returns-in_err-move_to : goal.returns-in_err-move_to
 returns-in_err-move_to c =
-    let j = job_of c.args.self.now in
+    let j = row_change_of c.args.self.now in
     let inv = c.loop-n.invariant in
     refused _ {f = columns j c.args.count} (columns j c.args.count) c.args.pen.now _
     c.from_residual-in_err-move_to.ensures.0 refl (record {
@@ -52,7 +52,7 @@ returns-in_err-move_to c =
 
 pub loop-n-preserved-then-begins_run : goal.loop-n-preserved-then-begins_run
 loop-n-preserved-then-begins_run c =
-    let j = job_of c.args.self.now in
+    let j = row_change_of c.args.self.now in
     let inv = c.loop-n.invariant in
     record {
       within = c.texts-n.ensures.within.1;
@@ -66,7 +66,7 @@ pub loop-n-preserved-then-quiet-n : goal.loop-n-preserved-then-quiet-n
 loop-n-preserved-then-quiet-n c =
     record {
       within = c.after_quiet-quiet.ensures.within.1;
-      drawn = wrote_columns_quiet (job_of c.args.self.now) _ _ c.after_quiet-quiet.ensures.within.0 c.after_quiet-quiet.ensures.quiet
+      drawn = wrote_columns_quiet (row_change_of c.args.self.now) _ _ c.after_quiet-quiet.ensures.within.0 c.after_quiet-quiet.ensures.quiet
           c.loop-n.invariant.drawn;
       begun = c.loop-n.invariant.begun;
       capacity = c.loop-n.invariant.capacity;
@@ -75,7 +75,7 @@ loop-n-preserved-then-quiet-n c =
 
 pub returns-in_err-change : goal.returns-in_err-change
 returns-in_err-change c =
-    let j = job_of c.args.self.now in
+    let j = row_change_of c.args.self.now in
     let drawn = rw (sym c.in_ok-move_to.ensures.bytes) at c.loop-n.invariant.drawn in
     let room : string_capacity c.args.contents.now ≤ string_capacity c.move_to.new.contents =
     omega (arith, c.loop-n.invariant.capacity, c.in_ok-move_to.ensures.capacity) in
@@ -86,7 +86,7 @@ returns-in_err-change c =
 
 pub loop-n-preserved : goal.loop-n-preserved
 loop-n-preserved c =
-    let j = job_of c.args.self.now in
+    let j = row_change_of c.args.self.now in
     let n = c.loop-n.n in
     let u = string_bytes c.change.new.contents in
     let drawn = rw (sym c.in_ok-move_to.ensures.bytes) at c.loop-n.invariant.drawn in
@@ -107,7 +107,7 @@ loop-n-preserved c =
 
 pub returns-in_err-move_to-2 : goal.returns-in_err-move_to-2
 returns-in_err-move_to-2 c =
-    let j = job_of c.args.self.now in
+    let j = row_change_of c.args.self.now in
     let inv = c.loop-n.invariant in
     refused _ {f = columns j c.args.count} (columns j c.args.count) c.args.pen.now _
     c.from_residual-in_err-move_to-2.ensures.0 refl (record {

@@ -1,5 +1,5 @@
 use Rattle.std.proofs.Common.{◌∙◌, arith}
-use Rattle.row_drawing.specs.Drawing.{job_of}
+use Rattle.row_drawing.specs.Drawing.{row_change_of}
 use Rattle.row_drawing.proofs.RowWrites.{behind-within, goes_on, here_behind, joined_attrs, pass-attrs, span_fits}
 use Rattle.row_drawing.proofs.RowWrites.{wrote_joined, wrote_text}
 use Rattle.row_drawing.proofs.drawing.Drawing.gather.Goals as goal
@@ -12,7 +12,7 @@ pass-requires c =
 
 pub loop-m-preserved : goal.loop-m-preserved
 loop-m-preserved c =
-    let j = job_of c.args.self.now in
+    let j = row_change_of c.args.self.now in
     let x = c.cell-cell.result.now in
     let inv = c.loop-m.invariant in
     let joins = c.joins_run.ensures c.if-not-joins_run.false in

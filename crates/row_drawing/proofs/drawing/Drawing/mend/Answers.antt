@@ -1,5 +1,5 @@
 use Rattle.std.proofs.Common.{arith}
-use Rattle.row_drawing.specs.Drawing.{job_of}
+use Rattle.row_drawing.specs.Drawing.{row_change_of}
 use Rattle.row_drawing.specs.RowWriter.{mend}
 use Rattle.row_drawing.proofs.RowWrites.{unflagged_col}
 use Rattle.row_drawing.proofs.RowEnd.{mend-ends}
@@ -12,7 +12,7 @@ returns-then-self c = rw c.if-self.true c.print_last.ensures
 
 pub returns-in_err-unflag : goal.returns-in_err-unflag
 returns-in_err-unflag c =
-    refused _ (mend (job_of c.args.self.now) c.args.cell.now) c.args.pen.now _ c.from_residual.ensures.0
+    refused _ (mend (row_change_of c.args.self.now) c.args.cell.now) c.args.pen.now _ c.from_residual.ensures.0
     (mend-ends _ _ _ c.if-self.false) (refused_first _ c.in_err-unflag.ensures)
 
 pub print_last-requires-2 : goal.print_last-requires-2
@@ -20,5 +20,5 @@ print_last-requires-2 c = let same = unflagged_col _ c.in_ok-unflag.ensures.wrot
 
 pub returns : goal.returns
 returns c =
-    writes_last (mend (job_of c.args.self.now) c.args.cell.now) c.args.pen.now _ _ _ _ (mend-ends _ _ _ c.if-self.false)
+    writes_last (mend (row_change_of c.args.self.now) c.args.cell.now) c.args.pen.now _ _ _ _ (mend-ends _ _ _ c.if-self.false)
     c.in_ok-unflag.ensures c.print_last-2.ensures

@@ -1,5 +1,5 @@
 use Rattle.std.proofs.Common.{sym, ◌∙◌}
-use Rattle.row_drawing.specs.Drawing.{job_of}
+use Rattle.row_drawing.specs.Drawing.{row_change_of}
 use Rattle.row_drawing.specs.RowWriter.{opening}
 use Rattle.row_drawing.proofs.RowWrites.{turned_room, appended_turn}
 use Rattle.row_drawing.proofs.RowStart.{opening-none, opening-some}
@@ -16,14 +16,14 @@ reprint-requires c = turned_room _ _ _ c.turn.ensures c.in_ok-color_as.ensures.w
 
 pub returns-in_err-color_as : goal.returns-in_err-color_as
 returns-in_err-color_as c =
-    refused _ (opening (job_of c.args.self.now)) c.args.pen.now _ c.from_residual.ensures.0
-    (opening-some (job_of c.args.self.now) _ _ c.cell-first.ensures
+    refused _ (opening (row_change_of c.args.self.now)) c.args.pen.now _ c.from_residual.ensures.0
+    (opening-some (row_change_of c.args.self.now) _ _ c.cell-first.ensures
     (sym c.owes_flag.ensures ∙ c.if-not-owes_flag.false))
     (refused_first _ (refused_then (appended_turn _ _ _ _ c.turn.ensures) c.in_err-color_as.ensures))
 
 pub returns : goal.returns
 returns c =
-    writes_last (opening (job_of c.args.self.now)) c.args.pen.now _ _ _ _
-    (opening-some (job_of c.args.self.now) _ _ c.cell-first.ensures
+    writes_last (opening (row_change_of c.args.self.now)) c.args.pen.now _ _ _ _
+    (opening-some (row_change_of c.args.self.now) _ _ c.cell-first.ensures
     (sym c.owes_flag.ensures ∙ c.if-not-owes_flag.false))
     (appended_both (appended_turn _ _ _ _ c.turn.ensures) c.in_ok-color_as.ensures) c.reprint.ensures

@@ -2,7 +2,7 @@ use Rattle.std.proofs.Common.{◌≡◌, ℕ, ap, sym, ◌∙◌, refl, Some, No
 use Rattle.slab.specs.Slab.{Slab, get, Updates}
 use Rattle.vt100.specs.Parsing.{ParserView}
 use Rattle.termrelay.specs.declared.error.HubError.TheVariants.{UnknownClient}
-use Rattle.termrelay.specs.Record.{RecordView}
+use Rattle.termrelay.specs.ClientRecord.{RecordView}
 use Rattle.termrelay.specs.Hub.{Detaches}
 use Rattle.termrelay.proofs.HubLemmas.{holding, updated-client}
 use Rattle.termrelay.proofs.hub.Hub.detach.Goals as goal

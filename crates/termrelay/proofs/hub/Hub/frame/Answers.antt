@@ -18,7 +18,7 @@ use Rattle.termrelay.specs.declared.error.HubError.{HubError}
 use Rattle.termrelay.specs.declared.error.HubError.TheVariants.{Memory}
 use Rattle.termrelay.specs.Frame.{frame_text, is_unsure, IsShortFrame}
 use Rattle.termrelay.specs.Answers.{ClientState, wanted_of, is_too_long, answer_for, is_frame}
-use Rattle.termrelay.specs.Record.{RecordView, client_of, IsRecordOf, is_unsure_screen}
+use Rattle.termrelay.specs.ClientRecord.{RecordView, client_of, IsRecordOf, is_unsure_screen}
 use Rattle.termrelay.specs.HubFields.{hub_of}
 use Rattle.termrelay.specs.Hub.{HubState, as_kept, clients_in, Puts, Frames, size_in, shown_in}
 use Rattle.termrelay.specs.Hub.{OwesOneFrame, OwesLocalFrame}

@@ -6,7 +6,7 @@ use Rattle.screen_model.specs.Call.{ScreenView}
 use Rattle.screen_model.specs.Shown.{shown_state}
 use Rattle.vt100.proofs.CopyLemmas.{copies-same}
 use Rattle.termrelay.specs.Answers.{ClientState}
-use Rattle.termrelay.specs.Record.{client_of}
+use Rattle.termrelay.specs.ClientRecord.{client_of}
 use Rattle.termrelay.specs.Hub.{HubState, as_kept, Puts}
 use Rattle.vt100_core.specs.Picture.{grid_size}
 use Rattle.vt100.specs.Copies.{copy_of}

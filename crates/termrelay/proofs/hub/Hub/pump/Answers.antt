@@ -5,7 +5,7 @@ use Rattle.slab.specs.Slab.{Slab, get, with_value}
 use Rattle.vt100.specs.Parsing.{ParserView}
 use Rattle.termrelay.specs.declared.error.HubError.TheVariants.{UnknownClient}
 use Rattle.byte_sinks.specs.Pump.{Pumps}
-use Rattle.termrelay.specs.Record.{RecordView, client_of}
+use Rattle.termrelay.specs.ClientRecord.{RecordView, client_of}
 use Rattle.termrelay.specs.Hub.{PumpsClient, pump_answer}
 use Rattle.termrelay.specs.HubFields.{IsHub}
 use Rattle.termrelay.proofs.HubLemmas.{holding, put-client, hub-put, left-served}

@@ -22,7 +22,7 @@ pub returns-clause-bounds : goal.returns-clause-bounds
 returns-clause-bounds g c = rw (← c.self.view_is)
     (λ keeps. fed_bounded g.CB.Callbacks.step g.CB.Callbacks.scrolls keeps _ _ _ c.advance.ensures.reported)
 
-pub returns-then-failed-2-clause-takes : goal.returns-then-failed-2-clause-takes
-returns-then-failed-2-clause-takes g c = rw (← c.self.view_is) (λ keeps _ past read. some_taken g.CB.Callbacks.step
+pub returns-then-failed-2-clause-allocates : goal.returns-then-failed-2-clause-allocates
+returns-then-failed-2-clause-allocates g c = rw (← c.self.view_is) (λ keeps _ past read. some_taken g.CB.Callbacks.step
     g.CB.Callbacks.scrolls keeps _ _ _ _ _ (sym c.failed.ensures ∙ c.if-failed.false)
     (goes_reported c.advance.ensures.reported past read) (sym c.failed-2.ensures ∙ c.if-failed-2.true))

@@ -4,7 +4,7 @@ use Rattle.vt100.proofs.screen.Screen.set_scrollback.Goals as goal
 
 pub invariant_of-self-2 : goal.invariant_of-self-2
 invariant_of-self-2 c =
-    let is = rw c.in_ok-settle.ensures.done at c.set_scrollback.ensures.grid in
-    rw c.in_ok-settle.ensures.same
+    let is = rw c.in_ok-note_failure.ensures.done at c.set_scrollback.ensures.grid in
+    rw c.in_ok-note_failure.ensures.same
     (drawn_screen _ _ _ c.self.invariant c.set_scrollback.ensures.allocated c.set_scrollback.ensures.limits
     (rw is (proper_scrollback_shown c.self.inside.grid c.args.rows)))

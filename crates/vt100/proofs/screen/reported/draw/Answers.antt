@@ -1,5 +1,5 @@
 use Rattle.std.proofs.Common.{◌≡◌, Err, rules}
-use Rattle.vt100.proofs.HearLemmas.{draws_all}
+use Rattle.vt100.proofs.ReceiveLemmas.{draws_all}
 use Rattle.vt100.proofs.RunLemmas.{draws_run}
 use Rattle.vt100.proofs.screen.reported.draw.Goals as goal
 

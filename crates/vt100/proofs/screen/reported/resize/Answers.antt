@@ -1,4 +1,4 @@
-use Rattle.vt100.proofs.HearLemmas.{receives_all}
+use Rattle.vt100.proofs.ReceiveLemmas.{receives_all}
 use Rattle.vt100.proofs.screen.reported.resize.Goals as goal
 
 pub returns-clause-same : goal.returns-clause-same

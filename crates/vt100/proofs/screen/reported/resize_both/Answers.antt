@@ -3,7 +3,7 @@ use Rattle.vt100_rows.proofs.TextLemmas.{on-err}
 use Rattle.vt100_core.specs.Resize.{resized}
 use Rattle.screen_model.specs.Step.{reports_of}
 use Rattle.screen_model.specs.Call.{Receives}
-use Rattle.vt100.proofs.HearLemmas.{receives_append, receives_whole}
+use Rattle.vt100.proofs.ReceiveLemmas.{receives_append, receives_whole}
 use Rattle.vt100.proofs.screen.reported.resize_both.Goals as goal
 
 pub returns-clause-reported : goal.returns-clause-reported

@@ -3,7 +3,7 @@ use Rattle.std.proofs.lemmas.Bool.Decides.{nat_tests}
 use Rattle.std.specs.Bool.{IsTrue}
 use Rattle.vte_core.specs.Bytes.{is_abort, is_control, is_header, ends_header, is_intermediate, is_numeric, is_private}
 use Rattle.vte_core.specs.Event.{Event, Execute}
-use Rattle.vte_core.specs.Heard.{hook_event}
+use Rattle.vte_core.specs.StepEvents.{hook_event}
 use Rattle.vte_core.specs.Steps.{does}
 use Rattle.vte_core.specs.declared.parser.State.TheVariants.{DcsHeader}
 use Rattle.vte_core.specs.declared.table.Action.{Action}

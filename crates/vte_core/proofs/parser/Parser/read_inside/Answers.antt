@@ -6,14 +6,14 @@ use Rattle.vte_core.proofs.parser.Parser.read_inside.Goals as goal
 
 pub returns-in-DcsPassthrough : goal.returns-in-DcsPassthrough
 returns-in-DcsPassthrough g c =
-    let put = take c.put_front.result c.args.bytes.now in
+    let put = take c.put_prefix.result c.args.bytes.now in
     record {
-      within = c.put_front.ensures.within;
-      state_after = λ q h. (device-at g.row.N c.args.self.now q put c.in-DcsPassthrough.is c.put_front.ensures.all h).1;
+      within = c.put_prefix.ensures.within;
+      state_after = λ q h. (device-at g.row.N c.args.self.now q put c.in-DcsPassthrough.is c.put_prefix.ensures.all h).1;
       reported = record {
         reported = map Put put;
-        performed = c.put_front.ensures.reported;
-        added = λ q h. sym (device-at g.row.N c.args.self.now q put c.in-DcsPassthrough.is c.put_front.ensures.all
+        performed = c.put_prefix.ensures.reported;
+        added = λ q h. sym (device-at g.row.N c.args.self.now q put c.in-DcsPassthrough.is c.put_prefix.ensures.all
             h).0;
       };
     }

@@ -22,8 +22,8 @@ returns-then-ends_text g c =
     ) in
     rw c.requires.none (reads_alone bs (take k bs) k _ (omega arith) c.begun_len-len.ensures.within refl
     (whole-reported (take k bs) (c.begun_len-len.ensures.whole (omega arith)) long) (
-      c.tell.new.performer,
-      same_step g.P.Perform.step c.args.performer.now c.tell.new.performer _ _
-          (ap char_event c.character.ensures) c.tell.ensures,
+      c.report.new.performer,
+      same_step g.P.Perform.step c.args.performer.now c.report.new.performer _ _
+          (ap char_event c.character.ensures) c.report.ensures,
       refl,
     ))

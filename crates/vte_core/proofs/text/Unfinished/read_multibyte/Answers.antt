@@ -9,7 +9,7 @@ returns-in-len2-up-2 g c =
     let bs = c.args.bytes.now in
     let esc : is_esc (get_or bs 1 0) ≡ false = grind (arith, nat_tests, c.if-second-ne27.true) in
     rw c.requires.none (reads_malformed bs (omega (arith, c.in-len2-up.len_at_least)) c.requires.high esc
-    (c.is_begun.ensures.not_begun c.if-is_begun.false) c.tell_malformed.ensures)
+    (c.is_begun.ensures.not_begun c.if-is_begun.false) c.report_malformed.ensures)
 
 pub returns-in_default : goal.returns-in_default
 returns-in_default g c =

@@ -1,7 +1,7 @@
 use Rattle.std.proofs.Common.{◌≡◌, Err, rules}
 use Rattle.vt100.specs.declared.error.ScreenError.TheVariants.{Memory}
 use Rattle.vt100.specs.Draws.{drawn_on}
-use Rattle.vt100.proofs.HearLemmas.{scroll_refused}
+use Rattle.vt100.proofs.ReceiveLemmas.{scroll_refused}
 use Rattle.vt100.proofs.ProperScreens.{drawn_screen, proper_drawn}
 use Rattle.vt100.proofs.screen.wrapped.WrappedScreen.draw.Goals as goal
 

@@ -1,6 +1,6 @@
 use Rattle.std.proofs.Common.{◌≡◌, Option, Some, Err, add-one, ap, sym, arith, rules, ℕ}
 use Rattle.screen_model.specs.Step.{repeated, repeated_last}
-use Rattle.vt100.proofs.HearLemmas.{scroll_as}
+use Rattle.vt100.proofs.ReceiveLemmas.{scroll_as}
 use Rattle.vt100.proofs.RepeatLemmas.{scroll_none, scroll_more, scroll_stops}
 use Rattle.vt100.proofs.screen.wrapped.WrappedScreen.rep.Goals as goal
 

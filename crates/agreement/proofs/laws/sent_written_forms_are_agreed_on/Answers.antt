@@ -1,8 +1,0 @@
-use Rattle.agreement.proofs.Agreeing.{agreeing-modes, sent-written_form-agreed}
-use Rattle.agreement.proofs.laws.sent_written_forms_are_agreed_on.Goals as goal
-
-pub returns-clause-begin : goal.returns-clause-begin
-returns-clause-begin c = agreeing-modes
-
-pub returns-clause-keep : goal.returns-clause-keep
-returns-clause-keep c = sent-written_form-agreed

@@ -1,5 +1,0 @@
-use Rattle.agreement.proofs.SentPlaying.{sent-written_form-made}
-use Rattle.agreement.proofs.laws.sent_written_forms_are_made.Goals as goal
-
-pub returns : goal.returns
-returns c = sent-written_form-made

@@ -1,8 +1,0 @@
-use Rattle.agreement.proofs.Agreeing.{written_form-agreed, feed-agreed}
-use Rattle.agreement.proofs.laws.written_forms_are_agreed_on.Goals as goal
-
-pub returns-clause-states : goal.returns-clause-states
-returns-clause-states c = written_form-agreed
-
-pub returns-clause-parsers : goal.returns-clause-parsers
-returns-clause-parsers c = feed-agreed

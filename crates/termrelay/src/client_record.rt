@@ -1,0 +1,216 @@
+//! What a hub keeps of a client.
+ghost use Rattle.std.specs.Prelude.{◌≡◌, ℕ, ◌++◌, [], true, drop, length, nat_lt, Some, None, IfOk, OnOk, OnErr, Err};
+ghost use Rattle.std.specs.Prelude.{if◌then◌else◌, string_bytes};
+ghost use Rattle.std.specs.Option.{option_copied, option_map};
+ghost use Rattle.vt100_forms.specs.Form.{bytes_of};
+ghost use Rattle.vt100_core.specs.Picture.{grid_size};
+ghost use Rattle.screen_model.specs.State.{IsState};
+ghost use Rattle.screen_model.specs.Shown.{shown_state};
+ghost use Rattle.vt100.specs.WriterLaws.{IsUnscrolled};
+ghost use Rattle.termrelay.specs.Frame.{frame_text as text_of_frame, body_forms};
+ghost use Rattle.termrelay.specs.Answers.{wanted_of, due, is_frame, longest_frame};
+ghost use Rattle.byte_sinks.specs.Pump.{Pumps};
+ghost use Rattle.termrelay.specs.ClientRecord.{RecordView, client_of, IsRecordOf, IsBaseOf, is_unsure_screen, sure_base};
+ghost use Rattle.termrelay.specs.declared.answer.Answer.TheVariants.{Unsure};
+ghost use Rattle.termrelay.specs.declared.error.HubError.TheVariants.{Memory};
+
+use crate::answer::Answer;
+use crate::body::{push_difference, push_redraw, push_state};
+use crate::error::HubError;
+use crate::shown::{is_unsure, is_unsure_since, same_shown};
+use byte_sinks::{ByteSink, pump};
+use std::alloc::Global;
+use std::io;
+use std::marker::Model;
+use std::rc::Rc;
+use vt100::Screen;
+
+/// The bytes that begin a synchronized update: private mode 2026 set (`CSI ? 2026 h`).
+const START_MARK: &str = "\x1b[?2026h";
+
+/// The bytes that end a synchronized update: private mode 2026 reset (`CSI ? 2026 l`).
+const END_MARK: &str = "\x1b[?2026l";
+
+/// The longest frame, in bytes, that a terminal buffers and then parses as a whole.
+const LONGEST_FRAME: usize = 2_097_150;
+
+/// Whether a frame's text is longer than what a terminal buffers.
+pub(crate) fn is_too_long(text: &[u8]) -> bool
+    ensures { result ≡ nat_lt longest_frame (length text.now) }
+{
+    text.len() > LONGEST_FRAME
+}
+
+/// `Unsure` if the screen shows U+FE0F, else the answer.
+fn unsure_or(unsure: bool, answer: Answer) -> Answer
+    ensures { result ≡ (if unsure then Unsure else answer) }
+{
+    if unsure { Answer::Unsure } else { answer }
+}
+
+/// What a hub keeps of a client.
+#[derive(Drop)]
+pub(crate) struct ClientRecord {
+    /// The last frame's text.
+    text: Vec<u8>,
+    /// How many bytes of the text are no longer owed.
+    taken: usize,
+    /// A copy of what the screen showed at the last frame.
+    base: Option<Rc<Screen>>,
+    /// Whether that screen shows U+FE0F, about whose width terminals disagree. It was found when the frame was made.
+    unsure: bool,
+}
+
+impl Model for ClientRecord {
+    ghost use Rattle.std.specs.Prelude.{◌≡◌, drop, ◌≤◌, vec_len, IfSome};
+    ghost use Rattle.std.specs.Option.{option_map};
+    ghost use Rattle.termrelay.specs.ClientRecord.{RecordView, is_unsure_screen};
+
+    ghost Value = { RecordView };
+
+    ghost view = { λ r. record {
+      owed = drop r.taken r.text.items;
+      base = option_map (λ base. base.value) r.base;
+    } };
+
+    ghost invariant = { λ r. (r.taken ≤ vec_len r.text)
+        × IfSome r.base (λ base. r.unsure ≡ is_unsure_screen base.value) };
+}
+
+impl ClientRecord {
+    /// The record of a client that has had no frame.
+    pub(crate) fn new(alloc: Global) -> Self
+        ensures { result ≡ record { owed = []; base = None } }
+    {
+        ClientRecord {
+            text: Vec::new(alloc),
+            taken: 0,
+            base: None,
+            unsure: false,
+        }
+    }
+
+    /// The bytes that are owed.
+    pub(crate) fn owed(&self) -> &[u8]
+        ensures { result.now ≡ self.now.owed }
+    {
+        &self.text[self.taken..]
+    }
+
+    /// The screen at the last frame.
+    fn base(&self) -> Option<&Screen>
+        ensures { option_copied result ≡ self.now.base }
+    {
+        match &self.base {
+            Some(base) => Some(base),
+            None => None,
+        }
+    }
+
+    /// The screen at the last frame, unless it shows U+FE0F.
+    fn sure_base(&self) -> Option<&Screen>
+        ensures { option_copied result ≡ sure_base self.now.base }
+    {
+        if self.unsure { None } else { self.base() }
+    }
+
+    /// The answer if nothing is owed and the program isn't in a synchronized update. A screen that shows the same as a
+    /// sure base is itself sure.
+    fn due(&self, now: &Screen) -> Answer
+        requires unscrolled { IsUnscrolled now.now.state }
+        requires served { IsRecordOf now.now self.now }
+        ensures { result ≡ due (grid_size now.now.state.shown) (shown_state now.now.state) (client_of self.now).base }
+    {
+        let Some(base) = self.sure_base() else {
+            return unsure_or(is_unsure(now), Answer::Full);
+        };
+        if same_shown(base, now) {
+            return Answer::Unchanged;
+        }
+        unsure_or(is_unsure_since(base, now), Answer::Difference)
+    }
+
+    /// The answer to a request for a frame, unless the frame is too long.
+    pub(crate) fn answer(&self, now: &Screen) -> Answer
+        requires unscrolled { IsUnscrolled now.now.state }
+        requires served { IsRecordOf now.now self.now }
+        ensures { result ≡ wanted_of now.now.state (client_of self.now) }
+    {
+        if !self.owed().is_empty() {
+            return Answer::Behind;
+        }
+        if now.synchronized_update() {
+            return Answer::Held;
+        }
+        self.due(now)
+    }
+
+    /// The text of the frame that is due: a difference if that is the answer, else a redraw. Fails only if an
+    /// allocation fails.
+    pub(crate) fn frame_text(
+        &self,
+        alloc: Global,
+        now: &Screen,
+        answer: Answer,
+    ) -> Result<Vec<u8>, HubError>
+        requires unscrolled { IsUnscrolled now.now.state }
+        requires served { IsRecordOf now.now self.now }
+        requires due { answer ≡ due (grid_size now.now.state.shown) (shown_state now.now.state)
+            (client_of self.now).base }
+        requires frame { is_frame answer ≡ true }
+        ensures text { IfOk result (λ text. text.items ≡ text_of_frame (grid_size now.now.state.shown)
+            (client_of self.now).base (shown_state now.now.state)) }
+        ensures memory { OnErr result (result ≡ Err Memory) }
+    {
+        let mut text = String::new(alloc);
+        text.push_str(START_MARK)?;
+        self.push_body(&mut text, now, answer)?;
+        text.push_str(END_MARK)?;
+        Ok(text.into_bytes())
+    }
+
+    /// Appends the body of that frame: the bytes between its marks.
+    fn push_body(&self, text: &mut String, now: &Screen, answer: Answer) -> Result<(), HubError>
+        requires unscrolled { IsUnscrolled now.now.state }
+        requires served { IsRecordOf now.now self.now }
+        requires due { answer ≡ due (grid_size now.now.state.shown) (shown_state now.now.state)
+            (client_of self.now).base }
+        requires frame { is_frame answer ≡ true }
+        ensures text { OnOk result (string_bytes text.new ≡ string_bytes text.old ++ bytes_of (body_forms
+            (grid_size now.now.state.shown) (client_of self.now).base (shown_state now.now.state))) }
+        ensures memory { OnErr result (result ≡ Err Memory) }
+    {
+        match self.base() {
+            None => push_state(text, now),
+            Some(base) if answer == Answer::Difference => push_difference(text, base, now),
+            Some(base) => push_redraw(text, base, now),
+        }
+    }
+
+    /// The client is owed a frame's text from now on. `base` is a copy of what the screen shows at that frame, and
+    /// `unsure` says whether it shows U+FE0F. Answers the copy at the frame before.
+    pub(crate) fn owe(
+        &mut self,
+        text: Vec<u8>,
+        base: Rc<Screen>,
+        unsure: bool,
+    ) -> Option<Rc<Screen>>
+        requires { unsure ≡ is_unsure_screen base.value }
+        ensures { self.new ≡ record { owed = text.items; base = Some base.value } }
+    {
+        self.text = text;
+        self.taken = 0;
+        self.unsure = unsure;
+        self.base.replace(base)
+    }
+
+    /// Writes the bytes that are owed to a writer. The bytes it took are no longer owed.
+    pub(crate) fn pump<T: ByteSink>(&mut self, to: &mut T) -> io::Result<()>
+        ensures { (n : ℕ) × Pumps T.takes to.old self.old.owed result n to.new
+            × (self.new ≡ record self.old { owed = drop n self.old.owed }) }
+    {
+        let (taken, end) = pump(self.owed(), to);
+        self.taken += taken;
+        end
+    }
+}

@@ -1,0 +1,12 @@
+use Rattle.std.proofs.Common.{◌-◌, length}
+use Rattle.vte_core.specs.Bytes.{is_device_data}
+use Rattle.vte_core.specs.Event.{Put}
+use Rattle.vte_core.specs.Runs.{TellsEach}
+use Rattle.vte_core.proofs.parser.put_prefix.Given as goal
+
+abbrev pub invariant-loop-read : goal.invariant-loop-read
+invariant-loop-read g l =
+    TellsEach g.P.Perform.step is_device_data Put l.initial.performer l.bytes l.read l.performer
+
+abbrev pub decreases-loop-read : goal.decreases-loop-read
+decreases-loop-read g l = length l.bytes - l.read
