@@ -9,6 +9,7 @@ ghost use Rattle.vt100.specs.declared.error.ScreenError.TheVariants.{Memory};
 
 use crate::error::ScreenError;
 use crate::screen::Screen;
+use vt100_cells::PackedAttrs;
 use vt100_core::{Grid, Scrollback};
 
 impl Screen {
@@ -55,7 +56,7 @@ impl Screen {
             grid,
             other_grid,
             alternate_screen: false,
-            attrs: self.attrs,
+            attrs: copied(&self.attrs),
             saved_attrs: self.saved_attrs,
             application_keypad: self.application_keypad,
             application_cursor: self.application_cursor,
@@ -108,6 +109,13 @@ impl Screen {
     fn has_same_attributes(&self, other: &Screen) -> bool
         ensures { result ≡ attrs_eq self.now.state.attrs other.now.state.attrs }
     {
-        self.attrs == other.attrs
+        self.attrs.attrs() == other.attrs.attrs()
     }
+}
+
+/// The same attributes.
+fn copied(attrs: &PackedAttrs) -> PackedAttrs
+    ensures { result ≡ attrs.now }
+{
+    PackedAttrs::of(attrs.attrs())
 }
