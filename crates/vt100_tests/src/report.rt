@@ -191,7 +191,7 @@ fn add_cells(text: &mut String, screen: &Screen) -> Result<(), GridError> {
 fn add_getters(text: &mut String, screen: &Screen) -> Result<(), ScreenError> {
     let reported = (places(screen), switches(screen), choices(screen));
     let is_live = [screen.failed(), screen.is_live()];
-    if write!(text, "{told:?} {is_live:?} ").is_err() {
+    if write!(text, "{reported:?} {is_live:?} ").is_err() {
         return Err(ScreenError::Memory);
     }
     Ok(())
