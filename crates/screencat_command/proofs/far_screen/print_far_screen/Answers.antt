@@ -1,4 +1,5 @@
 use Rattle.std.proofs.Common.{◌≡◌, ◌∙◌, ap, arith, rules, Err}
+use Rattle.std.proofs.lemmas.Result.{err_from_is_err_and}
 use Rattle.relay_streams.specs.declared.error.RelayError.TheVariants.{Memory}
 use Rattle.relay_streams.specs.Turns.{fault_of}
 use Rattle.relay_streams.proofs.StreamLemmas.{attach-refused}
@@ -32,7 +33,8 @@ returns-in_err-carry_frames-clause-prints g c =
     let at = first-attached c.args.rows.value c.args.cols.value c.in_ok-client.client c.in_ok-hub.hub
     c.attach.new.self (c.args.rows.ok, omega arith) (c.args.cols.ok, omega arith) c.in_ok-hub.ensures.new
     c.in_ok-client.ensures in
-    let is : c.from_residual-in_err-carry_frames.result ≡ Err e = search rules in
+    let p = err_from_is_err_and c.from_residual-in_err-carry_frames.result c.from_residual-in_err-carry_frames.ensures.1 in
+    let is : c.from_residual-in_err-carry_frames.result ≡ Err e = p.1 ∙ ap Err p.2 in
     let read = c.in_err-carry_frames.ensures c.args.rows.value c.args.cols.value c.args.lines at c.new-filter.ensures in
     rw is (broken read.0 e read.1)
 
