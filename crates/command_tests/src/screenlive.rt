@@ -1,8 +1,10 @@
 //! A live relay: a frame after each read, flushed, and faults of readers and writers in mid-stream.
 
+use crate::same::same;
 use screenlive_command::command;
 use scripted_io::{LimitedWriter, ReadStep, ScriptedReader};
 use std::io::ErrorKind;
+use std::process::Abort;
 use std::test::Fail;
 
 const HI: &[u8] = b"\x1b[?2026h\x1b[?25h\x1b[m\x1b[H\x1b[Jhi\x1b>\x1b[?1l\x1b[?2004l\x1b[?2026l";
@@ -83,24 +85,22 @@ fn a_frame_is_sent_after_each_read(rt: HostRuntime) -> Result<(), Fail> {
     Ok(())
 }
 
+/// Checks what the program writes of the edge of a box, for these words.
+fn check_edge(rt: &(impl Abort + AllocGlobal), words: &[&str], output: &[u8]) {
+    let mut written = Vec::new(rt.alloc());
+    let mut reported = Vec::new(rt.alloc());
+    let mut input = ScriptedReader::new(EDGE);
+    let answer = command(rt.alloc(), words, &mut input, &mut written, &mut reported);
+    let ended = (answer, reported.as_slice(), input.reads);
+    same(rt, &words, &ended, &(0, b"".as_slice(), 3));
+    same(rt, &words, &written.as_slice(), &output);
+}
+
 #[test]
-fn line_drawing(rt: HostRuntime) -> Result<(), Fail> {
-    let rows: [(&[&str], &[u8]); 3] = [
-        (&["2", "4"], DRAWN),
-        (&["2", "4", "--no-line-drawing"], KEPT),
-        (&["--no-line-drawing", "2", "4"], KEPT),
-    ];
-    for (words, output) in rows {
-        let mut written = Vec::new(rt.alloc());
-        let mut reported = Vec::new(rt.alloc());
-        let mut input = ScriptedReader::new(EDGE);
-        let answer = command(rt.alloc(), words, &mut input, &mut written, &mut reported);
-        assert_eq!(rt;
-            (answer, written.as_slice(), reported.as_slice(), input.reads),
-            (0, output, b"".as_slice(), 3)
-        );
-    }
-    Ok(())
+fn a_box_is_drawn_with_lines_or_letters(rt: HostRuntime) {
+    check_edge(&rt, &["2", "4"], DRAWN);
+    check_edge(&rt, &["2", "4", "--no-line-drawing"], KEPT);
+    check_edge(&rt, &["--no-line-drawing", "2", "4"], KEPT);
 }
 
 // The words, how much a writer takes, whether a flush goes well; and then status, bytes taken, flushes, and the line.
