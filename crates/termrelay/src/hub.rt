@@ -86,8 +86,8 @@ impl Hub {
     /// sequence.
     ///
     /// If an allocation fails, the hub has failed: it makes no more frames, but the bytes that are owed can still be
-    /// pumped. Only the first switch to the alternate screen allocates memory. Other bytes are refused only by a hub
-    /// that has failed.
+    /// pumped. Only the first switch to the alternate screen since the start or a full reset allocates memory. Other
+    /// bytes are refused only by a hub that has failed.
     pub fn feed(&mut self, bytes: &[u8]) -> Result<(), HubError>
         ensures { Feeds self.old bytes.now result self.new }
     {

@@ -32,11 +32,6 @@ modes_may_allocate gs s = list_any shows_alternate gs && is_unused s
 abbrev pub control_may_allocate : ℕ → State → Bool
 control_may_allocate b s = is_in_range 10 12 b && keeps_row s (line_fed s).state
 
--- RIS
-abbrev pub escape_may_allocate : List ℕ → ℕ → Bool
-escape_may_allocate [] b = nat_eq b 0x63
-escape_may_allocate (i ∷ is) b = false
-
 -- SU and REP; after `?` the setting of modes
 abbrev pub plain_may_allocate : List (List ℕ) → ℕ → State → Bool
 plain_may_allocate gs b s =
@@ -58,7 +53,7 @@ may_allocate (Put b) s = false
 may_allocate Unhook s = false
 may_allocate (Osc ps bell) s = false
 may_allocate (Csi gs ms ignore b) s = csi_may_allocate gs ms b s
-may_allocate (Esc ms ignore b) s = escape_may_allocate ms b
+may_allocate (Esc ms ignore b) s = false
 
 -- one of some events, each in the state that those before it make
 abbrev pub some_may_allocate : List Event → State → Bool

@@ -10,7 +10,7 @@ ghost use Rattle.screen_model.specs.Effect.{is_selector, is_question, is_base64}
 ghost use Rattle.screen_model.specs.Lookup.{lookup};
 ghost use Rattle.screen_model.specs.Call as said;
 ghost use Rattle.vt100.specs.Goes.{Handles, MakesCalls};
-ghost use Rattle.vt100.specs.Memory.{escape_may_allocate, plain_may_allocate, private_may_allocate};
+ghost use Rattle.vt100.specs.Memory.{plain_may_allocate, private_may_allocate};
 ghost use Rattle.vt100.specs.Runs.{PrintsPrefix};
 
 use crate::callbacks::Callbacks;
@@ -172,7 +172,7 @@ impl<CB: Callbacks> WrappedScreen<CB> {
     fn plain_esc(&mut self, byte: u8)
         requires { self.old.screen.failed ≡ false }
         ensures { Handles CB.step CB.scrolls (effect_or (lookup byte escape_rows)
-            (said.unhandled_escape None None byte)) (escape_may_allocate [] byte) self.old self.new }
+            (said.unhandled_escape None None byte)) false self.old self.new }
     {
         match byte {
             b'7' => self.decsc(),
@@ -180,10 +180,7 @@ impl<CB: Callbacks> WrappedScreen<CB> {
             b'=' => self.deckpam(),
             b'>' => self.deckpnm(),
             b'M' => self.ri(),
-            b'c' => {
-                // A refusal is kept in the screen, which has failed then.
-                let _ = self.ris();
-            }
+            b'c' => self.ris(),
             b'g' => self.callbacks.visual_bell(&mut self.screen),
             _ => self
                 .callbacks

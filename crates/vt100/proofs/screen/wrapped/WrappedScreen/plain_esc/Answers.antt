@@ -3,8 +3,7 @@ use Rattle.std.proofs.lemmas.Bool.Decides.{nat_tests}
 use Rattle.screen_model.specs.Lookup.{lookup}
 use Rattle.screen_model.specs.Call as said
 use Rattle.screen_model.specs.Effect.{escape_rows, effect_or, calling}
-use Rattle.screen_model.specs.Step.{quietly, made_anew}
-use Rattle.vt100.proofs.EventLemmas.{does_as, does_change, does_steps, does_call}
+use Rattle.vt100.proofs.EventLemmas.{does_as, does_change, does_call}
 use Rattle.vt100.proofs.screen.wrapped.WrappedScreen.plain_esc.Goals as goal
 
 pub returns-in-55 : goal.returns-in-55
@@ -23,8 +22,7 @@ pub returns-in-77 : goal.returns-in-77
 returns-in-77 g c = rw c.in-77.is (does_change c.ri.ensures)
 
 pub returns-in-99 : goal.returns-in-99
-returns-in-99 g c = rw c.in-99.is (does_steps (λ s. quietly
-    (made_anew s)) _ c.ris.ensures.tries c.ris.ensures.bounds (λ live e. refl))
+returns-in-99 g c = rw c.in-99.is (does_change c.ris.ensures)
 
 pub returns-in-103 : goal.returns-in-103
 returns-in-103 g c = rw c.in-103.is (does_call said.visual_bell c.requires c.visual_bell.ensures)
