@@ -188,7 +188,7 @@ impl<CB: Callbacks> WrappedScreen<CB> {
         }
     }
 
-    /// SGR, which most streams have more of than of any other sequence.
+    /// SGR. `csi_dispatch` asks for it first, since most streams have more of it than of any other sequence.
     #[inline(never)]
     fn sgr_csi(&mut self, params: &Params)
         requires { self.old.screen.failed ≡ false }
@@ -254,10 +254,7 @@ impl<CB: Callbacks> WrappedScreen<CB> {
                 let unhandled = self.el(canonicalize_params_1(params, 0));
                 self.unhandled_groups(unhandled, params, &[], action);
             }
-            'm' => {
-                let unhandled = self.sgr(params);
-                self.unhandled_groups(unhandled, params, &[], action);
-            }
+            'm' => self.sgr_csi(params),
             't' => self.window(params, action),
             _ => self.unhandled_csi(params, &[], action),
         }

@@ -18,7 +18,7 @@ impl<CB: Callbacks> WrappedScreen<CB> {
     /// Sets private modes (DECSET): 1, 6, 9, 25, 47, 1000, 1002, 1003, 1005, 1006, 1049, 2004, 2026, each in a group of
     /// its own. Answers how many groups were unhandled: those of other numbers, and of more numbers than one.
     ///
-    /// Refused for memory is only the alternate sheet's showing for the first time (clause `takes`).
+    /// Refused for memory is only the alternate sheet's showing for the first time (clause `allocates`).
     pub fn decset(&mut self, params: &Params) -> Result<usize, ScreenError>
         ensures tries { TriesParts CB.scrolls (modes_set params.now) self.old.screen self.old.callbacks result
             self.new.screen self.new.callbacks }

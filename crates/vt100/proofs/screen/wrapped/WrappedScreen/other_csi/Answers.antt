@@ -10,5 +10,4 @@ returns-in-K g c = other_does _ _ c.in-K.is (does_counts _ c.requires
     (rw c.canonicalize_params_1-in-K.ensures at c.el-unhandled.ensures) c.unhandled_groups-in-K.ensures)
 
 pub returns-in-m : goal.returns-in-m
-returns-in-m g c = other_does _ _ c.in-m.is
-    (does_counts _ c.requires c.sgr-unhandled.ensures c.unhandled_groups-in-m.ensures)
+returns-in-m g c = rw c.in-m.is c.sgr_csi.ensures
