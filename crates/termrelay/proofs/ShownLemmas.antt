@@ -1,21 +1,12 @@
 -- What a screen's getters give, and the comparison of two screens by them.
-use Rattle.std.proofs.Common.{◌≡◌, ℕ, ◌<◌, Bool, true, false, ◌&&◌, ◌==◌, List, [], ◌∷◌, length, length-append}
-use Rattle.std.proofs.Common.{arith, ap, refl, encode_utf8, encode_utf8_all}
-use mathlib.Core.Bool.{beq}
+use Rattle.std.proofs.Common.{◌≡◌, ℕ, ◌<◌, Bool, true, false, ◌==◌, List, [], ◌∷◌, length, length-append}
+use Rattle.std.proofs.Common.{arith, refl, encode_utf8, encode_utf8_all}
 use Rattle.std.specs.List.{list_any}
-use Rattle.std.proofs.lemmas.Bool.{agree_below, agree_below_at}
 use Rattle.std.proofs.lemmas.Bool.Decides.{nat_tests}
 use Rattle.std.proofs.lemmas.Str.{length-encode}
-use Rattle.vt100_forms.specs.declared.attrs.Attrs.{Attrs}
-use Rattle.vt100_forms.specs.Attrs.{color_eq, attrs_eq, with_mode, is_bold, is_dim, is_italic, is_underlined, is_inverse}
-use Rattle.vt100_forms.specs.Attrs.{IsProper}
-use Rattle.vt100_forms.specs.Form.{style_number}
 use Rattle.vt100_cells.specs.Cell.{bool_eq, cell_eq}
 use Rattle.vt100_cells.specs.CellEq.{attrs_eq-refl, cell_eq-refl}
-use Rattle.terminal_model.specs.Term.{Size, Modes, Shown}
-use Rattle.screen_model.specs.State.{State, IsState}
-use Rattle.screen_model.specs.Shown.{shown_state, reported_wrap}
-use Rattle.screen_model.proofs.ShownLemmas.{each-wrap_is_reported}
+use Rattle.terminal_model.specs.Term.{Modes}
 use Rattle.termrelay.specs.Answers.{all_below, modes_eq, same_shown, EachOneIsSame}
 use Rattle.termrelay.proofs.BelowLemmas.{all-true}
 

@@ -48,6 +48,48 @@ fn unsure_or(unsure: bool, answer: Answer) -> Answer
     if unsure { Answer::Unsure } else { answer }
 }
 
+/// What the screen showed when a frame was made.
+#[derive(Drop)]
+pub(crate) struct Base {
+    /// A copy of the screen.
+    screen: Rc<Screen>,
+    /// Whether it shows U+FE0F, about whose width terminals disagree.
+    unsure: bool,
+}
+
+impl Model for Base {
+    ghost use Rattle.std.specs.Prelude.{◌≡◌};
+    ghost use Rattle.screen_model.specs.Call.{ScreenView};
+    ghost use Rattle.termrelay.specs.ClientRecord.{is_unsure_screen};
+
+    ghost Value = { ScreenView };
+
+    ghost view = { λ b. b.screen.value };
+
+    ghost invariant = { λ b. b.unsure ≡ is_unsure_screen b.screen.value };
+}
+
+impl Base {
+    /// `unsure` says whether the screen shows U+FE0F.
+    pub(crate) fn new(screen: Rc<Screen>, unsure: bool) -> Self
+        requires { unsure ≡ is_unsure_screen screen.value }
+        ensures { result ≡ screen.value }
+    {
+        Base { screen, unsure }
+    }
+
+    fn screen(&self) -> &Screen
+        ensures { result.now ≡ self.now }
+    {
+        &self.screen
+    }
+
+    /// The screen, unless somebody else has it too.
+    pub(crate) fn into_screen(self) -> Option<Screen> {
+        Rc::into_inner(self.screen)
+    }
+}
+
 /// What a hub keeps of a client.
 #[derive(Drop)]
 pub(crate) struct ClientRecord {
@@ -55,26 +97,19 @@ pub(crate) struct ClientRecord {
     text: Vec<u8>,
     /// How many bytes of the text are no longer owed.
     taken: usize,
-    /// A copy of what the screen showed at the last frame.
-    base: Option<Rc<Screen>>,
-    /// Whether that screen shows U+FE0F, about whose width terminals disagree. It was found when the frame was made.
-    unsure: bool,
+    /// The screen at the last frame.
+    base: Option<Base>,
 }
 
 impl Model for ClientRecord {
-    ghost use Rattle.std.specs.Prelude.{◌≡◌, drop, ◌≤◌, vec_len, IfSome};
-    ghost use Rattle.std.specs.Option.{option_map};
-    ghost use Rattle.termrelay.specs.ClientRecord.{RecordView, is_unsure_screen};
+    ghost use Rattle.std.specs.Prelude.{drop, ◌≤◌, vec_len};
+    ghost use Rattle.termrelay.specs.ClientRecord.{RecordView};
 
     ghost Value = { RecordView };
 
-    ghost view = { λ r. record {
-      owed = drop r.taken r.text.items;
-      base = option_map (λ base. base.value) r.base;
-    } };
+    ghost view = { λ r. record { owed = drop r.taken r.text.items; base = r.base } };
 
-    ghost invariant = { λ r. (r.taken ≤ vec_len r.text)
-        × IfSome r.base (λ base. r.unsure ≡ is_unsure_screen base.value) };
+    ghost invariant = { λ r. r.taken ≤ vec_len r.text };
 }
 
 impl ClientRecord {
@@ -86,7 +121,6 @@ impl ClientRecord {
             text: Vec::new(alloc),
             taken: 0,
             base: None,
-            unsure: false,
         }
     }
 
@@ -102,7 +136,7 @@ impl ClientRecord {
         ensures { option_copied result ≡ self.now.base }
     {
         match &self.base {
-            Some(base) => Some(base),
+            Some(base) => Some(base.screen()),
             None => None,
         }
     }
@@ -111,7 +145,10 @@ impl ClientRecord {
     fn sure_base(&self) -> Option<&Screen>
         ensures { option_copied result ≡ sure_base self.now.base }
     {
-        if self.unsure { None } else { self.base() }
+        match &self.base {
+            Some(base) if !base.unsure => Some(base.screen()),
+            _ => None,
+        }
     }
 
     /// The answer if nothing is owed and the program isn't in a synchronized update. A screen that shows the same as a
@@ -187,20 +224,13 @@ impl ClientRecord {
         }
     }
 
-    /// The client is owed a frame's text from now on. `base` is a copy of what the screen shows at that frame, and
-    /// `unsure` says whether it shows U+FE0F. Answers the copy at the frame before.
-    pub(crate) fn owe(
-        &mut self,
-        text: Vec<u8>,
-        base: Rc<Screen>,
-        unsure: bool,
-    ) -> Option<Rc<Screen>>
-        requires { unsure ≡ is_unsure_screen base.value }
-        ensures { self.new ≡ record { owed = text.items; base = Some base.value } }
+    /// The client is owed a frame's text from now on. `base` is what the screen shows at that frame. Returns what it
+    /// showed at the frame before.
+    pub(crate) fn owe(&mut self, text: Vec<u8>, base: Base) -> Option<Base>
+        ensures { self.new ≡ record { owed = text.items; base = Some base } }
     {
         self.text = text;
         self.taken = 0;
-        self.unsure = unsure;
         self.base.replace(base)
     }
 

@@ -4,13 +4,12 @@ ghost use Rattle.std.specs.Prelude.{IsSome, IfSome, slice_index_or};
 ghost use Rattle.vt100.specs.Copies.{copy_of};
 ghost use Rattle.vt100.specs.WriterLaws.{IsUnscrolled};
 ghost use Rattle.termrelay.specs.Frame.{IsShortFrame};
-ghost use Rattle.termrelay.specs.ClientRecord.{is_unsure_screen};
 ghost use Rattle.termrelay.specs.declared.answer.Answer.TheVariants.{Difference, TooLong};
 ghost use Rattle.termrelay.specs.declared.error.HubError.TheVariants.{Memory, UnknownClient};
 
 use crate::answer::Answer;
 use crate::client::Client;
-use crate::client_record::{ClientRecord, is_too_long};
+use crate::client_record::{Base, ClientRecord, is_too_long};
 use crate::error::HubError;
 use byte_sinks::ByteSink;
 use slab::Slab;
@@ -223,23 +222,21 @@ impl Hub {
             self.alloc,
         )?;
         self.present = Some(base.clone()?);
-        self.owe(client, text, base, answer == Answer::Unsure);
+        self.owe(client, text, Base::new(base, answer == Answer::Unsure));
         Ok(answer)
     }
 
-    /// The client is owed a frame's text from now on. `base` is a copy of what the screen shows at that frame, and
-    /// `unsure` says whether it shows U+FE0F. If no other client needs the copy at the client's last frame, its memory
-    /// is kept for the next copy.
-    fn owe(&mut self, client: Client, text: Vec<u8>, base: Rc<Screen>, unsure: bool)
+    /// The client is owed a frame's text from now on. `base` is what the screen shows at that frame. If no other client
+    /// needs the copy at the client's last frame, its memory is kept for the next copy.
+    fn owe(&mut self, client: Client, text: Vec<u8>, base: Base)
         requires known { IsSome (slice_index_or self.old.clients client None) }
         requires unscrolled { IsUnscrolled self.old.parser.screen.state }
-        requires present { base.value ≡ copy_of self.old.parser.screen }
-        requires unsure { unsure ≡ is_unsure_screen base.value }
+        requires present { base ≡ copy_of self.old.parser.screen }
         requires short { IsShortFrame (size_in self.old) text.items }
         ensures { Puts self.old client (Some (record { owed = text.items; base = Some (shown_in self.old) })) self.new }
     {
         if let Some(record) = self.clients.get_mut(client.key()) {
-            keep(record.owe(text, base, unsure), &mut self.spare);
+            keep(record.owe(text, base), &mut self.spare);
         }
     }
 }
@@ -273,8 +270,8 @@ fn base_of(
 }
 
 /// Keeps the memory of a base that a client has let go, unless another client still has it.
-fn keep(base: Option<Rc<Screen>>, spare: &mut Option<Screen>) {
-    if let Some(screen) = base.and_then(Rc::into_inner) {
+fn keep(base: Option<Base>, spare: &mut Option<Screen>) {
+    if let Some(screen) = base.and_then(Base::into_screen) {
         *spare = Some(screen);
     }
 }

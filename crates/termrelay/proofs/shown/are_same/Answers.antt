@@ -1,4 +1,4 @@
-use Rattle.std.proofs.Common.{◌≤◌, length, arith}
+use Rattle.std.proofs.Common.{length, arith}
 use Rattle.vt100_cells.specs.Cells.{cell_at}
 use Rattle.termrelay.proofs.RowLemmas.{rows-compared_to}
 use Rattle.termrelay.proofs.shown.are_same.Goals as goal

@@ -1,5 +1,4 @@
-use Rattle.std.proofs.Common.{◌∙◌, ap, sym}
-use Rattle.terminal_model.specs.Term.{Size, Shown, IsShown}
+use Rattle.std.proofs.Common.{sym}
 use Rattle.vt100_core.specs.Picture.{grid_size}
 use Rattle.screen_model.specs.Shown.{shown_state}
 use Rattle.vt100.proofs.ShownLemmas.{shown-is, old-shown}

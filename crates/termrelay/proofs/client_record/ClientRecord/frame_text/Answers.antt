@@ -1,5 +1,5 @@
-use Rattle.std.proofs.Common.{◌∙◌, ap, ℕ}
-use Rattle.std.specs.Prelude.{string_bytes, Vec}
+use Rattle.std.proofs.Common.{◌∙◌, ap}
+use Rattle.std.specs.Prelude.{string_bytes}
 use Rattle.vt100_forms.specs.Form.{bytes_of}
 use Rattle.vt100_core.specs.Picture.{grid_size}
 use Rattle.screen_model.specs.Shown.{shown_state}

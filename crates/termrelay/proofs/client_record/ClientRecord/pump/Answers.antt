@@ -14,7 +14,7 @@ overflow_add-self g c =
     let is = c.owed.ensures ∙ ap (λ (r : RecordView). r.owed) (sym c.self.view_is) in
     let text = c.self.inside.text in
     let count : text.len ≡ length text.items = omega (arith, text.ok.0) in
-    omega (arith, left-within text.items _ c.self.inside.taken _ text.len count is within c.self.invariant.0, text.small)
+    omega (arith, left-within text.items _ c.self.inside.taken _ text.len count is within c.self.invariant, text.small)
 
 pub invariant_of-self : goal.invariant_of-self
 invariant_of-self g c =
@@ -22,4 +22,4 @@ invariant_of-self g c =
     let is = c.owed.ensures ∙ ap (λ (r : RecordView). r.owed) (sym c.self.view_is) in
     let text = c.self.inside.text in
     let count : text.len ≡ length text.items = omega (arith, text.ok.0) in
-    (left-within text.items _ c.self.inside.taken _ text.len count is within c.self.invariant.0, c.self.invariant.1)
+    left-within text.items _ c.self.inside.taken _ text.len count is within c.self.invariant

@@ -213,9 +213,9 @@ returns-then-is_too_long-clause-small c few e =
 
 -- ---- a frame is owed
 
-pub owe-requires-clause-unsure : goal.owe-requires-clause-unsure
-owe-requires-clause-unsure c =
-    let at = goal.at.owe-requires-clause-unsure c in
+pub new-requires : goal.new-requires
+new-requires c =
+    let at = goal.at.new-requires c in
     let d = drawn at.After-is_too_long (asked at.After-is_frame) in
     let client = client_of c.in-Some.record.now in
     let screen = c.self.inside.parser.screen in

@@ -19,7 +19,7 @@ invariant_of-self c =
     let p = c.self.inside.parser in
     let s = c.self.inside.clients in
     let i = c.self.invariant in
-    let is_base : c.args.base.value ≡ copy_of p.screen =
+    let is_base : c.args.base ≡ copy_of p.screen =
     c.requires.present ∙ ap (λ (h : HubState as_kept). copy_of h.parser.screen) (sym c.self.view_is) in
     let few : IsShortFrame (grid_size p.screen.state.shown) c.args.text.items =
     rw (← c.self.view_is) at c.requires.short in
@@ -27,7 +27,7 @@ invariant_of-self c =
     sym c.get_mut.ensures.value ∙ ap option_copied_mut c.in-Some.is in
     let next = record (c.self.inside) { clients = with_value s c.key.result c.owe.new.self } in
     hub-spare next c.keep.new.spare (hub-put c.self.inside c.key.result c.in-Some.record.now c.owe.new.self i at (λ live _.
-    rw c.owe.ensures (present-served p c.args.text.items c.args.base.value (i.made live) is_base few)))
+    rw c.owe.ensures (present-served p c.args.text.items c.args.base (i.made live) is_base few)))
 
 put-seen : (h k : HubState as_kept) (at key : ℕ) (c d : ClientState) (f g : HubState as_kept) → h ≡ k → at ≡ key → c ≡ d
     → g ≡ f → Puts h at (Some c) f → Puts k key (Some d) g
