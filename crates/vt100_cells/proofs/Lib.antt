@@ -16,3 +16,4 @@ pub mod CellTexts
 pub mod RunLemmas
 pub mod PairLemmas
 pub mod WideScripts
+pub mod NarrowScripts

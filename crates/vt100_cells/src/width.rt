@@ -12,9 +12,19 @@ use unicode_width::UnicodeWidthChar;
 pub fn columns(c: char) -> Option<u16>
     ensures { result ≡ drawn_columns c }
 {
-    // Printable ASCII and the scripts that most wide characters are of need no look-up.
+    // Printable ASCII, and the scripts and symbols that most other characters are of, need no look-up.
     match c {
-        ' '..='~' => Some(1),
+        ' '..='~'
+        | '\u{A0}'..='\u{AC}'
+        | '\u{AE}'..='\u{2FF}'
+        | '\u{370}'..='\u{482}'
+        | '\u{48A}'..='\u{590}'
+        | '\u{1E00}'..='\u{1FFF}'
+        | '\u{2010}'..='\u{2027}'
+        | '\u{2190}'..='\u{2319}'
+        | '\u{2500}'..='\u{25FC}'
+        | '\u{2800}'..='\u{28FF}'
+        | '\u{E000}'..='\u{F8FF}' => Some(1),
         '\u{4E00}'..='\u{9FFF}'
         | '\u{AC00}'..='\u{D7A3}'
         | '\u{3041}'..='\u{3096}'
