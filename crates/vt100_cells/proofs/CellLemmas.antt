@@ -182,7 +182,7 @@ IsCell-made_plain x c t h s z n r e = rw e (IsCell-with_plain x c h s z n r)
 pub narrow-printable : (c : ℕ) (a : Attrs) → IsPrintable c → (cell_of c a).wide ≡ false
 narrow-printable c a p = ap (λ n. n == 2) (printable-is c p).1
 
-scalar-printable : (c : ℕ) → IsPrintable c → IsScalar c
+pub scalar-printable : (c : ℕ) → IsPrintable c → IsScalar c
 scalar-printable c p = search rules
 
 pub IsCell-printable : (c : ℕ) (a : Attrs) → IsPrintable c → IsCell (cell_of c a)
@@ -192,7 +192,7 @@ pub IsCell-wide : (c : ℕ) (a : Attrs) → IsScalar c → IsWide c → IsCell (
 IsCell-wide c a s p = let d = drawn-is c 2 p in IsCell-of c a s d.0 (omega (arith, d.1))
 
 -- the cell of d with another character, as wide as d
-replaced-like : (x : CellView) (t : List ℕ) (c d : ℕ) (a : Attrs) → x ≡ cell_of d a → columns_of d ≡ columns_of c
+pub replaced-like : (x : CellView) (t : List ℕ) (c d : ℕ) (a : Attrs) → x ≡ cell_of d a → columns_of d ≡ columns_of c
     → t ≡ c ∷ []
     → record { text = t; wide = x.wide; continuation = x.continuation; attrs = x.attrs } ≡ cell_of c a
 replaced-like x t c d a e same et =

@@ -91,7 +91,7 @@ pub text_of-ascii : (c : ℕ) → c < 128 → text_of (record { bytes = c ∷ re
 text_of-ascii c h = chars-IsAscii (c ∷ []) (IsAscii-one c h)
 
 -- the fields of a text whose bytes are known
-known-fields : (t : Inside) (cs bs : List ℕ) → IsText t → text_of t ≡ cs → encode_utf8_all cs ≡ bs
+pub known-fields : (t : Inside) (cs bs : List ℕ) → IsText t → text_of t ≡ cs → encode_utf8_all cs ≡ bs
     → t ≡ record { bytes = bs ++ replicate (21 - length bs) 0; len = length bs }
 known-fields t cs bs h e known = sym (fields_of-text_of t h) ∙ ap fields_of e
     ∙ ap (λ xs. record { bytes = xs ++ replicate (21 - length xs) 0; len = length xs }) known
@@ -110,7 +110,7 @@ encode-three : (c : ℕ) → 0x800 ≤ c → c < 0x1_0000
 unfolding encode_utf8
 encode-three c l h = grind (arith, nat_tests)
 
-IsText-none : IsText (record { bytes = replicate 21 0; len = 0 })
+pub IsText-none : IsText (record { bytes = replicate 21 0; len = 0 })
 IsText-none = record {
   fits = omega arith;
   whole = refl;
@@ -118,10 +118,10 @@ IsText-none = record {
   zeros = refl;
 }
 
-text_of-none : text_of (record { bytes = replicate 21 0; len = 0 }) ≡ []
+pub text_of-none : text_of (record { bytes = replicate 21 0; len = 0 }) ≡ []
 text_of-none = chars-encodes [] refl
 
-text-three : (c : ℕ) → IsScalar c → 0x800 ≤ c → c < 0x1_0000
+pub text-three : (c : ℕ) → IsScalar c → 0x800 ≤ c → c < 0x1_0000
     → IsTextOf (record {
       bytes = (224 + c / 4096) ∷ (128 + c / 64 % 64) ∷ (128 + c % 64) ∷ replicate 18 0;
       len = 3;

@@ -17,3 +17,4 @@ pub mod RunLemmas
 pub mod PairLemmas
 pub mod WideScripts
 pub mod NarrowScripts
+pub mod NarrowLemmas

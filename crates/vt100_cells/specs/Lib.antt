@@ -5,3 +5,4 @@ pub mod ColorFields
 pub mod Cells
 pub mod Line
 pub use Rattle.vt100_forms.specs.Attrs
+pub mod Narrow

@@ -171,6 +171,16 @@ impl Cell {
         self.text.replace_by_wide(c);
     }
 
+    /// Puts the character `c`, which takes one column, in place of a space.
+    #[inline(always)]
+    pub(crate) fn replace_space(&mut self, c: char)
+        requires space { self.old ≡ cell_of 32 self.old.attrs }
+        requires narrow { drawn_columns c ≡ Some 1 }
+        ensures { self.new ≡ cell_of c self.old.attrs }
+    {
+        self.text.replace_space(c);
+    }
+
     /// Whether the text takes one more zero-width character. For rows alone.
     #[doc(hidden)]
     #[inline]

@@ -133,6 +133,29 @@ impl CellText {
         }
     }
 
+    /// Puts the character `c` in place of a space.
+    #[inline(always)]
+    pub(crate) fn replace_space(&mut self, c: char)
+        requires space { self.old ≡ 32 ∷ [] }
+        ensures { self.new ≡ c ∷ [] }
+    {
+        let code = c as u32;
+        if code < 0x80 {
+            self.bytes[0] = code as u8;
+        } else if code < 0x800 {
+            self.bytes[0] = (0xC0 + code / 64) as u8;
+            self.bytes[1] = (0x80 + code % 64) as u8;
+            self.len = 2;
+        } else if code < 0x1_0000 {
+            self.bytes[0] = (0xE0 + code / 4096) as u8;
+            self.bytes[1] = (0x80 + code / 64 % 64) as u8;
+            self.bytes[2] = (0x80 + code % 64) as u8;
+            self.len = 3;
+        } else {
+            *self = CellText::of_char(c);
+        }
+    }
+
     pub(crate) fn is_empty(&self) -> bool
         ensures { result ≡ (length self.now == 0) }
     {

@@ -1,8 +1,9 @@
 //! Printing on a line with packed attributes.
-ghost use Rattle.std.specs.Prelude.{◌≡◌, ◌+◌, ◌<◌, ◌≤◌, length, All};
+ghost use Rattle.std.specs.Prelude.{◌≡◌, ◌+◌, ◌<◌, ◌≤◌, length, slice_index, All};
 ghost use Rattle.vt100_cells.specs.Cell.{IsPrintable, cell_of};
 ghost use Rattle.vt100_cells.specs.Line.{IsPaired, put, printed_run};
 ghost use Rattle.vt100_cells.specs.Cells.{cell_at, by_position};
+ghost use Rattle.vt100_cells.specs.Narrow.{IsNarrow};
 
 use crate::cell::{Cell, PackedAttrs};
 use crate::line::{at, clear_left, is_continuation_at, put_within, write_run};
@@ -37,5 +38,37 @@ pub fn print_letter(cells: &mut [Cell], i: usize, c: u8, attrs: &PackedAttrs)
     cells[i].replace_by_ascii(c);
     if was_wide {
         put_within(cells, i + 1, *attrs.space());
+    }
+}
+
+/// Puts the characters of `text`, each of which takes one column, at column `start` and after it, as [`print_run`] does
+/// with printable ASCII.
+pub fn print_narrow(cells: &mut [Cell], start: usize, text: &[char], attrs: &PackedAttrs)
+    requires some { 0 < length text.now }
+    requires in_row { start + length text.now ≤ length cells.old }
+    requires narrow { All IsNarrow text.now }
+    requires paired { IsPaired (cell_at cells.old) }
+    ensures { cells.new ≡ by_position (length cells.old) (printed_run (cell_at cells.old) start text.now attrs.now) }
+{
+    let end = start + text.len();
+    clear_left(cells, start);
+    if is_continuation_at(cells, end) {
+        cells[end] = *attrs.space();
+    }
+    write_narrow(&mut cells[start..end], text, *attrs.space());
+}
+
+/// Writes each character of `text` into a cell that is like `space`.
+// As in `write_run`, whole cells are copied.
+#[inline(never)]
+fn write_narrow(cells: &mut [Cell], text: &[char], space: Cell)
+    requires one_each { length cells.old ≡ length text.now }
+    requires narrow { All IsNarrow text.now }
+    requires space { space ≡ cell_of 32 space.attrs }
+    ensures { cells.new ≡ by_position (length cells.old) (λ k. cell_of (slice_index text.now k) space.attrs) }
+{
+    for (i, cell) in cells.iter_mut().enumerate() {
+        *cell = space;
+        cell.replace_space(text[i]);
     }
 }
