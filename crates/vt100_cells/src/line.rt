@@ -13,7 +13,7 @@ mod packed;
 
 use crate::cell::{Cell, is_same};
 use crate::cell_text::START_BYTES;
-pub use packed::{print_letter, print_run};
+pub use packed::{print_letter, print_narrow, print_run};
 use vt100_forms::attrs::Attrs;
 
 /// The cell at column `i`.

@@ -1,11 +1,12 @@
 //! Printing on a row with packed attributes.
 ghost use Rattle.std.specs.Prelude.{◌≡◌, ◌+◌, ◌<◌, ◌≤◌, length, All};
 ghost use Rattle.vt100_cells.specs.Cell.{IsPrintable, cell_of};
+ghost use Rattle.vt100_cells.specs.Narrow.{IsNarrow};
 ghost use Rattle.vt100_rows.specs.Row.{placed, placed_each};
 
 use crate::row::Row;
 use vt100_cells::PackedAttrs;
-use vt100_cells::line::{print_letter, print_run};
+use vt100_cells::line::{print_letter, print_narrow, print_run};
 
 /// The calls mean the same as those with [`Attrs`](vt100_forms::attrs::Attrs). They are for the grid of `vt100_core`
 /// alone, which meets their conditions.
@@ -33,5 +34,19 @@ impl Row {
     {
         self.filled = self.filled.max(col.saturating_add(3));
         print_letter(&mut self.cells, usize::from(col), c, attrs);
+    }
+
+    /// Puts the characters of `text`, each of which takes one column, at column `col` and after it, as
+    /// [`put`](Self::put) of each in turn does.
+    #[doc(hidden)]
+    pub fn print_narrow(&mut self, col: u16, text: &[char], attrs: &PackedAttrs)
+        requires narrow { All IsNarrow text.now }
+        requires in_row { col + length text.now ≤ length self.old.cells }
+        ensures { self.new ≡ placed_each self.old col text.now attrs.now }
+    {
+        if !text.is_empty() {
+            self.filled = self.filled.max((col + text.len() as u16).saturating_add(1));
+            print_narrow(&mut self.cells, usize::from(col), text, attrs);
+        }
     }
 }

@@ -1,8 +1,7 @@
-use Rattle.std.proofs.Common.{subst, arith, ◌∙◌, ◌≡◌, ◌==◌, length, true, sym}
-use Rattle.std.proofs.lemmas.Bool.{eqb-true}
+use Rattle.std.proofs.Common.{subst, arith, ◌∙◌, ◌≡◌}
 use Rattle.std.proofs.lemmas.Grind.{common_steps}
 use Rattle.vt100_rows.specs.Row.{RowView, IsRow, IsBlankFrom, run_row}
-use Rattle.vt100_rows.proofs.RowRuns.{IsRow-run, run_row-each, run_row-empty}
+use Rattle.vt100_rows.proofs.RowRuns.{IsRow-run, run_row-each}
 use Rattle.vt100_rows.proofs.BlankLemmas.{fields-at, blank-run}
 use Rattle.vt100_rows.proofs.row.Row.print_run.Goals as goal
 
