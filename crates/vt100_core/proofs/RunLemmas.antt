@@ -10,6 +10,7 @@ use Rattle.std.proofs.lemmas.List.Elements.{All-drop, All-take}
 use Rattle.std.proofs.lemmas.List.{get_or-set_same, set-get_or, set-set, take-append-drop}
 use Rattle.vt100_forms.specs.declared.attrs.Attrs.{Attrs}
 use Rattle.vt100_cells.specs.Cell.{IsPrintable, columns_of, drawn_columns, is_undrawable, cell_of}
+use Rattle.vt100_cells.specs.Narrow.{IsNarrow}
 use Rattle.vt100_cells.proofs.CellLemmas.{IsCell-of}
 use Rattle.vt100_cells.proofs.WidthLemmas.{drawn-is, drawn-ascii}
 use Rattle.vt100_rows.specs.Row.{RowView, blank_row, placed, placed_each, placed_pairs}
@@ -52,6 +53,12 @@ printable-drawn xs p k b l = sym (drawn-ascii _ (p k b l).0 (p k b l).1)
 
 pub printable-scalars : (xs : List ℕ) → All IsPrintable xs → All IsScalar xs
 printable-scalars xs p k b l = let one = p k b l in grind (arith, nat_tests)
+
+pub narrow-drawn : (xs : List ℕ) → All IsNarrow xs → All (λ c. drawn_columns c ≡ Some 1) xs
+narrow-drawn xs p k b l = (p k b l).1
+
+pub narrow-scalars : (xs : List ℕ) → All IsNarrow xs → All IsScalar xs
+narrow-scalars xs p k b l = (p k b l).0
 
 made-here : (g : GridView) (n : ℕ) → g.col + n ≤ g.width → made_to_fit g n true ≡ record { grid = g; sunk = [] }
 made-here g n h = cond-true (nat_le (g.col + n) g.width) _ (wrapped_on g true) (le-leb (g.col + n) g.width h)

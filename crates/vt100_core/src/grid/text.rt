@@ -5,6 +5,7 @@ ghost use Rattle.vt100_cells.specs.Cell.{IsCell, cell_of, columns_of, drawn_colu
 ghost use Rattle.vt100_cells.specs.Line.{span_of};
 ghost use Rattle.vt100_rows.specs.Row.{join_row, join_answer, placed_each};
 
+mod narrow;
 mod packed;
 
 use crate::grid::Grid;
