@@ -64,17 +64,48 @@ PROGRAMS = {
 }
 
 STATUS = "0 at success, 1 at a fault, 2 for words that aren't understood."
+SHORT = {"help": "h", "version": "V"}
+EXAMPLES = {
+    "screenrelay": [
+        ("screenrelay relay 24 80 < session > frames", "Frames of a recorded session"),
+        ("screenrelay show 24 80 < frames", "The rows that they leave"),
+    ],
+    "screenlive": [
+        ("script -qfc top /dev/null | screenlive 24 80 > /dev/pts/3", "A program that runs, on another terminal"),
+    ],
+    "screencat": [
+        ("screencat 24 80 < session", "The last screen of a recorded session"),
+    ],
+    "screentext": [
+        ("screentext < demo.cast", "The last screen, as text"),
+        ("screentext --at 12.5 --svg < demo.cast > screen.svg", "A picture of the screen after 12.5 seconds"),
+        ("screentext --svg --animate --idle 2 < demo.cast > demo.svg", "A film for a README"),
+        ("screentext --timing times 24 80 < typescript", "A session that script(1) recorded"),
+        ("screentext --list < game.ttyrec", "Its kind, length and markers"),
+    ],
+}
 
 
 def man(name):
     about, words, options, notes = PROGRAMS[name]
     roff = [f'.TH {name.upper()} 1 "" "Jeihpal 0.1"', ".SH NAME", f"{name} \\- {about}", ".SH SYNOPSIS"]
     roff.append(f".B {name}\n" + " ".join(word for word, _ in words) + (" [OPTIONS]" if options else ""))
-    roff += [".SH DESCRIPTION", notes]
+    roff += [".SH DESCRIPTION", notes, *[".SH OPTIONS"] * bool(options)]
     for option, value, _, text in options:
-        shown = f"\\fB\\-\\-{option}\\fR" + (f" \\fI{value}\\fR" if value else "")
+        short = f"\\fB\\-{SHORT[option]}\\fR, " if option in SHORT else ""
+        shown = f"{short}\\fB\\-\\-{option}\\fR" + (f" \\fI{value}\\fR" if value else "")
         roff += [".TP", shown, text + "."]
+    roff.append(".SH EXAMPLES")
+    for command, text in EXAMPLES[name]:
+        roff += [".TP", "\\fB" + command.replace("-", "\\-").replace(" ", "\\ ") + "\\fR", text + "."]
     return "\n".join(roff + [".SH EXIT STATUS", STATUS, ""])
+
+
+# An option and its value are one word for the shell, or with a = between them three.
+BASH_VALUE = """\
+    local word=$2 option=$3
+    if [[ $option == = ]]; then option=${COMP_WORDS[COMP_CWORD - 2]}; fi
+    if [[ $word == = ]]; then word=; fi"""
 
 
 def bash(name):
@@ -84,8 +115,8 @@ def bash(name):
     for option, value, completes, _ in options:
         if value:
             reply = "compgen -f" if completes == FILES else f'compgen -W "{completes or ""}"'
-            cases.append(f'        --{option}) mapfile -t COMPREPLY < <({reply} -- "$2"); return ;;')
-    chosen = ["    case $3 in", *cases, "    esac"] if cases else []
+            cases.append(f'        --{option}) mapfile -t COMPREPLY < <({reply} -- "$word"); return ;;')
+    chosen = [BASH_VALUE, "    case $option in", *cases, "    esac"] if cases else []
     body = [f"_{name}() {{", *chosen, f'    mapfile -t COMPREPLY < <(compgen -W "{known}" -- "$2")', "}"]
     return "\n".join(body + [f"complete -F _{name} {name}", ""])
 
@@ -99,7 +130,9 @@ def zsh(name):
     lines = [f"#compdef {name}", "_arguments \\"]
     for option, value, completes, text in options:
         action = "_files" if completes == FILES else f"({completes})" if completes else " "
-        lines.append(f"    '--{option}{'=' if value else ''}[{quoted(text)}]{f':{value}:{action}' if value else ''}' \\")
+        short = SHORT.get(option)
+        shown = f"'(-{short} --{option})'{{-{short},--{option}}}'" if short else f"'--{option}{'=' if value else ''}"
+        lines.append(f"    {shown}[{quoted(text)}]{f':{value}:{action}' if value else ''}' \\")
     for place, (word, text) in enumerate(words, 1):
         choices = f"({word.replace('|', ' ')})" if "|" in word else " "
         lines.append(f"    '{place}:{quoted(text)}:{choices}' \\")
@@ -111,7 +144,8 @@ def fish(name):
     lines = [f"complete -c {name} -f"]
     for option, value, completes, text in options:
         kind = "" if not value else " -r -F" if completes == FILES else f" -x -a '{completes or ''}'"
-        lines.append(f"complete -c {name} -l {option}{kind} -d \"{text}\"")
+        short = f" -s {SHORT[option]}" if option in SHORT else ""
+        lines.append(f"complete -c {name}{short} -l {option}{kind} -d \"{text}\"")
     if "|" in words[0][0]:
         lines.append(f"complete -c {name} -n __fish_is_first_arg -a '{words[0][0].replace('|', ' ')}' -d \"{words[0][1]}\"")
     return "\n".join(lines) + "\n"
