@@ -1,16 +1,15 @@
 //! What a hub keeps of a client.
 ghost use Rattle.std.specs.Prelude.{◌≡◌, ℕ, ◌++◌, [], true, drop, length, nat_lt, Some, None, IfOk, OnOk, OnErr, Err};
 ghost use Rattle.std.specs.Prelude.{if◌then◌else◌, string_bytes};
-ghost use Rattle.std.specs.Option.{option_copied, option_map};
+ghost use Rattle.std.specs.Option.{option_copied};
 ghost use Rattle.vt100_forms.specs.Form.{bytes_of};
 ghost use Rattle.vt100_core.specs.Picture.{grid_size};
-ghost use Rattle.screen_model.specs.State.{IsState};
 ghost use Rattle.screen_model.specs.Shown.{shown_state};
 ghost use Rattle.vt100.specs.WriterLaws.{IsUnscrolled};
 ghost use Rattle.termrelay.specs.Frame.{frame_text as text_of_frame, body_forms};
 ghost use Rattle.termrelay.specs.Answers.{wanted_of, due, is_frame, longest_frame};
 ghost use Rattle.byte_sinks.specs.Pump.{Pumps};
-ghost use Rattle.termrelay.specs.ClientRecord.{RecordView, client_of, IsRecordOf, IsBaseOf, is_unsure_screen, sure_base};
+ghost use Rattle.termrelay.specs.ClientRecord.{RecordView, client_of, IsRecordOf, is_unsure_screen, sure_base};
 ghost use Rattle.termrelay.specs.declared.answer.Answer.TheVariants.{Unsure};
 ghost use Rattle.termrelay.specs.declared.error.HubError.TheVariants.{Memory};
 
