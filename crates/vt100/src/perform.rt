@@ -143,8 +143,8 @@ impl<CB: Callbacks> Perform for WrappedScreen<CB> {
 }
 
 impl<CB: Callbacks> WrappedScreen<CB> {
-    /// Prints the printable ASCII at the start of a text at once, or the wide characters there, or else its first
-    /// character; returns what is left.
+    /// Prints the printable ASCII at the start of a text at once, or the other characters there that take one column
+    /// each, or two each, or else its first character; returns what is left.
     fn print_some<'a>(&mut self, text: &'a str) -> &'a str
         requires { 0 < length text.now }
         ensures shorter { length result.now < length text.now }
@@ -155,10 +155,10 @@ impl<CB: Callbacks> WrappedScreen<CB> {
         if len > 0 {
             prove!(self.screen.is_live() || self.screen.failed());
             // A refusal is kept in the screen, which has failed then.
-            let _ = self.run(CharRun::Narrow(&text.as_bytes()[..len]));
+            let _ = self.run(CharRun::Ascii(&text.as_bytes()[..len]));
             return &text[len..];
         }
-        if let Some(rest) = self.print_wide(text) {
+        if let Some(rest) = self.print_chars(text) {
             return rest;
         }
         let mut chars = text.chars();
@@ -419,7 +419,7 @@ impl<CB: Callbacks> WrappedScreen<CB> {
 
 /// Whether a character isn't drawn, but reported: U+FFFD, and the controls from U+0080 to U+009F.
 #[inline]
-fn is_unhandled(c: char) -> bool
+pub(crate) fn is_unhandled(c: char) -> bool
     ensures { result ≡ is_unhandled c }
 {
     matches!(c, '\u{FFFD}' | '\u{80}'..='\u{9F}')

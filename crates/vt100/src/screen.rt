@@ -13,10 +13,10 @@ mod private_modes;
 mod readers;
 pub(crate) mod reported;
 mod rows;
+mod runs;
 mod sgr;
 mod style;
 mod whole;
-mod wide;
 mod wrapped;
 mod writers;
 

@@ -34,7 +34,9 @@ impl<'a, CB: Callbacks> RowSink for Reporter<'a, CB> {
 #[derive(Clone, Copy)]
 pub(crate) enum CharRun<'a> {
     /// Printable ASCII.
-    Narrow(&'a [u8]),
+    Ascii(&'a [u8]),
+    /// Characters of one column.
+    Narrow(&'a [char]),
     /// Characters of two columns, where a row has room for one.
     Wide(&'a [char]),
 }
@@ -65,8 +67,12 @@ pub(super) fn draw<CB: Callbacks>(
 {
     match drawing {
         ScrollingEdit::Character(c) => grid.print(c, attrs, reporter),
-        ScrollingEdit::Characters(CharRun::Narrow(text)) => {
+        ScrollingEdit::Characters(CharRun::Ascii(text)) => {
             grid.print_run(text, attrs, reporter)?;
+            Ok(Printed::Spacing)
+        }
+        ScrollingEdit::Characters(CharRun::Narrow(text)) => {
+            grid.narrow_run(text, attrs, reporter)?;
             Ok(Printed::Spacing)
         }
         ScrollingEdit::Characters(CharRun::Wide(text)) => {

@@ -1,10 +1,10 @@
-//! Wide characters, printed at once.
+//! Characters of one column each, or of two each, printed at once.
 ghost use Rattle.std.specs.Prelude.{◌≡◌, ◌<◌, ◌≤◌, ◌+◌, ◌++◌, ◌∷◌, [], IfSome, IfNone, IsTrue, All, length};
 ghost use Rattle.std.specs.Str.{chars};
-ghost use Rattle.vt100_core.specs.Text.{IsWide};
-ghost use Rattle.vt100.specs.Runs.{IsHandled, PrintsPrefix};
+ghost use Rattle.vt100.specs.Runs.{IsHandled, PrintsPrefix, Takes};
 
 use crate::callbacks::Callbacks;
+use crate::perform::is_unhandled;
 use crate::screen::WrappedScreen;
 use crate::screen::reported::CharRun;
 use arrayvec::ArrayVec;
@@ -14,20 +14,52 @@ use vt100_cells::columns;
 const RUN_LEN: usize = 32;
 
 impl<CB: Callbacks> WrappedScreen<CB> {
-    /// Prints the wide characters at the start of a text, up to `RUN_LEN` of them, and returns what is left. Where
-    /// there is none, or no room for one in a row, nothing is done.
-    pub(crate) fn print_wide<'a>(&mut self, text: &'a str) -> Option<&'a str>
+    /// Prints the characters at the start of a text that take one column each, or two each, up to `RUN_LEN` of them,
+    /// and returns what is left. Where there is none, or no room for one in a row, nothing is done.
+    pub(crate) fn print_chars<'a>(&mut self, text: &'a str) -> Option<&'a str>
+        ensures shorter { IfSome result (λ rest. length rest.now < length text.now) }
+        ensures printed { IfSome result (λ rest. PrintsPrefix CB.step CB.scrolls text.now rest.now self.old.callbacks
+            self.old.screen self.new.callbacks self.new.screen) }
+        ensures none { IfNone result (self.new ≡ self.old) }
+    {
+        if next_of(text, 1).is_some() {
+            self.print_narrow(text)
+        } else {
+            self.print_wide(text)
+        }
+    }
+
+    /// The same for characters of one column.
+    fn print_narrow<'a>(&mut self, text: &'a str) -> Option<&'a str>
+        ensures shorter { IfSome result (λ rest. length rest.now < length text.now) }
+        ensures printed { IfSome result (λ rest. PrintsPrefix CB.step CB.scrolls text.now rest.now self.old.callbacks
+            self.old.screen self.new.callbacks self.new.screen) }
+        ensures none { IfNone result (self.new ≡ self.old) }
+    {
+        let mut run = ArrayVec::new();
+        let rest = take_run(text, 1, &mut run);
+        if run.is_empty() {
+            return None;
+        }
+        prove!(self.screen.is_live() || self.screen.failed());
+        // A refusal is kept in the screen, which has failed then.
+        let _ = self.run(CharRun::Narrow(run.as_slice()));
+        Some(rest)
+    }
+
+    /// The same for characters of two columns.
+    fn print_wide<'a>(&mut self, text: &'a str) -> Option<&'a str>
         ensures shorter { IfSome result (λ rest. length rest.now < length text.now) }
         ensures printed { IfSome result (λ rest. PrintsPrefix CB.step CB.scrolls text.now rest.now self.old.callbacks
             self.old.screen self.new.callbacks self.new.screen) }
         ensures none { IfNone result (self.new ≡ self.old) }
     {
         let (_, cols) = self.screen.size();
-        if cols.get() < 2 || next_wide(text).is_none() {
+        if cols.get() < 2 || next_of(text, 2).is_none() {
             return None;
         }
         let mut run = ArrayVec::new();
-        let rest = take_wide(text, &mut run);
+        let rest = take_run(text, 2, &mut run);
         if run.is_empty() {
             return None;
         }
@@ -38,17 +70,19 @@ impl<CB: Callbacks> WrappedScreen<CB> {
     }
 }
 
-/// Takes the wide characters at the start of a text into an empty run, as many as it holds, and returns what is left.
-fn take_wide<'a>(text: &'a str, run: &mut ArrayVec<char, RUN_LEN>) -> &'a str
+/// Takes the characters of so many columns each at the start of a text into an empty run, as many as it holds, and
+/// returns what is left. A run of ASCII is left.
+#[inline(always)]
+fn take_run<'a>(text: &'a str, columns: u16, run: &mut ArrayVec<char, RUN_LEN>) -> &'a str
     requires { run.old.items ≡ [] }
     ensures parts { chars text.now ≡ run.new.items ++ chars result.now }
     ensures shorter { length result.now + length run.new.items ≤ length text.now }
-    ensures wide { All IsWide run.new.items }
+    ensures drawn { All (Takes columns) run.new.items }
     ensures handled { All IsHandled run.new.items }
 {
     let mut rest = text;
     while !run.is_full() {
-        match next_wide(rest) {
+        match next_of(rest, columns) {
             Some((c, left)) => {
                 run.push(c);
                 rest = left;
@@ -59,27 +93,34 @@ fn take_wide<'a>(text: &'a str, run: &mut ArrayVec<char, RUN_LEN>) -> &'a str
     rest
 }
 
-/// The first character of a text if it is wide, and what follows it.
-#[inline]
-fn next_wide(text: &str) -> Option<(char, &str)>
+/// The first character of a text, where it takes so many columns and isn't one of two of ASCII, and what follows it.
+#[inline(always)]
+fn next_of(text: &str, columns: u16) -> Option<(char, &str)>
     ensures parts { IfSome result (λ p. chars text.now ≡ p.0 ∷ chars p.1.now) }
     ensures shorter { IfSome result (λ p. length p.1.now < length text.now) }
-    ensures wide { IfSome result (λ p. IsWide p.0) }
+    ensures drawn { IfSome result (λ p. Takes columns p.0) }
     ensures handled { IfSome result (λ p. IsHandled p.0) }
 {
     let mut chars = text.chars();
     match chars.next() {
-        Some(c) if is_wide(c) => Some((c, chars.as_str())),
+        Some(c) if takes(c, columns) && !is_ascii_pair(c, chars.as_str()) => {
+            Some((c, chars.as_str()))
+        }
         _ => None,
     }
 }
 
-/// Whether a character from U+2E80 on, where the wide scripts begin, is wide. U+FFFD, which is reported to callbacks,
-/// is not.
-#[inline]
-fn is_wide(c: char) -> bool
-    ensures wide { IsTrue result → IsWide c }
+/// Whether a character takes so many columns, and isn't reported to callbacks.
+#[inline(always)]
+fn takes(c: char, count: u16) -> bool
+    ensures drawn { IsTrue result → Takes count c }
     ensures handled { IsTrue result → IsHandled c }
 {
-    c >= '\u{2E80}' && c != '\u{FFFD}' && columns(c) == Some(2)
+    !is_unhandled(c) && columns(c) == Some(count)
+}
+
+/// Whether a character and the first one of what follows it are both ASCII, which is printed faster without a run.
+#[inline(always)]
+fn is_ascii_pair(c: char, rest: &str) -> bool {
+    c.is_ascii() && matches!(rest.as_bytes(), [byte, ..] if byte.is_ascii())
 }

@@ -120,8 +120,9 @@ fn last_drawn(drawing: ScrollingEdit<'_>, printed: Printed, last: Option<char>) 
 {
     match drawing {
         ScrollingEdit::Character(c) => last_after(printed, c, last),
-        ScrollingEdit::Characters(CharRun::Narrow([.., byte])) => Some(*byte as char),
-        ScrollingEdit::Characters(CharRun::Wide([.., c])) => Some(*c),
+        ScrollingEdit::Characters(CharRun::Ascii([.., byte])) => Some(*byte as char),
+        ScrollingEdit::Characters(CharRun::Narrow([.., narrow])) => Some(*narrow),
+        ScrollingEdit::Characters(CharRun::Wide([.., wide])) => Some(*wide),
         _ => last,
     }
 }

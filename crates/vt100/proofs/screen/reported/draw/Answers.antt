@@ -8,21 +8,39 @@ returns-in-Character-clause-drawn g c =
     let e = c.print.ensures in
     rw c.in-Character.is (draws_all g.CB.Callbacks.scrolls _ e.grid e.sink e.limits e.keeps_none e.stays e.allocated)
 
-pub returns-in_err-print_run-in-Characters-Narrow-clause-drawn :
-    goal.returns-in_err-print_run-in-Characters-Narrow-clause-drawn
-returns-in_err-print_run-in-Characters-Narrow-clause-drawn g c =
-    let w = c.in-Characters-Narrow in
-    let r = c.in_err-print_run-in-Characters-Narrow in
+pub returns-in_err-print_run-in-Characters-Ascii-clause-drawn :
+    goal.returns-in_err-print_run-in-Characters-Ascii-clause-drawn
+returns-in_err-print_run-in-Characters-Ascii-clause-drawn g c =
+    let w = c.in-Characters-Ascii in
+    let r = c.in_err-print_run-in-Characters-Ascii in
     let is : c.from_residual.result ≡ Err r.field-0.0 = search rules in
     let e = r.ensures in
     rw (w.is, rw w.is at w.field-0-is, is)
     (draws_run g.CB.Callbacks.scrolls _ _ _ e.grid e.sink e.begun e.limits e.keeps_none e.stays e.allocated)
 
-pub returns-in_ok-print_run-in-Characters-Narrow-clause-drawn :
-    goal.returns-in_ok-print_run-in-Characters-Narrow-clause-drawn
-returns-in_ok-print_run-in-Characters-Narrow-clause-drawn g c =
+pub returns-in_ok-print_run-in-Characters-Ascii-clause-drawn :
+    goal.returns-in_ok-print_run-in-Characters-Ascii-clause-drawn
+returns-in_ok-print_run-in-Characters-Ascii-clause-drawn g c =
+    let w = c.in-Characters-Ascii in
+    let e = c.in_ok-print_run-in-Characters-Ascii.ensures in
+    rw (w.is, rw w.is at w.field-0-is)
+    (draws_run g.CB.Callbacks.scrolls _ _ _ e.grid e.sink e.begun e.limits e.keeps_none e.stays e.allocated)
+
+pub returns-in_err-narrow_run-in-Characters-Narrow-clause-drawn :
+    goal.returns-in_err-narrow_run-in-Characters-Narrow-clause-drawn
+returns-in_err-narrow_run-in-Characters-Narrow-clause-drawn g c =
     let w = c.in-Characters-Narrow in
-    let e = c.in_ok-print_run-in-Characters-Narrow.ensures in
+    let r = c.in_err-narrow_run-in-Characters-Narrow in
+    let is : c.from_residual-in_err-narrow_run-in-Characters-Narrow.result ≡ Err r.field-0.0 = search rules in
+    let e = r.ensures in
+    rw (w.is, rw w.is at w.field-0-is, is)
+    (draws_run g.CB.Callbacks.scrolls _ _ _ e.grid e.sink e.begun e.limits e.keeps_none e.stays e.allocated)
+
+pub returns-in_ok-narrow_run-in-Characters-Narrow-clause-drawn :
+    goal.returns-in_ok-narrow_run-in-Characters-Narrow-clause-drawn
+returns-in_ok-narrow_run-in-Characters-Narrow-clause-drawn g c =
+    let w = c.in-Characters-Narrow in
+    let e = c.in_ok-narrow_run-in-Characters-Narrow.ensures in
     rw (w.is, rw w.is at w.field-0-is)
     (draws_run g.CB.Callbacks.scrolls _ _ _ e.grid e.sink e.begun e.limits e.keeps_none e.stays e.allocated)
 

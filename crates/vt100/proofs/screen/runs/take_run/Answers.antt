@@ -3,9 +3,8 @@ use Rattle.std.proofs.Common.{arith}
 use Rattle.std.specs.Prelude.{All}
 use Rattle.std.specs.Str.{chars}
 use Rattle.std.proofs.lemmas.List.Elements.{All-push}
-use Rattle.vt100_core.specs.Text.{IsWide}
-use Rattle.vt100.specs.Runs.{IsHandled}
-use Rattle.vt100.proofs.screen.wide.take_wide.Goals as goal
+use Rattle.vt100.specs.Runs.{IsHandled, Takes}
+use Rattle.vt100.proofs.screen.runs.take_run.Goals as goal
 
 pub loop-rest-preserved : goal.loop-rest-preserved
 loop-rest-preserved c =
@@ -19,7 +18,8 @@ loop-rest-preserved c =
       parts = c.loop-rest.invariant.parts ∙ ap (λ (ys : List ℕ). xs ++ ys) c.in-Some.ensures.parts
           ∙ sym (append_assoc xs (x ∷ []) (chars left)) ∙ ap (λ (ys : List ℕ). ys ++ chars left) (sym pushed);
       shorter = omega (arith, count, c.in-Some.ensures.shorter, c.loop-rest.invariant.shorter);
-      wide = subst (All IsWide) (sym pushed) (All-push IsWide xs x c.loop-rest.invariant.wide c.in-Some.ensures.wide);
+      drawn = subst (All (Takes c.args.columns)) (sym pushed)
+          (All-push (Takes c.args.columns) xs x c.loop-rest.invariant.drawn c.in-Some.ensures.drawn);
       handled = subst (All IsHandled) (sym pushed)
           (All-push IsHandled xs x c.loop-rest.invariant.handled c.in-Some.ensures.handled);
     }

@@ -1,9 +1,8 @@
 use Rattle.std.proofs.Common.{◌≡◌, ◌+◌, ◌≤◌, ◌++◌, length}
 use Rattle.std.specs.Prelude.{All}
 use Rattle.std.specs.Str.{chars}
-use Rattle.vt100_core.specs.Text.{IsWide}
-use Rattle.vt100.specs.Runs.{IsHandled}
-use Rattle.vt100.proofs.screen.wide.take_wide.Given as goal
+use Rattle.vt100.specs.Runs.{IsHandled, Takes}
+use Rattle.vt100.proofs.screen.runs.take_run.Given as goal
 use denote.Text.{Utf8}
 use denote.Shadow.{shadow}
 
@@ -12,7 +11,7 @@ invariant-loop-rest l = record {
   text : shadow (Utf8 l.rest);
   parts : chars l.text ≡ l.run.items ++ chars l.rest;
   shorter : length l.rest + length l.run.items ≤ length l.text;
-  wide : All IsWide l.run.items;
+  drawn : All (Takes l.columns) l.run.items;
   handled : All IsHandled l.run.items;
 }
 

@@ -5,11 +5,11 @@ use Rattle.vt100.proofs.screen.wrapped.WrappedScreen.print_wide.Goals as goal
 
 pub returns-clause-printed : goal.returns-clause-printed
 returns-clause-printed g c =
-    let xs = c.take_wide-rest.new.run.items in
+    let xs = c.take_run-rest.new.run.items in
     let some : 0 < length xs = grind (arith, nat_tests) in (
       xs,
-      c.take_wide-rest.ensures.parts,
-      goes-typed_all g.CB.Callbacks.step g.CB.Callbacks.scrolls xs _ some c.take_wide-rest.ensures.handled
+      c.take_run-rest.ensures.parts,
+      goes-typed_all g.CB.Callbacks.step g.CB.Callbacks.scrolls xs _ some c.take_run-rest.ensures.handled
           c.is_live.ensures.live
           (rw c.as_slice.ensures.value at c.run.ensures),
     )
