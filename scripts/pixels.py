@@ -9,7 +9,7 @@ import sys
 import tempfile
 import time
 
-# What tells that xterm has read all: CAN ends what is unfinished, and a mode that no terminal has is asked for (DECRQM).
+# How one knows that xterm has read all: CAN ends what is unfinished, and a mode that no terminal has is asked for (DECRQM).
 QUESTION = b"\x18\x1b[?7654$p"
 ANSWER = b"\x1b[?7654;"
 TRIES = 400
@@ -26,6 +26,16 @@ ATTRIBUTES = {
     53: "overlines",
     58: "colours of underlines",
 }
+# Sequences that a screen of ours doesn't know, and that change what is shown (ECMA-48, DEC STD 070, xterm's ctlseqs).
+UNKNOWN = {
+    "ESC D, E or H": rb"\x1b[DEH]",
+    "ESC # 3 to 6": rb"\x1b#[3-6]",
+    "ESC # 8": rb"\x1b#8",
+    "CSI a, e, g, s, u, I or Z": rb"\x1b\[[0-9;]*[aegsuIZ]",
+    "CSI 4 h or 20 h": rb"\x1b\[(?:4|20)[hl]",
+    "CSI ? 3, 5 or 7 h": rb"\x1b\[\?[357][hl]",
+    "CSI ! p": rb"\x1b\[!p",
+}
 
 
 def is_there():
@@ -41,8 +51,8 @@ def x_server():
     server = subprocess.Popen(words, pass_fds=[writer], stderr=subprocess.DEVNULL)
     os.close(writer)
     try:
-        with os.fdopen(reader, "rb") as told:
-            yield ":" + told.readline().decode().strip()
+        with os.fdopen(reader, "rb") as numbers:
+            yield ":" + numbers.readline().decode().strip()
     finally:
         server.terminate()
         server.wait()
@@ -57,9 +67,9 @@ def feed(name, done):
         left = file.read() + QUESTION
     while left:
         left = left[os.write(1, left[:4096]) :]
-    told = b""
-    while ANSWER not in told:
-        told += os.read(0, 4096)
+    answer = b""
+    while ANSWER not in answer:
+        answer += os.read(0, 4096)
     with open(done, "wb"):
         pass
     time.sleep(60)
@@ -110,25 +120,23 @@ def pixels(dump):
     return [struct.unpack(f"<{width}I", dump[at + y * line : at + y * line + 4 * width]) for y in range(height)]
 
 
-def different_cells(one, other, rows, cols, width=6, height=13):
-    """The cells in which two pictures differ, and those of them whose background differs."""
-    cells, grounds = [], []
-    for row in range(rows):
-        lines = range(row * height, (row + 1) * height)
-        if all(one[y] == other[y] for y in lines):
-            continue
-        for col in range(cols):
-            span = slice(col * width, (col + 1) * width)
-            parts = [[pixel for y in lines for pixel in picture[y][span]] for picture in (one, other)]
-            if parts[0] != parts[1]:
-                cells.append((row, col))
-                grounds += [(row, col)] * (ground(parts[0]) != ground(parts[1]))
-    return cells, grounds
+def cell_of(picture, row, col, width=6, height=13):
+    """The pixels of a cell, line by line."""
+    span = slice(col * width, (col + 1) * width)
+    return [line[span] for line in picture[row * height : (row + 1) * height]]
 
 
-def ground(cell):
-    """The colour that most pixels of a cell have."""
-    return max(set(cell), key=cell.count)
+def different_cells(one, other, rows, cols):
+    """The cells in which two pictures differ."""
+    places = [(row, col) for row in range(rows) for col in range(cols)]
+    return {place for place in places if cell_of(one, *place) != cell_of(other, *place)}
+
+
+def is_blank(cell):
+    """Whether all pixels of a cell have one colour, or all but those of the cursor's frame, which have another."""
+    inside = {pixel for line in cell[1:-1] for pixel in line[1:-1]}
+    frame = {*cell[0], *cell[-1], *(pixel for line in cell for pixel in (line[0], line[-1]))}
+    return len(inside) == len(frame) == 1
 
 
 def unkept(session):
@@ -156,29 +164,56 @@ def unkept(session):
     return re.sub(rb"\x1b\[([0-9;:]*)m", kept, session), sorted(names)
 
 
-def lines_drawn(session):
-    """Whether the session names DEC's line drawing set."""
-    return re.search(rb"\x1b[()*+]0", session) is not None
+def undropped(session):
+    """The session without what a screen of ours drops: U+FFFD, malformed UTF-8, and controls as characters."""
+    return re.sub("[\ufffd\x80-\x9f]", "", session.decode(errors="replace")).encode()
 
 
-def told(display, session, frames, rows, cols):
-    """What is worth saying of how xterm shows a session and the frames of it."""
-    shown = picture(display, frames, rows, cols)
-    cells, grounds = different_cells(picture(display, session, rows, cols), shown, rows, cols)
-    if not cells:
-        return "xterm shows the same pixels"
-    why = []
-    plain, names = unkept(session)
+def unknown(session):
+    """The session without the sequences that a screen of ours doesn't know, and the names of those that it has."""
+    names = [name for name, sequence in UNKNOWN.items() if re.search(sequence, session)]
+    return re.sub(b"|".join(UNKNOWN.values()), b"", session), names
+
+
+def without(session):
+    """The session, each time without one more thing that a screen of ours doesn't show, and the name of that."""
+    kept, names = unkept(session)
     if names:
-        left, grounds = different_cells(picture(display, plain, rows, cols), shown, rows, cols)
-        why.append(f"{len(cells) - len(left)} by attributes that aren't kept: {', '.join(names)}")
-        if not left:
-            return f"in xterm {len(cells)} cells differ, {why[0]}"
-    if lines_drawn(session):
-        why.append("it uses the line drawing set")
-    if grounds:
-        why.append(f"{len(grounds)} by their background")
-    return f"in xterm {len(cells)} cells differ, {'; '.join(why) or 'by something else'}"
+        yield kept, f"attributes that aren't kept: {', '.join(names)}"
+    shown = undropped(kept)
+    if shown != kept:
+        yield shown, "characters that are dropped: U+FFFD, malformed UTF-8, or U+0080 to U+009F"
+    known, names = unknown(shown)
+    if names:
+        yield known, f"sequences that aren't known: {', '.join(names)}"
+
+
+def reasons(display, session, shown, drawn, rows, cols):
+    """Why two pictures of a session differ, and whether that explains each cell."""
+    left, why = different_cells(shown, drawn, rows, cols), []
+    for less, reason in without(session):
+        shown = picture(display, less, rows, cols)
+        fewer = different_cells(shown, drawn, rows, cols)
+        why += [(len(left) - len(fewer), reason)]
+        left = fewer
+    blank = {it for it in left if is_blank(cell_of(shown, *it)) and is_blank(cell_of(drawn, *it))}
+    why += [(len(blank), "the background of blank cells"), (len(left - blank), "something else")]
+    return "; ".join(f"{count} by {reason}" for count, reason in why if count), left == blank
+
+
+def compared(display, session, relayed, filtered, rows, cols):
+    """How xterm shows a session, frames of it, and frames of it with its lines drawn, and whether that is explained."""
+    shown, plain, drawn = (picture(display, it, rows, cols) for it in (session, relayed, filtered))
+    cells, left = (different_cells(shown, it, rows, cols) for it in (plain, drawn))
+    if plain != drawn and not re.search(rb"\x1b[()*+]0", session):
+        return f"in xterm {len(cells)} cells differ, and with lines drawn {len(left)}, though it draws none", False
+    if not cells and not left:
+        return "xterm shows the same pixels", True
+    said = f"in xterm {len(cells)} cells differ"
+    if not left:
+        return f"{said} by line drawing, and with lines drawn none", True
+    why, is_explained = reasons(display, session, shown, drawn, rows, cols)
+    return f"{said}, and with lines drawn {len(left)}: {why}", is_explained
 
 
 if __name__ == "__main__":
