@@ -28,7 +28,7 @@ use Rattle.screen_model.specs.Shown.{shown_state}
 use Rattle.screen_model.proofs.ProperSheets.{proper_new}
 use Rattle.vt100.specs.WriterLaws.{IsUnscrolled}
 use Rattle.vt100.specs.ScreenFields.{IsInside}
-use Rattle.vt100.specs.Copies.{shown_alone, copy_of, same_modes, same_extras, ShowTheSame, IsCopy}
+use Rattle.vt100.specs.Copies.{shown_alone, copy_of, same_modes, same_extras, ShowTheSame}
 use Rattle.vt100.specs.Copies.{EachCopyShowsTheSame}
 use Rattle.vt100.specs.declared.screen.Screen.TheInside.{Inside}
 

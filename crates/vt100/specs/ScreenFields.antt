@@ -1,10 +1,22 @@
 -- How a screen's fields give what a contract sees of it.
 use Rattle.std.specs.Prelude.{◌≡◌, true, false, not}
 use Rattle.vt100_forms.specs.Attrs.{IsProper}
+use Rattle.terminal_model.specs.Term.{Modes}
 use Rattle.vt100_core.specs.Grid.{IsAllocated}
 use Rattle.screen_model.specs.State.{IsProperSheet}
 use Rattle.screen_model.specs.Call.{ScreenView}
+use Rattle.vt100.specs.declared.screen.modes.Modes as declared
 use Rattle.vt100.specs.declared.screen.Screen.TheInside.{Inside}
+
+-- the modes that the code holds as one value
+abbrev pub modes_inside : declared.Modes → Modes
+modes_inside m = record {
+  keypad = m.application_keypad;
+  cursor_keys = m.application_cursor;
+  paste = m.bracketed_paste;
+  mouse = m.mouse_protocol_mode;
+  encoding = m.mouse_protocol_encoding;
+}
 
 abbrev pub screen_inside : Inside → ScreenView
 screen_inside s = record {
@@ -15,13 +27,7 @@ screen_inside s = record {
     attrs = s.attrs;
     saved_attrs = s.saved_attrs;
     hidden = s.hide_cursor;
-    modes = record {
-      keypad = s.application_keypad;
-      cursor_keys = s.application_cursor;
-      paste = s.bracketed_paste;
-      mouse = s.mouse_protocol_mode;
-      encoding = s.mouse_protocol_encoding;
-    };
+    modes = modes_inside s.modes;
     updating = s.synchronized_update;
     style = s.cursor_style;
     last = s.last_char;

@@ -8,6 +8,7 @@ mod controls;
 mod copy;
 mod erase;
 mod getters;
+mod modes;
 mod motion;
 mod private_modes;
 mod readers;
@@ -21,12 +22,13 @@ mod wrapped;
 mod writers;
 
 use crate::error::ScreenError;
+use modes::Modes;
 pub use rows::{Rows, RowsDiff, RowsFormatted};
 use std::alloc::Global;
 use std::marker::Model;
 use vt100_cells::PackedAttrs;
 use vt100_core::attrs::Attrs;
-use vt100_core::{CursorStyle, Grid, MouseProtocolEncoding, MouseProtocolMode, Scrollback, Size};
+use vt100_core::{CursorStyle, Grid, Scrollback, Size};
 pub use wrapped::WrappedScreen;
 
 /// The screen of a terminal: what it shows, and the modes that a program has set.
@@ -41,13 +43,9 @@ pub struct Screen {
     attrs: PackedAttrs,
     saved_attrs: Attrs,
 
-    application_keypad: bool,
-    application_cursor: bool,
     hide_cursor: bool,
-    bracketed_paste: bool,
+    modes: Modes,
     synchronized_update: bool,
-    mouse_protocol_mode: MouseProtocolMode,
-    mouse_protocol_encoding: MouseProtocolEncoding,
     cursor_style: CursorStyle,
 
     last_char: Option<char>,
@@ -94,13 +92,9 @@ impl Screen {
             alternate_screen: false,
             attrs: PackedAttrs::new(),
             saved_attrs: Attrs::new(),
-            application_keypad: false,
-            application_cursor: false,
             hide_cursor: false,
-            bracketed_paste: false,
+            modes: Modes::default(),
             synchronized_update: false,
-            mouse_protocol_mode: MouseProtocolMode::None,
-            mouse_protocol_encoding: MouseProtocolEncoding::Default,
             cursor_style: CursorStyle::Default,
             last_char: None,
             alloc,

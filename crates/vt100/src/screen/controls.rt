@@ -57,7 +57,7 @@ impl<CB: Callbacks> WrappedScreen<CB> {
         ensures { Changes (with_keypad true) self.old self.new }
     {
         if !self.screen.failed {
-            self.screen.application_keypad = true;
+            self.screen.modes.application_keypad = true;
         }
     }
 
@@ -66,7 +66,7 @@ impl<CB: Callbacks> WrappedScreen<CB> {
         ensures { Changes (with_keypad false) self.old self.new }
     {
         if !self.screen.failed {
-            self.screen.application_keypad = false;
+            self.screen.modes.application_keypad = false;
         }
     }
 

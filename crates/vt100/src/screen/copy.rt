@@ -58,13 +58,9 @@ impl Screen {
             alternate_screen: false,
             attrs: copied(&self.attrs),
             saved_attrs: self.saved_attrs,
-            application_keypad: self.application_keypad,
-            application_cursor: self.application_cursor,
             hide_cursor: self.hide_cursor,
-            bracketed_paste: self.bracketed_paste,
+            modes: self.modes,
             synchronized_update: self.synchronized_update,
-            mouse_protocol_mode: self.mouse_protocol_mode,
-            mouse_protocol_encoding: self.mouse_protocol_encoding,
             cursor_style: self.cursor_style,
             last_char: self.last_char,
             alloc: self.alloc,
@@ -98,11 +94,7 @@ impl Screen {
     fn has_same_modes(&self, other: &Screen) -> bool
         ensures { result ≡ same_modes self.now.state.modes other.now.state.modes }
     {
-        self.application_keypad() == other.application_keypad()
-            && self.application_cursor() == other.application_cursor()
-            && self.bracketed_paste() == other.bracketed_paste()
-            && self.mouse_protocol_mode() == other.mouse_protocol_mode()
-            && self.mouse_protocol_encoding() == other.mouse_protocol_encoding()
+        self.modes == other.modes
     }
 
     /// Whether both screens draw with the same attributes.

@@ -121,14 +121,14 @@ impl Screen {
     pub fn application_keypad(&self) -> bool
         ensures { result ≡ self.now.state.modes.keypad }
     {
-        self.application_keypad
+        self.modes.application_keypad
     }
 
     /// Whether the cursor keys send application sequences (DECCKM, mode 1).
     pub fn application_cursor(&self) -> bool
         ensures { result ≡ self.now.state.modes.cursor_keys }
     {
-        self.application_cursor
+        self.modes.application_cursor
     }
 
     /// Whether the cursor is hidden (mode 25 reset).
@@ -142,7 +142,7 @@ impl Screen {
     pub fn bracketed_paste(&self) -> bool
         ensures { result ≡ self.now.state.modes.paste }
     {
-        self.bracketed_paste
+        self.modes.bracketed_paste
     }
 
     /// Whether the program is in a synchronized update: it is drawing, and asks that nothing be shown until it has
@@ -158,14 +158,14 @@ impl Screen {
     pub fn mouse_protocol_mode(&self) -> MouseProtocolMode
         ensures { result ≡ self.now.state.modes.mouse }
     {
-        self.mouse_protocol_mode
+        self.modes.mouse_protocol_mode
     }
 
     /// How they are reported.
     pub fn mouse_protocol_encoding(&self) -> MouseProtocolEncoding
         ensures { result ≡ self.now.state.modes.encoding }
     {
-        self.mouse_protocol_encoding
+        self.modes.mouse_protocol_encoding
     }
 
     /// How the cursor looks (DECSCUSR).

@@ -69,22 +69,22 @@ impl Screen {
         ensures unused { OnErr result (is_unused self.old.state ≡ true) }
     {
         match group {
-            [1] => self.application_cursor = true,
+            [1] => self.modes.application_cursor = true,
             [6] => self.grid.set_origin_mode(true),
-            [9] => self.mouse_protocol_mode = MouseProtocolMode::Press,
+            [9] => self.modes.mouse_protocol_mode = MouseProtocolMode::Press,
             [25] => self.hide_cursor = false,
             [47] => self.enter_alternate_grid()?,
-            [1000] => self.mouse_protocol_mode = MouseProtocolMode::PressRelease,
-            [1002] => self.mouse_protocol_mode = MouseProtocolMode::ButtonMotion,
-            [1003] => self.mouse_protocol_mode = MouseProtocolMode::AnyMotion,
-            [1005] => self.mouse_protocol_encoding = MouseProtocolEncoding::Utf8,
-            [1006] => self.mouse_protocol_encoding = MouseProtocolEncoding::Sgr,
+            [1000] => self.modes.mouse_protocol_mode = MouseProtocolMode::PressRelease,
+            [1002] => self.modes.mouse_protocol_mode = MouseProtocolMode::ButtonMotion,
+            [1003] => self.modes.mouse_protocol_mode = MouseProtocolMode::AnyMotion,
+            [1005] => self.modes.mouse_protocol_encoding = MouseProtocolEncoding::Utf8,
+            [1006] => self.modes.mouse_protocol_encoding = MouseProtocolEncoding::Sgr,
             [1049] => {
                 self.save_cursor();
                 self.clear_alternate_grid();
                 self.enter_alternate_grid()?;
             }
-            [2004] => self.bracketed_paste = true,
+            [2004] => self.modes.bracketed_paste = true,
             [2026] => self.synchronized_update = true,
             _ => return Ok(false),
         }
@@ -98,7 +98,7 @@ impl Screen {
         ensures known { result ≡ is_some (row_of reset_rows group.now) }
     {
         match group {
-            [1] => self.application_cursor = false,
+            [1] => self.modes.application_cursor = false,
             [6] => self.grid.set_origin_mode(false),
             [9] => self.clear_mouse_mode(MouseProtocolMode::Press),
             [25] => self.hide_cursor = true,
@@ -112,7 +112,7 @@ impl Screen {
                 self.exit_alternate_grid();
                 self.restore_cursor();
             }
-            [2004] => self.bracketed_paste = false,
+            [2004] => self.modes.bracketed_paste = false,
             [2026] => self.synchronized_update = false,
             _ => return false,
         }
@@ -123,8 +123,8 @@ impl Screen {
     fn clear_mouse_mode(&mut self, mode: MouseProtocolMode)
         ensures { self.new ≡ record self.old { state = mouse_reset mode self.old.state } }
     {
-        if self.mouse_protocol_mode == mode {
-            self.mouse_protocol_mode = MouseProtocolMode::None;
+        if self.modes.mouse_protocol_mode == mode {
+            self.modes.mouse_protocol_mode = MouseProtocolMode::None;
         }
     }
 
@@ -132,8 +132,8 @@ impl Screen {
     fn clear_mouse_encoding(&mut self, encoding: MouseProtocolEncoding)
         ensures { self.new ≡ record self.old { state = encoding_reset encoding self.old.state } }
     {
-        if self.mouse_protocol_encoding == encoding {
-            self.mouse_protocol_encoding = MouseProtocolEncoding::Default;
+        if self.modes.mouse_protocol_encoding == encoding {
+            self.modes.mouse_protocol_encoding = MouseProtocolEncoding::Default;
         }
     }
 

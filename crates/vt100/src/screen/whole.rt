@@ -8,12 +8,13 @@ ghost use Rattle.vt100.specs.declared.error.ScreenError.TheVariants.{Memory};
 
 use crate::callbacks::Callbacks;
 use crate::error::ScreenError;
+use crate::screen::modes::Modes;
 use crate::screen::reported::resize_both;
 use crate::screen::{Screen, WrappedScreen, note_failure};
 use std::num::NonZeroU16;
 use vt100_cells::PackedAttrs;
 use vt100_core::attrs::Attrs;
-use vt100_core::{CursorStyle, Grid, MouseProtocolEncoding, MouseProtocolMode, Scrollback, Size};
+use vt100_core::{CursorStyle, Grid, Scrollback, Size};
 
 impl Screen {
     /// Gives the screen another size, and reports the rows that leave it to no callbacks. A synchronized update of the
@@ -110,13 +111,9 @@ impl Screen {
         self.other_grid = Grid::new(self.alloc, self.grid.size(), Scrollback::Disabled);
         self.attrs = PackedAttrs::new();
         self.saved_attrs = Attrs::new();
-        self.application_keypad = false;
-        self.application_cursor = false;
         self.hide_cursor = false;
-        self.bracketed_paste = false;
+        self.modes = Modes::default();
         self.synchronized_update = false;
-        self.mouse_protocol_mode = MouseProtocolMode::None;
-        self.mouse_protocol_encoding = MouseProtocolEncoding::Default;
         self.cursor_style = CursorStyle::Default;
         self.last_char = None;
     }
@@ -134,13 +131,9 @@ impl Screen {
             alternate_screen: self.alternate_screen,
             attrs: PackedAttrs::of(self.attrs.attrs()),
             saved_attrs: self.saved_attrs,
-            application_keypad: self.application_keypad,
-            application_cursor: self.application_cursor,
             hide_cursor: self.hide_cursor,
-            bracketed_paste: self.bracketed_paste,
+            modes: self.modes,
             synchronized_update: self.synchronized_update,
-            mouse_protocol_mode: self.mouse_protocol_mode,
-            mouse_protocol_encoding: self.mouse_protocol_encoding,
             cursor_style: self.cursor_style,
             last_char: self.last_char,
             alloc: self.alloc,

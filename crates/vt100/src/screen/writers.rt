@@ -170,16 +170,18 @@ impl Screen {
     fn write_input_mode_formatted(&self, contents: &mut String) -> Result<(), GridError>
         ensures { Writes (input_mode_formatted (shown_state self.now.state)) contents.old result contents.new }
     {
-        ApplicationKeypad::new(self.application_keypad).write_buf(contents)?;
-        ApplicationCursor::new(self.application_cursor).write_buf(contents)?;
-        BracketedPaste::new(self.bracketed_paste).write_buf(contents)?;
-        term::MouseProtocolMode::new(self.mouse_protocol_mode, MouseProtocolMode::None).write_buf(
+        let modes = self.modes;
+        ApplicationKeypad::new(modes.application_keypad).write_buf(contents)?;
+        ApplicationCursor::new(modes.application_cursor).write_buf(contents)?;
+        BracketedPaste::new(modes.bracketed_paste).write_buf(contents)?;
+        term::MouseProtocolMode::new(modes.mouse_protocol_mode, MouseProtocolMode::None).write_buf(
             contents,
         )?;
         term::MouseProtocolEncoding::new(
-            self.mouse_protocol_encoding,
+            modes.mouse_protocol_encoding,
             MouseProtocolEncoding::Default,
-        ).write_buf(contents)?;
+        )
+        .write_buf(contents)?;
         term::CursorStyle::new(self.cursor_style, CursorStyle::Default).write_buf(contents)
     }
 
@@ -199,28 +201,30 @@ impl Screen {
         ensures empty { bytes_of (input_mode_diff (shown_state prev.now.state) (shown_state self.now.state)) ≡ []
             → IsOk result }
     {
-        let keypad = ApplicationKeypad::new(self.application_keypad);
+        let old = prev.modes;
+        let now = self.modes;
+        let keypad = ApplicationKeypad::new(now.application_keypad);
         write_change(
             contents,
-            prev.application_keypad,
-            self.application_keypad,
+            old.application_keypad,
+            now.application_keypad,
             &keypad,
         )?;
-        let cursor_keys = ApplicationCursor::new(self.application_cursor);
+        let cursor_keys = ApplicationCursor::new(now.application_cursor);
         write_change(
             contents,
-            prev.application_cursor,
-            self.application_cursor,
+            old.application_cursor,
+            now.application_cursor,
             &cursor_keys,
         )?;
-        let paste = BracketedPaste::new(self.bracketed_paste);
-        write_change(contents, prev.bracketed_paste, self.bracketed_paste, &paste)?;
-        term::MouseProtocolMode::new(self.mouse_protocol_mode, prev.mouse_protocol_mode).write_buf(
+        let paste = BracketedPaste::new(now.bracketed_paste);
+        write_change(contents, old.bracketed_paste, now.bracketed_paste, &paste)?;
+        term::MouseProtocolMode::new(now.mouse_protocol_mode, old.mouse_protocol_mode).write_buf(
             contents,
         )?;
         term::MouseProtocolEncoding::new(
-            self.mouse_protocol_encoding,
-            prev.mouse_protocol_encoding,
+            now.mouse_protocol_encoding,
+            old.mouse_protocol_encoding,
         ).write_buf(contents)?;
         term::CursorStyle::new(self.cursor_style, prev.cursor_style).write_buf(contents)
     }
