@@ -22,10 +22,9 @@ impl<CB: Callbacks> WrappedScreen<CB> {
             self.old.screen self.new.callbacks self.new.screen) }
         ensures none { IfNone result (self.new ≡ self.old) }
     {
-        if next_of(text, 1).is_some() {
-            self.print_narrow(text)
-        } else {
-            self.print_wide(text)
+        match self.print_narrow(text) {
+            Some(rest) => Some(rest),
+            None => self.print_wide(text),
         }
     }
 
@@ -55,7 +54,7 @@ impl<CB: Callbacks> WrappedScreen<CB> {
         ensures none { IfNone result (self.new ≡ self.old) }
     {
         let (_, cols) = self.screen.size();
-        if cols.get() < 2 || next_of(text, 2).is_none() {
+        if cols.get() < 2 {
             return None;
         }
         let mut run = ArrayVec::new();
