@@ -1,7 +1,7 @@
 -- A call from C is one call of the library, or none if nothing changes.
-use Rattle.std.proofs.Common.{◌≡◌, ◌≢◌, ◌⊎◌, ℕ, zero, suc, ◌+◌, ◌-◌, ◌*◌, ◌<◌, ◌≤◌, ◌==◌, ℤ, pos, negsuc, List, [], ◌∷◌, ◌++◌, map}
-use Rattle.std.proofs.Common.{length, take, drop, min, nat_le, Result, Ok, Err, Option, Some, None, MatchOption}
-use Rattle.std.proofs.Common.{if◌then◌else◌, inl, inr, refl, sym, ap, subst, arith}
+use Rattle.std.proofs.Common.{◌≡◌, ◌≢◌, ◌⊎◌, ℕ, zero, suc, ◌+◌, ◌<◌, ◌≤◌, ℤ, pos, negsuc, List, [], ◌∷◌}
+use Rattle.std.proofs.Common.{length, drop, min, Result, Ok, Err, Option, Some, None}
+use Rattle.std.proofs.Common.{inl, inr, refl, sym, ap, subst, arith}
 use Rattle.std.proofs.lemmas.Bool.Decides.{nat_tests}
 use Rattle.std.specs.declared.io.Error.{Error}
 use Rattle.screen_model.specs.Holds.{IsSide}
@@ -13,16 +13,15 @@ use Rattle.termrelay.specs.Calls as call
 use Rattle.termrelay.specs.Calls.{Call, WritesAsReported, taken_by, IsCall, Serves, done, replied}
 use Rattle.termrelay.specs.Log as log
 use Rattle.termrelay.specs.Log.{SessionView, change_last, grown, is_of, RunsLogged}
-use Rattle.termrelay.specs.declared.answer.Answer.{Answer}
 use Rattle.termrelay.specs.declared.call.Take.{Take}
 use Rattle.termrelay.specs.declared.call.Take.TheVariants.{Bytes, Fault}
 use Rattle.termrelay.specs.declared.call.Reply.{Reply}
-use Rattle.termrelay.specs.declared.call.Reply.TheVariants.{Done, Attached as WasAttached, Answered, Refused}
+use Rattle.termrelay.specs.declared.call.Reply.TheVariants.{Attached as WasAttached, Answered, Refused}
 use Rattle.termrelay.specs.declared.error.HubError.{HubError}
 use Rattle.termrelay.specs.declared.error.HubError.TheVariants.{Memory, Failed, UnknownClient, Write}
 use Rattle.c_objects.specs.Codes.{IsRefusal, ok, unknown_client, not_owed, code_of}
-use Rattle.c_objects.specs.Hubs.{Feeds, Resizes, Attached, Attaches, Detaches, Frames, Sends}
-use Rattle.c_objects.specs.Runs.{FromC, Feed, Resize, Attach, Detach, Frame, Sent, IsFromC, Does, sessions_after, RunsFromC}
+use Rattle.c_objects.specs.Hubs.{Attached, Sends}
+use Rattle.c_objects.specs.Runs.{FromC, Feed, Resize, Attach, Detach, Frame, Sent, IsFromC, Does, sessions_after}
 use Rattle.c_objects.specs.Runs.{IsCallOf, AreCallsOf, none, asks, refuses, EachRunFromCIsLogged}
 
 -- the hub h and the sessions ss become g and ts by the one call that a call from C is, or by none if that is refused

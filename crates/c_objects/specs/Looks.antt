@@ -1,5 +1,5 @@
 -- The values that C reads from a screen or a view.
-use Rattle.std.specs.Prelude.{ℕ, Bool, true, false, List, length, replicate, encode_utf8_all, min, if◌then◌else◌}
+use Rattle.std.specs.Prelude.{ℕ, Bool, length, replicate, encode_utf8_all, if◌then◌else◌}
 use Rattle.vt100_forms.specs.declared.attrs.Color.{Color}
 use Rattle.vt100_forms.specs.declared.attrs.Color.TheVariants.{Default, Idx, Rgb}
 use Rattle.vt100_forms.specs.declared.modes.MouseProtocolMode.{MouseProtocolMode}

@@ -2,7 +2,7 @@
 use Rattle.std.specs.Prelude.{◌≡◌, ◌⊎◌, ℕ, ◌<◌, ◌*◌, ℤ, true, false, List, [], ◌∷◌, ◌++◌, length, min, Option, Some, None, Ok, Err, Result}
 use Rattle.std.specs.Prelude.{String}
 use Rattle.std.specs.Global.{Global}
-use Rattle.std.specs.Prelude.{OnOk, IsOk, MatchOption, encode_utf8_all}
+use Rattle.std.specs.Prelude.{OnOk, IsOk, encode_utf8_all}
 use Rattle.screen_drawing.specs.Screen as picture
 use Rattle.vt100_core.specs.Grid.{IsShownWide}
 use Rattle.screen_model.specs.Call.{ScreenView}

@@ -1,5 +1,5 @@
 -- Texts that are copied into the caller's memory.
-use Rattle.std.specs.Prelude.{◌≡◌, ◌⊎◌, ℕ, ℤ, List, ◌++◌, length, min, take, drop, Ok, Err, Result, String, string_bytes}
+use Rattle.std.specs.Prelude.{◌≡◌, ◌≢◌, ◌⊎◌, ℕ, ℤ, List, [], ◌++◌, length, min, take, drop, Ok, Err, Result, String, string_bytes}
 use Rattle.vt100.specs.declared.error.ScreenError.{ScreenError}
 use Rattle.c_objects.specs.Codes.{ok, memory, screen_refusal}
 
@@ -11,9 +11,10 @@ with_prefix from to = let n = min (length from) (length to) in take n from ++ dr
 abbrev pub IsCopied : List ℕ → List ℕ → List ℕ → ℕ → Type 0
 IsCopied text old new count = (new ≡ with_prefix text old) × (count ≡ length text)
 
--- the text is copied, or an allocation failed
+-- the text is copied, or an allocation failed; an empty text needs none
 abbrev pub CopiesText : List ℕ → List ℕ → List ℕ → ℕ → ℤ → Type 0
-CopiesText text old new count code = ((code ≡ ok) × IsCopied text old new count) ⊎ (code ≡ memory)
+CopiesText text old new count code =
+    ((code ≡ ok) × IsCopied text old new count) ⊎ ((text ≢ []) × (code ≡ memory))
 
 -- the text that the library's call returns is copied
 abbrev pub Copies : {Z : Type 0} → Result (String Z) ScreenError → List ℕ → List ℕ → ℕ → ℤ → Type 0
