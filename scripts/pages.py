@@ -12,6 +12,7 @@ FILES = "files"
 NO_LINE_DRAWING = (
     "no-line-drawing", None, None, "Letters stay where a program draws lines with DEC's special graphics",
 )
+HELP = ("help", None, None, "Print the help")
 THEMES = "xterm light asciinema dracula gruvbox-dark monokai nord solarized-dark solarized-light tango"
 
 # Each program: what it does, its words in order, its options (name, value, what completes the value, help), and notes.
@@ -25,13 +26,13 @@ PROGRAMS = {
     "screenlive": (
         "relay a program's output as it comes, in whole frames",
         SIZE,
-        [NO_LINE_DRAWING],
+        [NO_LINE_DRAWING, HELP],
         "Reads standard input, and writes a frame after each read.",
     ),
     "screencat": (
         "print the screen that a program's output leaves",
         SIZE,
-        [NO_LINE_DRAWING],
+        [NO_LINE_DRAWING, HELP],
         "Reads standard input to its end, and prints the rows of the screen.",
     ),
     "screentext": (
@@ -56,8 +57,8 @@ PROGRAMS = {
             ("kind", "NAME", "asciicast script ttyrec raw", "What the recording is"),
             ("timing", "FILE", FILES, "The timing file of a typescript"),
             NO_LINE_DRAWING,
-            ("help", None, None, "Tell the words"),
-            ("version", None, None, "Tell the version"),
+            HELP,
+            ("version", None, None, "Print the version"),
         ],
         "Reads standard input to its end: an asciicast v2 or v3, a typescript, a ttyrec, or raw bytes.",
     ),

@@ -10,8 +10,16 @@ is_size() {
     [ "$1" -ge 1 ] && [ "$1" -le 65535 ]
 }
 
-# Whether the words are ROWS COLS, or these with --no-line-drawing before or after them.
+# Whether the words are --help or -h.
+asks_for_help() {
+    [ $# -eq 1 ] && { [ "$1" = --help ] || [ "$1" = -h ]; }
+}
+
+# Whether the words ask for the help, or are ROWS COLS, or these with --no-line-drawing before or after them.
 are_screen_words() {
+    if asks_for_help "$@"; then
+        return 0
+    fi
     if [ $# -eq 3 ] && [ "$1" = --no-line-drawing ]; then
         shift
     elif [ $# -eq 3 ] && [ "$3" = --no-line-drawing ]; then
@@ -65,7 +73,11 @@ run_unproved() {
     trap 'exit 129' HUP
     trap 'exit 130' INT
     trap 'exit 143' TERM
-    cat > "$folder/input"
+    if asks_for_help "$@"; then
+        : > "$folder/input"
+    else
+        cat > "$folder/input"
+    fi
     if [ "$(wc -c < "$folder/input")" -ge 67108864 ]; then
         echo "$name: the input has 64 MiB or more, which is too much for rt try" >&2
         exit 1

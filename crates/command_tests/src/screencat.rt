@@ -1,7 +1,7 @@
 //! Whole commands, byte for byte, and faults of readers and writers in mid-stream.
 
 use crate::same::{Row, overlong, same, written};
-use screencat_command::command;
+use screencat_command::{HELP, command};
 use scripted_io::{LimitedWriter, ReadStep, ScriptedReader};
 use std::io::ErrorKind;
 use std::process::Abort;
@@ -24,6 +24,7 @@ const COMMANDS: &[Row] = &[
         b"",
     ),
     (&["1", "1"], b"", 0, b"\n", b""),
+    (&["--help"], b"hi", 0, HELP, b""),
     (&["0", "80"], b"hi", 2, b"", USAGE),
     (&["2"], b"hi", 2, b"", USAGE),
     (&["show", "2", "4"], b"hi", 2, b"", USAGE),

@@ -1,7 +1,7 @@
 //! A live relay: a frame after each read, flushed, and faults of readers and writers in mid-stream.
 
 use crate::same::same;
-use screenlive_command::command;
+use screenlive_command::{HELP, command};
 use scripted_io::{LimitedWriter, ReadStep, ScriptedReader};
 use std::io::ErrorKind;
 use std::process::Abort;
@@ -106,10 +106,11 @@ fn a_box_is_drawn_with_lines_or_letters(rt: HostRuntime) {
 // The words, how much a writer takes, whether a flush goes well; and then status, bytes taken, flushes, and the line.
 #[test]
 fn a_failed_write_or_flush_is_reported(rt: HostRuntime) -> Result<(), Fail> {
-    let rows: [(&[&str], usize, bool, u8, usize, u64, &[u8]); 5] = [
+    let rows: [(&[&str], usize, bool, u8, usize, u64, &[u8]); 6] = [
         (&["2", "4"], 100, true, 0, 48, 1, b""),
         (&["2", "4"], 10, true, 1, 10, 0, b"screenlive: write\n"),
         (&["2", "4"], 100, false, 1, 48, 1, b"screenlive: write\n"),
+        (&["-h"], 2000, true, 0, HELP.len(), 1, b""),
         (&["0", "4"], 100, true, 2, 0, 0, USAGE),
         (&["2", "4", "--line-drawing"], 100, true, 2, 0, 0, USAGE),
     ];

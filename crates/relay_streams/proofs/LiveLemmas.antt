@@ -30,7 +30,8 @@ use Rattle.relay_streams.specs.Sessions.{AreRelayed, EndsOverlong}
 use Rattle.relay_streams.specs.Turns.{Relaying, Turned}
 use Rattle.relay_streams.proofs.FrameLists.{frames_of, answers_of, base_of, frames-more, fits-push, base-push}
 use Rattle.line_drawing.proofs.LineLemmas.{concat-passed, none-passed, passed-cut, passed-push}
-use Rattle.relay_streams.proofs.OutcomeLemmas.{if_known, Appends-kept}
+use Rattle.relay_streams.proofs.OutcomeLemmas.{if_known}
+use Rattle.relay_streams.proofs.OutputLemmas.{Appends-kept}
 use Rattle.relay_streams.proofs.PieceLemmas.{Consumes-more, Consumes-none, kept-Consumes, left-known, all-taken}
 use Rattle.relay_streams.proofs.SessionLemmas.{frames-are-relayed, ends-overlong, frames-of, relayed-by}
 

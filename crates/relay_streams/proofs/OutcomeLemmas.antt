@@ -27,19 +27,14 @@ use Rattle.relay_streams.proofs.PieceLemmas.{drained-pieces, drained-prefix, beg
 use Rattle.relay_streams.proofs.FrameLists.{frames_of, frames_from, answers_of, answers_from, base_of, relay_text}
 use Rattle.relay_streams.proofs.FrameLists.{frames-more, answers-more, one-there}
 use Rattle.relay_streams.proofs.SessionLemmas.{relayed-answers, frames-of, pumped-of, overlong-of, relayed-as}
-use Rattle.byte_sinks.proofs.SendLemmas.{sends-appends, sends-prefix, text-appends, text-prefix}
+use Rattle.byte_sinks.proofs.SendLemmas.{sends-appends, sends-prefix, text-prefix}
 use Rattle.relay_streams.proofs.LawLemmas.{texts_are_one}
+use Rattle.relay_streams.proofs.OutputLemmas.{Appends-kept, prints-text}
 
 pub if_known : (known : Option (List ℕ)) (P : List ℕ → Type 0) → ((bytes : List ℕ) → known ≡ Some bytes → P bytes)
     → IfSome known P
 if_known None P all = tt
 if_known (Some bytes) P all = all bytes refl
-
-pub Appends-kept : (a b c : Option (List ℕ)) (xs : List ℕ) → Appends a b xs → Keeps b c → Appends a c xs
-Appends-kept None b c xs h k = tt
-Appends-kept (Some a) None c xs h k = absurd h
-Appends-kept (Some a) (Some b) None xs h k = absurd k
-Appends-kept (Some a) (Some b) (Some c) xs h k = k ∙ h
 
 Keeps-prefix : (a b c : Option (List ℕ)) (xs : List ℕ) → TakesPrefix a b xs → Keeps b c → TakesPrefix a c xs
 Keeps-prefix a b c xs (n, took) k = (n, Appends-kept a b c (take n xs) took k)
@@ -194,13 +189,6 @@ module _ (S W : Type 0) (gives : S → ℕ → Result (List ℕ) Error → S →
       relays-long rows cols s w answer t v r,
     )
 
-    pub prints-text : (w : W) (text : List ℕ) (answer : Result (Unit {0}) RelayError) (v : W)
-        → Prints takes flushes w text answer v → OnOk answer (Appends (contents w) (contents v) text)
-    prints-text w text answer v (shown.printed m sends flush) =
-        Appends-kept (contents w) (contents m) (contents v) text
-        (text-appends W takes contents took w m text (Ok tt) sends refl) (flushed m (Ok tt) v flush)
-    prints-text w text answer v _ = tt
-
     pub prints-prefix : (w : W) (text : List ℕ) (answer : Result (Unit {0}) RelayError) (v : W)
         → Prints takes flushes w text answer v → TakesPrefix (contents w) (contents v) text
     prints-prefix w text answer v (shown.stopped e sends) = text-prefix W takes contents took w v text (Err e) sends
@@ -228,7 +216,7 @@ module _ (S W : Type 0) (gives : S → ℕ → Result (List ℕ) Error → S →
         → OnOk answer (IfSome (left s) (λ bytes. (text : List ℕ) × IsTextShown z (pieces_of bytes) text
         × Appends (contents w) (contents v) text))
     shows-text z s w answer t v (shown.shown pieces text d is prints) =
-        on-ok answer (left s) _ (Appends (contents w) (contents v) text) (prints-text w text answer v prints)
+        on-ok answer (left s) _ (Appends (contents w) (contents v) text) (prints-text W takes flushes contents took flushed w text answer v prints)
         (λ bytes known took. (text, whole-shown z s t pieces text bytes d known is, took))
     shows-text z s w answer t v _ = tt
 

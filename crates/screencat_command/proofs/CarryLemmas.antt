@@ -24,7 +24,7 @@ use Rattle.relay_streams.specs.Sessions.{AreRelayed, EndsOverlong, IsRelayed}
 use Rattle.relay_streams.specs.Turns.{Relaying}
 use Rattle.relay_streams.proofs.FrameLists.{frames_of, answers_of, base_of, frames-more, base-push, fits-push}
 use Rattle.line_drawing.proofs.LineLemmas.{passed-push}
-use Rattle.relay_streams.proofs.OutcomeLemmas.{prints-text}
+use Rattle.relay_streams.proofs.OutputLemmas.{prints-text}
 use Rattle.relay_streams.proofs.PieceLemmas.{concat-push, drained-pieces}
 use Rattle.relay_streams.proofs.SessionLemmas.{ends-overlong, frames-are-relayed, frames-of, relayed-as, relayed-by}
 use Rattle.relay_streams.proofs.ViewLemmas.{not_led, led_more}
@@ -102,7 +102,7 @@ module _ (S W : Type 0) (gives : S → ℕ → Result (List ℕ) Error → S →
               (drained-pieces S gives left gave s read.0 t bytes read.1 known) joined;
           shown = shown;
         })
-        (prints-text S W gives takes flushes contents left gave took flushed w text answer v prints)
+        (prints-text W takes flushes contents took flushed w text answer v prints)
     far-text lines rows cols s w answer t v _ = tt
 
 -- a writer that held nothing holds what was pumped whole

@@ -1,2 +1,1 @@
 pub mod CarryLemmas
-mod WordLemmas

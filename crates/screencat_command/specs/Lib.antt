@@ -1,3 +1,2 @@
 pub mod Carried
 pub mod Command
-pub mod Words

@@ -1,25 +1,26 @@
 //! The command line.
 
-ghost use Rattle.std.specs.Prelude.{◌≡◌, ℕ, List, map, None, IfSome};
-ghost use Rattle.std.specs.Io.KnownBytes.{Appends};
+ghost use Rattle.std.specs.Prelude.{◌≡◌, map, None, IfSome, OnOk};
 ghost use Rattle.byte_sinks.specs.Pump.{Tells};
-ghost use Rattle.screencat_command.specs.Carried.{IsFarText};
-ghost use Rattle.screencat_command.specs.Command.{CarriesOut, fault_line, usage_line};
-ghost use Rattle.screencat_command.specs.Words.{order_of};
+ghost use Rattle.screen_words.specs.Words.{invocation_of, with_numbers};
+ghost use Rattle.screencat_command.specs.Command.{CarriesOut, Does, HasWritten, fault_line, usage_line};
 
 use crate::far_screen::print_far_screen;
-use crate::words::parse;
+use crate::help::HELP;
 use byte_sinks::{ByteSink, FlushSink};
 use command_line::{FAULT, SUCCESS, USAGE, report};
-use relay_streams::{RelayError, Source};
+use relay_streams::{RelayError, Source, print_text};
+use screen_words::{Invocation, parse};
 use std::alloc::Global;
 
 /// Runs the program on the words after its name, and answers its exit status.
 ///
+/// `ROWS COLS [--no-line-drawing]` prints a screen; the option may also come first. `--help` or `-h` prints [`HELP`], and
+/// then nothing is read. Any other command line gets the usage line on `errors`, and then nothing is read or written.
+///
 /// A fault is reported in a line on `errors`: `screencat: read`, `write`, `memory`, `too many reads` or
-/// `frame too long`. Any other command line than `ROWS COLS [--no-line-drawing]` gets the usage line there, and then
-/// nothing is read or written; the option may also come first. Such a line is written whole, unless a write of it fails
-/// or takes nothing; that changes nothing else.
+/// `frame too long`. A line on `errors` is written whole, unless a write of it fails or takes nothing; that changes
+/// nothing else.
 pub fn command<S: Source, W: FlushSink, V: ByteSink>(
     alloc: Global,
     words: &[&str],
@@ -27,22 +28,40 @@ pub fn command<S: Source, W: FlushSink, V: ByteSink>(
     output: &mut W,
     errors: &mut V,
 ) -> u8
-    ensures usage { order_of (map (λ w. w.now) words.now) ≡ None → (result ≡ 2) × (input.new ≡ input.old)
+    ensures usage { invocation_of (map (λ w. w.now) words.now) ≡ None → (result ≡ 2) × (input.new ≡ input.old)
         × (output.new ≡ output.old) × Tells V.takes errors.old usage_line errors.new }
-    ensures does { IfSome (order_of (map (λ w. w.now) words.now)) (λ order. CarriesOut S.gives W.takes W.flushes V.takes order
-        input.old output.old errors.old result input.new output.new errors.new) }
-    ensures done { result ≡ 0 → IfSome (order_of (map (λ w. w.now) words.now))
-        (λ order. IfSome (S.left input.old) (λ bytes. (text : List ℕ)
-        × IsFarText order.lines order.rows order.cols bytes text
-        × Appends (W.contents output.old) (W.contents output.new) text)) }
+    ensures does { IfSome (invocation_of (map (λ w. w.now) words.now)) (λ invocation. CarriesOut S.gives W.takes W.flushes
+        V.takes invocation input.old output.old errors.old result input.new output.new errors.new) }
+    ensures done { result ≡ 0 → IfSome (invocation_of (map (λ w. w.now) words.now))
+        (λ invocation. HasWritten invocation (S.left input.old) (W.contents output.old) (W.contents output.new)) }
 {
-    let Some(order) = parse(words) else {
+    let Some(invocation) = parse(words) else {
         report(errors, b"usage: screencat ROWS COLS [--no-line-drawing]\n");
         return USAGE;
     };
-    match print_far_screen(alloc, order.rows, order.cols, order.lines, input, output) {
+    match carry_out(alloc, invocation, input, output) {
         Ok(()) => SUCCESS,
         Err(error) => report_fault(errors, error),
+    }
+}
+
+// Prints the help or the screen.
+fn carry_out<S: Source, W: FlushSink>(
+    alloc: Global,
+    invocation: Invocation,
+    input: &mut S,
+    output: &mut W,
+) -> Result<(), RelayError>
+    ensures does { Does S.gives W.takes W.flushes (with_numbers invocation) input.old output.old result input.new
+        output.new }
+    ensures done { OnOk result (HasWritten (with_numbers invocation) (S.left input.old) (W.contents output.old)
+        (W.contents output.new)) }
+{
+    match invocation {
+        Invocation::Help => print_text(HELP, output),
+        Invocation::Show(screen) => {
+            print_far_screen(alloc, screen.rows, screen.cols, screen.lines, input, output)
+        }
     }
 }
 

@@ -7,7 +7,8 @@
 
 mod commands;
 mod far_screen;
-mod words;
+mod help;
 
 pub use commands::{command, report_fault};
 pub use far_screen::print_far_screen;
+pub use help::HELP;

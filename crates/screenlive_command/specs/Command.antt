@@ -1,48 +1,15 @@
 -- What `screenlive` answers, reads, writes and reports.
-use Rattle.std.specs.Prelude.{◌≡◌, ℕ, Bool, List, [], ◌∷◌, ◌++◌, Option, Some, None, Ok, Err, Result, codes}
-use Rattle.std.specs.Prelude.{if◌then◌else◌}
-use Rattle.std.specs.Str.{bytes_eq}
+use Rattle.std.specs.Prelude.{◌≡◌, ℕ, List, [], ◌∷◌, ◌++◌, Option, Ok, Err, Result, IfSome, codes}
+use Rattle.std.specs.Io.KnownBytes.{Appends}
 use Rattle.std.specs.declared.io.Error.{Error}
 use Rattle.byte_sinks.specs.Pump.{Tells}
-use Rattle.command_line.specs.Numbers.{size_in}
+use Rattle.line_drawing.specs.Lines.{passed}
 use Rattle.relay_streams.specs.declared.error.RelayError.{RelayError}
 use Rattle.relay_streams.specs.declared.error.RelayError.TheVariants.{Read, Write, Memory, TooManyReads, FrameTooLong}
-use Rattle.line_drawing.specs.declared.lines.LineDrawing.{LineDrawing}
-use Rattle.line_drawing.specs.declared.lines.LineDrawing.TheVariants.{Kept, Drawn}
-use Rattle.relay_streams.specs.Live.{RelaysThrough}
-
--- what is asked for: whether lines are drawn, and the size of the screen
-pub record Order : Type 0 where
-  pub lines : LineDrawing
-  pub rows : ℕ
-  pub cols : ℕ
-
-abbrev pub sized : LineDrawing → Option ℕ → Option ℕ → Option Order
-sized lines (Some rows) (Some cols) = Some (record { lines = lines; rows = rows; cols = cols })
-sized lines (Some rows) None = None
-sized lines None cols = None
-
-abbrev pub is_no_line_drawing : List ℕ → Bool
-is_no_line_drawing word = bytes_eq word (codes "--no-line-drawing")
-
--- `ROWS COLS`
-abbrev pub size_order : List (List ℕ) → Option Order
-size_order (rows ∷ cols ∷ []) = sized Drawn (size_in rows) (size_in cols)
-size_order _ = None
-
--- the same with the option `--no-line-drawing` before or after them
-abbrev pub option_order : List (List ℕ) → Option Order
-option_order (a ∷ b ∷ c ∷ []) =
-    if is_no_line_drawing a then sized Kept (size_in b) (size_in c)
-    else (if is_no_line_drawing c then sized Kept (size_in a) (size_in b) else None)
-option_order _ = None
-
-abbrev pub first_of : Option Order → Option Order → Option Order
-first_of (Some order) other = Some order
-first_of None other = other
-
-abbrev pub order_of : List (List ℕ) → Option Order
-order_of words = first_of (size_order words) (option_order words)
+use Rattle.relay_streams.specs.Live.{IsLiveText, RelaysThrough}
+use Rattle.relay_streams.specs.Shown.{Prints}
+use Rattle.screen_words.specs.Words.{Invocation, help, show}
+use Rattle.screenlive_command.specs.declared.help.TheConstants.{HELP}
 
 -- a line of these characters
 abbrev pub line : List ℕ → List ℕ
@@ -65,12 +32,27 @@ abbrev pub Reports : {V : Type 0} → (V → List ℕ → Result ℕ Error → V
 Reports takes (Ok u) e status f = (status ≡ 0) × (f ≡ e)
 Reports takes (Err fault) e status f = (status ≡ 1) × Tells takes e (fault_line fault) f
 
+-- From a source and a writer, it answers so and leaves both so: the help was printed and nothing was read, or what was
+-- read was relayed.
+abbrev pub Does : {S W : Type 0} → (S → ℕ → Result (List ℕ) Error → S → Type 0)
+    → (W → List ℕ → Result ℕ Error → W → Type 0) → (W → Result (Unit {0}) Error → W → Type 0) → Invocation → S → W
+    → Result (Unit {0}) RelayError → S → W → Type 0
+Does gives takes flushes help s w answer t v = (t ≡ s) × Prints takes flushes w HELP.now answer v
+Does gives takes flushes (show screen) s w answer t v =
+    RelaysThrough screen.lines gives takes flushes screen.rows screen.cols s w answer t v
+
+-- what an output has before and after, where these bytes were left in the input and all went well
+abbrev pub HasWritten : Invocation → Option (List ℕ) → Option (List ℕ) → Option (List ℕ) → Type 0
+HasWritten help left old new = Appends old new HELP.now
+HasWritten (show screen) left old new = IfSome left (λ bytes. (text : List ℕ)
+    × IsLiveText screen.rows screen.cols (passed screen.lines [] bytes) text × Appends old new text)
+
 -- The command was carried out, from a source, a writer and an error output: what was answered, and so what was read,
 -- written and reported.
 pub record CarriesOut {S W V : Type 0} (gives : S → ℕ → Result (List ℕ) Error → S → Type 0)
     (takes : W → List ℕ → Result ℕ Error → W → Type 0) (flushes : W → Result (Unit {0}) Error → W → Type 0)
-    (reports : V → List ℕ → Result ℕ Error → V → Type 0) (order : Order) (s : S) (w : W) (e : V) (status : ℕ) (t : S)
-    (v : W) (f : V) : Type 0 where
+    (reports : V → List ℕ → Result ℕ Error → V → Type 0) (invocation : Invocation) (s : S) (w : W) (e : V) (status : ℕ)
+    (t : S) (v : W) (f : V) : Type 0 where
   pub answer : Result (Unit {0}) RelayError
-  pub does : RelaysThrough order.lines gives takes flushes order.rows order.cols s w answer t v
+  pub does : Does gives takes flushes invocation s w answer t v
   pub reported : Reports reports answer e status f

@@ -1,36 +1,27 @@
 //! The command line of `screenlive`: its words, its statuses, and the lines that report a fault.
 #![tactic(auto)]
 
-ghost use Rattle.std.specs.Prelude.{◌≡◌, ℕ, List, [], map, None, IfSome};
-ghost use Rattle.std.specs.Io.KnownBytes.{Appends};
-ghost use Rattle.std.specs.Option.{option_map};
+mod help;
+
+ghost use Rattle.std.specs.Prelude.{◌≡◌, map, None, IfSome, OnOk};
 ghost use Rattle.byte_sinks.specs.Pump.{Tells};
-ghost use Rattle.command_line.specs.Numbers.{size_in};
-ghost use Rattle.line_drawing.specs.Lines.{passed};
-ghost use Rattle.relay_streams.specs.Live.{IsLiveText};
-ghost use Rattle.screenlive_command.specs.Command.{CarriesOut, fault_line, is_no_line_drawing, order_of, sized};
-ghost use Rattle.screenlive_command.specs.Command.{option_order, size_order, usage_line};
+ghost use Rattle.screen_words.specs.Words.{invocation_of, with_numbers};
+ghost use Rattle.screenlive_command.specs.Command.{CarriesOut, Does, HasWritten, fault_line, usage_line};
 
 use byte_sinks::{ByteSink, FlushSink};
-use command_line::{FAULT, SUCCESS, USAGE, parse_size, report};
-use relay_streams::{LineDrawing, RelayError, Source, relay_live_with};
+use command_line::{FAULT, SUCCESS, USAGE, report};
+pub use help::HELP;
+use relay_streams::{RelayError, Source, print_text, relay_live_with};
+use screen_words::{Invocation, parse};
 use std::alloc::Global;
-use std::num::NonZeroU16;
-
-/// Whether lines are drawn, and the size of the screen: 1 to 65,535 rows, and as many columns.
-#[derive(Clone, Copy, Debug, PartialEq, Eq)]
-struct Order {
-    lines: LineDrawing,
-    rows: NonZeroU16,
-    cols: NonZeroU16,
-}
 
 /// Runs the program on the words after its name, and answers its exit status.
 ///
+/// `ROWS COLS [--no-line-drawing]` relays; the option may also come first. `--help` or `-h` prints [`HELP`], and then
+/// nothing is read. Any other command line gets the usage line on `errors`, and then nothing is read or written.
+///
 /// A fault is reported in a line on `errors`: `screenlive: read`, `write`, `memory`, `too many reads` or `frame too long`.
-/// Any other command line than `ROWS COLS [--no-line-drawing]` gets the usage line there, and then nothing is read or
-/// written; the option may also come first. Such a line is written whole, unless a write of it fails or takes nothing;
-/// that changes nothing else.
+/// A line on `errors` is written whole, unless a write of it fails or takes nothing; that changes nothing else.
 pub fn command<S: Source, W: FlushSink, V: ByteSink>(
     alloc: Global,
     words: &[&str],
@@ -38,77 +29,41 @@ pub fn command<S: Source, W: FlushSink, V: ByteSink>(
     output: &mut W,
     errors: &mut V,
 ) -> u8
-    ensures usage { order_of (map (λ w. w.now) words.now) ≡ None → (result ≡ 2) × (input.new ≡ input.old)
+    ensures usage { invocation_of (map (λ w. w.now) words.now) ≡ None → (result ≡ 2) × (input.new ≡ input.old)
         × (output.new ≡ output.old) × Tells V.takes errors.old usage_line errors.new }
-    ensures does { IfSome (order_of (map (λ w. w.now) words.now)) (λ order. CarriesOut S.gives W.takes W.flushes V.takes
-        order input.old output.old errors.old result input.new output.new errors.new) }
-    ensures done { result ≡ 0 → IfSome (order_of (map (λ w. w.now) words.now))
-        (λ order. IfSome (S.left input.old) (λ bytes. (text : List ℕ)
-        × IsLiveText order.rows order.cols (passed order.lines [] bytes) text
-        × Appends (W.contents output.old) (W.contents output.new) text)) }
+    ensures does { IfSome (invocation_of (map (λ w. w.now) words.now)) (λ invocation. CarriesOut S.gives W.takes W.flushes
+        V.takes invocation input.old output.old errors.old result input.new output.new errors.new) }
+    ensures done { result ≡ 0 → IfSome (invocation_of (map (λ w. w.now) words.now))
+        (λ invocation. HasWritten invocation (S.left input.old) (W.contents output.old) (W.contents output.new)) }
 {
-    let Some(order) = parse(words) else {
+    let Some(invocation) = parse(words) else {
         report(errors, b"usage: screenlive ROWS COLS [--no-line-drawing]\n");
         return USAGE;
     };
-    match relay_live_with(alloc, order.rows, order.cols, order.lines, input, output) {
+    match carry_out(alloc, invocation, input, output) {
         Ok(()) => SUCCESS,
         Err(error) => report_fault(errors, error),
     }
 }
 
-// Reads `ROWS COLS`, or with the option before or after them.
-fn parse(words: &[&str]) -> Option<Order>
-    ensures { option_map (λ o. record { lines = o.lines; rows = o.rows.value; cols = o.cols.value }) result
-        ≡ order_of (map (λ w. w.now) words.now) }
+// Prints the help, or relays.
+fn carry_out<S: Source, W: FlushSink>(
+    alloc: Global,
+    invocation: Invocation,
+    input: &mut S,
+    output: &mut W,
+) -> Result<(), RelayError>
+    ensures does { Does S.gives W.takes W.flushes (with_numbers invocation) input.old output.old result input.new
+        output.new }
+    ensures done { OnOk result (HasWritten (with_numbers invocation) (S.left input.old) (W.contents output.old)
+        (W.contents output.new)) }
 {
-    match parse_size_order(words) {
-        Some(order) => Some(order),
-        None => parse_option_order(words),
+    match invocation {
+        Invocation::Help => print_text(HELP, output),
+        Invocation::Show(screen) => {
+            relay_live_with(alloc, screen.rows, screen.cols, screen.lines, input, output)
+        }
     }
-}
-
-fn parse_size_order(words: &[&str]) -> Option<Order>
-    ensures { option_map (λ o. record { lines = o.lines; rows = o.rows.value; cols = o.cols.value }) result
-        ≡ size_order (map (λ w. w.now) words.now) }
-{
-    let [rows, cols] = words else {
-        return None;
-    };
-    parse_order(LineDrawing::Drawn, rows, cols)
-}
-
-fn parse_option_order(words: &[&str]) -> Option<Order>
-    ensures { option_map (λ o. record { lines = o.lines; rows = o.rows.value; cols = o.cols.value }) result
-        ≡ option_order (map (λ w. w.now) words.now) }
-{
-    let [a, b, c] = words else {
-        return None;
-    };
-    if is_no_line_drawing(a) {
-        parse_order(LineDrawing::Kept, b, c)
-    } else if is_no_line_drawing(c) {
-        parse_order(LineDrawing::Kept, a, b)
-    } else {
-        None
-    }
-}
-
-fn parse_order(lines: LineDrawing, rows: &str, cols: &str) -> Option<Order>
-    ensures { option_map (λ o. record { lines = o.lines; rows = o.rows.value; cols = o.cols.value }) result
-        ≡ sized lines (size_in rows.now) (size_in cols.now) }
-{
-    Some(Order {
-        lines,
-        rows: parse_size(rows)?,
-        cols: parse_size(cols)?,
-    })
-}
-
-fn is_no_line_drawing(word: &str) -> bool
-    ensures { result ≡ is_no_line_drawing word.now }
-{
-    word == "--no-line-drawing"
 }
 
 /// Reports a fault in a line on `errors`, and answers the exit status that goes with it.

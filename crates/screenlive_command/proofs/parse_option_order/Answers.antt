@@ -1,6 +1,0 @@
-use Rattle.std.proofs.Common.{arith}
-use Rattle.screenlive_command.proofs.WordLemmas.{no_option_order}
-use Rattle.screenlive_command.proofs.parse_option_order.Goals as goal
-
-pub returns-in_default : goal.returns-in_default
-returns-in_default c = no_option_order c.args.words.now (λ is. grind (arith, is, c.in_default.len_below))
