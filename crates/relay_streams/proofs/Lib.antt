@@ -1,3 +1,4 @@
+pub mod EachLemmas
 pub mod FarLemmas
 pub mod FillLemmas
 pub mod FrameLists

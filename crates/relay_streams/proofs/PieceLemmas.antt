@@ -1,7 +1,7 @@
 -- Pieces that were read one after another.
 use Rattle.std.proofs.Common.{◌≡◌, ◌≢◌, ℕ, suc, ◌+◌, ◌-◌, ◌*◌, ◌/◌, ◌<◌, ◌≤◌, List, [], ◌∷◌, ◌++◌, Option, None, Some}
 use Rattle.std.proofs.Common.{Ok, Err, Result, length, take, drop, replicate, refl, sym, ap, ◌∙◌, arith, append_assoc}
-use Rattle.std.proofs.Common.{append-nil, length-append, take-append-drop, add_assoc, zero-add, subst, OnOk, min}
+use Rattle.std.proofs.Common.{append-nil, length-append, take-append-drop, add_assoc, zero-add, subst, min}
 use Rattle.std.proofs.lemmas.List.{take_at, drop_at, take_min, drop_min}
 use Rattle.std.proofs.lemmas.List.Folds.{concat-append}
 use Rattle.std.proofs.lemmas.Nat.{div-mul-add}
@@ -416,12 +416,3 @@ module _ {S : Type 0} {step : S → ℕ → Result (List ℕ) Error → S → Ty
 -- the bytes of one piece more
 pub concat-push : (pieces : List (List ℕ)) (piece : List ℕ) → concat (pieces ++ piece ∷ []) ≡ concat pieces ++ piece
 concat-push pieces piece = concat-append pieces (piece ∷ []) ∙ ap (λ zs. concat pieces ++ zs) (append-nil piece)
-
--- the answer is the fault at which the reading stopped
-pub stopped_so : {S : Type 0} {step : S → ℕ → Result (List ℕ) Error → S → Type 0} {room : ℕ} {old new : S}
-    {pieces : List (List ℕ)} {answer : Result (Unit {0}) RelayError} {fault : RelayError}
-    (P : List (List ℕ) → Type 0) → answer ≡ Err fault → Drained step room old pieces (Err fault) new
-    → (ps : List (List ℕ)) × Drained step room old ps answer new × OnOk answer (P ps)
-stopped_so {step = step} {room} {old} {new} {pieces} P is d =
-    subst (λ (r : Result (Unit {0}) RelayError). (ps : List (List ℕ)) × Drained step room old ps r new
-    × OnOk r (P ps)) (sym is) (pieces, d, tt)

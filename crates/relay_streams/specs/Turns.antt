@@ -1,5 +1,5 @@
 -- A turn of `relay`: a piece is fed, a frame asked for, and what is owed is pumped.
-use Rattle.std.specs.Prelude.{◌≡◌, ℕ, true, false, List, map, Option, Some, Ok, Err, Result}
+use Rattle.std.specs.Prelude.{◌≡◌, ℕ, true, false, List, [], ◌∷◌, ◌++◌, map, Option, Some, Ok, Err, Result}
 use Rattle.std.specs.List.{concat}
 use Rattle.std.specs.declared.io.Error.{Error}
 use Rattle.screen_model.specs.Made.{Fed}
@@ -12,6 +12,7 @@ use Rattle.termrelay.specs.declared.error.HubError.{HubError}
 use Rattle.termrelay.specs.declared.error.HubError.TheVariants as hub
 use Rattle.relay_streams.specs.declared.error.RelayError.{RelayError}
 use Rattle.relay_streams.specs.declared.error.RelayError.TheVariants.{Read, Write, Memory, TooManyReads, FrameTooLong}
+use Rattle.relay_streams.specs.declared.relaying.OneClientHub.{OneClientHub}
 use Rattle.relay_streams.specs.Frames.{idle, asked, answered, is_overlong}
 
 -- these pieces were fed to a new hub of this size, and the client at the key is owed nothing and has this base
@@ -47,3 +48,10 @@ Turned takes rows cols pieces base key w (Err Write) v g =
     × (e : Error) × (n : ℕ) × Pumps takes w (asked rows cols (concat pieces) base).owed (Err e) n v
 Turned takes rows cols pieces base key w (Err Read) v g = ⊥
 Turned takes rows cols pieces base key w (Err TooManyReads) v g = ⊥
+
+-- a hub with one client, and the client's writer, before and after a turn with this piece
+abbrev pub TakesTurn : {W : Type 0} → (W → List ℕ → Result ℕ Error → W → Type 0) → OneClientHub → W → List ℕ
+    → Result (Unit {0}) RelayError → OneClientHub → W → Type 0
+TakesTurn takes p w piece answer q v = (q.client ≡ p.client)
+    × ((rows cols : ℕ) (past : List (List ℕ)) (base : Option Shown) → Relaying rows cols past base p.hub p.client
+    → Turned takes rows cols (past ++ piece ∷ []) base p.client w answer v q.hub)

@@ -13,7 +13,8 @@ ghost use Rattle.relay_streams.specs.Turns.{Relaying, Turned};
 ghost use Rattle.relay_streams.specs.declared.error.RelayError.TheVariants.{FrameTooLong};
 
 use crate::error::RelayError;
-use crate::source::{PIECE_LEN, Source, fill};
+use crate::pieces::{TakesPieces, each_piece};
+use crate::source::Source;
 use byte_sinks::FlushSink;
 use std::alloc::Global;
 use std::num::NonZeroU16;
@@ -48,7 +49,7 @@ pub fn relay<S: Source, W: FlushSink>(
 {
     let mut hub = Hub::new(alloc, rows, cols)?;
     let client = hub.attach()?;
-    relay_pieces(&mut hub, client, input, output)?;
+    relay_pieces(hub, client, input, output)?;
     match output.finish() {
         Ok(()) => Ok(()),
         Err(_) => Err(RelayError::Write),
@@ -57,23 +58,31 @@ pub fn relay<S: Source, W: FlushSink>(
 
 // Reads the whole input in full pieces, and has a turn with each.
 fn relay_pieces<S: Source, W: FlushSink>(
-    hub: &mut Hub,
+    hub: Hub,
     client: Client,
     input: &mut S,
     output: &mut W,
 ) -> Result<(), RelayError>
-    ensures { (rows cols : ℕ) → Relaying rows cols [] None hub.old client
+    ensures { (rows cols : ℕ) → Relaying rows cols [] None hub client
         → Streams S.gives W.takes rows cols input.old output.old result input.new output.new }
 {
-    let mut piece = [0; PIECE_LEN];
-    let mut reads = 0;
-    // The label names the loop's invariant.
-    'pieces: loop {
-        let n = fill(input, &mut piece, &mut reads)?;
-        turn(hub, client, &piece[..n], output)?;
-        if n < PIECE_LEN {
-            return Ok(());
-        }
+    each_piece(input, &mut OneClientHub { hub, client }, output)
+}
+
+/// A hub with one client, to whom the frame is sent that is due after each piece.
+#[derive(Drop)]
+struct OneClientHub {
+    hub: Hub,
+    client: Client,
+}
+
+impl<W: FlushSink> TakesPieces<W> for OneClientHub {
+    ghost use Rattle.relay_streams.specs.Turns.{TakesTurn};
+
+    ghost step = { TakesTurn W.takes };
+
+    fn take_piece(&mut self, piece: &[u8], output: &mut W) -> Result<(), RelayError> {
+        turn(&mut self.hub, self.client, piece, output)
     }
 }
 

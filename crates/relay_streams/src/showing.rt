@@ -10,7 +10,8 @@ ghost use Rattle.relay_streams.specs.Pieces.{Drained, piece_len, pieces_of};
 ghost use Rattle.relay_streams.specs.Shown.{IsTextShown, Prints, Shows, row_line, screen_text, sized};
 
 use crate::error::RelayError;
-use crate::source::{PIECE_LEN, Source, fill};
+use crate::pieces::{TakesPieces, each_piece};
+use crate::source::Source;
 use byte_sinks::{ByteSink, FlushSink, pump};
 use std::alloc::Global;
 use std::io;
@@ -50,17 +51,27 @@ fn read_view<S: Source>(view: &mut View<UntilCleared>, input: &mut S) -> Result<
     ensures { (pieces : List (List ℕ)) × Drained S.gives piece_len input.old pieces result input.new
         × OnOk result (Led view.old pieces view.new) }
 {
-    // A law for the proof; it does nothing at run time.
-    until_cleared_is_exact();
-    let mut piece = [0; PIECE_LEN];
-    let mut reads = 0;
-    // The label names the loop's invariant.
-    'pieces: loop {
-        let n = fill(input, &mut piece, &mut reads)?;
-        view.advance(&piece[..n]);
-        if n < PIECE_LEN {
-            return Ok(());
-        }
+    each_piece(input, &mut Unchanged, view)
+}
+
+/// Pieces that reach a view as they are.
+#[derive(Clone, Copy)]
+struct Unchanged;
+
+impl TakesPieces<View<UntilCleared>> for Unchanged {
+    ghost use Rattle.relay_streams.specs.Led.{GivesPiece};
+
+    ghost step = { λ _ view piece answer _ new. GivesPiece view piece answer new };
+
+    fn take_piece(
+        &mut self,
+        piece: &[u8],
+        view: &mut View<UntilCleared>,
+    ) -> Result<(), RelayError> {
+        // A law for the proof; it does nothing at run time.
+        until_cleared_is_exact();
+        view.advance(piece);
+        Ok(())
     }
 }
 

@@ -18,19 +18,22 @@ use Rattle.line_drawing.specs.declared.lines.LineDrawing.{LineDrawing}
 use Rattle.line_drawing.specs.declared.lines.LineDrawing.TheVariants.{Kept, Drawn}
 use Rattle.relay_streams.specs.Fill.{IsReadBy}
 use Rattle.relay_streams.specs.Frames.{asked, is_overlong}
-use Rattle.line_drawing.specs.Lines.{all_passed, drawn_after, passed}
+use Rattle.line_drawing.specs.Lines.{HasPassed, all_passed, drawn_after, passed}
+use Rattle.relay_streams.specs.Each as each
+use Rattle.relay_streams.specs.Each.{GivesEach, TakesAll}
 use Rattle.relay_streams.specs.Pieces.{Begun, Drained, piece_len, pieces_of}
 use Rattle.relay_streams.specs.Sessions.{AreRelayed, EndsOverlong, IsRelayed}
 use Rattle.relay_streams.specs.Turns.{Relaying}
 use Rattle.relay_streams.proofs.FrameLists.{frames_of, answers_of, base_of, frames-more, base-push, fits-push}
-use Rattle.line_drawing.proofs.LineLemmas.{passed-push}
+use Rattle.line_drawing.proofs.LineLemmas.{none-passed, passed-push}
 use Rattle.relay_streams.proofs.OutputLemmas.{prints-text}
 use Rattle.relay_streams.proofs.PieceLemmas.{concat-push, drained-pieces}
 use Rattle.relay_streams.proofs.SessionLemmas.{ends-overlong, frames-are-relayed, frames-of, relayed-as, relayed-by}
 use Rattle.relay_streams.proofs.ViewLemmas.{not_led, led_more}
 use Rattle.screencat_command.specs.Carried as far
-use Rattle.screencat_command.specs.Carried.{Carried, Carries, Follows, IsFarText, IsRelayedThrough, PrintsFar}
-use Rattle.screencat_command.specs.Carried.{followed, overlong, unmade}
+use Rattle.screencat_command.specs.Carried.{Carried, Carries, CarriesPiece, Follows, IsFarText, IsRelayedThrough, PrintsFar}
+use Rattle.screencat_command.specs.Carried.{followed, overlong, unmade, unread}
+use Rattle.screencat_command.specs.declared.far_screen.FilteredHub.{FilteredHub}
 
 -- all was written
 pub printed : {E : Type 0} (answer : Result (Unit {0}) E) (known : Option (List ℕ)) (P : List ℕ → List ℕ → Type 0)
@@ -40,6 +43,11 @@ pub printed : {E : Type 0} (answer : Result (Unit {0}) E) (known : Option (List 
 printed (Err e) known P text a b is took = tt
 printed (Ok u) None P text a b is took = tt
 printed (Ok u) (Some bytes) P text a b is took = (text, is bytes refl, took)
+
+-- what holds whatever is answered holds where all went well
+pub on-any : (answer : Result (Unit {0}) RelayError) (A : Type 0) → A → OnOk answer A
+on-any (Ok u) A a = a
+on-any (Err e) A a = tt
 
 pub carries-none : (view : View UntilCleared) → Carries view [] view
 carries-none view = record { pieces = []; joined = refl; led = not_led view }
@@ -118,6 +126,11 @@ holds-all W contents w v owed held n pumps empty full =
     (subst (λ o. Appends (contents w) o (take n owed)) full reported.0) in
     is ∙ whole
 
+-- pieces were fed whose frames reached the view, and none of them was too long
+abbrev Goes : ℕ → ℕ → ℕ → HubState as_kept → View UntilCleared → View UntilCleared → List (List ℕ) → Type 0
+Goes rows cols key g a b pieces = (list_any is_overlong (answers_of rows cols pieces) ≡ false)
+    × Carries a (concat (frames_of rows cols pieces)) b × Relaying rows cols pieces (base_of rows cols pieces) g key
+
 module _ (rows cols : ℕ) (lines : LineDrawing) (past : List (List ℕ)) (piece : List ℕ) where
   -- the pieces that were read, and those of them that were fed
   abbrev pieces : List (List ℕ)
@@ -141,13 +154,6 @@ module _ (rows cols : ℕ) (lines : LineDrawing) (past : List (List ℕ)) (piece
   abbrev Fit : List (List ℕ) → Type 0
   Fit ps = list_any is_overlong (answers_of rows cols ps) ≡ false
 
-  -- the piece couldn't pass
-  pub carry-refused : (S : Type 0) (gives : S → ℕ → Result (List ℕ) Error → S → Type 0) (s t : S) → IsSide rows
-      → IsSide cols → Begun gives piece_len s pieces t → Fit before
-      → Follows lines gives rows cols s (frames_of rows cols before) (Err Memory) t
-  carry-refused S gives s t height width begun fit =
-      unmade past piece begun (frames-are-relayed rows cols before height width fit)
-
   -- a turn at which a fault came
   pub carry-faults : (S : Type 0) (gives : S → ℕ → Result (List ℕ) Error → S → Type 0) (key : ℕ)
       (g : HubState as_kept) (s t : S) (a b : View UntilCleared) (e : RelayError) → IsSide rows → IsSide cols
@@ -164,21 +170,63 @@ module _ (rows cols : ℕ) (lines : LineDrawing) (past : List (List ℕ)) (piece
   carry-faults S gives key g s t a b TooManyReads height width begun fit turned = absurd turned
 
   -- one that went well
-  abbrev Goes : ℕ → HubState as_kept → View UntilCleared → View UntilCleared → List (List ℕ) → Type 0
-  Goes key g a c ps = Fit ps × Carries a (concat (frames_of rows cols ps)) c
-      × Relaying rows cols ps (base_of rows cols ps) g key
-
   pub carry-goes : (key : ℕ) (g : HubState as_kept) (a b c : View UntilCleared) → Fit before
       → Carries a (concat (frames_of rows cols before)) b → Carried rows cols fed base key b (Ok tt) c g
-      → Goes key g a c (all_passed lines pieces)
+      → Goes rows cols key g a c (all_passed lines pieces)
   carry-goes key g a b c fit first turned =
       let owed = (asked rows cols (concat fed) base).owed in
       let is : concat (frames_of rows cols fed) ≡ concat (frames_of rows cols before) ++ owed =
       ap concat (frames-more rows cols before (here ∷ []))
       ∙ concat-push (frames_of rows cols before) owed in
-      subst (Goes key g a c) (sym fed-is) (
+      subst (Goes rows cols key g a c) (sym fed-is) (
         fits-push rows cols before here fit turned.0,
         subst (λ (xs : List ℕ). Carries a xs c) (sym is)
             (carries-more a b c (concat (frames_of rows cols before)) owed first turned.1),
         subst (λ (o : Option Shown). Relaying rows cols fed o g key) (sym (base-push rows cols before here)) turned.2,
+      )
+
+module _ (S : Type 0) (gives : S → ℕ → Result (List ℕ) Error → S → Type 0) (rows cols : ℕ) (lines : LineDrawing) where
+  -- pieces that were all carried
+  carried-all : (h : FilteredHub) (a : View UntilCleared) (read : List (List ℕ)) (g : FilteredHub)
+      (b : View UntilCleared) → Relaying rows cols [] None h.hub h.client → HasPassed h.filter lines []
+      → TakesAll CarriesPiece h a read g b
+      → HasPassed g.filter lines (concat read) × Goes rows cols g.client g.hub a b (all_passed lines read)
+  carried-all h a read g b at passes each.none =
+      (passes, none-passed lines (Goes rows cols h.client h.hub a a) (refl, carries-none a, at))
+  carried-all h a _ k c at passes (each.more {pieces = past} {piece = piece} g b all step) =
+      let so_far = carried-all h a past g b at passes all in
+      let fed = all_passed lines past in
+      let goes = carry-goes rows cols lines past piece g.client k.hub a b c so_far.1.0 so_far.1.1
+      (step.2 rows cols lines (concat past) fed (base_of rows cols fed) so_far.1.2 so_far.0) in (
+        subst (λ (xs : List ℕ). HasPassed k.filter lines xs) (sym (concat-push past piece))
+            (step.1 lines (concat past) so_far.0),
+        subst (λ (key : ℕ). Goes rows cols key k.hub a c (all_passed lines (past ++ piece ∷ []))) (sym step.0) goes,
+      )
+
+  -- pieces that were carried, the last of which may have been refused
+  pub follows-of : (s t : S) (h g : FilteredHub) (a b : View UntilCleared) (answer : Result (Unit {0}) RelayError)
+      → Relaying rows cols [] None h.hub h.client → HasPassed h.filter lines []
+      → GivesEach gives CarriesPiece s h a answer t g b → (frames : List (List ℕ))
+      × Follows lines gives rows cols s frames answer t × OnOk answer (Carries a (concat frames) b)
+  follows-of s t h g a b answer at passes (each.unread pieces rest e d all) =
+      let so_far = carried-all h a pieces g b at passes all in
+      let fed = all_passed lines pieces in (
+        frames_of rows cols fed,
+        unread pieces rest e d (frames-are-relayed rows cols fed at.height at.width so_far.1.0),
+        tt,
+      )
+  follows-of s t h k a c answer at passes (each.refused g b pieces piece e begun all step) =
+      let so_far = carried-all h a pieces g b at passes all in
+      let fed = all_passed lines pieces in (
+        frames_of rows cols fed,
+        carry-faults rows cols lines pieces piece S gives g.client k.hub s t b c e at.height at.width begun so_far.1.0
+            (step.2 rows cols lines (concat pieces) fed (base_of rows cols fed) so_far.1.2 so_far.0),
+        tt,
+      )
+  follows-of s t h g a b answer at passes (each.taken pieces d all) =
+      let so_far = carried-all h a pieces g b at passes all in
+      let fed = all_passed lines pieces in (
+        frames_of rows cols fed,
+        followed pieces d (frames-are-relayed rows cols fed at.height at.width so_far.1.0),
+        so_far.1.1,
       )

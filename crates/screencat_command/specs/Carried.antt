@@ -1,5 +1,5 @@
 -- A program's screen that is carried to a view and printed.
-use Rattle.std.specs.Prelude.{◌≡◌, ℕ, false, true, List, [], ◌∷◌, ◌++◌, Option, Ok, Err, Result, ⊤}
+use Rattle.std.specs.Prelude.{◌≡◌, ℕ, false, true, List, [], ◌∷◌, ◌++◌, Option, Ok, Err, Result, OnOk, ⊤}
 use Rattle.std.specs.List.{concat}
 use Rattle.std.specs.declared.io.Error.{Error}
 use Rattle.terminal_model.specs.Term.{Shown}
@@ -13,11 +13,12 @@ use Rattle.line_drawing.specs.declared.lines.LineDrawing.{LineDrawing}
 use Rattle.line_drawing.specs.declared.lines.LineDrawing.TheVariants.{Kept, Drawn}
 use Rattle.relay_streams.specs.Frames.{answered, asked, is_overlong}
 use Rattle.relay_streams.specs.Led.{Led}
-use Rattle.line_drawing.specs.Lines.{all_passed, drawn_after}
+use Rattle.line_drawing.specs.Lines.{HasPassed, all_passed, drawn_after, passed}
 use Rattle.relay_streams.specs.Pieces.{Begun, Drained, piece_len, pieces_of}
 use Rattle.relay_streams.specs.Sessions.{AreRelayed, EndsOverlong, IsRelayed, IsRelayText, has_overlong}
 use Rattle.relay_streams.specs.Shown.{IsTextShown, Prints, sized}
 use Rattle.relay_streams.specs.Turns.{Relaying}
+use Rattle.screencat_command.specs.declared.far_screen.FilteredHub.{FilteredHub}
 
 -- the view was given these bytes, in some pieces
 pub record Carries (old : View UntilCleared) (bytes : List ℕ) (new : View UntilCleared) : Type 0 where
@@ -60,6 +61,17 @@ Carried rows cols pieces base key old (Err FrameTooLong) new g =
 Carried rows cols pieces base key old (Err Read) new g = ⊥
 Carried rows cols pieces base key old (Err Write) new g = ⊥
 Carried rows cols pieces base key old (Err TooManyReads) new g = ⊥
+
+-- A piece passes the filter and is fed to the hub, and the frame that is then due is carried to the view: the hub and the
+-- view, before and after.
+abbrev pub CarriesPiece : FilteredHub → View UntilCleared → List ℕ → Result (Unit {0}) RelayError → FilteredHub
+    → View UntilCleared → Type 0
+CarriesPiece h old piece answer g new = (g.client ≡ h.client)
+    × OnOk answer ((lines : LineDrawing) (past : List ℕ) → HasPassed h.filter lines past
+    → HasPassed g.filter lines (past ++ piece))
+    × ((rows cols : ℕ) (lines : LineDrawing) (past : List ℕ) (fed : List (List ℕ)) (base : Option Shown)
+    → Relaying rows cols fed base h.hub h.client → HasPassed h.filter lines past
+    → Carried rows cols (fed ++ passed lines past piece ∷ []) base h.client old answer new g.hub)
 
 -- From a source pieces are read and pass, and these frames are made of them: so it is answered, and so the source is left.
 pub data Follows (lines : LineDrawing) {S : Type 0} (gives : S → ℕ → Result (List ℕ) Error → S → Type 0) (rows cols : ℕ) (s : S)

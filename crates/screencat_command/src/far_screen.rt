@@ -9,7 +9,7 @@ ghost use Rattle.relay_streams.specs.Turns.{Relaying};
 ghost use Rattle.screencat_command.specs.Carried.{Carried, Carries, Follows, IsFarText, PrintsFar};
 
 use relay_streams::{
-    FlushSink, LineDrawing, PIECE_LEN, PieceFilter, RelayError, Source, fill, is_overlong,
+    FlushSink, LineDrawing, PieceFilter, RelayError, Source, TakesPieces, each_piece, is_overlong,
     print_view,
 };
 use std::alloc::Global;
@@ -46,35 +46,62 @@ pub fn print_far_screen<S: Source, W: FlushSink>(
     let mut hub = Hub::new(alloc, rows, cols)?;
     let client = hub.attach()?;
     let mut view = View::new(alloc, rows, cols, UntilCleared::new())?;
-    let mut filter = PieceFilter::new(alloc, lines);
-    carry_frames(alloc, &mut hub, client, &mut filter, input, &mut view)?;
+    let filter = PieceFilter::new(alloc, lines);
+    carry_frames(
+        FilteredHub {
+            alloc,
+            filter,
+            hub,
+            client,
+        },
+        input,
+        &mut view,
+    )?;
     print_view(&view, output)
 }
 
-// Reads the whole input in full pieces, which pass the filter, and brings the view the frame that is due after each.
-fn carry_frames<S: Source>(
+/// A hub with one client, behind a filter.
+#[derive(Drop)]
+struct FilteredHub {
     alloc: Global,
-    hub: &mut Hub,
+    filter: PieceFilter,
+    hub: Hub,
     client: Client,
-    filter: &mut PieceFilter,
+}
+
+// Reads the whole input in full pieces, and brings the view the frame that is due after each.
+fn carry_frames<S: Source>(
+    mut relay: FilteredHub,
     input: &mut S,
     view: &mut View<UntilCleared>,
 ) -> Result<(), RelayError>
-    ensures { (rows cols : ℕ) (lines : LineDrawing) → Relaying rows cols [] None hub.old client
-        → HasPassed filter.old lines [] → (frames : List (List ℕ))
+    ensures { (rows cols : ℕ) (lines : LineDrawing) → Relaying rows cols [] None relay.hub relay.client
+        → HasPassed relay.filter lines [] → (frames : List (List ℕ))
         × Follows lines S.gives rows cols input.old frames result input.new
         × OnOk result (Carries view.old (concat frames) view.new) }
 {
-    let mut piece = [0; PIECE_LEN];
-    let mut reads = 0;
-    // The label names the loop's invariant.
-    'pieces: loop {
-        let n = fill(input, &mut piece, &mut reads)?;
-        filter.pass(&piece[..n])?;
-        carry_frame(alloc, hub, client, filter.given(&piece[..n]), view)?;
-        if n < PIECE_LEN {
-            return Ok(());
-        }
+    each_piece(input, &mut relay, view)
+}
+
+impl TakesPieces<View<UntilCleared>> for FilteredHub {
+    ghost use Rattle.screencat_command.specs.Carried.{CarriesPiece};
+
+    ghost step = { CarriesPiece };
+
+    // The piece passes the filter, and the view gets the frame that is then due.
+    fn take_piece(
+        &mut self,
+        piece: &[u8],
+        view: &mut View<UntilCleared>,
+    ) -> Result<(), RelayError> {
+        self.filter.pass(piece)?;
+        carry_frame(
+            self.alloc,
+            &mut self.hub,
+            self.client,
+            self.filter.given(piece),
+            view,
+        )
     }
 }
 

@@ -53,8 +53,8 @@ returns-in-Ok g c =
     g.W.FlushSink.contents g.S.Source.left g.met.S.Source.tells g.met.W.FlushSink.tells g.met.W.FlushSink.keeps _ _ _ _ _ _ _ r in
     record { relays = r; text = reported.0; prefix = reported.1; too_long = reported.2 }
 
-pub returns : goal.returns
-returns g c =
+pub returns-in-Err : goal.returns-in-Err
+returns-in-Err g c =
     let at = first-attached c.args.rows.value c.args.cols.value c.in_ok-client.client c.in_ok-hub.hub
     c.attach.new.self (c.args.rows.ok, omega arith) (c.args.cols.ok, omega arith) c.in_ok-hub.ensures.new
     c.in_ok-client.ensures in

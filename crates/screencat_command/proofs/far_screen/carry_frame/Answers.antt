@@ -1,4 +1,4 @@
-use Rattle.std.proofs.Common.{◌≡◌, ℕ, false, List, [], ◌∷◌, ◌++◌, ◌∙◌, Some, sym, ap, refl, subst}
+use Rattle.std.proofs.Common.{◌≡◌, ℕ, List, [], ◌∷◌, ◌++◌, ◌∙◌, Some, sym, ap, refl, subst}
 use Rattle.std.specs.List.{concat}
 use Rattle.relay_streams.specs.Frames.{asked}
 use Rattle.relay_streams.proofs.TurnLemmas.{asks, turn-ends}

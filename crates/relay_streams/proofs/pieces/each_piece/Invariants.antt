@@ -1,17 +1,17 @@
 use Rattle.std.proofs.Common.{◌≤◌, ◌-◌, List, ℕ}
+use Rattle.relay_streams.specs.Each.{TakesAll}
 use Rattle.relay_streams.specs.Fill.{max_reads}
 use Rattle.relay_streams.specs.Pieces.{piece_len}
 use Rattle.relay_streams.proofs.PieceLemmas.{DrainsOn}
-use Rattle.relay_streams.specs.Led.{Led}
-use Rattle.relay_streams.proofs.showing.read_view.Given as goal
+use Rattle.relay_streams.proofs.pieces.each_piece.Given as goal
 
--- the view was given the pieces that were read so far
+-- the pieces that were read so far were taken
 abbrev pub invariant-pieces : goal.invariant-pieces
 invariant-pieces g l = record {
   most : l.reads ≤ max_reads;
   past : List (List ℕ);
   read : DrainsOn g.S.Source.gives piece_len l.fn.input l.input l.reads past;
-  led : Led l.fn.view past l.view;
+  took : TakesAll g.P.TakesPieces.step l.fn.taker l.fn.to past l.taker l.to;
 }
 
 abbrev pub decreases-pieces : goal.decreases-pieces

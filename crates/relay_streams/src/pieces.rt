@@ -1,0 +1,42 @@
+//! An input, piece by piece.
+
+ghost use Rattle.std.specs.Prelude.{ℕ, List, Result};
+ghost use Rattle.relay_streams.specs.Each.{GivesEach};
+
+use crate::error::RelayError;
+use crate::source::{PIECE_LEN, Source, fill};
+
+/// What takes the pieces of an input, one after another, and hands on what comes of them: to a writer, or to a view.
+pub trait TakesPieces<T> {
+    ghost use Rattle.relay_streams.specs.declared.error.RelayError.{RelayError};
+
+    // what one piece does: the answer, and what both are afterwards
+    ghost step: { Self → T → List ℕ → Result (Unit {0}) RelayError → Self → T → Type 0 };
+
+    /// Takes the next piece.
+    fn take_piece(&mut self, piece: &[u8], to: &mut T) -> Result<(), RelayError>
+        ensures step { step self.old to.old piece.now result self.new to.new };
+}
+
+/// Reads the whole input in full pieces of 4,096 bytes and then the rest, and has each taken before the next one is
+/// read. A fault ends it. The rest is taken too, also where it is empty.
+///
+/// At most 2^40 reads are made; an interrupted one is tried again and counted.
+pub fn each_piece<S: Source, T, P: TakesPieces<T>>(
+    input: &mut S,
+    taker: &mut P,
+    to: &mut T,
+) -> Result<(), RelayError>
+    ensures { GivesEach S.gives P.step input.old taker.old to.old result input.new taker.new to.new }
+{
+    let mut piece = [0; PIECE_LEN];
+    let mut reads = 0;
+    // The label names the loop's invariant.
+    'pieces: loop {
+        let n = fill(input, &mut piece, &mut reads)?;
+        taker.take_piece(&piece[..n], to)?;
+        if n < PIECE_LEN {
+            return Ok(());
+        }
+    }
+}
