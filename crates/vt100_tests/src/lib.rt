@@ -11,6 +11,8 @@ mod calls;
 #[cfg(test)]
 mod captures;
 #[cfg(test)]
+mod copies;
+#[cfg(test)]
 mod forms;
 #[cfg(test)]
 mod grid;
