@@ -93,7 +93,7 @@ fn blocks(rt: HostRuntime) {
         (
             &["1", "1", "--html-block", "--theme=nord"],
             b"\x1b[?25l\x1b[1;31mA",
-            b"<pre style=\"display:inline-block;line-height:1.2;color:#eceff4;background:#2e3440\">\n<span style=\"color:#bf616a;background:#2e3440;font-weight:bold\">A</span>\n</pre>\n",
+            b"<pre style=\"display:inline-block;line-height:normal;color:#eceff4;background:#2e3440\">\n<span style=\"color:#bf616a;background:#2e3440;font-weight:bold\">A</span>\n</pre>\n",
         ),
         (
             &[
@@ -104,17 +104,17 @@ fn blocks(rt: HostRuntime) {
                 "--bold-is-bright",
             ],
             b"\x1b[?25l\x1b[1;31mA",
-            b"<pre style=\"display:inline-block;line-height:1.2;color:#f8f8f2;background:#282a36\">\n<span style=\"color:#ff6e6e;background:#282a36;font-weight:bold\">A</span>\n</pre>\n",
+            b"<pre style=\"display:inline-block;line-height:normal;color:#f8f8f2;background:#282a36\">\n<span style=\"color:#ff6e6e;background:#282a36;font-weight:bold\">A</span>\n</pre>\n",
         ),
         (
             &["1", "1", "--html-block", "--font=A<B"],
             b"\x1b[?25lx",
-            b"<pre style=\"display:inline-block;line-height:1.2;color:#d4d4d4;background:#1e1e1e;font-family:'A&lt;B',monospace\">\nx\n</pre>\n",
+            b"<pre style=\"display:inline-block;line-height:normal;color:#d4d4d4;background:#1e1e1e;font-family:'A&lt;B',monospace\">\nx\n</pre>\n",
         ),
         (
             &["--html-block"],
             CAST_THEME,
-            b"<pre style=\"display:inline-block;line-height:1.2;color:#010203;background:#040506\">\n<span style=\"color:#111111;background:#040506\">A</span>\n</pre>\n",
+            b"<pre style=\"display:inline-block;line-height:normal;color:#010203;background:#040506\">\n<span style=\"color:#111111;background:#040506\">A</span>\n</pre>\n",
         ),
     ];
     for (words, input, output) in rows {

@@ -6,7 +6,7 @@ use Rattle.picture_page.specs.declared.tag.Tag.TheVariants as tag
 abbrev pub tag_bytes : Tag → List ℕ
 tag_bytes tag.PageHead = codes "<!DOCTYPE html>\n<html><head><meta charset=\"utf-8\"><title>screentext</title></head>\n<body>"
 tag_bytes tag.PageFoot = codes "</body></html>\n"
-tag_bytes tag.Block = codes "<pre style=\"display:inline-block;line-height:1.2;"
+tag_bytes tag.Block = codes "<pre style=\"display:inline-block;line-height:normal;"
 tag_bytes tag.BlockFont = codes ";font-family:'"
 tag_bytes tag.BlockFontEnd = codes "',monospace"
 tag_bytes tag.BlockRows = codes "\">\n"

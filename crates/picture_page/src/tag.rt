@@ -151,7 +151,7 @@ impl Tag {
             Tag::PageHead =>
                 b"<!DOCTYPE html>\n<html><head><meta charset=\"utf-8\"><title>screentext</title></head>\n<body>",
             Tag::PageFoot => b"</body></html>\n",
-            Tag::Block => b"<pre style=\"display:inline-block;line-height:1.2;",
+            Tag::Block => b"<pre style=\"display:inline-block;line-height:normal;",
             Tag::BlockFont => b";font-family:'",
             Tag::BlockFontEnd => b"',monospace",
             Tag::BlockRows => b"\">\n",
