@@ -26,9 +26,10 @@ IsNewHubOf rows cols (Hub h) = IsNewHub rows cols h
 IsNewHubOf rows cols (View v) = ⊥
 IsNewHubOf rows cols (Screen m) = ⊥
 
--- the number if there is no new object: the size has no cells, or an allocation failed
+-- the number if there is no new object: the size has no cells, or it has some and an allocation failed
 abbrev pub IsNoObjectCode : ℕ → ℕ → ℤ → Type 0
-IsNoObjectCode rows cols code = ((rows * cols ≡ 0) × (code ≡ bad_size)) ⊎ (code ≡ memory)
+IsNoObjectCode rows cols code =
+    ((rows * cols ≡ 0) × (code ≡ bad_size)) ⊎ ((0 < rows) × (0 < cols) × (code ≡ memory))
 
 -- ---- calls that change it
 
