@@ -128,7 +128,7 @@ pub enum Tag {
     FilmLength,
     /// What comes after it.
     FilmLengthEnd,
-    /// The beginning of the screens of a film.
+    /// The beginning of a film's screens. The place of the last one follows, which is shown if nothing plays.
     Film,
     /// What ends them.
     FilmEnd,
@@ -211,7 +211,7 @@ impl Tag {
             Tag::Point => b".",
             Tag::FilmLength => b"}.film{animation:film ",
             Tag::FilmLengthEnd => b"s steps(1,end) infinite}</style>\n",
-            Tag::Film => b"<g class=\"film\">\n",
+            Tag::Film => b"<g class=\"film\" transform=\"translate(-",
             Tag::FilmEnd => b"</g>\n",
             Tag::Frame => b"<g transform=\"translate(",
             Tag::FrameRows => b")\">",

@@ -210,6 +210,14 @@ impl Reel {
             .saturating_mul(width)
     }
 
+    // The place of the last screen, in pixels.
+    fn last_place(&self) -> u32 {
+        match self.shots.last() {
+            Some(shot) => self.place_of(shot.screen),
+            None => 0,
+        }
+    }
+
     // The picture.
     fn develop(self, alloc: Global, look: &Look) -> Result<Vec<u8>, FilmError>
         ensures page { IfOk result (λ bytes. IsPage bytes.items) }
@@ -222,7 +230,8 @@ impl Reel {
         page.markup(Tag::DefsStart)?;
         page.append(&self.drawn_rows)?;
         page.markup(Tag::DefsEnd)?;
-        page.markup(Tag::Film)?;
+        page.numbers(&[(Tag::Film, self.last_place())])?;
+        page.markup(Tag::FrameRows)?;
         page.append(&self.drawn_screens)?;
         page.markup(Tag::FilmEnd)?;
         page.markup(Tag::SvgFoot)?;
