@@ -1,7 +1,9 @@
 -- The data of a device string.
-use Rattle.std.proofs.Common.{◌≡◌, ℕ, true, false, List, [], ◌∷◌, map, refl, ap, arith}
+use Rattle.std.proofs.Common.{◌≡◌, ℕ, true, false, List, [], ◌∷◌, map, take, refl, sym, ap, arith}
 use Rattle.std.proofs.lemmas.Bool.Decides.{nat_tests}
 use Rattle.vte_core.specs.Event.{Event, Put}
+use Rattle.vte_core.specs.Reads.{Reads}
+use Rattle.vte_core.specs.Runs.{TellsEach}
 use Rattle.vte_core.specs.Bytes.{each, is_esc, is_device_data, ends_device, is_put}
 use Rattle.vte_core.specs.Pending.{Pending, InDevice, events_from, after_bytes}
 use Rattle.vte_core.specs.Standing.{IsAt}
@@ -30,3 +32,16 @@ device-at n p q xs s e at =
     let here = rw is at at in
     let m = put_on n xs e in
     rw is (m.0, rw m.1 here)
+
+-- some of it, read at once
+pub device-read : {S : Type 0} {step : S → Event → S → Type 0} {n : ℕ} {p : Parser n} {old new : S} (bs : List ℕ) (k : ℕ)
+    → p.state ≡ DcsPassthrough → TellsEach step is_device_data Put old bs k new → Reads step n p old bs k p new
+device-read {S} {step} {n} {p} bs k state put = record {
+  within = put.within;
+  state_after = λ q h. (device-at n p q (take k bs) state put.all h).1;
+  reported = record {
+    reported = map Put (take k bs);
+    performed = put.reported;
+    added = λ q h. sym (device-at n p q (take k bs) state put.all h).0;
+  };
+}

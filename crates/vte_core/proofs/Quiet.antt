@@ -25,7 +25,7 @@ use Rattle.vte_core.proofs.PhaseLemmas.{each-first}
 use Rattle.vte_core.proofs.Machine.{events_from-append, after_bytes-append}
 use Rattle.vte_core.proofs.ReadsLemmas.{quiet_by}
 use Rattle.vte_core.proofs.Runs.{stop_steps, byte-at, read_more, nil_of_len}
-use Rattle.std.proofs.lemmas.List.{take_more, drop-drop}
+use Rattle.std.proofs.lemmas.List.{drop-drop}
 use lib.Seq.{take-add}
 
 -- what is pending, by the parser's state
@@ -208,9 +208,9 @@ quiet-step n q xs ys rest e s = record {
 pub one-step : (n : ℕ) (q : Pending) (bs rest : List ℕ) → is_one_step q bs rest ≡ true → IsStep n q bs rest
 one-step n q bs rest h = record { quiet = []; last = bs; parts = refl; nothing = refl; one = inr h }
 
--- such a byte of a control sequence, or ESC
+-- a byte of a sequence, or ESC, after such bytes
 pub quiet-byte-step : (n : ℕ) (p : Parser n) (q : Pending) (bs : List ℕ) (k : ℕ) → k < length bs
-    → events_from n q (take k bs) ≡ [] → p.state ≡ Csi → IsAt n p (after_bytes q (take k bs))
+    → events_from n q (take k bs) ≡ [] → state_is_text p.state ≡ false → IsAt n p (after_bytes q (take k bs))
     → IsStep n q (take (k + 1) bs) (drop (k + 1) bs)
 quiet-byte-step n p q bs k lt e s at =
     let left : 0 < length (drop k bs) = omega (arith, length-drop k bs, lt) in
@@ -260,29 +260,3 @@ begun-csi n p q bs k some e f s none header at =
     rw (begun-text n p q s (nil_of_len p.unfinished none) at)
     (begun-header n (InText []) InCsi bs (0x1B ∷ 0x5B ∷ []) 2 k (header-csi n) (first_two bs _ _ some e f) refl refl
     header)
-
--- `[` or `P` after ESC, and some of a header
-
-none_kept : (is : List ℕ) → take 2 is ≡ [] → is ≡ []
-none_kept [] e = refl
-none_kept (a ∷ is) e = cc
-
-begun-escape : (n : ℕ) (p : Parser n) (q : Pending) → p.state ≡ Escape → p.intermediates.kept.items ≡ [] → IsAt n p q
-    → (q ≡ InEscape []) × (p.unfinished ≡ [])
-begun-escape n p q s e at =
-    let (is, q_is) = by_state n p Escape q s at in
-    let here = rw q_is at at in
-    rw q_is (ap InEscape (none_kept is (sym here.2.kept ∙ e)), here.1)
-
-pub escape-header : (n : ℕ) (p : Parser n) (q : Pending) (f : List ℕ → Pending) (bs : List ℕ) (b k : ℕ)
-    → ((c : ℕ) → is_header c ≡ true → Keeps n f c) → events_from n (InEscape []) (b ∷ []) ≡ []
-    → after_bytes (InEscape []) (b ∷ []) ≡ f [] → 0 < length bs → get_or bs 0 0 ≡ b → p.state ≡ Escape
-    → (length p.intermediates.kept.items == 0) ≡ true
-    → each is_header (take k (take (length bs - 1) (drop 1 bs))) ≡ true → IsAt n p q
-    → (events_from n q (take (1 + k) bs) ≡ [])
-    × (after_bytes q (take (1 + k) bs) ≡ f (take k (take (length bs - 1) (drop 1 bs)))) × (p.unfinished ≡ [])
-escape-header n p q f bs b k keeps quiet begun some e s none header at =
-    let u = begun-escape n p q s (nil_of_len p.intermediates.kept.items none) at in
-    let first : take 1 bs ≡ b ∷ [] = take_more bs 0 0 some ∙ ap (λ (c : ℕ). c ∷ []) e in
-    let m = begun-header n (InEscape []) f bs (b ∷ []) 1 k keeps first quiet begun header in
-    rw u.0 (m.0, m.1, u.1)

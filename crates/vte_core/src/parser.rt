@@ -1,7 +1,7 @@
 //! The parser: what each byte does in each state, and how bytes are read many at a time.
 
 ghost use Rattle.std.specs.Prelude.{◌≡◌, ◌≢◌, ◌<◌, ◌≤◌, ℕ, List, [], ◌++◌, length, IsTrue, take, slice_index};
-ghost use Rattle.std.specs.Prelude.{true, not, ◌&&◌, IfSome};
+ghost use Rattle.std.specs.Prelude.{false, true, not, ◌&&◌, IfSome};
 ghost use Rattle.std.specs.Int.{is_in_range};
 ghost use Rattle.vte_core.specs.Byte.{ReadsByte, ReadsOther};
 ghost use Rattle.vte_core.specs.Bytes.{each, is_device_data, is_esc, is_swallowed};
@@ -109,7 +109,7 @@ impl<const N: usize> Parser<N> {
     {
         let (action, next) = step_of(State::Escape, byte);
         match action {
-            Action::Cancel => {
+            Action::Abort => {
                 self.state = next;
                 performer.execute(byte);
             }
@@ -175,7 +175,7 @@ impl<const N: usize> Parser<N> {
     {
         let (action, next) = step_of(State::Csi, byte);
         match action {
-            Action::Cancel => {
+            Action::Abort => {
                 self.state = next;
                 performer.execute(byte);
             }
@@ -195,7 +195,7 @@ impl<const N: usize> Parser<N> {
     {
         let (action, next) = step_of(State::OscString, byte);
         match action {
-            Action::Cancel => {
+            Action::Abort => {
                 self.state = next;
                 self.osc.dispatch(performer, false);
                 performer.execute(byte);
@@ -217,7 +217,7 @@ impl<const N: usize> Parser<N> {
     {
         let (action, next) = step_of(State::DcsHeader, byte);
         match action {
-            Action::Cancel => {
+            Action::Abort => {
                 self.state = next;
                 performer.execute(byte);
             }
@@ -243,10 +243,10 @@ impl<const N: usize> Parser<N> {
     {
         let (action, next) = step_of(State::DcsPassthrough, byte);
         match action {
-            Action::Cancel | Action::End => {
+            Action::Abort | Action::End => {
                 self.state = next;
                 performer.unhook();
-                if let Action::Cancel = action {
+                if let Action::Abort = action {
                     performer.execute(byte);
                 }
             }
@@ -264,7 +264,7 @@ impl<const N: usize> Parser<N> {
     {
         let (action, next) = step_of(State::SosPmApcString, byte);
         match action {
-            Action::Cancel => {
+            Action::Abort => {
                 self.state = next;
                 performer.execute(byte);
             }
@@ -314,40 +314,17 @@ impl<const N: usize> Parser<N> {
         }
     }
 
-    /// Reads the `[` or `P` after ESC that begins a header, and the header that follows, if they stand at the start.
-    /// Returns how many bytes they are.
-    #[inline(always)]
-    fn begin_header(&mut self, bytes: &[u8]) -> usize
-        requires { self.old.state ≡ State.Escape }
-        ensures reads { ReadsQuietly N self.old bytes.now result self.new }
-        ensures csi { 0 < result → slice_index bytes.now 0 ≡ 0x5B → self.new.state ≡ State.Csi }
-    {
-        match bytes {
-            [b'[', rest @ ..] if self.intermediates.kept.is_empty() => {
-                self.state = State::Csi;
-                self.header.clear();
-                1 + self.header.read(rest)
-            }
-            [b'P', rest @ ..] if self.intermediates.kept.is_empty() => {
-                self.state = State::DcsHeader;
-                self.header.clear();
-                1 + self.header.read(rest)
-            }
-            _ => 0,
-        }
-    }
-
     /// Reads the bytes at the start that have no event: a header, the data of a command, or what is swallowed. Returns
     /// how many they are.
     #[inline(always)]
     fn read_quiet(&mut self, bytes: &[u8]) -> usize
-        ensures { ReadsQuietly N self.old bytes.now result self.new }
+        ensures reads { ReadsQuietly N self.old bytes.now result self.new }
+        ensures state { self.new.state ≡ self.old.state }
     {
         match self.state {
             State::Csi | State::DcsHeader => self.header.read(bytes),
             State::OscString => self.osc.read(bytes),
             State::SosPmApcString => swallowed_len(bytes),
-            State::Escape => self.begin_header(bytes),
             _ => 0,
         }
     }
@@ -384,34 +361,6 @@ impl<const N: usize> Parser<N> {
         } else {
             self.csi(performer, byte);
         }
-    }
-
-    /// Reads what follows ESC up to the end of a header, and the byte after it; nothing where no header begins. Returns
-    /// how many bytes it read.
-    #[inline(always)]
-    fn read_header<P: Perform>(&mut self, performer: &mut P, bytes: &[u8]) -> usize
-        requires { self.old.state ≡ State.Escape }
-        ensures { Reads P.step N self.old performer.old bytes.now result self.new performer.new }
-    {
-        let quiet = self.begin_header(bytes);
-        if quiet == 0 || quiet == bytes.len() {
-            return quiet;
-        }
-        if bytes[0] == b'[' {
-            self.end_csi(performer, bytes[quiet]);
-        } else {
-            self.byte(performer, bytes[quiet]);
-        }
-        quiet + 1
-    }
-
-    /// Reads ESC, and with it the header that it begins and the byte after that. Returns how many bytes it read.
-    fn read_anew<P: Perform>(&mut self, performer: &mut P, bytes: &[u8]) -> usize
-        requires { BeginsWithEsc bytes.now }
-        ensures { ReadsSome P.step N self.old performer.old bytes.now result self.new performer.new }
-    {
-        self.begin_escape(performer);
-        1 + self.read_header(performer, &bytes[1..])
     }
 
     /// Reads the numbers of a plain control sequence after whole ground text, if one stands whole at the start:
@@ -467,17 +416,32 @@ impl<const N: usize> Parser<N> {
         self.read_begun(performer, bytes)
     }
 
-    /// Reads ground text up to the next ESC, or else one byte, and returns how many bytes it read.
+    /// Reads ground text up to the next ESC, or a control sequence after it, or ESC. Returns how many bytes it read.
     #[inline(always)]
-    fn read_one<P: Perform>(&mut self, performer: &mut P, bytes: &[u8]) -> usize
-        requires { 0 < length bytes.now }
+    fn read_ground<P: Perform>(&mut self, performer: &mut P, bytes: &[u8]) -> usize
+        requires some { 0 < length bytes.now }
+        requires ground { self.old.state ≡ State.Ground }
         ensures { ReadsStep P.step N self.old performer.old bytes.now result self.new performer.new }
     {
-        if is_text(self.state, bytes[0]) {
-            return self.unfinished.read(performer, bytes);
+        if bytes[0] == 0x1B {
+            return self.read_escape(performer, bytes);
         }
-        self.byte(performer, bytes[0]);
-        1
+        self.unfinished.read(performer, bytes)
+    }
+
+    /// Reads what has no event, and the byte after it, if there is one. Returns how many bytes it read.
+    #[inline(always)]
+    fn read_inside<P: Perform>(&mut self, performer: &mut P, bytes: &[u8]) -> usize
+        requires some { 0 < length bytes.now }
+        requires inside { state_is_text self.old.state ≡ false }
+        ensures { ReadsStep P.step N self.old performer.old bytes.now result self.new performer.new }
+    {
+        let quiet = self.read_quiet(bytes);
+        if quiet == bytes.len() {
+            return quiet;
+        }
+        self.byte(performer, bytes[quiet]);
+        quiet + 1
     }
 
     /// Reads bytes up to the first that has an event, and with it, or ground text up to the next ESC. Returns how
@@ -487,105 +451,40 @@ impl<const N: usize> Parser<N> {
         requires { 0 < length bytes.now }
         ensures { ReadsStep P.step N self.old performer.old bytes.now result self.new performer.new }
     {
-        let quiet = self.read_quiet(bytes);
-        if quiet == bytes.len() {
-            return quiet;
-        }
-        quiet + self.read_one(performer, &bytes[quiet..])
-    }
-
-    /// Reads bytes as `read_step` does, and a control sequence after ground text at once.
-    #[inline(always)]
-    fn read_some<P: Perform>(&mut self, performer: &mut P, bytes: &[u8]) -> usize
-        requires { 0 < length bytes.now }
-        ensures { ReadsStep P.step N self.old performer.old bytes.now result self.new performer.new }
-    {
         match self.state {
-            State::Ground if bytes[0] == 0x1B => self.read_escape(performer, bytes),
-            _ => self.read_step(performer, bytes),
+            State::Ground => self.read_ground(performer, bytes),
+            State::Escape => {
+                self.after_escape(performer, bytes[0]);
+                1
+            }
+            _ => self.read_inside(performer, bytes),
         }
     }
 
-    /// Reads ESC after ground text, and mostly the header that it begins and the byte after that. Returns how many
-    /// bytes it read.
-    #[inline(always)]
-    fn leave_text<P: Perform>(&mut self, performer: &mut P, bytes: &[u8]) -> usize
-        requires begins { BeginsWithEsc bytes.now }
-        requires ground { self.old.state ≡ State.Ground }
-        ensures { ReadsSome P.step N self.old performer.old bytes.now result self.new performer.new }
-    {
-        if self.unfinished.is_empty() {
-            self.read_escape(performer, bytes)
-        } else {
-            self.read_anew(performer, bytes)
-        }
-    }
-
-    /// Reads ground text up to the next ESC, or from ESC on as `leave_text` does. Returns how many bytes it read.
-    #[inline(always)]
-    fn read_text<P: Perform>(&mut self, performer: &mut P, bytes: &[u8]) -> usize
+    /// Reads a device control string's data, of which each byte has an event, and the byte after it, if there is one.
+    /// Returns how many bytes it read.
+    fn read_data<P: Perform>(&mut self, performer: &mut P, bytes: &[u8]) -> usize
         requires some { 0 < length bytes.now }
-        requires ground { self.old.state ≡ State.Ground }
+        requires data { self.old.state ≡ State.DcsPassthrough }
         ensures { ReadsSome P.step N self.old performer.old bytes.now result self.new performer.new }
     {
-        if bytes[0] == 0x1B {
-            return self.leave_text(performer, bytes);
+        let data = put_prefix(performer, bytes);
+        if data == bytes.len() {
+            return data;
         }
-        self.read_one(performer, bytes)
+        self.byte(performer, bytes[data]);
+        data + 1
     }
 
-    /// Reads the bytes of a sequence at the start that don't end it, if there are any: a header or data. Returns how
-    /// many they are.
-    #[inline(always)]
-    fn read_inside<P: Perform>(&mut self, performer: &mut P, bytes: &[u8]) -> usize
-        ensures { Reads P.step N self.old performer.old bytes.now result self.new performer.new }
-    {
-        match self.state {
-            State::DcsPassthrough => put_prefix(performer, bytes),
-            State::Escape => 0,
-            _ => self.read_quiet(bytes),
-        }
-    }
-
-    /// Reads ESC as `read_anew` does, or one byte, or ground text up to the next ESC. Returns how many bytes it read.
-    #[inline(always)]
-    fn read_next<P: Perform>(&mut self, performer: &mut P, bytes: &[u8]) -> usize
-        requires { 0 < length bytes.now }
-        ensures { ReadsSome P.step N self.old performer.old bytes.now result self.new performer.new }
-    {
-        if bytes[0] == 0x1B {
-            return self.read_anew(performer, bytes);
-        }
-        self.read_one(performer, bytes)
-    }
-
-    /// Reads the bytes of a sequence that don't end it, and then as `read_next` does. Returns how many bytes it read.
-    #[inline(always)]
-    fn read_sequence<P: Perform>(&mut self, performer: &mut P, bytes: &[u8]) -> usize
-        requires { 0 < length bytes.now }
-        ensures { ReadsSome P.step N self.old performer.old bytes.now result self.new performer.new }
-    {
-        let len = self.read_inside(performer, bytes);
-        if len == bytes.len() {
-            return len;
-        }
-        len + self.read_next(performer, &bytes[len..])
-    }
-
-    /// Reads some bytes, and returns how many.
+    /// Reads some bytes: as `read_step` does, but a device control string's data at once. Returns how many bytes it read.
     #[inline(always)]
     fn read_on<P: Perform>(&mut self, performer: &mut P, bytes: &[u8]) -> usize
         requires { 0 < length bytes.now }
         ensures { ReadsSome P.step N self.old performer.old bytes.now result self.new performer.new }
     {
         match self.state {
-            State::Ground => self.read_text(performer, bytes),
-            State::Escape => {
-                self.after_escape(performer, bytes[0]);
-                1
-            }
-            _ if bytes[0] == 0x1B => self.read_anew(performer, bytes),
-            _ => self.read_sequence(performer, bytes),
+            State::DcsPassthrough => self.read_data(performer, bytes),
+            _ => self.read_step(performer, bytes),
         }
     }
 
@@ -620,20 +519,9 @@ impl<const N: usize> Parser<N> {
             if performer.terminated() {
                 return read;
             }
-            read += self.read_some(performer, &bytes[read..]);
+            read += self.read_step(performer, &bytes[read..]);
         }
         bytes.len()
-    }
-}
-
-/// Whether the byte is ground text.
-#[inline(always)]
-fn is_text(state: State, byte: u8) -> bool
-    ensures { result ≡ (state_is_text state && not (is_esc byte)) }
-{
-    match state {
-        State::Ground => byte != 0x1B,
-        _ => false,
     }
 }
 

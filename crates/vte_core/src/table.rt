@@ -9,7 +9,7 @@ use crate::parser::State;
 use crate::parser::State::{
     Csi, DcsHeader, DcsPassthrough, Escape as Esc, Ground, OscString, SosPmApcString,
 };
-use Action::{Cancel as Abort, Collect, Dispatch, End, Execute, Ignore, Param, Put};
+use Action::{Abort, Collect, Dispatch, End, Execute, Ignore, Param, Put};
 use Class::{
     Bell, Cancel, Colon, Control, Delete, Digit, Escape, Final, High, Intermediate as Between,
     Private, Semicolon, StringEnd,
@@ -83,7 +83,7 @@ pub enum Action {
     /// The byte is dropped.
     Ignore,
     /// What was begun is over, and the byte is executed.
-    Cancel,
+    Abort,
     /// The byte is executed, and what was begun goes on.
     Execute,
     /// The byte is kept as an intermediate.
@@ -102,22 +102,25 @@ pub enum Action {
 /// class, in their order. The byte that ends an escape or a device control string's header may begin something else
 /// instead. Ground text isn't read by classes, and ESC does the same in each state but for what it ends.
 static STEPS: [[(Action, State); 13]; 7] = [
+    // Ground
     [(Ignore, Ground); 13],
+    // Escape
     [
-        (Execute, Esc),
-        (Execute, Esc),
-        (Abort, Ground),
-        (Ignore, Esc),
-        (Collect, Esc),
-        (Dispatch, Ground),
-        (Dispatch, Ground),
-        (Dispatch, Ground),
-        (Dispatch, Ground),
-        (Dispatch, Ground),
-        (Ignore, Esc),
-        (Ignore, Esc),
-        (Ignore, Esc),
+        (Execute, Esc), // Control
+        (Execute, Esc), // Bell
+        (Abort, Ground), // Cancel
+        (Ignore, Esc), // Escape
+        (Collect, Esc), // Intermediate
+        (Dispatch, Ground), // Digit
+        (Dispatch, Ground), // Colon
+        (Dispatch, Ground), // Semicolon
+        (Dispatch, Ground), // Private
+        (Dispatch, Ground), // Final
+        (Ignore, Esc), // Delete
+        (Ignore, Esc), // StringEnd
+        (Ignore, Esc), // High
     ],
+    // Csi
     [
         (Execute, Csi),
         (Execute, Csi),
@@ -133,6 +136,7 @@ static STEPS: [[(Action, State); 13]; 7] = [
         (Ignore, Csi),
         (Ignore, Csi),
     ],
+    // OscString
     [
         (Ignore, OscString),
         (End, Ground),
@@ -148,6 +152,7 @@ static STEPS: [[(Action, State); 13]; 7] = [
         (Put, OscString),
         (Put, OscString),
     ],
+    // DcsHeader
     [
         (Ignore, DcsHeader),
         (Ignore, DcsHeader),
@@ -163,6 +168,7 @@ static STEPS: [[(Action, State); 13]; 7] = [
         (Ignore, DcsHeader),
         (Ignore, DcsHeader),
     ],
+    // DcsPassthrough
     [
         (Put, DcsPassthrough),
         (Put, DcsPassthrough),
@@ -178,6 +184,7 @@ static STEPS: [[(Action, State); 13]; 7] = [
         (End, Ground),
         (Ignore, DcsPassthrough),
     ],
+    // SosPmApcString
     [
         (Ignore, SosPmApcString),
         (Ignore, SosPmApcString),

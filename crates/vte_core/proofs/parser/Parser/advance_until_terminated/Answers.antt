@@ -23,9 +23,9 @@ pub loop-read-preserved : goal.loop-read-preserved
 loop-read-preserved g c =
     let bs = c.args.bytes.now in
     let i = c.loop-read.read in
-    let k = c.read_some-read.result in
+    let k = c.read_step-read.result in
     let inv = c.loop-read.invariant in
-    let read = c.read_some-read.ensures in
+    let read = c.read_step-read.ensures in
     let tells = read.reads.reported in
     let piece : List ℕ = take k (take (length bs - i) (drop i bs)) in
     let quiet : g.P.Perform.is_terminated c.loop-read.performer ≡ false =
@@ -39,10 +39,10 @@ loop-read-preserved g c =
           let rest : List ℕ = drop k (take (length bs - i) (drop i bs)) in
           let parts = piece_and_rest bs i k read.reads.within in
           let left = rw (parts.2, read_more bs i k, after_bytes-append q (take i bs) piece) at r in
-          let gone = same_events g.P.Perform.step c.loop-read.performer c.read_some-read.new.performer tells.reported
+          let gone = same_events g.P.Perform.step c.loop-read.performer c.read_step-read.new.performer tells.reported
           (events_from g.row.N now piece) (tells.added now at) tells.performed in
           let whole = step_stops g.P.Perform.step g.P.Perform.is_terminated g.row.N now piece rest
-          c.loop-read.performer c.read_some-read.new.performer j new (read.is_step now at) quiet gone left in
+          c.loop-read.performer c.read_step-read.new.performer j new (read.is_step now at) quiet gone left in
           let m : i + k + j ≡ i + (length piece + j) = omega (arith, parts.1) in
           rw m (inv.stops q h (length piece + j) new (rw parts.0 at whole));
       already = λ t. let stopped = ap g.P.Perform.is_terminated (inv.already t).1 ∙ t in cc (quiet, stopped);

@@ -5,10 +5,10 @@ use Rattle.vte_core.specs.Event.{Execute}
 use Rattle.vte_core.proofs.HeaderBytes.{reads_csi, csi_longer}
 use Rattle.vte_core.proofs.parser.Parser.csi.Goals as goal
 
-pub returns-in-Cancel : goal.returns-in-Cancel
-returns-in-Cancel g c =
-    let abort : is_abort c.args.byte ≡ true = rw c.in-Cancel.is at c.step_of-action.ensures.action in
-    let ground = rw c.in-Cancel.is at c.step_of-action.ensures.next in
+pub returns-in-Abort : goal.returns-in-Abort
+returns-in-Abort g c =
+    let abort : is_abort c.args.byte ≡ true = rw c.in-Abort.is at c.step_of-action.ensures.action in
+    let ground = rw c.in-Abort.is at c.step_of-action.ensures.next in
     reads_csi (Execute c.args.byte ∷ []) (_, c.execute.ensures, refl) c.requires.state (rw abort refl)
     (λ h at. rw abort (refl, (ground, at.1)))
 

@@ -7,14 +7,14 @@ use Rattle.vte_core.specs.StepEvents.{hook_event}
 use Rattle.vte_core.specs.Steps.{does}
 use Rattle.vte_core.specs.declared.parser.State.TheVariants.{DcsHeader}
 use Rattle.vte_core.specs.declared.table.Action.{Action}
-use Rattle.vte_core.specs.declared.table.Action.TheVariants.{Ignore, Cancel, Collect, Param, Dispatch}
+use Rattle.vte_core.specs.declared.table.Action.TheVariants.{Ignore, Abort, Collect, Param, Dispatch}
 use Rattle.vte_core.proofs.HeaderBytes.{reads_hook, hook_longer, final-ends}
 use Rattle.vte_core.proofs.parser.Parser.dcs_header.Goals as goal
 
-pub returns-in-Cancel : goal.returns-in-Cancel
-returns-in-Cancel g c =
-    let abort : is_abort c.args.byte ≡ true = rw c.in-Cancel.is at c.step_of-action.ensures.action in
-    let ground = rw c.in-Cancel.is at c.step_of-action.ensures.next in
+pub returns-in-Abort : goal.returns-in-Abort
+returns-in-Abort g c =
+    let abort : is_abort c.args.byte ≡ true = rw c.in-Abort.is at c.step_of-action.ensures.action in
+    let ground = rw c.in-Abort.is at c.step_of-action.ensures.next in
     reads_hook (Execute c.args.byte ∷ []) (_, c.execute.ensures, refl) c.requires.state (rw abort refl)
     (λ h at. rw abort (refl, (ground, at.1)))
 
@@ -51,10 +51,10 @@ returns-else-is_kept g c =
     rw (ends.0, ends.1, well) (refl, (refl, at.1)))
 
 -- what is left of the table's actions
-ignored : (a : Action) (b : ℕ) → IsTrue (does DcsHeader a b) → (a ≡ Cancel → ⊥) → (a ≡ Collect → ⊥) → (a ≡ Param → ⊥)
+ignored : (a : Action) (b : ℕ) → IsTrue (does DcsHeader a b) → (a ≡ Abort → ⊥) → (a ≡ Collect → ⊥) → (a ≡ Param → ⊥)
     → (a ≡ Dispatch → ⊥) → (is_control b || nat_lt 0x7E b) ≡ true
 ignored Ignore b h d e f g = h
-ignored Cancel b h d e f g = absurd (d refl)
+ignored Abort b h d e f g = absurd (d refl)
 ignored Collect b h d e f g = absurd (e refl)
 ignored Param b h d e f g = absurd (f refl)
 ignored Dispatch b h d e f g = absurd (g refl)
@@ -63,7 +63,7 @@ ignored a b h d e f g = absurd (let no : false ≡ true = h in cc)
 pub returns-in_default : goal.returns-in_default
 returns-in_default g c =
     let b = c.args.byte in
-    let rest = ignored _ b c.step_of-action.ensures.action c.in_default.not-Cancel c.in_default.not-Collect
+    let rest = ignored _ b c.step_of-action.ensures.action c.in_default.not-Abort c.in_default.not-Collect
     c.in_default.not-Param c.in_default.not-Dispatch in
     let on : ends_header b ≡ false = grind (arith, nat_tests, rest) in
     let other : is_header b ≡ false = grind (arith, nat_tests, rest) in

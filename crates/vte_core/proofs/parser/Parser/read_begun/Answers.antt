@@ -1,4 +1,4 @@
-use Rattle.std.proofs.Common.{◌<◌, arith}
+use Rattle.std.proofs.Common.{◌<◌, refl, arith}
 use Rattle.vte_core.proofs.Quiet.{quiet-byte-step}
 use Rattle.vte_core.proofs.ReadsLemmas.{reads_quiet, reads_next}
 use Rattle.vte_core.proofs.parser.Parser.read_begun.Goals as goal
@@ -13,5 +13,5 @@ returns-then-quiet-bytes g c =
       some = omega arith;
       reads = reads_next bs k c.if-quiet-bytes.true (reads_quiet bs k quiet.reads) c.end_csi.ensures;
       is_step = λ q h. quiet-byte-step g.row.N c.begin_csi-quiet.new.self q bs k c.if-quiet-bytes.true
-          (quiet.reads.quiet q h) (quiet.begun some) (quiet.reads.state_after q h);
+          (quiet.reads.quiet q h) (rw (quiet.begun some) refl) (quiet.reads.state_after q h);
     }

@@ -1,22 +1,19 @@
-use Rattle.std.proofs.Common.{map, take, sym}
-use Rattle.vte_core.specs.Event.{Put}
-use Rattle.vte_core.proofs.Device.{device-at}
-use Rattle.vte_core.proofs.ReadsLemmas.{reads_quiet}
+use Rattle.std.proofs.Common.{◌<◌, ◌∙◌, ap, arith, length}
+use Rattle.vte_core.specs.Standing.{state_is_text}
+use Rattle.vte_core.proofs.Quiet.{quiet-byte-step}
+use Rattle.vte_core.proofs.ReadsLemmas.{reads_quiet, reads_next}
 use Rattle.vte_core.proofs.parser.Parser.read_inside.Goals as goal
 
-pub returns-in-DcsPassthrough : goal.returns-in-DcsPassthrough
-returns-in-DcsPassthrough g c =
-    let put = take c.put_prefix.result c.args.bytes.now in
+pub returns : goal.returns
+returns g c =
+    let bs = c.args.bytes.now in
+    let k = c.read_quiet-quiet.result in
+    let quiet = c.read_quiet-quiet.ensures.reads in
+    let inside = ap state_is_text c.read_quiet-quiet.ensures.state ∙ c.requires.inside in
+    let less : k < length bs = omega (arith, quiet.within, c.if-quiet-bytes.false) in
     record {
-      within = c.put_prefix.ensures.within;
-      state_after = λ q h. (device-at g.row.N c.args.self.now q put c.in-DcsPassthrough.is c.put_prefix.ensures.all h).1;
-      reported = record {
-        reported = map Put put;
-        performed = c.put_prefix.ensures.reported;
-        added = λ q h. sym (device-at g.row.N c.args.self.now q put c.in-DcsPassthrough.is c.put_prefix.ensures.all
-            h).0;
-      };
+      some = omega arith;
+      reads = reads_next bs k less (reads_quiet bs k quiet) c.byte.ensures;
+      is_step = λ q h. quiet-byte-step g.row.N c.read_quiet-quiet.new.self q bs k less (quiet.quiet q h) inside
+          (quiet.state_after q h);
     }
-
-pub returns-in_default : goal.returns-in_default
-returns-in_default g c = reads_quiet c.args.bytes.now c.read_quiet.result c.read_quiet.ensures
