@@ -180,7 +180,10 @@ impl<CB: Callbacks> WrappedScreen<CB> {
             b'=' => self.deckpam(),
             b'>' => self.deckpnm(),
             b'M' => self.ri(),
-            b'c' => self.ris(),
+            b'c' => {
+                // Only a failed screen refuses a full reset, and this one hasn't failed.
+                let _ = self.ris();
+            }
             b'g' => self.callbacks.visual_bell(&mut self.screen),
             _ => self
                 .callbacks

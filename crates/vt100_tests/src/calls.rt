@@ -8,35 +8,24 @@ use std::process::Abort;
 use std::test::Fail;
 use vt100::{GridError, Parser, Screen, ScreenError, WrappedScreen};
 
-/// What each call that scrolls answers.
-fn scroll(wrapped: &mut WrappedScreen<()>) -> [Result<(), ScreenError>; 5] {
+/// What each call answers.
+fn answers(wrapped: &mut WrappedScreen<()>) -> [Result<(), ScreenError>; 8] {
     [
         wrapped.text('a'),
         wrapped.lf(),
         wrapped.vt(),
         wrapped.ff(),
         wrapped.su(1),
-    ]
-}
-
-/// What a resize answers, and the next character.
-fn resize(wrapped: &mut WrappedScreen<()>) -> [Result<(), ScreenError>; 2] {
-    [
+        wrapped.ris(),
         wrapped.set_size_with_cb(count(1), count(2)),
         wrapped.text('b'),
     ]
 }
 
 fn check_answers(rt: &impl Abort, wrapped: &mut WrappedScreen<()>) -> Result<(), Fail> {
-    let scrolled = scroll(wrapped);
-    wrapped.ris();
-    let resized = resize(wrapped);
+    let answers = answers(wrapped);
     let contents = wrapped.screen.contents()?;
-    same(
-        rt,
-        &(scrolled, resized, contents.as_str()),
-        &([Ok(()); 5], [Ok(()); 2], "b"),
-    );
+    same(rt, &(answers, contents.as_str()), &([Ok(()); 8], "b"));
     Ok(())
 }
 

@@ -568,7 +568,7 @@ fn kept_rows_are_shown_or_refused(rt: HostRuntime) -> Result<(), Fail> {
     })
 }
 
-/// A call that prints, scrolls or gives the screen another size.
+/// A call that prints, scrolls, makes a new screen or gives it another size.
 #[derive(Clone, Copy)]
 enum Direct {
     Text(char),
@@ -576,6 +576,7 @@ enum Direct {
     Vt,
     Ff,
     Su(u16),
+    Ris,
     Size(u16, u16),
 }
 
@@ -586,6 +587,7 @@ fn call(wrapped: &mut WrappedScreen<()>, direct: Direct) -> Result<(), ScreenErr
         Direct::Vt => wrapped.vt(),
         Direct::Ff => wrapped.ff(),
         Direct::Su(count) => wrapped.su(count),
+        Direct::Ris => wrapped.ris(),
         Direct::Size(rows, cols) => wrapped.set_size_with_cb(count(rows), count(cols)),
     }
 }
@@ -598,6 +600,7 @@ const DIRECT: &[(Direct, &str, usize)] = &[
     (Direct::Vt, "bc", 1),
     (Direct::Ff, "bc", 1),
     (Direct::Su(1), "bc", 1),
+    (Direct::Ris, "", 0),
     (Direct::Size(1, 2), "bc", 1),
     (Direct::Size(3, 5), "a\nbc", 0),
 ];

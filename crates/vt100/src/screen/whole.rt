@@ -2,8 +2,8 @@
 ghost use Rattle.std.specs.Prelude.{◌≡◌, min, length, OnErr, IfOk, IsOk, Err, true, false};
 ghost use Rattle.vt100_core.specs.Grid.{IsShownWide, IsAllocated, allocated, new_grid};
 ghost use Rattle.vt100_core.specs.declared.scrollback.Scrollback.TheVariants.{Enabled};
-ghost use Rattle.screen_model.specs.Step.{kept_shown, kept_dropped, resized_to, sheets_resized, made_anew};
-ghost use Rattle.vt100.specs.Tries.{Changes, TriesAlone, Resizes, TakesNone, SameBounds, Stops, alive, unless_failed};
+ghost use Rattle.screen_model.specs.Step.{kept_shown, kept_dropped, resized_to, sheets_resized, made_anew, quietly};
+ghost use Rattle.vt100.specs.Tries.{Tries, TriesAlone, Resizes, TakesNone, SameBounds, Stops, alive, unless_failed};
 ghost use Rattle.vt100.specs.declared.error.ScreenError.TheVariants.{Memory};
 
 use crate::callbacks::Callbacks;
@@ -156,12 +156,20 @@ fn renew_sheet(grid: &mut Grid)
 
 impl<CB: Callbacks> WrappedScreen<CB> {
     /// Makes everything as at first, at this size and capacity (RIS). No row is reported to the callbacks.
-    pub fn ris(&mut self)
-        ensures { Changes made_anew self.old self.new }
+    ///
+    /// No memory is allocated: the main sheet's rows serve again. On a failed screen nothing is done, and the answer is
+    /// [`ScreenError::Failed`].
+    pub fn ris(&mut self) -> Result<(), ScreenError>
+        ensures tries { Tries CB.scrolls (λ s. quietly (made_anew s)) self.old.screen self.old.callbacks result
+            self.new.screen self.new.callbacks }
+        ensures live { self.old.screen.failed ≡ false → IsOk result }
+        ensures bounds { SameBounds self.old.screen.state self.new.screen.state }
     {
-        if !self.screen.failed {
-            self.screen.renew();
+        if self.screen.failed {
+            return Err(ScreenError::Failed);
         }
+        self.screen.renew();
+        Ok(())
     }
 
     /// Gives the screen another size, and reports the rows that leave it: those of the main sheet first.
