@@ -24,17 +24,17 @@ pub trait TakesPieces<T> {
 /// At most 2^40 reads are made; an interrupted one is tried again and counted.
 pub fn each_piece<S: Source, T, P: TakesPieces<T>>(
     input: &mut S,
-    taker: &mut P,
+    consumer: &mut P,
     to: &mut T,
 ) -> Result<(), RelayError>
-    ensures { GivesEach S.gives P.step input.old taker.old to.old result input.new taker.new to.new }
+    ensures { GivesEach S.gives P.step input.old consumer.old to.old result input.new consumer.new to.new }
 {
     let mut piece = [0; PIECE_LEN];
     let mut reads = 0;
     // The label names the loop's invariant.
     'pieces: loop {
         let n = fill(input, &mut piece, &mut reads)?;
-        taker.take_piece(&piece[..n], to)?;
+        consumer.take_piece(&piece[..n], to)?;
         if n < PIECE_LEN {
             return Ok(());
         }

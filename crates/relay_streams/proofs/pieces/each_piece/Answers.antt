@@ -24,7 +24,7 @@ returns-in_err-take_piece g c =
     let piece : List ℕ = take n c.fill.new.piece in
     let fault = c.in_err-take_piece.field-0.0 in
     let is : c.from_residual-in_err-take_piece.result ≡ Err fault = search rules in
-    rw is (refused c.pieces.taker c.pieces.to so_far.past piece fault
+    rw is (refused c.pieces.consumer c.pieces.to so_far.past piece fault
     (filled_begun c.fill.ensures whole so_far.most n c.in_ok-n.was so_far.read) so_far.took
     c.in_err-take_piece.ensures.step)
 
@@ -36,7 +36,7 @@ returns-then-n-lt-PIECE_LEN g c =
     let piece : List ℕ = take n c.fill.new.piece in
     taken (so_far.past ++ piece ∷ [])
     (filled_last c.fill.ensures whole so_far.most n c.in_ok-n.was (omega arith) so_far.read)
-    (more c.pieces.taker c.pieces.to so_far.took c.in_ok-take_piece.ensures.step)
+    (more c.pieces.consumer c.pieces.to so_far.took c.in_ok-take_piece.ensures.step)
 
 pub pieces-preserved : goal.pieces-preserved
 pieces-preserved g c =
@@ -48,7 +48,7 @@ pieces-preserved g c =
       most = (filled_most c.fill.ensures whole so_far.most n c.in_ok-n.was).0;
       past = so_far.past ++ piece ∷ [];
       read = filled_on c.fill.ensures whole so_far.most n c.in_ok-n.was (omega arith) so_far.read;
-      took = more c.pieces.taker c.pieces.to so_far.took c.in_ok-take_piece.ensures.step;
+      took = more c.pieces.consumer c.pieces.to so_far.took c.in_ok-take_piece.ensures.step;
     }
 
 pub pieces-smaller : goal.pieces-smaller

@@ -11,7 +11,7 @@ invariant-pieces g l = record {
   most : l.reads ≤ max_reads;
   past : List (List ℕ);
   read : DrainsOn g.S.Source.gives piece_len l.fn.input l.input l.reads past;
-  took : TakesAll g.P.TakesPieces.step l.fn.taker l.fn.to past l.taker l.to;
+  took : TakesAll g.P.TakesPieces.step l.fn.consumer l.fn.to past l.consumer l.to;
 }
 
 abbrev pub decreases-pieces : goal.decreases-pieces
