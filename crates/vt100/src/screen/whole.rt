@@ -163,7 +163,7 @@ impl<CB: Callbacks> WrappedScreen<CB> {
         ensures tries { Tries CB.scrolls (λ s. quietly (made_anew s)) self.old.screen self.old.callbacks result
             self.new.screen self.new.callbacks }
         ensures live { self.old.screen.failed ≡ false → IsOk result }
-        ensures bounds { SameBounds self.old.screen.state self.new.screen.state }
+        ensures bounds { OnErr result (SameBounds self.old.screen.state self.new.screen.state) }
     {
         if self.screen.failed {
             return Err(ScreenError::Failed);

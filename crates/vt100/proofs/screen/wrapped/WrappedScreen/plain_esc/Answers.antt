@@ -6,7 +6,6 @@ use Rattle.screen_model.specs.Call as said
 use Rattle.screen_model.specs.Step.{quietly, made_anew}
 use Rattle.screen_model.specs.Effect.{escape_rows, effect_or, calling}
 use Rattle.vt100.proofs.EventLemmas.{does_as, does_change, does_steps, does_call}
-use Rattle.vt100_rows.proofs.TextLemmas.{on-err}
 use Rattle.vt100.specs.declared.error.ScreenError.{ScreenError}
 use Rattle.vt100.proofs.screen.wrapped.WrappedScreen.plain_esc.Goals as goal
 
@@ -28,7 +27,7 @@ returns-in-77 g c = rw c.in-77.is (does_change c.ri.ensures)
 pub returns-in-99 : goal.returns-in-99
 returns-in-99 g c =
     let is_ok = λ (r : Result (Unit {0}) ScreenError). IsOk r in
-    rw c.in-99.is (does_steps (λ s. quietly (made_anew s)) _ c.ris.ensures.tries (on-err _ c.ris.ensures.bounds)
+    rw c.in-99.is (does_steps (λ s. quietly (made_anew s)) _ c.ris.ensures.tries c.ris.ensures.bounds
     (λ live e. absurd (false≢true (subst is_ok e (c.ris.ensures.live live)))))
 
 pub returns-in-103 : goal.returns-in-103
