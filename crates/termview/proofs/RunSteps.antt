@@ -1,5 +1,5 @@
--- A run of printable ASCII, as characters that are shown one after another.
-use Rattle.std.proofs.Common.{◌≡◌, ℕ, zero, ◌+◌, ◌<◌, ◌≤◌, Some, None, cond, List, [], ◌∷◌, ◌++◌, sym, refl, ap}
+-- Characters of one column, as characters that are shown one after another.
+use Rattle.std.proofs.Common.{◌≡◌, ℕ, zero, ◌+◌, ◌<◌, ◌≤◌, List, [], ◌∷◌, ◌++◌, sym, refl, ap}
 use Rattle.std.proofs.Common.{◌∙◌, arith, length, set, take, drop, map, subst}
 use Rattle.std.specs.Prelude.{All}
 use Rattle.std.specs.Str.{IsUtf8, chars}
@@ -7,20 +7,21 @@ use Rattle.std.specs.Char.{encode_utf8}
 use Rattle.std.proofs.lemmas.List.{get_or-set_same, set-get_or, set-set, map-append, take-append-drop, nil_from_length}
 use Rattle.std.proofs.lemmas.List.Elements.{All-drop}
 use Rattle.std.proofs.lemmas.Str.{chars_past_char, chars-nil}
-use Rattle.vt100_cells.specs.Cell.{IsPrintable, cell_of, columns_of, drawn_columns}
+use Rattle.vt100_cells.specs.Cell.{IsPrintable, cell_of}
 use Rattle.vt100_cells.specs.Cells.{cell_at}
 use Rattle.vt100_cells.specs.Line.{printed_run}
-use Rattle.vt100_cells.proofs.CellLemmas.{IsCell-printable}
+use Rattle.vt100_cells.specs.Narrow.{IsNarrow}
+use Rattle.vt100_cells.proofs.NarrowLemmas.{IsCell-narrow, narrow-printable_is}
 use Rattle.vt100_cells.proofs.ListLemmas.{length-by_position}
-use Rattle.vt100_cells.proofs.WidthLemmas.{printable-is}
-use Rattle.vt100_rows.specs.Row.{RowView, blank_row, placed, placed_each}
-use Rattle.vt100_rows.proofs.RowRuns.{run_row-each, IsRow-each}
+use Rattle.vt100_cells.proofs.WidthLemmas.{drawn-is}
+use Rattle.vt100_rows.specs.Row.{RowView, IsRow, blank_row, placed, placed_each}
+use Rattle.vt100_rows.proofs.RowRuns.{narrow_row-each, IsRow-narrow}
 use Rattle.vt100_rows.proofs.PrintableLemmas.{printable-chars}
 use Rattle.vte_types.specs.Call.{Call, Calls, input}
 use Rattle.vte_types.proofs.CallLemmas.{Calls-append}
 use Rattle.terminal_model.specs.Apply.{made_to_fit}
 use Rattle.termview.specs.Step.{view_step, printed}
-use Rattle.termview.specs.Picture.{PictureView, IsPicture, Becomes, Does, ShowsPrefix, term_of_picture}
+use Rattle.termview.specs.Picture.{PictureView, IsPicture, Becomes, Does, ShowsPrefix, Takes, term_of_picture}
 use Rattle.termview.proofs.RowTerms.{cursor_row, cursor_row-is, here, printed-is, span_of-cell}
 use Rattle.termview.proofs.KeptPictures.{IsPicture-row, IsPicture-put, put_at}
 use Rattle.termview.proofs.PictureSteps.{prints, read, room-there}
@@ -45,33 +46,36 @@ run_at-more p x xs h =
     let count : p.col + 1 + length xs ≡ p.col + length (x ∷ xs) = omega arith in
     λ i. record p { rows = r i; col = count i }
 
-drawn-printable : (c : ℕ) → IsPrintable c → drawn_columns c ≡ Some 1
-drawn-printable c p =
-    let one = printable-is c p in
-    ap (λ b. cond b None (Some (columns_of c))) one.0 ∙ ap Some one.1
+pub printable-takes : (xs : List ℕ) → All IsPrintable xs → All (Takes 1) xs
+printable-takes xs p k d l =
+    let c = p k d l in
+    let narrow = narrow-printable_is _ c in
+    (narrow.0, narrow.1, λ e. absurd (omega (arith, e, c.1)))
+
+pub takes-narrow : (xs : List ℕ) → All (Takes 1) xs → All IsNarrow xs
+takes-narrow xs s k d l = let c = s k d l in (c.0, c.1)
 
 -- the first of them, from a picture p, where the cursor's row of q has room for it
-shows-one : (p q : PictureView) (x : ℕ) → IsPicture q → IsPrintable x
+shows-one : (p q : PictureView) (x : ℕ) → IsPicture q → Takes 1 x
     → Becomes p q (made_to_fit p.size 1 (term_of_picture p)) → q.col + 1 ≤ q.size.cols
     → Does p (input x) (put_at q (cell_of x q.attrs) 1)
 unfolding view_step
 shows-one p q x j s room fits =
-    let one = printable-is x s in
-    read p (put_at q (cell_of x q.attrs) 1) x (λ e. absurd (omega (arith, e, s.1)))
-    (prints p q (put_at q (cell_of x q.attrs) 1) x 1 (drawn-printable x s) (omega arith) (omega (arith, j.some_cols, ap (λ z. z.cols) room.size)) room
+    let enough : 1 ≤ p.size.cols = omega (arith, j.some_cols, ap (λ z. z.cols) room.size) in
+    read p (put_at q (cell_of x q.attrs) 1) x s.2
+    (prints p q (put_at q (cell_of x q.attrs) 1) x 1 s.1 (omega arith) enough room
     (record {
       size = refl;
-      shows = printed-is q (cell_of x q.attrs) 1 j (span_of-cell x 1 q.attrs one.1 (omega arith)) fits;
+      shows = printed-is q (cell_of x q.attrs) 1 j (span_of-cell x 1 q.attrs (drawn-is x 1 s.1).1 (omega arith)) fits;
     }))
 
-IsPicture-one : (p : PictureView) (x : ℕ) → IsPicture p → IsPrintable x → p.col + 1 ≤ p.size.cols
+IsPicture-one : (p : PictureView) (x : ℕ) → IsPicture p → Takes 1 x → p.col + 1 ≤ p.size.cols
     → IsPicture (put_at p (cell_of x p.attrs) 1)
 IsPicture-one p x i s fits =
-    let one = printable-is x s in
-    IsPicture-put p (cell_of x p.attrs) 1 i (IsCell-printable x p.attrs s) refl
-    (span_of-cell x 1 p.attrs one.1 (omega arith)) fits
+    IsPicture-put p (cell_of x p.attrs) 1 i (IsCell-narrow x p.attrs s.0 s.1) refl
+    (span_of-cell x 1 p.attrs (drawn-is x 1 s.1).1 (omega arith)) fits
 
-shows-here : (xs : List ℕ) (p : PictureView) → IsPicture p → All IsPrintable xs → p.col + length xs ≤ p.size.cols
+shows-here : (xs : List ℕ) (p : PictureView) → IsPicture p → All (Takes 1) xs → p.col + length xs ≤ p.size.cols
     → Calls Does p (map input xs) (run_at p xs)
 shows-here [] p i s fits = sym (run_at-none p)
 shows-here (x ∷ xs) p i s fits =
@@ -80,11 +84,11 @@ shows-here (x ∷ xs) p i s fits =
       q,
       shows-one p p x i first (room-there p 1 (omega arith)) (omega arith),
       subst (Calls Does q (map input xs)) (run_at-more p x xs (here p i))
-          (shows-here xs q (IsPicture-one p x i first (omega arith)) (All-drop IsPrintable 1 (x ∷ xs) s) (omega arith)),
+          (shows-here xs q (IsPicture-one p x i first (omega arith)) (All-drop (Takes 1) 1 (x ∷ xs) s) (omega arith)),
     )
 
 -- those that go into a row, the first of which has the cursor stand at q
-pub shows-row : (xs : List ℕ) (p q : PictureView) → IsPicture q → 0 < length xs → All IsPrintable xs
+pub shows-row : (xs : List ℕ) (p q : PictureView) → IsPicture q → 0 < length xs → All (Takes 1) xs
     → Becomes p q (made_to_fit p.size 1 (term_of_picture p)) → q.col + length xs ≤ q.size.cols
     → Calls Does p (map input xs) (run_at q xs)
 shows-row [] p q j some s room fits = absurd (omega arith)
@@ -94,18 +98,20 @@ shows-row (x ∷ xs) p q j some s room fits =
       r,
       shows-one p q x j first room (omega arith),
       subst (Calls Does r (map input xs)) (run_at-more q x xs (here q j))
-          (shows-here xs r (IsPicture-one q x j first (omega arith)) (All-drop IsPrintable 1 (x ∷ xs) s) (omega arith)),
+          (shows-here xs r (IsPicture-one q x j first (omega arith)) (All-drop (Takes 1) 1 (x ∷ xs) s) (omega arith)),
     )
 
-pub IsPicture-run : (p : PictureView) (xs : List ℕ) → IsPicture p → All IsPrintable xs → p.col + length xs ≤ p.size.cols
+pub IsPicture-run : (p : PictureView) (xs : List ℕ) → IsPicture p → All (Takes 1) xs → p.col + length xs ≤ p.size.cols
     → IsPicture (run_at p xs)
 IsPicture-run p xs i s h =
     let v = cursor_row p in
     let r = cursor_row-is p i in
-    let e = run_row-each xs v p.col p.attrs r.row s (omega (arith, r.wide)) in
+    let narrow = takes-narrow xs s in
+    let within : p.col + length xs ≤ length v.cells = omega (arith, r.wide) in
+    let e = narrow_row-each xs v p.col p.attrs r.row narrow within in
     IsPicture-row p (placed_each v p.col xs p.attrs) (p.col + length xs) i
     (record {
-      row = IsRow-each xs v p.col p.attrs r.row s (omega (arith, r.wide));
+      row = subst IsRow e (IsRow-narrow v p.col xs p.attrs r.row narrow within);
       wide = sym (ap (λ (u : RowView). length u.cells) e)
           ∙ length-by_position (length v.cells) (printed_run (cell_at v.cells) p.col xs p.attrs) ∙ r.wide;
     })

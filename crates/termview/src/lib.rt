@@ -12,10 +12,10 @@ mod handler;
 pub mod laws;
 mod modes;
 mod picture;
+mod runs;
 mod text;
 mod until_cleared;
 mod view;
-mod wide;
 
 pub use byte_sinks::ByteSink;
 pub use error::ViewError;

@@ -99,8 +99,8 @@ impl Picture {
         }
     }
 
-    /// Prints the prefix of a text that is printable ASCII, or else its first wide characters, or else its first
-    /// character. Returns the rest.
+    /// Prints the printable ASCII at the start of a text, or the other characters there that take one column each, or
+    /// two each, or else its first character. Returns the rest.
     pub(crate) fn input_some<'a>(&mut self, text: &'a str) -> &'a str
         requires { 0 < length text.now }
         ensures shorter { length result.now < length text.now }
@@ -111,7 +111,7 @@ impl Picture {
             self.input_run(&text.as_bytes()[..len]);
             return &text[len..];
         }
-        match self.input_wide(text) {
+        match self.input_chars(text) {
             Some(rest) => rest,
             None => self.input_first(text),
         }

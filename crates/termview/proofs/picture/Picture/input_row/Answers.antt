@@ -3,7 +3,7 @@ use Rattle.std.proofs.lemmas.List.Elements.{All-take}
 use Rattle.vt100_cells.specs.Cell.{IsPrintable}
 use Rattle.vte_types.specs.Call.{Calls, input}
 use Rattle.termview.specs.Picture.{PictureView, IsPicture, Does}
-use Rattle.termview.proofs.RunSteps.{shows-row}
+use Rattle.termview.proofs.RunSteps.{shows-row, printable-takes}
 use Rattle.termview.proofs.picture.Picture.input_row.Goals as goal
 
 pub put_run-requires-clause-printable : goal.put_run-requires-clause-printable
@@ -22,4 +22,5 @@ returns-clause-shown c =
     let fits : q.col + length xs ≤ q.size.cols = omega arith in
     subst (λ (r : PictureView). Calls Does p (map input xs) r) (sym c.put_run.ensures)
     (shows-row xs p q (subst IsPicture c.self-2.view_is c.self-2.invariant) some
-    (All-take IsPrintable c.min-n.result c.args.text.now c.requires.printable) c.make_room.ensures.picture fits)
+    (printable-takes xs (All-take IsPrintable c.min-n.result c.args.text.now c.requires.printable))
+    c.make_room.ensures.picture fits)

@@ -5,9 +5,9 @@ use Rattle.termview.proofs.picture.Picture.input_wide.Goals as goal
 
 pub returns-clause-shown : goal.returns-clause-shown
 returns-clause-shown c =
-    let xs = c.take_wide-rest.new.run.items in (
+    let xs = c.take_run-rest.new.run.items in (
       xs,
-      c.take_wide-rest.ensures.parts,
+      c.take_run-rest.ensures.parts,
       subst (λ (ys : List ℕ). Calls Does c.args.self.now (map input ys) c.wide_run.new.self) c.as_slice.ensures.value
           c.wide_run.ensures,
     )

@@ -1,7 +1,7 @@
 use Rattle.std.proofs.Common.{arith, ◌≡◌, ◌+◌, ◌*◌, ◌<◌, ◌≤◌, map, length, take, subst, sym, ap, length-take, min}
 use Rattle.std.proofs.lemmas.List.Elements.{All-take}
 use Rattle.vte_types.specs.Call.{Calls, input}
-use Rattle.termview.specs.Picture.{PictureView, IsPicture, IsPair, Does}
+use Rattle.termview.specs.Picture.{PictureView, IsPicture, Takes, Does}
 use Rattle.termview.proofs.WideSteps.{shows-pairs}
 use Rattle.termview.proofs.picture.Picture.wide_row.Goals as goal
 
@@ -16,7 +16,7 @@ returns-clause-shown c =
     let same : q.size.cols ≡ p.size.cols = ap (λ z. z.cols) c.make_room.ensures.picture.size in
     let some : 0 < length xs = omega arith in
     let fits : q.col + 2 * length xs ≤ q.size.cols = omega arith in
-    subst (λ (r : PictureView). Calls Does p (map input xs) r) (sym c.put_pairs.ensures.picture)
+    subst (λ (r : PictureView). Calls Does p (map input xs) r) (sym c.put_pairs.ensures)
     (shows-pairs xs p q (subst IsPicture c.self-2.view_is c.self-2.invariant) some
-    (All-take IsPair c.min-n.result c.args.text.now c.requires.wide) c.put_pairs.ensures.characters c.requires.room
+    (All-take (Takes 2) c.min-n.result c.args.text.now c.requires.wide) c.requires.room
     c.make_room.ensures.picture fits)

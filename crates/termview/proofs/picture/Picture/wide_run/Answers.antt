@@ -4,7 +4,7 @@ use Rattle.std.proofs.lemmas.Bool.Decides.{nat_tests}
 use Rattle.std.proofs.lemmas.List.{take_rest, nil_from_length}
 use Rattle.std.proofs.lemmas.List.Elements.{All-drop}
 use Rattle.vte_types.specs.Call.{Calls, input}
-use Rattle.termview.specs.Picture.{PictureView, Does, IsPair}
+use Rattle.termview.specs.Picture.{PictureView, Does, Takes}
 use Rattle.termview.proofs.RunSteps.{runs-on}
 use Rattle.termview.proofs.picture.Picture.wide_run.Goals as goal
 
@@ -16,7 +16,7 @@ loop-rest-preserved c =
     let n = c.wide_row-n.result in
     let e = take_rest rest n in
     record {
-      wide = subst (λ (xs : List ℕ). All IsPair xs) (sym e) (All-drop IsPair n rest c.loop-rest.invariant.wide);
+      wide = subst (λ (xs : List ℕ). All (Takes 2) xs) (sym e) (All-drop (Takes 2) n rest c.loop-rest.invariant.wide);
       room = c.wide_row-n.ensures.room;
       shown = subst (λ (xs : List ℕ). (r : PictureView) → Calls Does q (map input xs) r
           → Calls Does c.args.self.now (map input c.args.text.now) r) (sym e)

@@ -3,8 +3,8 @@ use Rattle.std.proofs.Common.{arith}
 use Rattle.std.specs.Prelude.{All}
 use Rattle.std.specs.Str.{chars}
 use Rattle.std.proofs.lemmas.List.Elements.{All-push}
-use Rattle.termview.specs.Picture.{IsPair}
-use Rattle.termview.proofs.wide.take_wide.Goals as goal
+use Rattle.termview.specs.Picture.{Takes}
+use Rattle.termview.proofs.runs.take_run.Goals as goal
 
 pub loop-rest-preserved : goal.loop-rest-preserved
 loop-rest-preserved c =
@@ -18,5 +18,6 @@ loop-rest-preserved c =
       parts = c.loop-rest.invariant.parts ∙ ap (λ (ys : List ℕ). xs ++ ys) c.in-Some.ensures.parts
           ∙ sym (append_assoc xs (x ∷ []) (chars left)) ∙ ap (λ (ys : List ℕ). ys ++ chars left) (sym pushed);
       shorter = omega (arith, count, c.in-Some.ensures.shorter, c.loop-rest.invariant.shorter);
-      wide = subst (All IsPair) (sym pushed) (All-push IsPair xs x c.loop-rest.invariant.wide c.in-Some.ensures.wide);
+      shown = subst (All (Takes c.args.columns)) (sym pushed)
+          (All-push (Takes c.args.columns) xs x c.loop-rest.invariant.shown c.in-Some.ensures.shown);
     }

@@ -1,8 +1,8 @@
 use Rattle.std.proofs.Common.{◌≡◌, ◌+◌, ◌≤◌, ◌++◌, length}
 use Rattle.std.specs.Prelude.{All}
 use Rattle.std.specs.Str.{chars}
-use Rattle.termview.specs.Picture.{IsPair}
-use Rattle.termview.proofs.wide.take_wide.Given as goal
+use Rattle.termview.specs.Picture.{Takes}
+use Rattle.termview.proofs.runs.take_run.Given as goal
 use denote.Text.{Utf8}
 use denote.Shadow.{shadow}
 
@@ -11,7 +11,7 @@ invariant-loop-rest l = record {
   text : shadow (Utf8 l.rest);
   parts : chars l.text ≡ l.run.items ++ chars l.rest;
   shorter : length l.rest + length l.run.items ≤ length l.text;
-  wide : All IsPair l.run.items;
+  shown : All (Takes l.columns) l.run.items;
 }
 
 abbrev pub decreases-loop-rest : goal.decreases-loop-rest
