@@ -1,12 +1,15 @@
 -- Characters that are printed at once, as event by event.
-use Rattle.std.proofs.Common.{◌≡◌, ◌∙◌, ◌^◌, ◌<◌, ◌==◌, ℕ, zero, Bool, true, false, cond, List, [], ◌∷◌, ◌++◌, ap, sym}
+use Rattle.std.proofs.Common.{◌≡◌, ◌∙◌, ◌^◌, ◌<◌, ◌==◌, ℕ, zero, suc, Bool, true, false, cond, List, [], ◌∷◌, ◌++◌, ap, sym}
 use Rattle.std.proofs.Common.{Option, Some, Result, Ok, Err, OnOk, OnErr, length, map, refl, subst, inl, inr, arith}
 use Rattle.std.proofs.Common.{nat_lt, get_or, take, drop, ◌⊎◌, ◌&&◌, ◌||◌, ◌≤◌, not, append_assoc, append-nil}
 use Rattle.std.specs.Prelude.{All, IsOk}
 use Rattle.std.specs.Char.{encode_utf8}
 use Rattle.std.specs.Str.{IsUtf8, chars}
 use Rattle.std.proofs.lemmas.Grind.{common_steps}
-use Rattle.std.proofs.lemmas.Str.{chars_past_char, chars-nil}
+use Rattle.std.proofs.lemmas.Str.{chars_past_char, chars-IsAscii, chars-nil}
+use Rattle.vte_core.specs.Bytes.{each, is_printable}
+use Rattle.vte_core.proofs.Ground.{printable-ascii}
+use Rattle.vte_core.proofs.PhaseLemmas.{each-first}
 use Rattle.vte_core.proofs.Telling.{performs-append, same_events}
 use Rattle.std.proofs.lemmas.Bool.{cases_Bool, and_parts}
 use Rattle.std.proofs.lemmas.Bool.Decides.{nat_tests}
@@ -131,6 +134,16 @@ sunk-append g (x ∷ xs) ys a =
 
 printable-handled : (c : ℕ) → IsPrintable c → IsHandled c
 printable-handled c p = grind (arith, nat_tests)
+
+pub printables : (xs : List ℕ) → each is_printable xs ≡ true → All IsPrintable xs
+printables [] h k d l = absurd (omega (arith, l))
+printables (x ∷ xs) h zero d l =
+    let first = each-first is_printable x xs h in
+    let printable : is_printable x ≡ true = first.0 in
+    grind (arith, nat_tests)
+printables (x ∷ xs) h (suc k) d l =
+    let first = each-first is_printable x xs h in
+    printables xs first.1 k d (omega (arith, l))
 
 module _ {C : Type 0} (scrolls : C → RowView → Bool → C → Type 0) where
   -- drawing a run is typing it
@@ -381,6 +394,17 @@ module _ {C : Type 0} (step : C → ScreenView → Call → C → ScreenView →
   performs-goes (e ∷ es) p q h =
       let m : WrappedScreen C = record { screen = h.1; callbacks = h.0 } in
       (m, h.2, performs-goes es m q h.3)
+
+  -- a text of printable ASCII
+  pub ascii-run : (bs : List ℕ) {p q : WrappedScreen C} (result : Result (Unit {0}) ScreenError) → 0 < length bs
+      → each is_printable bs ≡ true → (p.screen.failed ≡ false → IsState p.screen.state)
+      → MayScroll scrolls (typed_all bs) p result q → Performs (Steps step scrolls) p (map Print (chars bs)) q
+  ascii-run bs {p} {q} result some printable is x =
+      let all = printables bs printable in
+      same_events (Steps step scrolls) p q (map Print bs) (map Print (chars bs))
+      (ap (map Print) (sym (chars-IsAscii bs (printable-ascii bs printable))))
+      (performs-goes (map Print bs) p q
+      (goes-typed_all bs result some (λ i e l. printable-handled (get_or bs i e) (all i e l)) is x))
 
   -- ---- the start of a text
 

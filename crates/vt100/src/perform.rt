@@ -77,6 +77,15 @@ impl<CB: Callbacks> Perform for WrappedScreen<CB> {
         }
     }
 
+    fn print_ascii(&mut self, text: &str) {
+        if text.is_empty() {
+            return;
+        }
+        prove!(self.screen.is_live() || self.screen.failed());
+        // A refusal is kept in the screen, which has failed then.
+        let _ = self.run(CharRun::Ascii(text.as_bytes()));
+    }
+
     fn execute(&mut self, byte: u8) {
         if self.screen.failed() {
             return;
@@ -192,7 +201,7 @@ impl<CB: Callbacks> WrappedScreen<CB> {
     }
 
     /// SGR. `csi_dispatch` asks for it first, since most streams have more of it than of any other sequence.
-    #[inline(never)]
+    #[inline(always)]
     fn sgr_csi(&mut self, params: &Params)
         requires { self.old.screen.failed ≡ false }
         ensures { Handles CB.step CB.scrolls (plain_effect (lookup 0x6D plain_rows) params.now 0x6D)
@@ -325,7 +334,9 @@ impl<CB: Callbacks> WrappedScreen<CB> {
         }
     }
 
-    /// Reports an unhandled sequence, once for each of its groups that are, while the screen hasn't failed.
+    /// Reports an unhandled sequence, once for each of its groups that are, while the screen hasn't failed. Mostly there is
+    /// none.
+    #[inline(always)]
     fn unhandled_groups(
         &mut self,
         count: usize,
@@ -333,6 +344,17 @@ impl<CB: Callbacks> WrappedScreen<CB> {
         intermediates: &[u8],
         action: char,
     )
+        ensures { MakesCalls CB.step self.old.callbacks self.old.screen
+            (replicate count (csi_call intermediates.now params.now action)) self.new.callbacks self.new.screen }
+    {
+        if count > 0 {
+            self.report_groups(count, params, intermediates, action);
+        }
+    }
+
+    /// The same where there are some.
+    #[inline(never)]
+    fn report_groups(&mut self, count: usize, params: &Params, intermediates: &[u8], action: char)
         ensures { MakesCalls CB.step self.old.callbacks self.old.screen
             (replicate count (csi_call intermediates.now params.now action)) self.new.callbacks self.new.screen }
     {

@@ -162,7 +162,7 @@ impl Row {
         self.filled = UNKNOWN;
     }
 
-    /// Empties the cells of the range, as [`erase`](Self::erase) of each of them does. For the grid alone.
+    /// Empties the cells of the range, as [`erase`](Self::erase) of each of them does.
     #[doc(hidden)]
     pub fn erase_range(&mut self, range: Range<u16>, attrs: Attrs)
         requires { range.end ≤ length self.old.cells }

@@ -1,13 +1,18 @@
 -- The numbers of a plain control sequence, byte by byte.
 use Rattle.std.proofs.Common.{◌≡◌, ◌∙◌, ℕ, ◌+◌, ◌-◌, ◌*◌, ◌<◌, ◌≤◌, min, true, false, List, [], ◌∷◌, ◌++◌, length, take}
-use Rattle.std.proofs.Common.{set, sym, ap, subst, refl, arith, ◌==◌}
+use Rattle.std.proofs.Common.{Bool, set, sym, ap, subst, refl, arith, ◌==◌, drop, append-nil, append_assoc, length-drop, length-take}
 use Rattle.std.proofs.lemmas.Bool.Decides.{nat_tests}
 use Rattle.std.specs.Int.{is_in_range}
+use Rattle.vte_core.specs.Bytes.{each, is_numeric}
 use Rattle.vte_core.specs.Header.{groups_of, first_numbers}
+use Rattle.vte_core.specs.Plain.{IsShortNumber, number_by}
 use Rattle.vte_core.specs.Reading.{AreNumbers}
 use Rattle.vte_core.specs.Store.{total, cut_at}
 use Rattle.vte_core.proofs.Headers.{first-whole, total-append}
 use Rattle.vte_core.proofs.Numbered.{numbers-digit, numbers-semicolon, numbers-whole}
+use Rattle.vte_core.proofs.PhaseLemmas.{each-append, each-first}
+use Rattle.vte_core.proofs.Runs.{read_more}
+use Rattle.vte_core.proofs.StopLemmas.{whole_rest}
 use Rattle.vte_core.proofs.Stores.{IsStore, total-store, pushed_one}
 
 -- the bytes so far are the groups in these stores, each of one number, and then the number n
@@ -93,3 +98,55 @@ module _ {m : List ℕ} {count n : ℕ} {numbers ends : List ℕ} (s : PlainSoFa
     total-append s.gs (n ∷ []),
     room h,
   )
+
+abbrev is_digit : ℕ → Bool
+is_digit b = is_in_range 0x30 0x39 b
+
+-- a digit more, where there is room for one
+one_digit : {m : List ℕ} {count n : ℕ} {numbers ends : List ℕ} → PlainSoFar m count n numbers ends → (b : ℕ) (bs : List ℕ)
+    → n ≤ 6552 → each is_digit (b ∷ bs) ≡ true
+    → PlainSoFar (m ++ b ∷ []) count (n * 10 + (b - 0x30)) numbers ends × (each is_digit bs ≡ true)
+    × (n * 10 + (b - 0x30) ≤ n * 10 + 9)
+one_digit s b bs few h =
+    let g = each-first is_digit b bs h in
+    let digit : is_in_range 0x30 0x39 b ≡ true = g.0 in
+    (plain-digit s b few digit, g.1, grind (arith, nat_tests))
+
+-- three digits more, or fewer
+three_digits : {m : List ℕ} {count : ℕ} {numbers ends : List ℕ} → PlainSoFar m count 0 numbers ends → (ds : List ℕ)
+    → length ds ≤ 3 → each is_digit ds ≡ true → PlainSoFar (m ++ ds) count (number_by 0 ds) numbers ends
+three_digits {m} s [] few h = rw (append-nil m) s
+three_digits {m} s (a ∷ []) few h = (one_digit s a [] (omega arith) h).0
+three_digits {m} s (a ∷ b ∷ []) few h =
+    let x = one_digit s a (b ∷ []) (omega arith) h in
+    rw (append_assoc m (a ∷ []) (b ∷ [])) at ((one_digit x.0 b [] (omega (arith, x.2)) x.1).0)
+three_digits {m} s (a ∷ b ∷ d ∷ []) few h =
+    let x = one_digit s a (b ∷ d ∷ []) (omega arith) h in
+    let y = one_digit x.0 b (d ∷ []) (omega (arith, x.2)) x.1 in
+    rw (append_assoc m (a ∷ []) (b ∷ []), append_assoc m (a ∷ b ∷ []) (d ∷ []))
+    at ((one_digit y.0 d [] (omega (arith, x.2, y.2)) y.1).0)
+three_digits s (a ∷ b ∷ d ∷ e ∷ ds) few h = absurd (omega (arith, few))
+
+digits_numeric : (ds : List ℕ) → each is_digit ds ≡ true → each is_numeric ds ≡ true
+digits_numeric [] h = refl
+digits_numeric (d ∷ ds) h =
+    let g = each-first is_digit d ds h in
+    let digit : is_in_range 0x30 0x39 d ≡ true = g.0 in
+    let is : is_numeric d ≡ true = grind (arith, nat_tests) in
+    rw is (digits_numeric ds g.1)
+
+-- a short number more
+pub short_next : {count : ℕ} {numbers ends : List ℕ} (bs : List ℕ) (i k n : ℕ) → i ≤ length bs
+    → each is_numeric (take i bs) ≡ true → PlainSoFar (take i bs) count 0 numbers ends
+    → IsShortNumber (take (length bs - i) (drop i bs)) n k
+    → (i + k < length bs) × (each is_numeric (take (i + k) bs) ≡ true) × PlainSoFar (take (i + k) bs) count n numbers ends
+short_next bs i k n within numeric s short =
+    let rest = whole_rest bs i in
+    let digits : List ℕ = take k (take (length bs - i) (drop i bs)) in
+    let less : i + k < length bs = omega (arith, short.within, ap length rest, length-drop i bs) in
+    let few : length digits ≤ 3 = omega (arith, short.few, length-take k (take (length bs - i) (drop i bs))) in
+    let all : take (i + k) bs ≡ take i bs ++ digits = read_more bs i k in (
+      less,
+      rw all (each-append is_numeric (take i bs) digits numeric (digits_numeric digits short.digits)),
+      rw (all, short.number) (three_digits s digits few short.digits),
+    )

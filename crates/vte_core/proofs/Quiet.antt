@@ -223,7 +223,7 @@ quiet-byte-step n p q bs k lt e s at =
 
 -- `ESC [` and some of a header, after whole ground text
 
-begun-text : (n : ℕ) (p : Parser n) (q : Pending) → p.state ≡ Ground → p.unfinished ≡ [] → IsAt n p q → q ≡ InText []
+pub begun-text : (n : ℕ) (p : Parser n) (q : Pending) → p.state ≡ Ground → p.unfinished ≡ [] → IsAt n p q → q ≡ InText []
 begun-text n p q s e at =
     let (u, is) = by_state n p Ground q s at in
     let here = rw is at at in

@@ -25,6 +25,10 @@ is_c0 b = nat_lt b 0x20 && not (is_esc b)
 abbrev pub is_plain : ℕ → Bool
 is_plain b = is_in_range 0x20 0x7F b
 
+-- the same but for DEL
+abbrev pub is_printable : ℕ → Bool
+is_printable b = is_in_range 0x20 0x7E b
+
 abbrev pub is_intermediate : ℕ → Bool
 is_intermediate b = is_in_range 0x20 0x2F b
 
@@ -46,6 +50,10 @@ ends_header b = is_abort b || is_in_range 0x40 0x7E b
 
 abbrev pub ends_escape : ℕ → Bool
 ends_escape b = is_abort b || is_in_range 0x30 0x7E b
+
+-- after ESC: what begins a control sequence or a string
+abbrev pub opens_sequence : ℕ → Bool
+opens_sequence b = b == 0x5B || (b == 0x5D || (b == 0x50 || (b == 0x58 || (b == 0x5E || b == 0x5F))))
 
 abbrev pub ends_osc : ℕ → Bool
 ends_osc b = is_abort b || b == 0x07

@@ -1,6 +1,8 @@
 -- What the parser's functions do with the first k of some bytes: the parser (p) and the performer (old) before them,
 -- and after them (r, new).
-use Rattle.std.specs.Prelude.{◌≡◌, ◌<◌, ◌≤◌, ℕ, List, [], take, drop, length, slice_index}
+use Rattle.std.specs.Prelude.{◌≡◌, ◌<◌, ◌≤◌, ℕ, true, false, List, [], take, drop, length, slice_index}
+use Rattle.std.specs.Int.{is_in_range}
+use Rattle.vte_core.specs.Bytes.{is_intermediate, opens_sequence}
 use Rattle.vte_core.specs.Event.{Event}
 use Rattle.vte_core.specs.Pending.{Pending, events_from, after_bytes}
 use Rattle.vte_core.specs.Plain.{IsPlain}
@@ -47,3 +49,22 @@ pub record BeginsPlain (n : ℕ) (p : Parser n) (bs : List ℕ) (k : ℕ) (r : P
   pub esc : slice_index bs 0 ≡ 0x1B
   pub bracket : slice_index bs 1 ≡ 0x5B
   pub plain : IsPlain (drop 2 bs) k r.header.numbers.params
+
+-- An escape sequence with the one intermediate m and the final byte f comes first, after whole ground text.
+pub record BeginsMarked (n : ℕ) (p : Parser n) (bs : List ℕ) (m f : ℕ) : Type 0 where
+  pub whole : p.unfinished ≡ []
+  pub some : 3 ≤ length bs
+  pub esc : slice_index bs 0 ≡ 0x1B
+  pub at_mark : slice_index bs 1 ≡ m
+  pub mark : is_intermediate m ≡ true
+  pub at_final : slice_index bs 2 ≡ f
+  pub final : is_in_range 0x30 0x7E f ≡ true
+
+-- the same without an intermediate, where the final byte opens no longer sequence
+pub record BeginsUnmarked (n : ℕ) (p : Parser n) (bs : List ℕ) (f : ℕ) : Type 0 where
+  pub whole : p.unfinished ≡ []
+  pub some : 2 ≤ length bs
+  pub esc : slice_index bs 0 ≡ 0x1B
+  pub at_final : slice_index bs 1 ≡ f
+  pub final : is_in_range 0x30 0x7E f ≡ true
+  pub short : opens_sequence f ≡ false

@@ -33,7 +33,7 @@ pub struct Header {
 
 /// Whether the byte is an intermediate.
 #[inline(always)]
-fn is_intermediate(byte: u8) -> bool
+pub fn is_intermediate(byte: u8) -> bool
     ensures { result ≡ is_intermediate byte }
 {
     (0x20..=0x2F).contains(&byte)

@@ -2,7 +2,7 @@
 
 ghost use Rattle.std.specs.Prelude.{◌≡◌, ◌+◌, ◌<◌, ◌≤◌, ◌==◌, ℕ, List, [], ◌∷◌, ◌++◌, length, take, map, IfSome, IfNone};
 ghost use Rattle.vte_core.specs.Store.{total};
-ghost use Rattle.vte_core.specs.Plain.{IsPlain};
+ghost use Rattle.vte_core.specs.Plain.{IsPlain, IsShortNumber};
 ghost use Rattle.vte_core.specs.ParamsText.{group_text, groups_text};
 ghost use Rattle.std.specs.Iterator.{YieldsFirstBy, item_count};
 ghost use Rattle.std.specs.Fmt.{WritesOnOk};
@@ -12,9 +12,6 @@ use std::marker::Model;
 
 /// How many numbers are kept.
 pub(crate) const MAX_PARAMS: usize = 32;
-
-/// A number up to this one has room for one more digit.
-const MOST_BEFORE_DIGIT: u32 = 6_552;
 
 /// Groups of numbers, up to 32 numbers in all, each at most 65,535. A group is what stands between two `;`; the
 /// subparameters that `:` separates are its numbers (ITU-T T.416, section 13.1.8). A number without digits is 0.
@@ -132,7 +129,8 @@ impl Params {
     }
 
     /// Reads the numbers of a plain control sequence, which `;` alone separates, up to its final byte. Returns how many
-    /// bytes they are; nothing where it isn't plain, has more numbers than are kept, or ends elsewhere.
+    /// bytes they are; nothing where it isn't plain, has more numbers than are kept, a number of more than three digits,
+    /// or ends elsewhere.
     #[inline(always)]
     pub(crate) fn read_plain(&mut self, bytes: &[u8]) -> Option<usize>
         ensures { IfSome result (λ k. IsPlain bytes.now k self.new) }
@@ -140,36 +138,53 @@ impl Params {
         self.len = 0;
         self.groups = 0;
         let mut count = 0;
-        let mut number: u32 = 0;
         let mut read = 0;
-        while read < bytes.len() {
+        while count < MAX_PARAMS {
+            let (number, digits) = short_number(&bytes[read..])?;
+            self.numbers[count] = number;
+            self.ends[count] = count + 1;
+            count += 1;
+            read += digits;
             let byte = bytes[read];
-            if byte.is_ascii_digit() {
-                if number > MOST_BEFORE_DIGIT {
+            if byte != b';' {
+                if !(0x40..=0x7E).contains(&byte) {
                     return None;
                 }
-                number = number * 10 + (byte - b'0') as u32;
-            } else {
-                if count == MAX_PARAMS {
-                    return None;
-                }
-                self.numbers[count] = number as u16;
-                self.ends[count] = count + 1;
-                count += 1;
-                if byte != b';' {
-                    if !(0x40..=0x7E).contains(&byte) {
-                        return None;
-                    }
-                    self.len = count;
-                    self.groups = count;
-                    return Some(read);
-                }
-                number = 0;
+                self.len = count;
+                self.groups = count;
+                return Some(read);
             }
             read += 1;
         }
         None
     }
+}
+
+/// The number of up to three digits at the start, and how many they are; nothing where a fourth follows, or where fewer
+/// than four bytes are left.
+#[inline(always)]
+fn short_number(bytes: &[u8]) -> Option<(u16, usize)>
+    ensures { IfSome result (λ x. IsShortNumber bytes.now x.0 x.1) }
+{
+    let [first, second, third, fourth, ..] = bytes else {
+        return None;
+    };
+    if !first.is_ascii_digit() {
+        return Some((0, 0));
+    }
+    let number = (*first - b'0') as u16;
+    if !second.is_ascii_digit() {
+        return Some((number, 1));
+    }
+    let number = number * 10 + (*second - b'0') as u16;
+    if !third.is_ascii_digit() {
+        return Some((number, 2));
+    }
+    let number = number * 10 + (*third - b'0') as u16;
+    if fourth.is_ascii_digit() {
+        return None;
+    }
+    Some((number, 3))
 }
 
 /// The groups of a [`Params`] that are left.

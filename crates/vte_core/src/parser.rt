@@ -4,18 +4,19 @@ ghost use Rattle.std.specs.Prelude.{◌≡◌, ◌≢◌, ◌<◌, ◌≤◌, �
 ghost use Rattle.std.specs.Prelude.{false, true, not, ◌&&◌, IfSome};
 ghost use Rattle.std.specs.Int.{is_in_range};
 ghost use Rattle.vte_core.specs.Byte.{ReadsByte, ReadsOther};
-ghost use Rattle.vte_core.specs.Bytes.{each, is_device_data, is_esc, is_swallowed};
+ghost use Rattle.vte_core.specs.Bytes.{each, is_device_data, is_esc, is_swallowed, opens_sequence};
 ghost use Rattle.vte_core.specs.Event as e;
 ghost use Rattle.vte_core.specs.Event.{Performs};
 ghost use Rattle.vte_core.specs.StepEvents.{final_events};
 ghost use Rattle.vte_core.specs.Pending.{Pending, InEscape, final_rest, final_reported};
-ghost use Rattle.vte_core.specs.Reads.{BeginsPlain, BeginsWithEsc, Reads, ReadsSome, ReadsStep, ReadsQuietly};
+ghost use Rattle.vte_core.specs.Reads.{BeginsMarked, BeginsPlain, BeginsUnmarked, BeginsWithEsc, Reads, ReadsSome};
+ghost use Rattle.vte_core.specs.Reads.{ReadsStep, ReadsQuietly};
 ghost use Rattle.vte_core.specs.Runs.{TellsEach};
 ghost use Rattle.vte_core.specs.Standing.{IsAt, IsAfter, state_is_text};
 ghost use Rattle.vte_core.specs.Stopping.{Stops};
 ghost use Rattle.vte_core.specs.Reported.{Reported};
 
-use crate::header::Header;
+use crate::header::{Header, is_intermediate};
 use crate::intermediates::Intermediates;
 use crate::osc_data::OscData;
 use crate::perform::Perform;
@@ -381,17 +382,68 @@ impl<const N: usize> Parser<N> {
         }
     }
 
-    /// Reads a control sequence that ESC begins after ground text, up to the first byte that has an event, and with
-    /// it; or else ESC alone. Returns how many bytes it read.
+    /// The intermediate and the final byte of an escape sequence with one intermediate after whole ground text, such as
+    /// the designation of a character set, if one stands whole at the start.
+    #[inline(always)]
+    fn marked(&self, bytes: &[u8]) -> Option<(u8, u8)>
+        ensures { IfSome result (λ x. BeginsMarked N self.now bytes.now x.0 x.1) }
+    {
+        match bytes {
+            [0x1B, mark, byte, ..]
+                if is_intermediate(*mark) && is_escape_final(*byte) && self.unfinished.is_empty() =>
+                Some((*mark, *byte)),
+            _ => None,
+        }
+    }
+
+    /// The final byte of an escape sequence without intermediates after whole ground text, if one stands whole at the
+    /// start.
+    #[inline(always)]
+    fn unmarked(&self, bytes: &[u8]) -> Option<u8>
+        ensures { IfSome result (λ f. BeginsUnmarked N self.now bytes.now f) }
+    {
+        match bytes {
+            [0x1B, byte, ..]
+                if is_escape_final(*byte) && !opens_sequence(*byte) && self.unfinished.is_empty() =>
+                Some(*byte),
+            _ => None,
+        }
+    }
+
+    /// Reads ESC, and after whole ground text the byte after it, if there is one. Returns how many bytes it read.
+    #[inline(always)]
+    fn read_esc<P: Perform>(&mut self, performer: &mut P, bytes: &[u8]) -> usize
+        requires begins { BeginsWithEsc bytes.now }
+        requires ground { self.old.state ≡ State.Ground }
+        ensures { ReadsStep P.step N self.old performer.old bytes.now result self.new performer.new }
+    {
+        let is_whole = self.unfinished.is_empty();
+        self.begin_escape(performer);
+        if is_whole && bytes.len() > 1 {
+            self.after_escape(performer, bytes[1]);
+            return 2;
+        }
+        1
+    }
+
+    /// Reads what ESC begins after ground text: a short escape sequence, or a control sequence up to the first byte that
+    /// has an event, and with it, or else ESC and the byte after it. Returns how many bytes it read.
     fn read_begun<P: Perform>(&mut self, performer: &mut P, bytes: &[u8]) -> usize
         requires begins { BeginsWithEsc bytes.now }
         requires ground { self.old.state ≡ State.Ground }
         ensures { ReadsStep P.step N self.old performer.old bytes.now result self.new performer.new }
     {
+        if let Some((mark, byte)) = self.marked(bytes) {
+            performer.esc_dispatch(&[mark], false, byte);
+            return 3;
+        }
+        if let Some(byte) = self.unmarked(bytes) {
+            performer.esc_dispatch(&[], false, byte);
+            return 2;
+        }
         let quiet = self.begin_csi(bytes);
         if quiet == 0 {
-            self.begin_escape(performer);
-            return 1;
+            return self.read_esc(performer, bytes);
         }
         if quiet < bytes.len() {
             self.end_csi(performer, bytes[quiet]);
@@ -444,6 +496,30 @@ impl<const N: usize> Parser<N> {
         quiet + 1
     }
 
+    /// Reads the byte after ESC and its intermediates: one byte.
+    #[inline(always)]
+    fn read_escaped<P: Perform>(&mut self, performer: &mut P, bytes: &[u8]) -> usize
+        requires some { 0 < length bytes.now }
+        requires escape { self.old.state ≡ State.Escape }
+        ensures { ReadsStep P.step N self.old performer.old bytes.now result self.new performer.new }
+    {
+        self.after_escape(performer, bytes[0]);
+        1
+    }
+
+    /// Reads bytes of a sequence up to the first that has an event, and with it. Returns how many bytes it read.
+    #[inline(never)]
+    fn read_sequence<P: Perform>(&mut self, performer: &mut P, bytes: &[u8]) -> usize
+        requires some { 0 < length bytes.now }
+        requires inside { state_is_text self.old.state ≡ false }
+        ensures { ReadsStep P.step N self.old performer.old bytes.now result self.new performer.new }
+    {
+        match self.state {
+            State::Escape => self.read_escaped(performer, bytes),
+            _ => self.read_inside(performer, bytes),
+        }
+    }
+
     /// Reads bytes up to the first that has an event, and with it, or ground text up to the next ESC. Returns how
     /// many bytes it read.
     #[inline(always)]
@@ -453,11 +529,7 @@ impl<const N: usize> Parser<N> {
     {
         match self.state {
             State::Ground => self.read_ground(performer, bytes),
-            State::Escape => {
-                self.after_escape(performer, bytes[0]);
-                1
-            }
-            _ => self.read_inside(performer, bytes),
+            _ => self.read_sequence(performer, bytes),
         }
     }
 
@@ -476,6 +548,45 @@ impl<const N: usize> Parser<N> {
         data + 1
     }
 
+    /// Reads some bytes of a sequence: as `read_sequence` does, but a device control string's data at once. Returns how
+    /// many bytes it read.
+    #[inline(always)]
+    fn read_apart<P: Perform>(&mut self, performer: &mut P, bytes: &[u8]) -> usize
+        requires some { 0 < length bytes.now }
+        requires inside { state_is_text self.old.state ≡ false }
+        ensures { ReadsSome P.step N self.old performer.old bytes.now result self.new performer.new }
+    {
+        match self.state {
+            State::DcsPassthrough => self.read_data(performer, bytes),
+            State::Escape => self.read_escaped(performer, bytes),
+            _ => self.read_inside(performer, bytes),
+        }
+    }
+
+    /// Whether ground text is being read.
+    #[inline(always)]
+    fn is_ground(&self) -> bool
+        ensures { result ≡ state_is_text self.now.state }
+    {
+        matches!(self.state, State::Ground)
+    }
+
+    /// Reads sequences up to the next ground text. Returns how many bytes it read.
+    #[inline(never)]
+    fn read_outside<P: Perform>(&mut self, performer: &mut P, bytes: &[u8]) -> usize
+        requires some { 0 < length bytes.now }
+        requires inside { state_is_text self.old.state ≡ false }
+        ensures { ReadsSome P.step N self.old performer.old bytes.now result self.new performer.new }
+    {
+        let mut read = 0;
+        loop {
+            read += self.read_apart(performer, &bytes[read..]);
+            if read == bytes.len() || self.is_ground() {
+                return read;
+            }
+        }
+    }
+
     /// Reads some bytes: as `read_step` does, but a device control string's data at once. Returns how many bytes it read.
     #[inline(always)]
     fn read_on<P: Perform>(&mut self, performer: &mut P, bytes: &[u8]) -> usize
@@ -483,8 +594,8 @@ impl<const N: usize> Parser<N> {
         ensures { ReadsSome P.step N self.old performer.old bytes.now result self.new performer.new }
     {
         match self.state {
-            State::DcsPassthrough => self.read_data(performer, bytes),
-            _ => self.read_step(performer, bytes),
+            State::Ground => self.read_ground(performer, bytes),
+            _ => self.read_outside(performer, bytes),
         }
     }
 
@@ -531,6 +642,14 @@ fn is_escape_final(byte: u8) -> bool
     ensures { result ≡ is_in_range 0x30 0x7E byte }
 {
     (0x30..=0x7E).contains(&byte)
+}
+
+/// Whether a longer sequence begins with ESC and the byte: a control sequence or a string.
+#[inline(always)]
+fn opens_sequence(byte: u8) -> bool
+    ensures { result ≡ opens_sequence byte }
+{
+    matches!(byte, b'[' | b']' | b'P' | b'X' | b'^' | b'_')
 }
 
 /// Whether the byte ends a header, and isn't CAN or SUB.

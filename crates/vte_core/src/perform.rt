@@ -1,7 +1,8 @@
 //! The trait of what receives events.
 
-ghost use Rattle.std.specs.Prelude.{◌≡◌, Bool, map};
+ghost use Rattle.std.specs.Prelude.{◌≡◌, Bool, map, true};
 ghost use Rattle.std.specs.Str.{chars};
+ghost use Rattle.vte_core.specs.Bytes.{each, is_printable};
 ghost use Rattle.vte_core.specs.Event as e;
 ghost use Rattle.vte_core.specs.Event.{Performs};
 ghost use Rattle.vte_core.specs.EventOf.{event_of};
@@ -53,6 +54,15 @@ pub trait Perform {
         for c in text.chars() {
             self.print(c);
         }
+    }
+
+    /// A run of printable ASCII (0x20 to 0x7E): a text that `print_str` might get as well, where nothing else is in it. An
+    /// implementation may write it, to save a look at each byte.
+    fn print_ascii(&mut self, text: &str)
+        requires { each is_printable text.now ≡ true }
+        ensures { Performs step self.old (map e.Print (chars text.now)) self.new }
+    {
+        self.print_str(text);
     }
 
     /// A control: 0x00 to 0x1F but ESC, and in ground text 0x80 to 0x9F.

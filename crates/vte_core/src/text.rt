@@ -8,7 +8,7 @@
 ghost use Rattle.std.specs.Prelude.{◌≡◌, ◌==◌, ◌+◌, ◌-◌, ◌<◌, ◌≤◌, ℕ, List, [], ◌∷◌, ◌++◌, length, drop, map, IfSome};
 ghost use Rattle.std.specs.Prelude.{IsTrue, true, false, slice_index, take};
 ghost use Rattle.std.specs.Str.{IsUtf8};
-ghost use Rattle.vte_core.specs.Bytes.{each, is_c0, is_esc, is_plain};
+ghost use Rattle.vte_core.specs.Bytes.{each, is_c0, is_esc, is_plain, is_printable};
 ghost use Rattle.vte_core.specs.Runs.{ReadsText, TellsEach, run_reported, run_rest, is_printed, printed_len};
 ghost use Rattle.vte_core.specs.Shapes.{before};
 ghost use Rattle.vte_core.specs.Event.{Event, Print, Execute, Performs};
@@ -346,42 +346,50 @@ fn is_plain(byte: u8) -> bool
     (0x20..=0x7F).contains(&byte)
 }
 
-/// Whether each of the bytes is a character of ASCII that is printed.
+/// Whether the byte is printable ASCII.
 #[inline(always)]
-fn are_plain(bytes: &[u8]) -> bool
-    ensures { IsTrue result → each is_plain bytes.now ≡ true }
+fn is_printable(byte: u8) -> bool
+    ensures { result ≡ is_printable byte }
 {
-    let mut are_plain = true;
-    for byte in bytes {
-        are_plain &= (*byte >= 0x20) & (*byte < 0x80);
-    }
-    are_plain
+    (0x20..=0x7E).contains(&byte)
 }
 
-/// How many bytes at the start, a short block or none, are characters of ASCII that are printed.
+/// Whether each of the bytes is printable ASCII.
+#[inline(always)]
+fn are_printable(bytes: &[u8]) -> bool
+    ensures { IsTrue result → each is_printable bytes.now ≡ true }
+{
+    let mut are_printable = true;
+    for byte in bytes {
+        are_printable &= (*byte >= 0x20) & (*byte < 0x7F);
+    }
+    are_printable
+}
+
+/// How many bytes at the start, a short block or none, are printable ASCII.
 #[inline(always)]
 fn short_len(bytes: &[u8]) -> usize
     ensures within { result ≤ length bytes.now }
-    ensures plain { each is_plain (take result bytes.now) ≡ true }
+    ensures printable { each is_printable (take result bytes.now) ≡ true }
 {
-    if bytes.len() < SHORT_LEN || !are_plain(&bytes[..SHORT_LEN]) {
+    if bytes.len() < SHORT_LEN || !are_printable(&bytes[..SHORT_LEN]) {
         return 0;
     }
     SHORT_LEN
 }
 
-/// How many bytes at the start are characters of ASCII that are printed.
+/// How many bytes at the start are printable ASCII.
 #[inline(always)]
 fn ascii_len(bytes: &[u8]) -> usize
     ensures within { result ≤ length bytes.now }
-    ensures plain { each is_plain (take result bytes.now) ≡ true }
+    ensures printable { each is_printable (take result bytes.now) ≡ true }
 {
     let mut len = 0;
-    while bytes.len() - len >= BLOCK_LEN && are_plain(&bytes[len..len + BLOCK_LEN]) {
+    while bytes.len() - len >= BLOCK_LEN && are_printable(&bytes[len..len + BLOCK_LEN]) {
         len += BLOCK_LEN;
     }
     len += short_len(&bytes[len..]);
-    while len < bytes.len() && is_plain(bytes[len]) {
+    while len < bytes.len() && is_printable(bytes[len]) {
         len += 1;
     }
     len
@@ -399,7 +407,7 @@ fn ends_text(bytes: &[u8]) -> bool {
 /// The characters of ASCII that the bytes are.
 #[inline(always)]
 fn ascii_text(bytes: &[u8]) -> &str
-    requires { each is_plain bytes.now ≡ true }
+    requires { each is_printable bytes.now ≡ true }
     ensures { result.now ≡ bytes.now }
 {
     unsafe { str::from_utf8_unchecked(bytes) }
@@ -525,7 +533,7 @@ impl Unfinished {
         }
         let len = ascii_len(bytes);
         if len > 0 && ends_text(&bytes[len..]) {
-            performer.print_str(ascii_text(&bytes[..len]));
+            performer.print_ascii(ascii_text(&bytes[..len]));
             return len;
         }
         self.read_mixed(performer, bytes)
@@ -671,16 +679,28 @@ impl Unfinished {
         }
     }
 
-    /// Reads ground text up to the next ESC, and returns how many bytes it read.
+    /// Reads as [`read_some`](Self::read_some) does.
+    #[inline(never)]
+    fn read_more<P: Perform>(&mut self, performer: &mut P, bytes: &[u8]) -> usize
+        requires some { 0 < length bytes.now }
+        requires text { is_esc (slice_index bytes.now 0) ≡ false }
+        ensures { ReadsText P.step self.old performer.old bytes.now result performer.new self.new }
+    {
+        self.read_some(performer, bytes)
+    }
+
+    /// Reads ground text up to the next ESC, and returns how many bytes it read. The first piece is mostly the only one.
     #[inline(always)]
     pub fn read<P: Perform>(&mut self, performer: &mut P, bytes: &[u8]) -> usize
+        requires some { 0 < length bytes.now }
+        requires text { is_esc (slice_index bytes.now 0) ≡ false }
         ensures len { result ≡ length (before is_esc bytes.now) }
         ensures reported { Performs P.step performer.old (run_reported self.old (take result bytes.now)) performer.new }
         ensures rest { self.new ≡ run_rest self.old (take result bytes.now) }
     {
-        let mut read = 0;
+        let mut read = self.read_some(performer, bytes);
         while read < bytes.len() && bytes[read] != 0x1B {
-            read += self.read_some(performer, &bytes[read..]);
+            read += self.read_more(performer, &bytes[read..]);
         }
         read
     }

@@ -1,7 +1,7 @@
 //! SGR: the drawing attributes (ECMA-48 8.3.117; colours by ITU-T T.416).
 ghost use Rattle.std.specs.Prelude.{◌≡◌, ◌≤◌, ◌∷◌, [], Bool, length, drop, ok_or, is_some, IfOk};
 ghost use Rattle.vt100_forms.specs.declared.attrs.Attrs.{Attrs};
-ghost use Rattle.screen_model.specs.Sgr.{value, value_at, rgb, separate_color, code_row, read_on, read_groups};
+ghost use Rattle.screen_model.specs.Sgr.{value, value_at, rgb, separate_color, code_row, read_on, read_groups, sgr_read};
 ghost use Rattle.screen_model.specs.Effect.{attributes_read};
 ghost use Rattle.vt100.specs.SgrReading.{read_of, group_led, color_led, code_applied, each_alone, number_led};
 ghost use Rattle.vt100.specs.SgrReading.{color_asked};
@@ -26,14 +26,22 @@ impl<CB: Callbacks> WrappedScreen<CB> {
         if self.screen.failed {
             return 0;
         }
-        match params.numbers() {
-            Some([]) => {
-                self.screen.attrs = PackedAttrs::new();
-                0
-            }
-            Some(numbers) => read_numbers(&mut self.screen.attrs, numbers),
-            None => read_groups(&mut self.screen.attrs, params),
+        read_sgr(&mut self.screen.attrs, params)
+    }
+}
+
+/// Reads all groups; without any the attributes become the default ones. Answers how many were unhandled.
+#[inline(never)]
+fn read_sgr(attrs: &mut PackedAttrs, params: &Params) -> usize
+    ensures { read_of attrs.new result ≡ sgr_read params.now attrs.old }
+{
+    match params.numbers() {
+        Some([]) => {
+            *attrs = PackedAttrs::new();
+            0
         }
+        Some(numbers) => read_numbers(attrs, numbers),
+        None => read_groups(attrs, params),
     }
 }
 

@@ -1,5 +1,5 @@
 use Rattle.std.proofs.Common.{◌≡◌, ◌∙◌, ◌+◌, ◌-◌, ℕ, true, ap, sym, arith, take, drop, List, length}
-use Rattle.vte_core.specs.Bytes.{each, is_plain}
+use Rattle.vte_core.specs.Bytes.{each, is_printable}
 use Rattle.vte_core.proofs.PhaseLemmas.{each-append}
 use Rattle.vte_core.proofs.Runs.{read_more, within_more}
 use Rattle.vte_core.proofs.text.ascii_len.Goals as goal
@@ -10,12 +10,12 @@ loop-len-preserved c =
     let bs = c.args.bytes.now in
     let i = c.loop-len.len in
     let k : i + 16 - i ≡ 16 = omega arith in
-    let block : each is_plain (take 16 (drop i bs)) ≡ true =
-    ap (λ (n : ℕ). each is_plain (take n (drop i bs))) (sym k) ∙ c.are_plain.ensures c.if-are_plain.true in
+    let block : each is_printable (take 16 (drop i bs)) ≡ true =
+    ap (λ (n : ℕ). each is_printable (take n (drop i bs))) (sym k) ∙ c.are_printable.ensures c.if-are_printable.true in
     record {
       within = omega arith;
-      plain = ap (each is_plain) (take-add i 16 bs)
-          ∙ each-append is_plain (take i bs) (take 16 (drop i bs)) c.loop-len.invariant.plain block;
+      printable = ap (each is_printable) (take-add i 16 bs)
+          ∙ each-append is_printable (take i bs) (take 16 (drop i bs)) c.loop-len.invariant.printable block;
     }
 
 pub loop-len-2-init : goal.loop-len-2-init
@@ -26,6 +26,6 @@ loop-len-2-init c =
     let piece : List ℕ = take k (take (length bs - i) (drop i bs)) in
     record {
       within = within_more bs i k c.loop-len.invariant.within c.short_len-len.ensures.within;
-      plain = ap (each is_plain) (read_more bs i k)
-          ∙ each-append is_plain (take i bs) piece c.loop-len.invariant.plain c.short_len-len.ensures.plain;
+      printable = ap (each is_printable) (read_more bs i k)
+          ∙ each-append is_printable (take i bs) piece c.loop-len.invariant.printable c.short_len-len.ensures.printable;
     }

@@ -1,15 +1,15 @@
 use Rattle.std.proofs.Common.{◌≡◌, ◌-◌, ◌≤◌, true, length, take}
-use Rattle.vte_core.specs.Bytes.{each, is_plain}
+use Rattle.vte_core.specs.Bytes.{each, is_printable}
 use Rattle.vte_core.proofs.text.ascii_len.Given as goal
 
 abbrev pub invariant-loop-len : goal.invariant-loop-len
-invariant-loop-len l = record { within : l.len ≤ length l.bytes; plain : each is_plain (take l.len l.bytes) ≡ true }
+invariant-loop-len l = record { within : l.len ≤ length l.bytes; printable : each is_printable (take l.len l.bytes) ≡ true }
 
 abbrev pub decreases-loop-len : goal.decreases-loop-len
 decreases-loop-len l = length l.bytes - l.len
 
 abbrev pub invariant-loop-len-2 : goal.invariant-loop-len-2
-invariant-loop-len-2 l = record { within : l.len ≤ length l.bytes; plain : each is_plain (take l.len l.bytes) ≡ true }
+invariant-loop-len-2 l = record { within : l.len ≤ length l.bytes; printable : each is_printable (take l.len l.bytes) ≡ true }
 
 abbrev pub decreases-loop-len-2 : goal.decreases-loop-len-2
 decreases-loop-len-2 l = length l.bytes - l.len

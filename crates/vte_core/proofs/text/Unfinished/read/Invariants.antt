@@ -11,10 +11,10 @@ invariant-loop-read g l = record {
   within : l.read ≤ length l.bytes;
   no_esc : has_no_esc (take l.read l.bytes) ≡ true;
   reported : List Event;
-  performed : Performs g.P.Perform.step l.initial.performer reported l.performer;
-  added : run_reported l.initial.self (before is_esc l.bytes)
+  performed : Performs g.P.Perform.step l.fn.performer reported l.performer;
+  added : run_reported l.fn.self (before is_esc l.bytes)
       ≡ reported ++ run_reported l.self (drop l.read (before is_esc l.bytes));
-  rest : run_rest l.initial.self (before is_esc l.bytes) ≡ run_rest l.self (drop l.read (before is_esc l.bytes));
+  rest : run_rest l.fn.self (before is_esc l.bytes) ≡ run_rest l.self (drop l.read (before is_esc l.bytes));
 }
 
 abbrev pub decreases-loop-read : goal.decreases-loop-read

@@ -4,7 +4,7 @@ use Rattle.std.proofs.lemmas.Str.{chars-IsAscii}
 use Rattle.std.specs.Str.{chars}
 use Rattle.vte_core.specs.Event.{Print}
 use Rattle.vte_core.proofs.Prefixes.{reads_alone}
-use Rattle.vte_core.proofs.Ground.{plain-run, plain-ascii}
+use Rattle.vte_core.proofs.Ground.{plain-run, printable-run, printable-ascii}
 use Rattle.vte_core.proofs.Telling.{same_events}
 use Rattle.vte_core.proofs.text.Unfinished.read_ascii.Goals as goal
 
@@ -22,8 +22,8 @@ returns-then-ends_text g c =
     let k = c.ascii_len-len.result in
     let prefix : List ℕ = take k bs in
     let spelt : chars c.ascii_text.result.now ≡ prefix = ap chars c.ascii_text.ensures
-    ∙ chars-IsAscii prefix (plain-ascii prefix c.ascii_len-len.ensures.plain) in
+    ∙ chars-IsAscii prefix (printable-ascii prefix c.ascii_len-len.ensures.printable) in
     rw c.requires.none (reads_alone bs prefix k _ (omega arith) c.ascii_len-len.ensures.within refl
-    (plain-run prefix c.ascii_len-len.ensures.plain)
-    (same_events g.P.Perform.step c.args.performer.now c.print_str.new.self _ _ (ap (map Print) spelt)
-    c.print_str.ensures))
+    (printable-run prefix c.ascii_len-len.ensures.printable)
+    (same_events g.P.Perform.step c.args.performer.now c.print_ascii.new.self _ _ (ap (map Print) spelt)
+    c.print_ascii.ensures))

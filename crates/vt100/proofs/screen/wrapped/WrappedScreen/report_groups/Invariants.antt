@@ -1,7 +1,7 @@
 use Rattle.std.proofs.Common.{◌-◌, replicate}
 use Rattle.screen_model.specs.Effect.{csi_call}
 use Rattle.vt100.specs.Goes.{MakesCalls}
-use Rattle.vt100.proofs.screen.wrapped.WrappedScreen.unhandled_groups.Given as goal
+use Rattle.vt100.proofs.screen.wrapped.WrappedScreen.report_groups.Given as goal
 
 -- what all calls make of the start, those that are left make of the state now
 abbrev pub invariant-loop-i : goal.invariant-loop-i

@@ -1,6 +1,6 @@
 use Rattle.std.proofs.Common.{◌≡◌, ◌∙◌, ◌-◌, ◌+◌, suc, sym, arith}
 use Rattle.vt100.proofs.EventLemmas.{tells_failed, tells_more}
-use Rattle.vt100.proofs.screen.wrapped.WrappedScreen.unhandled_groups.Goals as goal
+use Rattle.vt100.proofs.screen.wrapped.WrappedScreen.report_groups.Goals as goal
 
 pub returns-then-failed : goal.returns-then-failed
 returns-then-failed g c = c.loop-i.invariant _ _
