@@ -4,6 +4,7 @@ What is made lies in bindings/out: a static library, a shared library, and a fil
 """
 import glob
 import os
+import re
 import shutil
 import subprocess
 import tempfile
@@ -12,6 +13,7 @@ HERE = os.path.dirname(os.path.dirname(os.path.realpath(__file__)))
 CRATE = "jeihpal_c"
 OUT = f"{HERE}/bindings/out"
 ABI = 1  # as JEIHPAL_ABI of the header
+LINE = 64  # bytes of a line of the processor's cache
 VERSION = "0.1.0"
 SHARED = f"libjeihpal.so.{ABI}"
 PYTHON = f"{HERE}/bindings/python"
@@ -51,6 +53,28 @@ def tool(*names):
         if shutil.which(name):
             return name
     raise Missing(f"there is no {' or '.join(names)} on the path")
+
+
+def code_sections(path):
+    """The names of an object file's sections of code, each of which is a function."""
+    words = [tool("objdump", "llvm-objdump"), "-h", "-w", path]
+    said = subprocess.run(words, stdout=subprocess.PIPE, text=True, check=True).stdout
+    return re.findall(r"^ *\d+ (\.text\S*) ", said, re.MULTILINE)
+
+
+def aligned(archive, folder):
+    """A copy of an archive, in the folder. Each function begins a line of the cache, wherever a linker puts it, so that it
+    takes the same time in every program."""
+    ar, unpacked, made = tool("ar", "llvm-ar"), f"{folder}/unpacked", f"{folder}/{os.path.basename(archive)}"
+    os.mkdir(unpacked)
+    subprocess.run([ar, "x", archive], cwd=unpacked, check=True)
+    members = sorted(os.listdir(unpacked))
+    for name in members:
+        path = f"{unpacked}/{name}"
+        words = [it for section in code_sections(path) for it in ("--set-section-alignment", f"{section}={LINE}")]
+        subprocess.run([tool("objcopy", "llvm-objcopy"), *words, path], check=True)
+    subprocess.run([ar, "rcsD", made, *members], cwd=unpacked, check=True)
+    return made
 
 
 def make_static(archive, memory):
@@ -94,7 +118,9 @@ def make():
     memory = memory_archive()
     with open(f"{OUT}/jeihpal.pc", "w", encoding="utf-8") as file:
         file.write(PKG_CONFIG)
-    return [make_static(archive, memory), make_shared(archive, memory), f"{OUT}/jeihpal.pc"]
+    with tempfile.TemporaryDirectory() as folder:
+        archive = aligned(archive, folder)
+        return [make_static(archive, memory), make_shared(archive, memory), f"{OUT}/jeihpal.pc"]
 
 
 def toolchain_libraries():
