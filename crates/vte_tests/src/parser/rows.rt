@@ -220,9 +220,9 @@ struct Texts {
 }
 
 impl Texts {
-    fn character(&mut self, c: char, is_first: bool) {
+    fn character(&mut self, word: &str, c: char, is_first: bool) {
         if is_first {
-            self.log.word("text");
+            self.log.word(word);
         }
         self.log.number(c as u32);
     }
@@ -244,7 +244,15 @@ impl Perform for Texts {
     fn print_str(&mut self, text: &str) {
         let mut is_first = true;
         for c in text.chars() {
-            self.character(c, is_first);
+            self.character("text", c, is_first);
+            is_first = false;
+        }
+    }
+
+    fn print_ascii(&mut self, text: &str) {
+        let mut is_first = true;
+        for c in text.chars() {
+            self.character("ascii", c, is_first);
             is_first = false;
         }
     }
@@ -260,7 +268,7 @@ fn text_comes_in_runs(rt: HostRuntime) {
     same(
         &rt,
         &texts.log.text.as_str(),
-        &"text 97 98 execute 13 execute 10 text 20013 99 169 127 execute 133 print 65533 print 100 esc | kept 55 \
+        &"ascii 97 98 execute 13 execute 10 text 20013 99 169 127 execute 133 print 65533 print 100 esc | kept 55 \
          print 65533 print 101 ",
     );
 }
@@ -269,5 +277,6 @@ fn text_comes_in_runs(rt: HostRuntime) {
 fn text_comes_by_characters_without_runs(rt: HostRuntime) {
     let mut log = EventLog::new(&rt, Until::Never);
     log.print_str("a\u{4E2D}");
-    same(&rt, &log.text.as_str(), &"print 97 print 20013 ");
+    log.print_ascii("b");
+    same(&rt, &log.text.as_str(), &"print 97 print 20013 print 98 ");
 }
