@@ -63,8 +63,8 @@ def code_sections(path):
 
 
 def aligned(archive, folder):
-    """A copy of an archive, in the folder. Each function begins a line of the cache, wherever a linker puts it, so that it
-    takes the same time in every program."""
+    """A copy of an archive, in the folder. Each function begins a line of the cache, wherever a linker puts it, so that
+    what it takes depends less on the program."""
     ar, unpacked, made = tool("ar", "llvm-ar"), f"{folder}/unpacked", f"{folder}/{os.path.basename(archive)}"
     os.mkdir(unpacked)
     subprocess.run([ar, "x", archive], cwd=unpacked, check=True)
