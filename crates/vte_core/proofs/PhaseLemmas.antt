@@ -167,3 +167,23 @@ numeric-header (b ∷ xs) h =
     let is : is_numeric b ≡ true = g.0 in
     let d : is_header b ≡ true = grind (arith, nat_tests) in
     rw d (numeric-header xs g.1)
+
+after_numbers : (h : List ℕ) → each is_numeric h ≡ true → is_kept (next_by false true (phase_of h)) ≡ true
+after_numbers [] e = refl
+after_numbers (b ∷ h) e = rw (numerics-some [] (b ∷ h) e (omega arith)) refl
+
+-- headers of numbers: alone, after a private byte, and before an intermediate
+
+pub numbers-well : (h : List ℕ) → each is_numeric h ≡ true → is_well_formed h ≡ true
+numbers-well [] e = refl
+numbers-well (b ∷ h) e = well_formed-phase (b ∷ h) ∙ rw (numerics-some [] (b ∷ h) e (omega arith)) refl
+
+pub private-well : (m : ℕ) (h : List ℕ) → is_private m ≡ true → each is_numeric h ≡ true → is_well_formed (m ∷ h) ≡ true
+private-well m h private e = rw private (in_order-numeric h e)
+
+pub marked-well : (m : ℕ) (h : List ℕ) → is_intermediate m ≡ true → each is_numeric h ≡ true
+    → is_well_formed (h ++ m ∷ []) ≡ true
+marked-well m h mark e =
+    let header : is_header m ≡ true = grind (arith, nat_tests) in
+    let other : is_numeric m ≡ false = grind (arith, nat_tests) in
+    well_formed-phase (h ++ m ∷ []) ∙ (ap is_kept (phase_of-last h m header) ∙ rw (other, mark) (after_numbers h e))

@@ -112,20 +112,26 @@ one_digit s b bs few h =
     let digit : is_in_range 0x30 0x39 b ≡ true = g.0 in
     (plain-digit s b few digit, g.1, grind (arith, nat_tests))
 
--- three digits more, or fewer
-three_digits : {m : List ℕ} {count : ℕ} {numbers ends : List ℕ} → PlainSoFar m count 0 numbers ends → (ds : List ℕ)
-    → length ds ≤ 3 → each is_digit ds ≡ true → PlainSoFar (m ++ ds) count (number_by 0 ds) numbers ends
-three_digits {m} s [] few h = rw (append-nil m) s
-three_digits {m} s (a ∷ []) few h = (one_digit s a [] (omega arith) h).0
-three_digits {m} s (a ∷ b ∷ []) few h =
+-- four digits more, or fewer
+four_digits : {m : List ℕ} {count : ℕ} {numbers ends : List ℕ} → PlainSoFar m count 0 numbers ends → (ds : List ℕ)
+    → length ds ≤ 4 → each is_digit ds ≡ true → PlainSoFar (m ++ ds) count (number_by 0 ds) numbers ends
+four_digits {m} s [] few h = rw (append-nil m) s
+four_digits {m} s (a ∷ []) few h = (one_digit s a [] (omega arith) h).0
+four_digits {m} s (a ∷ b ∷ []) few h =
     let x = one_digit s a (b ∷ []) (omega arith) h in
     rw (append_assoc m (a ∷ []) (b ∷ [])) at ((one_digit x.0 b [] (omega (arith, x.2)) x.1).0)
-three_digits {m} s (a ∷ b ∷ d ∷ []) few h =
+four_digits {m} s (a ∷ b ∷ d ∷ []) few h =
     let x = one_digit s a (b ∷ d ∷ []) (omega arith) h in
     let y = one_digit x.0 b (d ∷ []) (omega (arith, x.2)) x.1 in
     rw (append_assoc m (a ∷ []) (b ∷ []), append_assoc m (a ∷ b ∷ []) (d ∷ []))
     at ((one_digit y.0 d [] (omega (arith, x.2, y.2)) y.1).0)
-three_digits s (a ∷ b ∷ d ∷ e ∷ ds) few h = absurd (omega (arith, few))
+four_digits {m} s (a ∷ b ∷ d ∷ e ∷ []) few h =
+    let x = one_digit s a (b ∷ d ∷ e ∷ []) (omega arith) h in
+    let y = one_digit x.0 b (d ∷ e ∷ []) (omega (arith, x.2)) x.1 in
+    let z = one_digit y.0 d (e ∷ []) (omega (arith, x.2, y.2)) y.1 in
+    rw (append_assoc m (a ∷ []) (b ∷ []), append_assoc m (a ∷ b ∷ []) (d ∷ []), append_assoc m (a ∷ b ∷ d ∷ []) (e ∷ []))
+    at ((one_digit z.0 e [] (omega (arith, x.2, y.2, z.2)) z.1).0)
+four_digits s (a ∷ b ∷ d ∷ e ∷ f ∷ ds) few h = absurd (omega (arith, few))
 
 digits_numeric : (ds : List ℕ) → each is_digit ds ≡ true → each is_numeric ds ≡ true
 digits_numeric [] h = refl
@@ -144,9 +150,9 @@ short_next bs i k n within numeric s short =
     let rest = whole_rest bs i in
     let digits : List ℕ = take k (take (length bs - i) (drop i bs)) in
     let less : i + k < length bs = omega (arith, short.within, ap length rest, length-drop i bs) in
-    let few : length digits ≤ 3 = omega (arith, short.few, length-take k (take (length bs - i) (drop i bs))) in
+    let few : length digits ≤ 4 = omega (arith, short.few, length-take k (take (length bs - i) (drop i bs))) in
     let all : take (i + k) bs ≡ take i bs ++ digits = read_more bs i k in (
       less,
       rw all (each-append is_numeric (take i bs) digits numeric (digits_numeric digits short.digits)),
-      rw (all, short.number) (three_digits s digits few short.digits),
+      rw (all, short.number) (four_digits s digits few short.digits),
     )

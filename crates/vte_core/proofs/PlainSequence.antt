@@ -1,14 +1,17 @@
--- A plain control sequence, read at once.
+-- Control sequences of plain numbers, read at once.
 use Rattle.std.proofs.Common.{◌≡◌, ◌∙◌, ℕ, ◌+◌, ◌-◌, ◌<◌, ◌≤◌, true, false, List, [], ◌∷◌, ◌++◌, length, take}
-use Rattle.std.proofs.Common.{drop, get_or, nat_lt, refl, arith, length-drop}
+use Rattle.std.proofs.Common.{drop, get_or, nat_lt, refl, suc, ap, arith, length-drop}
 use Rattle.std.proofs.lemmas.Bool.Decides.{nat_tests}
 use Rattle.std.proofs.lemmas.List.{take_more, get_or-drop}
 use Rattle.std.specs.Int.{is_in_range}
-use Rattle.vte_core.specs.Bytes.{each, is_esc, is_header, is_numeric}
+use Rattle.std.specs.List.{filter}
+use Rattle.vte_core.specs.Bytes.{each, is_esc, is_header, is_intermediate, is_numeric, is_private}
 use Rattle.vte_core.specs.Event.{Event, Csi}
-use Rattle.vte_core.specs.Header.{first_numbers, groups_of, is_well_formed}
+use Rattle.vte_core.specs.Header.{first_numbers, groups_of, intermediates, is_well_formed}
+use Rattle.vte_core.specs.Header.{kept_groups, kept_intermediates, overflows}
 use Rattle.vte_core.specs.Pending.{Pending, InText, InCsi, events_of_byte, events_from, after_byte, after_bytes}
-use Rattle.vte_core.specs.Reads.{BeginsPlain, ReadsStep}
+use Rattle.vte_core.specs.Plain.{ArePlain}
+use Rattle.vte_core.specs.Reads.{BeginsPlain, BeginsPrivate, ReadsStep}
 use Rattle.vte_core.specs.Runs.{is_one_step}
 use Rattle.vte_core.specs.Standing.{IsAt}
 use Rattle.vte_core.specs.Store.{total}
@@ -16,27 +19,77 @@ use Rattle.vte_core.specs.declared.parser.Parser.{Parser}
 use Rattle.vte_core.specs.declared.parser.State.TheVariants.{Ground}
 use Rattle.vte_core.proofs.HeaderBytes.{final-ends}
 use Rattle.vte_core.proofs.Machine.{events_from-append, after_bytes-append}
-use Rattle.vte_core.proofs.PhaseLemmas.{numerics-kept, numerics-some, numeric-header, well_formed-phase}
+use Rattle.vte_core.proofs.PhaseLemmas.{each-more, marked-well, numbers-well, numeric-header, numeric-no, numerics-kept}
+use Rattle.vte_core.proofs.PhaseLemmas.{private-well}
 use Rattle.vte_core.proofs.Quiet.{begun-csi, one-step, quiet-step}
 use Rattle.vte_core.proofs.StopLemmas.{whole_rest}
 
--- numbers alone are a header in order, without intermediates
-numbers_kept : (h : List ℕ) → each is_numeric h ≡ true → is_well_formed h ≡ true
-numbers_kept [] e = refl
-numbers_kept (b ∷ h) e = well_formed-phase (b ∷ h) ∙ rw (numerics-some [] (b ∷ h) e (omega arith)) refl
+-- the header h is reported with these numbers and these other bytes
+record IsReported (h : List ℕ) (numbers : List (List ℕ)) (is : List ℕ) : Type 0 where
+  header : each is_header h ≡ true
+  in_order : is_well_formed h ≡ true
+  groups : kept_groups h ≡ numbers
+  others : kept_intermediates h ≡ is
+  all : overflows h ≡ false
 
 no_more : (n : ℕ) → n ≤ 32 → nat_lt 32 n ≡ false
 no_more n h = grind (arith, nat_tests)
 
--- the event of a final byte after them
-plain-event : (n : ℕ) (h : List ℕ) (f : ℕ) (numbers : List (List ℕ)) → each is_numeric h ≡ true
-    → is_in_range 0x40 0x7E f ≡ true → numbers ≡ first_numbers 32 (groups_of h) → total (groups_of h) ≤ 32
-    → (events_of_byte n (InCsi h) f ≡ Csi numbers [] false f ∷ []) × (after_byte (InCsi h) f ≡ InText [])
-plain-event n h f numbers e is groups few =
-    let ends = final-ends f is in
-    let esc : is_esc f ≡ false = grind (arith, nat_tests) in
-    let kept = numerics-kept [] h e in (
-      rw (esc, ends.0, ends.1, numbers_kept h e, kept.0, kept.1, no_more _ few, groups) refl,
+-- by its numbers and its other bytes
+reported_by : (h m is : List ℕ) (numbers : List (List ℕ)) → each is_header h ≡ true → is_well_formed h ≡ true
+    → filter is_numeric h ≡ m → intermediates h ≡ is → nat_lt 2 (length is) ≡ false → take 2 is ≡ is
+    → numbers ≡ first_numbers 32 (groups_of m) → total (groups_of m) ≤ 32
+    → IsReported h numbers is
+reported_by h m is numbers header well numeric others short all groups few = record {
+  header = header;
+  in_order = well;
+  groups = rw (numeric, groups) refl;
+  others = rw (others, all) refl;
+  all = rw (numeric, others, short, no_more _ few) refl;
+}
+
+-- numbers alone
+numbers_reported : (bs : List ℕ) (k : ℕ) (numbers : List (List ℕ)) → ArePlain bs k numbers
+    → IsReported (take k bs) numbers []
+numbers_reported bs k numbers plain =
+    let h = take k bs in
+    let kept = numerics-kept [] h plain.numeric in
+    reported_by h h [] numbers (numeric-header h plain.numeric) (numbers-well h plain.numeric) kept.0 kept.1 refl refl
+    plain.groups plain.few
+
+-- numbers after a private byte
+private_reported : (m : ℕ) (bs : List ℕ) (k : ℕ) (numbers : List (List ℕ)) → is_private m ≡ true → ArePlain bs k numbers
+    → IsReported (m ∷ take k bs) numbers (m ∷ [])
+private_reported m bs k numbers private plain =
+    let h = take k bs in
+    let other : is_numeric m ≡ false = grind (arith, nat_tests) in
+    let header : is_header m ≡ true = grind (arith, nat_tests) in
+    let kept = numerics-kept (m ∷ []) h plain.numeric in
+    reported_by (m ∷ h) h (m ∷ []) numbers (rw header (numeric-header h plain.numeric)) (private-well m h private plain.numeric)
+    (kept.0 ∙ rw other refl) (kept.1 ∙ rw other refl) refl refl plain.groups plain.few
+
+-- numbers before an intermediate
+marked_reported : (m : ℕ) (bs : List ℕ) (k : ℕ) (numbers : List (List ℕ)) → is_intermediate m ≡ true
+    → ArePlain bs k numbers
+    → IsReported (take k bs ++ m ∷ []) numbers (m ∷ [])
+marked_reported m bs k numbers mark plain =
+    let h = take k bs in
+    let other : is_numeric m ≡ false = grind (arith, nat_tests) in
+    let header : is_header m ≡ true = grind (arith, nat_tests) in
+    let kept = numerics-kept [] h plain.numeric in
+    let more = numeric-no h m other in
+    reported_by (h ++ m ∷ []) h (m ∷ []) numbers
+    (each-more is_header h m (numeric-header h plain.numeric) header) (marked-well m h mark plain.numeric)
+    (more.0 ∙ kept.0) (more.1 ∙ ap (λ (is : List ℕ). is ++ m ∷ []) kept.1) refl refl plain.groups plain.few
+
+-- the event of a final byte after a header
+header-event : (n : ℕ) (h : List ℕ) (f : ℕ) (numbers : List (List ℕ)) (is : List ℕ) → IsReported h numbers is
+    → is_in_range 0x40 0x7E f ≡ true
+    → (events_of_byte n (InCsi h) f ≡ Csi numbers is false f ∷ []) × (after_byte (InCsi h) f ≡ InText [])
+header-event n h f numbers is reported final =
+    let ends = final-ends f final in
+    let esc : is_esc f ≡ false = grind (arith, nat_tests) in (
+      rw (esc, ends.0, ends.1, reported.in_order, reported.groups, reported.others, reported.all) refl,
       rw (esc, ends.0) refl,
     )
 
@@ -44,53 +97,101 @@ asked : (h : List ℕ) (f : ℕ) (rest : List ℕ) → is_one_step (InCsi h) (f 
 asked h f [] = refl
 asked h f (b ∷ rest) = refl
 
+from_third : (bs : List ℕ) (k : ℕ) → 3 ≤ length bs → take (1 + k) (drop 2 bs) ≡ get_or bs 2 0 ∷ take k (drop 3 bs)
+from_third [] k some = absurd (omega (arith, some))
+from_third (x ∷ []) k some = absurd (omega (arith, some))
+from_third (x ∷ y ∷ []) k some = absurd (omega (arith, some))
+from_third (x ∷ y ∷ z ∷ bs) k some = let next : 1 + k ≡ suc k = omega arith in rw next refl
+
 module _ {S : Type 0} {step : S → Event → S → Type 0} {n : ℕ} {p r : Parser n} {old new : S} where
-  pub plain_step : (bs : List ℕ) (k : ℕ) → p.state ≡ Ground → BeginsPlain n p bs k r
+  -- `ESC [`, i bytes of a header, and a final byte
+  header_step : (bs : List ℕ) (i : ℕ) (numbers : List (List ℕ)) (is : List ℕ) → p.state ≡ Ground → p.unfinished ≡ []
+      → 2 + i < length bs → get_or bs 0 0 ≡ 0x1B → get_or bs 1 0 ≡ 0x5B → IsReported (take i (drop 2 bs)) numbers is
+      → is_in_range 0x40 0x7E (get_or bs (2 + i) 0) ≡ true
       → ((q : Pending) → IsAt n p q → IsAt n r q)
-      → step old (Csi r.header.numbers.params [] false (get_or bs (k + 2) 0)) new
-      → ReadsStep step n p old bs (k + 3) r new
-  plain_step bs k ground begins state_after reported =
-      let i : ℕ = 2 + k in
-      let f = get_or bs (k + 2) 0 in
-      let h : List ℕ = take k (drop 2 bs) in
-      let numbers = r.header.numbers.params in
-      let plain = begins.plain in
+      → step old (Csi numbers is false (get_or bs (2 + i) 0)) new
+      → ReadsStep step n p old bs (2 + i + 1) r new
+  header_step bs i numbers is ground whole less esc bracket header final state_after reported =
+      let f = get_or bs (2 + i) 0 in
+      let h : List ℕ = take i (drop 2 bs) in
       let rest : take (length bs - 2) (drop 2 bs) ≡ drop 2 bs = whole_rest bs 2 in
-      let less : 2 + k < length bs = omega (arith, plain.within, length-drop 2 bs) in
-      let at_k : get_or (drop 2 bs) k 0 ≡ get_or bs (2 + k) 0 = get_or-drop 2 bs k 0 in
-      let same_place : k + 2 ≡ 2 + k = omega arith in
-      let same_end : k + 3 ≡ 2 + k + 1 = omega arith in
-      let header : each is_header (take k (take (length bs - 2) (drop 2 bs))) ≡ true =
-      rw rest (numeric-header h plain.numeric) in
-      let final : is_in_range 0x40 0x7E f ≡ true = rw (same_place, ← at_k) plain.final in
-      let ev = plain-event n h f numbers plain.numeric final plain.groups plain.few in
-      let cut : take (k + 3) bs ≡ take (2 + k) bs ++ f ∷ [] =
-      rw (same_end, same_place) (take_more bs (2 + k) 0 less) in
-      let begun : (q : Pending) → IsAt n p q → (events_from n q (take (2 + k) bs) ≡ [])
-      × (after_bytes q (take (2 + k) bs) ≡ InCsi h) =
-      λ q at. rw rest at (begun-csi n p q bs k begins.some begins.esc begins.bracket ground
-      (rw begins.whole refl) header at) in
+      let begins : each is_header (take i (take (length bs - 2) (drop 2 bs))) ≡ true = rw rest header.header in
+      let ev = header-event n h f numbers is header final in
+      let cut : take (2 + i + 1) bs ≡ take (2 + i) bs ++ f ∷ [] = take_more bs (2 + i) 0 less in
+      let begun : (q : Pending) → IsAt n p q → (events_from n q (take (2 + i) bs) ≡ [])
+      × (after_bytes q (take (2 + i) bs) ≡ InCsi h) =
+      λ q at. rw rest at (begun-csi n p q bs i (omega (arith, less)) esc bracket ground (rw whole refl) begins at) in
       record {
         some = omega arith;
         reads = record {
           within = omega (arith, less);
-          state_after = λ q at. rw (cut, after_bytes-append q (take (2 + k) bs) (f ∷ []), (begun q at).1, ev.1)
-              (state_after (InText []) (ground, begins.whole));
+          state_after = λ q at. rw (cut, after_bytes-append q (take (2 + i) bs) (f ∷ []), (begun q at).1, ev.1)
+              (state_after (InText []) (ground, whole));
           reported = record {
-            reported = Csi numbers [] false f ∷ [];
+            reported = Csi numbers is false f ∷ [];
             performed = (new, reported, refl);
             added = λ q at. rw (
               cut,
-              events_from-append n q (take (2 + k) bs) (f ∷ []),
+              events_from-append n q (take (2 + i) bs) (f ∷ []),
               (begun q at).0,
               (begun q at).1,
               ev.0,
             ) refl;
           };
         };
-        is_step = λ q at. rw cut (quiet-step n q (take (2 + k) bs) (f ∷ []) _ (begun q at).0
+        is_step = λ q at. rw cut (quiet-step n q (take (2 + i) bs) (f ∷ []) _ (begun q at).0
             (rw (begun q at).1 (one-step n (InCsi h) (f ∷ []) _ (asked h f _))));
       }
+
+  pub plain_step : (bs : List ℕ) (k : ℕ) → p.state ≡ Ground → BeginsPlain n p bs k r
+      → is_in_range 0x40 0x7E (get_or bs (k + 2) 0) ≡ true
+      → ((q : Pending) → IsAt n p q → IsAt n r q)
+      → step old (Csi r.header.numbers.params [] false (get_or bs (k + 2) 0)) new
+      → ReadsStep step n p old bs (k + 3) r new
+  plain_step bs k ground begins final state_after reported =
+      let numbers = r.header.numbers.params in
+      let less : 2 + k < length bs = omega (arith, begins.plain.within, length-drop 2 bs) in
+      let place : k + 2 ≡ 2 + k = omega arith in
+      let end : k + 3 ≡ 2 + k + 1 = omega arith in
+      rw end (header_step bs k numbers [] ground begins.whole less begins.esc begins.bracket
+      (numbers_reported (drop 2 bs) k numbers begins.plain) (rw place at final) state_after (rw place at reported))
+
+  pub marked_csi_step : (bs : List ℕ) (k : ℕ) → p.state ≡ Ground → BeginsPlain n p bs k r
+      → is_in_range 0x20 0x2F (get_or bs (k + 2) 0) ≡ true → k + 3 < length bs
+      → is_in_range 0x40 0x7E (get_or bs (k + 3) 0) ≡ true
+      → ((q : Pending) → IsAt n p q → IsAt n r q)
+      → step old (Csi r.header.numbers.params (get_or bs (k + 2) 0 ∷ []) false (get_or bs (k + 3) 0)) new
+      → ReadsStep step n p old bs (k + 4) r new
+  marked_csi_step bs k ground begins mark less final state_after reported =
+      let numbers = r.header.numbers.params in
+      let m = get_or bs (k + 2) 0 in
+      let within : k < length (drop 2 bs) = begins.plain.within in
+      let at_mark : get_or (drop 2 bs) k 0 ≡ m =
+      get_or-drop 2 bs k 0 ∙ (let same : 2 + k ≡ k + 2 = omega arith in rw same refl) in
+      let cut : take (k + 1) (drop 2 bs) ≡ take k (drop 2 bs) ++ m ∷ [] =
+      take_more (drop 2 bs) k 0 within ∙ rw at_mark refl in
+      let place : k + 3 ≡ 2 + (k + 1) = omega arith in
+      let end : k + 4 ≡ 2 + (k + 1) + 1 = omega arith in
+      let less_than : 2 + (k + 1) < length bs = omega (arith, less) in
+      rw end (header_step bs (k + 1) numbers (m ∷ []) ground begins.whole less_than begins.esc begins.bracket
+      (rw cut (marked_reported m (drop 2 bs) k numbers mark begins.plain)) (rw place at final) state_after
+      (rw place at reported))
+
+  pub private_step : (bs : List ℕ) (k : ℕ) → p.state ≡ Ground → BeginsPrivate n p bs k r
+      → is_in_range 0x40 0x7E (get_or bs (k + 3) 0) ≡ true
+      → ((q : Pending) → IsAt n p q → IsAt n r q)
+      → step old (Csi r.header.numbers.params (get_or bs 2 0 ∷ []) false (get_or bs (k + 3) 0)) new
+      → ReadsStep step n p old bs (k + 4) r new
+  private_step bs k ground begins final state_after reported =
+      let numbers = r.header.numbers.params in
+      let m = get_or bs 2 0 in
+      let cut : take (1 + k) (drop 2 bs) ≡ m ∷ take k (drop 3 bs) = from_third bs k begins.some in
+      let place : k + 3 ≡ 2 + (1 + k) = omega arith in
+      let end : k + 4 ≡ 2 + (1 + k) + 1 = omega arith in
+      let less : 2 + (1 + k) < length bs = omega (arith, begins.plain.within, length-drop 3 bs) in
+      rw end (header_step bs (1 + k) numbers (m ∷ []) ground begins.whole less begins.esc begins.bracket
+      (rw cut (private_reported m (drop 3 bs) k numbers begins.private begins.plain)) (rw place at final) state_after
+      (rw place at reported))
 
 -- a step from a parser in whatever state this one is
 pub from_same : {S : Type 0} {step : S → Event → S → Type 0} {n : ℕ} {p mid r : Parser n} {old new : S} (bs : List ℕ)

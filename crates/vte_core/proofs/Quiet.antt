@@ -25,7 +25,7 @@ use Rattle.vte_core.proofs.PhaseLemmas.{each-first}
 use Rattle.vte_core.proofs.Machine.{events_from-append, after_bytes-append}
 use Rattle.vte_core.proofs.ReadsLemmas.{quiet_by}
 use Rattle.vte_core.proofs.Runs.{stop_steps, byte-at, read_more, nil_of_len}
-use Rattle.std.proofs.lemmas.List.{drop-drop}
+use Rattle.std.proofs.lemmas.List.{drop-drop, take_more}
 use lib.Seq.{take-add}
 
 -- what is pending, by the parser's state
@@ -260,3 +260,27 @@ begun-csi n p q bs k some e f s none header at =
     rw (begun-text n p q s (nil_of_len p.unfinished none) at)
     (begun-header n (InText []) InCsi bs (0x1B ∷ 0x5B ∷ []) 2 k (header-csi n) (first_two bs _ _ some e f) refl refl
     header)
+
+-- a byte that begins a header, and some of it, after ESC alone
+
+none_kept : (is : List ℕ) → take 2 is ≡ [] → is ≡ []
+none_kept [] e = refl
+none_kept (a ∷ is) e = cc
+
+begun-escape : (n : ℕ) (p : Parser n) (q : Pending) → p.state ≡ Escape → p.intermediates.kept.items ≡ [] → IsAt n p q
+    → (q ≡ InEscape []) × (p.unfinished ≡ [])
+begun-escape n p q s e at =
+    let (is, q_is) = by_state n p Escape q s at in
+    let here = rw q_is at at in
+    rw q_is (ap InEscape (none_kept is (sym here.2.kept ∙ e)), here.1)
+
+pub escape-csi : (n : ℕ) (p : Parser n) (q : Pending) (bs : List ℕ) (k : ℕ) → 0 < length bs → get_or bs 0 0 ≡ 0x5B
+    → p.state ≡ Escape → (length p.intermediates.kept.items == 0) ≡ true
+    → each is_header (take k (take (length bs - 1) (drop 1 bs))) ≡ true → IsAt n p q
+    → (events_from n q (take (1 + k) bs) ≡ [])
+    × (after_bytes q (take (1 + k) bs) ≡ InCsi (take k (take (length bs - 1) (drop 1 bs)))) × (p.unfinished ≡ [])
+escape-csi n p q bs k some e s none header at =
+    let u = begun-escape n p q s (nil_of_len p.intermediates.kept.items none) at in
+    let first : take 1 bs ≡ 0x5B ∷ [] = take_more bs 0 0 some ∙ ap (λ (c : ℕ). c ∷ []) e in
+    let m = begun-header n (InEscape []) InCsi bs (0x5B ∷ []) 1 k (header-csi n) first refl refl header in
+    rw u.0 (m.0, m.1, u.1)

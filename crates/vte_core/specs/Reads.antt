@@ -2,10 +2,10 @@
 -- and after them (r, new).
 use Rattle.std.specs.Prelude.{◌≡◌, ◌<◌, ◌≤◌, ℕ, true, false, List, [], take, drop, length, slice_index}
 use Rattle.std.specs.Int.{is_in_range}
-use Rattle.vte_core.specs.Bytes.{is_intermediate, opens_sequence}
+use Rattle.vte_core.specs.Bytes.{is_intermediate, is_private, opens_sequence}
 use Rattle.vte_core.specs.Event.{Event}
 use Rattle.vte_core.specs.Pending.{Pending, events_from, after_bytes}
-use Rattle.vte_core.specs.Plain.{IsPlain}
+use Rattle.vte_core.specs.Plain.{ArePlain}
 use Rattle.vte_core.specs.Runs.{PerformsEvents, IsStep}
 use Rattle.vte_core.specs.Standing.{IsAt}
 use Rattle.vte_core.specs.declared.parser.Parser.{Parser}
@@ -41,14 +41,23 @@ pub record ReadsQuietly (n : ℕ) (p : Parser n) (bs : List ℕ) (k : ℕ) (r : 
   pub state_after : (q : Pending) → IsAt n p q → IsAt n r (after_bytes q (take k bs))
   pub quiet : (q : Pending) → IsAt n p q → events_from n q (take k bs) ≡ []
 
--- A plain control sequence comes first, after whole ground text: `ESC [`, then these numbers in k bytes, and a
--- final byte. The numbers are kept.
+-- A control sequence comes first, after whole ground text: `ESC [`, then these numbers in k bytes, and another byte.
+-- The numbers are kept.
 pub record BeginsPlain (n : ℕ) (p : Parser n) (bs : List ℕ) (k : ℕ) (r : Parser n) : Type 0 where
   pub whole : p.unfinished ≡ []
   pub some : 2 ≤ length bs
   pub esc : slice_index bs 0 ≡ 0x1B
   pub bracket : slice_index bs 1 ≡ 0x5B
-  pub plain : IsPlain (drop 2 bs) k r.header.numbers.params
+  pub plain : ArePlain (drop 2 bs) k r.header.numbers.params
+
+-- the same with a private byte before the numbers
+pub record BeginsPrivate (n : ℕ) (p : Parser n) (bs : List ℕ) (k : ℕ) (r : Parser n) : Type 0 where
+  pub whole : p.unfinished ≡ []
+  pub some : 3 ≤ length bs
+  pub esc : slice_index bs 0 ≡ 0x1B
+  pub bracket : slice_index bs 1 ≡ 0x5B
+  pub private : is_private (slice_index bs 2) ≡ true
+  pub plain : ArePlain (drop 3 bs) k r.header.numbers.params
 
 -- An escape sequence with the one intermediate m and the final byte f comes first, after whole ground text.
 pub record BeginsMarked (n : ℕ) (p : Parser n) (bs : List ℕ) (m f : ℕ) : Type 0 where

@@ -3,7 +3,7 @@
 ghost use Rattle.std.specs.Prelude.{◌≡◌, ◌+◌, ◌-◌, ◌*◌, ◌<◌, ◌≤◌, ◌^◌, ℕ, List, [], ◌∷◌, ◌++◌, length, take, true};
 ghost use Rattle.std.specs.Prelude.{IsTrue, IfSome, false, slice_index};
 ghost use Rattle.vte_core.specs.Bytes.{each, is_numeric};
-ghost use Rattle.vte_core.specs.Plain.{IsPlain};
+ghost use Rattle.vte_core.specs.Plain.{ArePlain};
 ghost use Rattle.vte_core.specs.Store.{total};
 
 use crate::Params;
@@ -129,11 +129,11 @@ impl Numbers {
         read
     }
 
-    /// Reads numbers that `;` alone separates, up to the final byte of a control sequence. Returns how many bytes they
-    /// are; nothing where the sequence isn't plain, has more numbers than are kept, or ends elsewhere.
+    /// Reads numbers that `;` alone separates, up to the first other byte. Returns how many bytes they are; nothing where
+    /// they are more than are kept, or one has more than four digits, or where few bytes are left.
     #[inline(always)]
     pub fn read_plain(&mut self, bytes: &[u8]) -> Option<usize>
-        ensures { IfSome result (λ k. IsPlain bytes.now k self.new.params) }
+        ensures { IfSome result (λ k. ArePlain bytes.now k self.new.params) }
     {
         self.is_open = false;
         self.params.read_plain(bytes)

@@ -2,7 +2,7 @@
 
 ghost use Rattle.std.specs.Prelude.{◌≡◌, ◌+◌, ◌<◌, ◌≤◌, ◌==◌, ℕ, List, [], ◌∷◌, ◌++◌, length, take, map, IfSome, IfNone};
 ghost use Rattle.vte_core.specs.Store.{total};
-ghost use Rattle.vte_core.specs.Plain.{IsPlain, IsShortNumber};
+ghost use Rattle.vte_core.specs.Plain.{ArePlain, IsShortNumber};
 ghost use Rattle.vte_core.specs.ParamsText.{group_text, groups_text};
 ghost use Rattle.std.specs.Iterator.{YieldsFirstBy, item_count};
 ghost use Rattle.std.specs.Fmt.{WritesOnOk};
@@ -128,12 +128,11 @@ impl Params {
         self.ends[self.groups - 1] = self.len;
     }
 
-    /// Reads the numbers of a plain control sequence, which `;` alone separates, up to its final byte. Returns how many
-    /// bytes they are; nothing where it isn't plain, has more numbers than are kept, a number of more than three digits,
-    /// or ends elsewhere.
+    /// Reads numbers that `;` alone separates, up to the first other byte. Returns how many bytes they are; nothing where
+    /// they are more than are kept, or one has more than four digits, or where few bytes are left.
     #[inline(always)]
     pub(crate) fn read_plain(&mut self, bytes: &[u8]) -> Option<usize>
-        ensures { IfSome result (λ k. IsPlain bytes.now k self.new) }
+        ensures { IfSome result (λ k. ArePlain bytes.now k self.new) }
     {
         self.len = 0;
         self.groups = 0;
@@ -145,11 +144,7 @@ impl Params {
             self.ends[count] = count + 1;
             count += 1;
             read += digits;
-            let byte = bytes[read];
-            if byte != b';' {
-                if !(0x40..=0x7E).contains(&byte) {
-                    return None;
-                }
+            if bytes[read] != b';' {
                 self.len = count;
                 self.groups = count;
                 return Some(read);
@@ -160,13 +155,13 @@ impl Params {
     }
 }
 
-/// The number of up to three digits at the start, and how many they are; nothing where a fourth follows, or where fewer
-/// than four bytes are left.
+/// The number of up to four digits at the start, and how many they are; nothing where a fifth follows, or where fewer
+/// than five bytes are left.
 #[inline(always)]
 fn short_number(bytes: &[u8]) -> Option<(u16, usize)>
     ensures { IfSome result (λ x. IsShortNumber bytes.now x.0 x.1) }
 {
-    let [first, second, third, fourth, ..] = bytes else {
+    let [first, second, third, fourth, fifth, ..] = bytes else {
         return None;
     };
     if !first.is_ascii_digit() {
@@ -181,10 +176,14 @@ fn short_number(bytes: &[u8]) -> Option<(u16, usize)>
         return Some((number, 2));
     }
     let number = number * 10 + (*third - b'0') as u16;
-    if fourth.is_ascii_digit() {
+    if !fourth.is_ascii_digit() {
+        return Some((number, 3));
+    }
+    let number = number * 10 + (*fourth - b'0') as u16;
+    if fifth.is_ascii_digit() {
         return None;
     }
-    Some((number, 3))
+    Some((number, 4))
 }
 
 /// The groups of a [`Params`] that are left.

@@ -1,16 +1,16 @@
 //! The parser: what each byte does in each state, and how bytes are read many at a time.
 
-ghost use Rattle.std.specs.Prelude.{◌≡◌, ◌≢◌, ◌<◌, ◌≤◌, ℕ, List, [], ◌++◌, length, IsTrue, take, slice_index};
+ghost use Rattle.std.specs.Prelude.{◌≡◌, ◌≢◌, ◌<◌, ◌≤◌, ℕ, List, [], ◌∷◌, ◌++◌, length, IsTrue, take, slice_index};
 ghost use Rattle.std.specs.Prelude.{false, true, not, ◌&&◌, IfSome};
 ghost use Rattle.std.specs.Int.{is_in_range};
 ghost use Rattle.vte_core.specs.Byte.{ReadsByte, ReadsOther};
-ghost use Rattle.vte_core.specs.Bytes.{each, is_device_data, is_esc, is_swallowed, opens_sequence};
+ghost use Rattle.vte_core.specs.Bytes.{each, is_device_data, is_esc, is_private, is_swallowed, opens_sequence};
 ghost use Rattle.vte_core.specs.Event as e;
 ghost use Rattle.vte_core.specs.Event.{Performs};
 ghost use Rattle.vte_core.specs.StepEvents.{final_events};
 ghost use Rattle.vte_core.specs.Pending.{Pending, InEscape, final_rest, final_reported};
-ghost use Rattle.vte_core.specs.Reads.{BeginsMarked, BeginsPlain, BeginsUnmarked, BeginsWithEsc, Reads, ReadsSome};
-ghost use Rattle.vte_core.specs.Reads.{ReadsStep, ReadsQuietly};
+ghost use Rattle.vte_core.specs.Reads.{BeginsMarked, BeginsPlain, BeginsPrivate, BeginsUnmarked, BeginsWithEsc};
+ghost use Rattle.vte_core.specs.Reads.{Reads, ReadsSome, ReadsStep, ReadsQuietly};
 ghost use Rattle.vte_core.specs.Runs.{TellsEach};
 ghost use Rattle.vte_core.specs.Standing.{IsAt, IsAfter, state_is_text};
 ghost use Rattle.vte_core.specs.Stopping.{Stops};
@@ -364,8 +364,8 @@ impl<const N: usize> Parser<N> {
         }
     }
 
-    /// Reads the numbers of a plain control sequence after whole ground text, if one stands whole at the start:
-    /// `ESC [`, numbers that `;` alone separates, and a final byte. Returns how many bytes the numbers are.
+    /// Reads `ESC [` after whole ground text, and the numbers that follow, which `;` alone separates, if they and
+    /// another byte stand at the start. Returns how many bytes the numbers are.
     #[inline(always)]
     fn read_plain(&mut self, bytes: &[u8]) -> Option<usize>
         requires { self.old.state ≡ State.Ground }
@@ -380,6 +380,32 @@ impl<const N: usize> Parser<N> {
                 .read_plain(rest),
             _ => None,
         }
+    }
+
+    /// The same with a private byte before the numbers.
+    #[inline(always)]
+    fn read_private(&mut self, bytes: &[u8]) -> Option<usize>
+        requires { self.old.state ≡ State.Ground }
+        ensures state_after { (q : Pending) → IsAt N self.old q → IsAt N self.new q }
+        ensures ground { self.new.state ≡ State.Ground }
+        ensures begins { IfSome result (λ k. BeginsPrivate N self.old bytes.now k self.new) }
+    {
+        match bytes {
+            [0x1B, b'[', mark, rest @ ..] if is_private(*mark) && self.unfinished.is_empty() => self
+                .header
+                .numbers
+                .read_plain(rest),
+            _ => None,
+        }
+    }
+
+    /// The final byte of a control sequence whose numbers are read, and of which one other byte is kept: a private byte
+    /// or an intermediate.
+    #[inline(never)]
+    fn dispatch_marked<P: Perform>(&self, performer: &mut P, mark: u8, byte: u8)
+        ensures { P.step performer.old (e.Csi self.now.header.numbers.params (mark ∷ []) false byte) performer.new }
+    {
+        performer.csi_dispatch(&self.header.numbers.params, &[mark], false, byte as char);
     }
 
     /// The intermediate and the final byte of an escape sequence with one intermediate after whole ground text, such as
@@ -452,8 +478,26 @@ impl<const N: usize> Parser<N> {
         quiet
     }
 
-    /// Reads a plain control sequence at once, and any other as `read_begun` does, which comes to the same. Returns how
-    /// many bytes it read.
+    /// Reads a private control sequence of plain numbers at once, and any other sequence as `read_begun` does, which comes
+    /// to the same. Returns how many bytes it read.
+    #[inline(never)]
+    fn read_other<P: Perform>(&mut self, performer: &mut P, bytes: &[u8]) -> usize
+        requires begins { BeginsWithEsc bytes.now }
+        requires ground { self.old.state ≡ State.Ground }
+        ensures { ReadsStep P.step N self.old performer.old bytes.now result self.new performer.new }
+    {
+        if let Some(len) = self.read_private(bytes) {
+            let byte = bytes[len + 3];
+            if is_final(byte) {
+                self.dispatch_marked(performer, bytes[2], byte);
+                return len + 4;
+            }
+        }
+        self.read_begun(performer, bytes)
+    }
+
+    /// Reads a control sequence of plain numbers at once, with one intermediate or none, and any other sequence as
+    /// `read_other` does, which comes to the same. Returns how many bytes it read.
     #[inline(always)]
     fn read_escape<P: Perform>(&mut self, performer: &mut P, bytes: &[u8]) -> usize
         requires begins { BeginsWithEsc bytes.now }
@@ -462,10 +506,16 @@ impl<const N: usize> Parser<N> {
     {
         if let Some(len) = self.read_plain(bytes) {
             let byte = bytes[len + 2];
-            performer.csi_dispatch(&self.header.numbers.params, &[], false, byte as char);
-            return len + 3;
+            if is_final(byte) {
+                performer.csi_dispatch(&self.header.numbers.params, &[], false, byte as char);
+                return len + 3;
+            }
+            if is_intermediate(byte) && len + 3 < bytes.len() && is_final(bytes[len + 3]) {
+                self.dispatch_marked(performer, byte, bytes[len + 3]);
+                return len + 4;
+            }
         }
-        self.read_begun(performer, bytes)
+        self.read_other(performer, bytes)
     }
 
     /// Reads ground text up to the next ESC, or a control sequence after it, or ESC. Returns how many bytes it read.
@@ -496,15 +546,42 @@ impl<const N: usize> Parser<N> {
         quiet + 1
     }
 
-    /// Reads the byte after ESC and its intermediates: one byte.
+    /// Reads the `[` after ESC, and the header that follows, if they stand at the start. Returns how many bytes they are.
+    #[inline(always)]
+    fn open_csi(&mut self, bytes: &[u8]) -> usize
+        requires { self.old.state ≡ State.Escape }
+        ensures reads { ReadsQuietly N self.old bytes.now result self.new }
+        ensures opened { 0 < result → self.new.state ≡ State.Csi }
+        ensures not_opened { result ≡ 0 → self.new.state ≡ State.Escape }
+    {
+        match bytes {
+            [b'[', rest @ ..] if self.intermediates.kept.is_empty() => {
+                self.state = State::Csi;
+                self.header.clear();
+                1 + self.header.read(rest)
+            }
+            _ => 0,
+        }
+    }
+
+    /// Reads the byte after ESC and its intermediates, and where that begins a control sequence its header and the byte
+    /// after it. Returns how many bytes it read.
     #[inline(always)]
     fn read_escaped<P: Perform>(&mut self, performer: &mut P, bytes: &[u8]) -> usize
         requires some { 0 < length bytes.now }
         requires escape { self.old.state ≡ State.Escape }
         ensures { ReadsStep P.step N self.old performer.old bytes.now result self.new performer.new }
     {
-        self.after_escape(performer, bytes[0]);
-        1
+        let quiet = self.open_csi(bytes);
+        if quiet == 0 {
+            self.after_escape(performer, bytes[0]);
+            return 1;
+        }
+        if quiet < bytes.len() {
+            self.end_csi(performer, bytes[quiet]);
+            return quiet + 1;
+        }
+        quiet
     }
 
     /// Reads bytes of a sequence up to the first that has an event, and with it. Returns how many bytes it read.
@@ -650,6 +727,14 @@ fn opens_sequence(byte: u8) -> bool
     ensures { result ≡ opens_sequence byte }
 {
     matches!(byte, b'[' | b']' | b'P' | b'X' | b'^' | b'_')
+}
+
+/// Whether the byte is a private one, which stands first in a header.
+#[inline(always)]
+fn is_private(byte: u8) -> bool
+    ensures { result ≡ is_private byte }
+{
+    (0x3C..=0x3F).contains(&byte)
 }
 
 /// Whether the byte ends a header, and isn't CAN or SUB.

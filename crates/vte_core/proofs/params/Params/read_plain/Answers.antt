@@ -1,5 +1,4 @@
 use Rattle.std.proofs.Common.{◌≡◌, arith, refl, true, ◌==◌, ◌+◌, ◌++◌, ◌∷◌, [], take, get_or}
-use Rattle.std.proofs.lemmas.Bool.Decides.{nat_tests}
 use Rattle.std.proofs.lemmas.List.{take_more}
 use Rattle.vte_core.specs.Bytes.{is_numeric}
 use Rattle.vte_core.proofs.PhaseLemmas.{each-more}
@@ -15,22 +14,21 @@ loop-count-init c = record {
   no_groups = refl;
 }
 
-pub invariant_of-self-then-byte-ne59 : goal.invariant_of-self-then-byte-ne59
-invariant_of-self-then-byte-ne59 c =
+pub invariant_of-self-then-bytes-read-ne59 : goal.invariant_of-self-then-bytes-read-ne59
+invariant_of-self-then-bytes-read-ne59 c =
     let inv = c.loop-count.invariant in
     let next = short_next c.args.bytes.now c.loop-count.read c.in_ok-number.digits c.in_ok-number.number inv.within
     inv.numeric inv.so_far c.in_ok-number.ensures in
     (plain-more next.2 c.loop-count-test.true).1
 
-pub returns-then-byte-ne59 : goal.returns-then-byte-ne59
-returns-then-byte-ne59 c =
+pub returns-then-bytes-read-ne59 : goal.returns-then-bytes-read-ne59
+returns-then-bytes-read-ne59 c =
     let inv = c.loop-count.invariant in
     let next = short_next c.args.bytes.now c.loop-count.read c.in_ok-number.digits c.in_ok-number.number inv.within
     inv.numeric inv.so_far c.in_ok-number.ensures in
     record {
       within = next.0;
       numeric = next.1;
-      final = grind (arith, nat_tests, c.contains.ensures, c.if-not-contains.false);
       groups = plain-all next.2 c.loop-count-test.true;
       few = plain-few next.2 c.loop-count-test.true;
     }
@@ -44,8 +42,8 @@ loop-count-preserved c =
     let next = short_next bs c.loop-count.read c.in_ok-number.digits c.in_ok-number.number inv.within inv.numeric
     inv.so_far c.in_ok-number.ensures in
     let more : take (i + 1) bs ≡ take i bs ++ b ∷ [] = take_more bs i 0 next.0 in
-    let semicolon : (b == 0x3B) ≡ true = rw c.if-byte-ne59.false refl in
-    let is : is_numeric b ≡ true = rw c.if-byte-ne59.false refl in
+    let semicolon : (b == 0x3B) ≡ true = rw c.if-bytes-read-ne59.false refl in
+    let is : is_numeric b ≡ true = rw c.if-bytes-read-ne59.false refl in
     rw more record {
       within = omega (arith, next.0);
       numeric = each-more is_numeric (take i bs) b next.1 is;
