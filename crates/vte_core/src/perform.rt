@@ -56,7 +56,7 @@ pub trait Perform {
         }
     }
 
-    /// A run of printable ASCII (0x20 to 0x7E): a text that `print_str` might get as well, where nothing else is in it. An
+    /// A run of printable ASCII (0x20 to 0x7E). It comes in the place of `print_str`, where each character is such. An
     /// implementation may write it, to save a look at each byte.
     fn print_ascii(&mut self, text: &str)
         requires { each is_printable text.now ≡ true }
