@@ -366,21 +366,27 @@ fn are_printable(bytes: &[u8]) -> bool
     are_printable
 }
 
-/// How many bytes at the start, a short block or none, are printable ASCII.
+/// How many bytes at the start of a short block are printable ASCII.
 #[inline(always)]
 fn short_len(bytes: &[u8]) -> usize
-    ensures within { result ≤ length bytes.now }
+    requires { 8 ≤ length bytes.now }
+    ensures within { result ≤ 8 }
     ensures printable { each is_printable (take result bytes.now) ≡ true }
 {
-    if bytes.len() < SHORT_LEN || !are_printable(&bytes[..SHORT_LEN]) {
-        return 0;
+    let block = &bytes[..SHORT_LEN];
+    let mut len = 0;
+    while len < SHORT_LEN {
+        if !is_printable(block[len]) {
+            return len;
+        }
+        len += 1;
     }
     SHORT_LEN
 }
 
-/// How many bytes at the start are printable ASCII.
+/// How many bytes at the start stand in whole blocks of printable ASCII.
 #[inline(always)]
-fn ascii_len(bytes: &[u8]) -> usize
+fn blocks_len(bytes: &[u8]) -> usize
     ensures within { result ≤ length bytes.now }
     ensures printable { each is_printable (take result bytes.now) ≡ true }
 {
@@ -388,7 +394,24 @@ fn ascii_len(bytes: &[u8]) -> usize
     while bytes.len() - len >= BLOCK_LEN && are_printable(&bytes[len..len + BLOCK_LEN]) {
         len += BLOCK_LEN;
     }
-    len += short_len(&bytes[len..]);
+    len
+}
+
+/// How many bytes at the start are printable ASCII. Many texts end within a short block, which is looked at first.
+#[inline(always)]
+fn ascii_len(bytes: &[u8]) -> usize
+    ensures within { result ≤ length bytes.now }
+    ensures printable { each is_printable (take result bytes.now) ≡ true }
+{
+    let mut len = 0;
+    while bytes.len() - len >= SHORT_LEN {
+        let more = short_len(&bytes[len..]);
+        len += more;
+        if more < SHORT_LEN {
+            return len;
+        }
+        len += blocks_len(&bytes[len..]);
+    }
     while len < bytes.len() && is_printable(bytes[len]) {
         len += 1;
     }
