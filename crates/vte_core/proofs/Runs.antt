@@ -258,6 +258,15 @@ pub some-before : (bs : List ℕ) → 0 < length bs → is_esc (get_or bs 0 0) �
 some-before [] h e = absurd (omega (arith, h))
 some-before (b ∷ bs) h e = let f : is_esc b ≡ false = e in rw f (omega arith)
 
+-- where ESC ends it
+pub before-ends : (s : List ℕ) → length (before is_esc s) < length s
+    → is_esc (get_or s (length (before is_esc s)) 0) ≡ true
+before-ends [] h = absurd (omega (arith, h))
+before-ends (b ∷ s) h = elim (bool_cases (is_esc b)) [
+  | inl e ↦ rw e e
+  | inr e ↦ rw e (before-ends s (let less = rw e at h in omega (arith, less)))
+]
+
 pub text-byte : (a b : Bool) → (a && not b) ≡ true → (a ≡ true) × (b ≡ false)
 text-byte true true h = cc
 text-byte true false h = (refl, refl)

@@ -531,6 +531,36 @@ impl<const N: usize> Parser<N> {
         self.unfinished.read(performer, bytes)
     }
 
+    /// Reads the ground text before the next ESC, if there is some. Returns how many bytes it read.
+    #[inline(always)]
+    fn read_text<P: Perform>(&mut self, performer: &mut P, bytes: &[u8]) -> usize
+        requires some { 0 < length bytes.now }
+        requires ground { self.old.state ≡ State.Ground }
+        ensures reads { Reads P.step N self.old performer.old bytes.now result self.new performer.new }
+        ensures state { self.new.state ≡ State.Ground }
+        ensures ended { result < length bytes.now → slice_index bytes.now result ≡ 0x1B }
+    {
+        if bytes[0] == 0x1B {
+            return 0;
+        }
+        self.unfinished.read(performer, bytes)
+    }
+
+    /// Reads ground text up to the next ESC, and then as `read_escape` does, if there is one. Returns how many bytes it
+    /// read.
+    #[inline(always)]
+    fn read_through<P: Perform>(&mut self, performer: &mut P, bytes: &[u8]) -> usize
+        requires some { 0 < length bytes.now }
+        requires ground { self.old.state ≡ State.Ground }
+        ensures { ReadsSome P.step N self.old performer.old bytes.now result self.new performer.new }
+    {
+        let text = self.read_text(performer, bytes);
+        if text == bytes.len() {
+            return text;
+        }
+        text + self.read_escape(performer, &bytes[text..])
+    }
+
     /// Reads what has no event, and the byte after it, if there is one. Returns how many bytes it read.
     #[inline(always)]
     fn read_inside<P: Perform>(&mut self, performer: &mut P, bytes: &[u8]) -> usize
@@ -664,14 +694,15 @@ impl<const N: usize> Parser<N> {
         }
     }
 
-    /// Reads some bytes: as `read_step` does, but a device control string's data at once. Returns how many bytes it read.
+    /// Reads some bytes: ground text and what ESC begins after it, or sequences up to the next ground text. Returns how
+    /// many bytes it read.
     #[inline(always)]
     fn read_on<P: Perform>(&mut self, performer: &mut P, bytes: &[u8]) -> usize
         requires { 0 < length bytes.now }
         ensures { ReadsSome P.step N self.old performer.old bytes.now result self.new performer.new }
     {
         match self.state {
-            State::Ground => self.read_ground(performer, bytes),
+            State::Ground => self.read_through(performer, bytes),
             _ => self.read_outside(performer, bytes),
         }
     }
