@@ -1,11 +1,13 @@
 -- A cell that a zero-width character joins, and its place in a line.
-use Rattle.std.proofs.Common.{◌≡◌, ℕ, ◌+◌, ◌-◌, ◌<◌, ◌≤◌, ◌==◌, Bool, true, false, cond, not, ◌&&◌, ◌||◌, List, [], ◌∷◌}
+use Rattle.std.proofs.Common.{◌≡◌, ℕ, ◌+◌, ◌-◌, ◌<◌, ◌≤◌, ◌==◌, Bool, true, false, cond, not, ◌&&◌, ◌||◌, nat_lt, List, [], ◌∷◌}
 use Rattle.std.proofs.Common.{◌++◌, length, sym, refl, ap, ◌∙◌, arith, ⊎_elim}
 use Rattle.std.proofs.lemmas.Bool.{false≢true, cases_eq, eq-eqb, ne_eqb, cond_both}
 use Rattle.std.proofs.lemmas.Bool.Decides.{nat_tests}
+use Rattle.unicode_width.specs.Width.{str_width}
 use Rattle.vt100_cells.specs.Cell.{CellView, IsCell, IsWideAs, has_text, is_filled, has_room, text_with, is_widened_by}
 use Rattle.vt100_cells.specs.Cell.{appended, appended_plain}
 use Rattle.vt100_cells.specs.Line.{IsPaired, Bounded, update, base_col}
+use Rattle.vt100_cells.proofs.CellLemmas.{or-false}
 use Rattle.vt100_cells.proofs.ListLemmas.{not_first}
 
 -- ---- the cell that is joined
@@ -75,6 +77,18 @@ plain-wide x c = cond_both (has_room x.text) _ x (λ y. y.wide ≡ x.wide) (λ _
 pub plain-filled : (x : CellView) (c : ℕ) → is_filled x ≡ true → is_filled (appended_plain x c) ≡ true
 plain-filled x c h = cond_both (has_room x.text) _ x (λ y. is_filled y ≡ true)
     (λ _. ap (λ b. not b || x.continuation) (text_with-some x.text c)) (λ _. h)
+
+-- a character other than U+FE0F widens nothing
+pub appended-narrow : (x : CellView) (c : ℕ) → (c == 0xFE0F) ≡ false → appended x c ≡ appended_plain x c
+appended-narrow x c e =
+    let same : (x.wide || is_widened_by x.text c) ≡ x.wide =
+    ap (λ b. x.wide || (b && nat_lt 1 (str_width false (text_with x.text c)))) e ∙ or-false x.wide in
+    ap (λ w. cond (has_room x.text) (record {
+      text = text_with x.text c;
+      wide = w;
+      continuation = x.continuation;
+      attrs = x.attrs;
+    }) x) same
 
 -- ---- a line with another cell in one column
 

@@ -17,4 +17,5 @@ pub mod RunLemmas
 pub mod PairLemmas
 pub mod WideScripts
 pub mod NarrowScripts
+pub mod JoiningMarks
 pub mod NarrowLemmas

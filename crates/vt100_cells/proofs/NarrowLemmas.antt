@@ -29,7 +29,7 @@ space_replaced-is x t c a e p et = replaced-like x t c 32 a e (space_is_narrow �
 
 -- ---- a space's text, with another character
 
-encode-two : (c : ℕ) → 0x80 ≤ c → c < 0x800 → encode_utf8 c ≡ (192 + c / 64) ∷ (128 + c % 64) ∷ []
+pub encode-two : (c : ℕ) → 0x80 ≤ c → c < 0x800 → encode_utf8 c ≡ (192 + c / 64) ∷ (128 + c % 64) ∷ []
 unfolding encode_utf8
 encode-two c l h = grind (arith, nat_tests)
 

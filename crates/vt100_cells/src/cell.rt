@@ -219,22 +219,14 @@ impl Cell {
 
     /// Adds a character of no columns to the text, where U+FE0F makes no cell wide. For rows alone.
     #[doc(hidden)]
-    pub fn joined_plain(self, c: char) -> Self
+    #[inline]
+    pub fn join_plain(&mut self, c: char)
         requires zero_width { drawn_columns c ≡ Some 0 }
-        requires no_half { self.continuation ≡ false }
-        ensures { result ≡ appended_plain self c }
+        requires no_half { self.old.continuation ≡ false }
+        ensures { self.new ≡ appended_plain self.old c }
     {
-        if !self.text.has_room() {
-            return self;
-        }
-        let mut text = self.text;
-        text.join(c);
-        Cell {
-            text,
-            span: self.span,
-            fgcolor: self.fgcolor,
-            bgcolor: self.bgcolor,
-            mode: self.mode,
+        if self.text.has_room() {
+            self.text.join(c);
         }
     }
 

@@ -218,9 +218,17 @@ impl CellText {
         requires { has_room self.old ≡ true }
         ensures { self.new ≡ self.old ++ c ∷ [] }
     {
+        let start = self.len as usize;
+        let code = c as u32;
+        if code >= 0x80 && code < 0x800 {
+            // Two bytes, as the accents have.
+            let pair = [(0xC0 + code / 64) as u8, (0x80 + code % 64) as u8];
+            copy_up_to_four(&mut self.bytes[start..start + 2], &pair);
+            self.len = (start + 2) as u8;
+            return;
+        }
         let mut buffer = [0; 4];
         let encoded = c.encode_utf8(&mut buffer);
-        let start = self.len as usize;
         let end = start + encoded.len();
         copy_up_to_four(&mut self.bytes[start..end], encoded.as_bytes());
         self.len = end as u8;

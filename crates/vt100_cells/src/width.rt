@@ -12,7 +12,8 @@ use unicode_width::UnicodeWidthChar;
 pub fn columns(c: char) -> Option<u16>
     ensures { result ≡ drawn_columns c }
 {
-    // Printable ASCII, and the scripts and symbols that most other characters are of, need no look-up.
+    // Printable ASCII, the accents that join a letter, and the scripts and symbols that most other characters are of,
+    // need no look-up.
     match c {
         ' '..='~'
         | '\u{A0}'..='\u{AC}'
@@ -25,6 +26,7 @@ pub fn columns(c: char) -> Option<u16>
         | '\u{2500}'..='\u{25FC}'
         | '\u{2800}'..='\u{28FF}'
         | '\u{E000}'..='\u{F8FF}' => Some(1),
+        '\u{300}'..='\u{337}' | '\u{339}'..='\u{36F}' => Some(0),
         '\u{4E00}'..='\u{9FFF}'
         | '\u{AC00}'..='\u{D7A3}'
         | '\u{3041}'..='\u{3096}'

@@ -3,19 +3,20 @@ use Rattle.std.proofs.Common.{◌≡◌, ℕ, ◌+◌, ◌-◌, ◌<◌, ◌≤�
 use Rattle.std.proofs.Common.{set, Some, sym, refl, ap, ◌∙◌, arith, nat_lt}
 use Rattle.std.specs.Char.{IsScalar}
 use Rattle.std.proofs.lemmas.List.{set-get_or}
-use Rattle.std.proofs.lemmas.Bool.{and_parts, cond_both, ltb-true, not-true}
+use Rattle.std.proofs.lemmas.Bool.{false≢true, and_parts, cond_both, ltb-true, not-true}
 use Rattle.vt100_forms.specs.declared.attrs.Attrs.{Attrs}
 use Rattle.vt100_cells.specs.Cell.{CellView, IsCell, has_text, has_room, text_with, is_widened_by, is_filled, appended}
 use Rattle.vt100_cells.specs.Cell.{appended_plain, drawn_columns, default_cell}
 use Rattle.vt100_cells.specs.Line.{span_of, update, put, base_col}
 use Rattle.vt100_cells.specs.Cells.{cell_at, by_position}
 use Rattle.vt100_rows.specs.Row.{RowView, IsRow, joined_cell, is_widening, joined_row, join_row, placed, wiped_row}
-use Rattle.vt100_rows.specs.Row.{joined_plain}
+use Rattle.vt100_rows.specs.Row.{joined_plain, join_answer}
+use Rattle.vt100_rows.specs.declared.join.Join.TheVariants.{InPlace}
 use Rattle.vt100_cells.proofs.CellLemmas.{IsCell-appended, IsCell-plain}
 use Rattle.vt100_cells.proofs.ListLemmas.{Bounded-row, set-by_position, length-by_position}
 use Rattle.vt100_cells.proofs.JoinedCells.{base_col-whole, base_col-within, filled-appended, appended-continuation}
 use Rattle.vt100_cells.proofs.JoinedCells.{appended-wide, same-width, appended-has_text, Bounded-update, update-last}
-use Rattle.vt100_cells.proofs.JoinedCells.{plain-wide, plain-continuation, plain-filled}
+use Rattle.vt100_cells.proofs.JoinedCells.{plain-wide, plain-continuation, plain-filled, appended-narrow}
 use Rattle.vt100_cells.proofs.LineLemmas.{put-same, IsPaired-put}
 use Rattle.vt100_cells.proofs.EditedCells.{IsCell-update}
 use Rattle.vt100_cells.proofs.TrimLemmas.{not-false}
@@ -165,3 +166,26 @@ pub joins-plain : (v : RowView) (xs ys : List CellView) (col n i c : ℕ) (x y :
 joins-plain v xs ys col n i c x y exs eys en ei ey ex h l =
     let both = joins-cells (λ z. appended_plain z c) v xs ys col n i x y exs eys en ei ey ex h l in
     λ k. record { cells = both.1 k; wrapped = v.wrapped }
+
+-- ---- a character other than U+FE0F makes no cell wide
+
+not-more : (b : Bool) → (b && not b) ≡ false
+not-more true = refl
+not-more false = refl
+
+pub joins-narrow : (v : RowView) (col c : ℕ) (a : Attrs) → (c == 0xFE0F) ≡ false
+    → (joined_plain v col c ≡ join_row v col c a) × (InPlace ≡ join_answer v col c a)
+joins-narrow v col c a e =
+    let f = cell_at v.cells in
+    let i = base_col f col in
+    let plain = appended-narrow (f i) c e in
+    let same : is_widening v col c ≡ false =
+    ap (λ (x : CellView). x.wide && not (f i).wide) plain ∙ ap (λ b. b && not (f i).wide) (plain-wide (f i) c)
+    ∙ not-more (f i).wide in
+    let row : joined_plain v col c ≡ joined_row v col c =
+    ap (λ x. record { cells = by_position (length v.cells) (update f i x); wrapped = v.wrapped }) (sym plain) in (
+      cond_both (not (is_widening v col c)) (joined_row v col c) _ (λ w. joined_plain v col c ≡ w) (λ _. row)
+          (λ n. absurd (false≢true (sym n ∙ ap not same))),
+      cond_both (not (is_widening v col c)) InPlace _ (λ w. InPlace ≡ w) (λ _. refl)
+          (λ n. absurd (false≢true (sym n ∙ ap not same))),
+    )

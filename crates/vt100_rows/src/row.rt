@@ -113,6 +113,10 @@ impl Row {
     pub fn reset(&mut self)
         ensures { self.new ≡ blank_row (length self.old.cells) }
     {
+        if self.filled == 0 {
+            // Then each cell is one, and the row isn't wrapped.
+            return;
+        }
         let end = usize::from(self.filled).min(self.cells.len());
         reset_prefix(&mut self.cells, end);
         self.wrapped = false;
@@ -345,6 +349,10 @@ impl Row {
         ensures row { self.new ≡ join_row self.old col c attrs }
         ensures answer { result ≡ join_answer self.old col c attrs }
     {
+        if c != '\u{FE0F}' {
+            self.join_plain(col, c);
+            return Join::InPlace;
+        }
         let base = base_col(&self.cells, usize::from(col));
         if !at(&self.cells, base).has_room() {
             return Join::InPlace;
@@ -375,9 +383,8 @@ impl Row {
         ensures { self.new ≡ joined_plain self.old col c }
     {
         let base = base_col(&self.cells, usize::from(col));
-        let cell = *at(&self.cells, base);
         self.filled = self.filled.max(col);
-        self.cells[base] = cell.joined_plain(c);
+        self.cells[base].join_plain(c);
     }
 }
 

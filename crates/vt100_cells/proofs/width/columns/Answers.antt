@@ -4,6 +4,7 @@ use Rattle.ucd_table.specs.Rows.{in_ranges}
 use Rattle.vt100_cells.proofs.WidthLemmas.{drawn-ascii}
 use Rattle.vt100_cells.proofs.NarrowScripts.{drawn-narrow}
 use Rattle.vt100_cells.proofs.WideScripts.{drawn-wide}
+use Rattle.vt100_cells.proofs.JoiningMarks.{drawn-joining}
 use Rattle.vt100_cells.proofs.width.columns.Goals as goal
 
 pub returns-in-32-to-126 : goal.returns-in-32-to-126
@@ -48,6 +49,14 @@ returns-in-32-to-126-10 c = drawn-narrow c.args.c (omega arith) (grind (arith, n
 pub returns-in-32-to-126-11 : goal.returns-in-32-to-126-11
 unfolding in_ranges
 returns-in-32-to-126-11 c = drawn-narrow c.args.c (omega arith) (grind (arith, nat_tests)) (omega arith)
+
+pub returns-in-768-to-823 : goal.returns-in-768-to-823
+unfolding in_ranges
+returns-in-768-to-823 c = drawn-joining c.args.c (omega arith) (grind (arith, nat_tests)) (omega arith)
+
+pub returns-in-768-to-823-2 : goal.returns-in-768-to-823-2
+unfolding in_ranges
+returns-in-768-to-823-2 c = drawn-joining c.args.c (omega arith) (grind (arith, nat_tests)) (omega arith)
 
 pub returns-in-19968-to-40959 : goal.returns-in-19968-to-40959
 unfolding in_ranges

@@ -1,6 +1,7 @@
 use Rattle.std.proofs.Common.{ap, ◌∙◌, sym, ◌≤◌, length, arith}
+use Rattle.std.proofs.lemmas.Bool.{ne_eqb}
 use Rattle.vt100_rows.specs.Row.{RowView, join_row}
-use Rattle.vt100_rows.proofs.JoinLemmas.{IsRow-join, joins-in_place, joins-full}
+use Rattle.vt100_rows.proofs.JoinLemmas.{IsRow-join, joins-in_place, joins-full, joins-narrow}
 use Rattle.vt100_cells.specs.Cells.{cell_at}
 use Rattle.vt100_rows.proofs.RowLemmas.{IsRow-at}
 use Rattle.vt100_rows.proofs.BlankLemmas.{blank-set, base-before}
@@ -44,3 +45,12 @@ invariant_of-self c = record {
         base-before (cell_at c.deref.result.now) c.from.result (omega (arith, c.from.ensures, c.requires.after_some)),
       ));
 }
+
+pub returns-then-c-ne65039-clause-row : goal.returns-then-c-ne65039-clause-row
+returns-then-c-ne65039-clause-row c =
+    c.join_plain.ensures
+    ∙ (joins-narrow c.args.self.now c.args.col c.args.c c.args.attrs (ne_eqb c.args.c 0xFE0F c.if-c-ne65039.true)).0
+
+pub returns-then-c-ne65039-clause-answer : goal.returns-then-c-ne65039-clause-answer
+returns-then-c-ne65039-clause-answer c =
+    (joins-narrow c.args.self.now c.args.col c.args.c c.args.attrs (ne_eqb c.args.c 0xFE0F c.if-c-ne65039.true)).1
