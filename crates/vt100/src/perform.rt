@@ -86,6 +86,7 @@ impl<CB: Callbacks> Perform for WrappedScreen<CB> {
         let _ = self.run(CharRun::Ascii(text.as_bytes()));
     }
 
+    #[inline(always)]
     fn execute(&mut self, byte: u8) {
         if self.screen.failed() {
             return;
@@ -160,6 +161,9 @@ impl<CB: Callbacks> WrappedScreen<CB> {
         ensures printed { PrintsPrefix CB.step CB.scrolls text.now result.now self.old.callbacks self.old.screen
             self.new.callbacks self.new.screen }
     {
+        if begins_alone(text) {
+            return self.print_first(text);
+        }
         let len = printable_len(text.as_bytes());
         if len > 0 {
             prove!(self.screen.is_live() || self.screen.failed());
@@ -167,9 +171,20 @@ impl<CB: Callbacks> WrappedScreen<CB> {
             let _ = self.run(CharRun::Ascii(&text.as_bytes()[..len]));
             return &text[len..];
         }
-        if let Some(rest) = self.print_chars(text) {
-            return rest;
+        match self.print_chars(text) {
+            Some(rest) => rest,
+            None => self.print_first(text),
         }
+    }
+
+    /// Prints the first character of a text, and returns what is left.
+    #[inline(always)]
+    fn print_first<'a>(&mut self, text: &'a str) -> &'a str
+        requires { 0 < length text.now }
+        ensures shorter { length result.now < length text.now }
+        ensures printed { PrintsPrefix CB.step CB.scrolls text.now result.now self.old.callbacks self.old.screen
+            self.new.callbacks self.new.screen }
+    {
         let mut chars = text.chars();
         if let Some(c) = chars.next() {
             self.print(c);
@@ -448,6 +463,16 @@ pub(crate) fn is_unhandled(c: char) -> bool
     ensures { result ≡ is_unhandled c }
 {
     matches!(c, '\u{FFFD}' | '\u{80}'..='\u{9F}')
+}
+
+/// Whether the first character of a text is printed faster without a run: a letter of ASCII before another character, or
+/// one of the accents from U+0300 to U+036F, which join the letter before them.
+#[inline(always)]
+fn begins_alone(text: &str) -> bool {
+    matches!(
+        text.as_bytes(),
+        [0..=0x7F, 0x80..=0xFF, ..] | [0xCC, ..] | [0xCD, 0x80..=0xAF, ..]
+    )
 }
 
 /// Whether a command is that of clipboards.
