@@ -8,7 +8,7 @@ use unicode_width::UnicodeWidthChar;
 ///
 /// This is its width by Unicode (UAX #11, as the crate `unicode_width` reads it), but at most 2, and 1 where Unicode
 /// gives none. `None` for the control characters below U+0100, which are not drawn.
-#[inline]
+#[inline(always)]
 pub fn columns(c: char) -> Option<u16>
     ensures { result ≡ drawn_columns c }
 {

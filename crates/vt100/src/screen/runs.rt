@@ -70,7 +70,7 @@ impl<CB: Callbacks> WrappedScreen<CB> {
 }
 
 /// Takes the characters of so many columns each at the start of a text into an empty run, as many as it holds, and
-/// returns what is left. A run of ASCII is left.
+/// returns what is left. Eight characters of ASCII are left.
 #[inline(always)]
 fn take_run<'a>(text: &'a str, columns: u16, run: &mut ArrayVec<char, RUN_LEN>) -> &'a str
     requires { run.old.items ≡ [] }
@@ -92,7 +92,7 @@ fn take_run<'a>(text: &'a str, columns: u16, run: &mut ArrayVec<char, RUN_LEN>) 
     rest
 }
 
-/// The first character of a text, where it takes so many columns and isn't one of two of ASCII, and what follows it.
+/// The first character of a text, where it takes so many columns and doesn't begin a run of ASCII, and what follows it.
 #[inline(always)]
 fn next_of(text: &str, columns: u16) -> Option<(char, &str)>
     ensures parts { IfSome result (λ p. chars text.now ≡ p.0 ∷ chars p.1.now) }
@@ -102,7 +102,7 @@ fn next_of(text: &str, columns: u16) -> Option<(char, &str)>
 {
     let mut chars = text.chars();
     match chars.next() {
-        Some(c) if takes(c, columns) && !is_ascii_pair(c, chars.as_str()) => {
+        Some(c) if takes(c, columns) && !begins_ascii(c, chars.as_str()) => {
             Some((c, chars.as_str()))
         }
         _ => None,
@@ -115,11 +115,18 @@ fn takes(c: char, count: u16) -> bool
     ensures drawn { IsTrue result → Takes count c }
     ensures handled { IsTrue result → IsHandled c }
 {
-    !is_unhandled(c) && columns(c) == Some(count)
+    columns(c) == Some(count) && !is_unhandled(c)
 }
 
-/// Whether a character and the first one of what follows it are both ASCII, which is printed faster without a run.
+/// Whether a character and the seven bytes after it are ASCII, which is printed faster in a run of its own.
 #[inline(always)]
-fn is_ascii_pair(c: char, rest: &str) -> bool {
-    c.is_ascii() && matches!(rest.as_bytes(), [byte, ..] if byte.is_ascii())
+fn begins_ascii(c: char, rest: &str) -> bool {
+    if !c.is_ascii() || rest.len() < 7 {
+        return false;
+    }
+    let mut are_ascii = true;
+    for byte in &rest.as_bytes()[..7] {
+        are_ascii &= byte.is_ascii();
+    }
+    are_ascii
 }
