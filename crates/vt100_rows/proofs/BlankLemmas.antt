@@ -1,17 +1,17 @@
 -- Rows that are blank from some column on.
 use Rattle.std.proofs.Common.{◌≡◌, ◌∙◌, ℕ, ◌+◌, ◌*◌, ◌<◌, ◌≤◌, Bool, List, length, set, arith, ap, ⊎_elim, nat_lt, nat_le}
 use Rattle.std.proofs.Common.{inl, inr, ◌⊎◌, zero, suc, [], ◌∷◌, ◌++◌, drop, replicate, min}
-use Rattle.std.proofs.Common.{refl, sym, true, false, ◌-◌, ◌==◌, ◌&&◌, ◌||◌}
-use Rattle.std.proofs.lemmas.Bool.{false≢true, cond_both, cases_lt}
+use Rattle.std.proofs.Common.{refl, ◌-◌, ◌==◌, ◌&&◌, ◌||◌}
+use Rattle.std.proofs.lemmas.Bool.{cond_both, cases_lt}
 use Rattle.std.proofs.lemmas.List.{get_or-set_other}
 use Rattle.std.proofs.lemmas.Bool.Decides.{nat_tests}
 use Rattle.vt100_forms.specs.declared.attrs.Attrs.{Attrs}
 use Rattle.vt100_forms.specs.Attrs.{default_attrs}
-use Rattle.vt100_cells.specs.Cell.{CellView, default_cell, empty_cell, is_filled}
-use Rattle.vt100_cells.specs.Cells.{cell_at, by_position, last_cell}
+use Rattle.vt100_cells.specs.Cell.{CellView, default_cell, empty_cell}
+use Rattle.vt100_cells.specs.Cells.{cell_at, by_position}
 use Rattle.vt100_cells.specs.Line.{put, printed_run, printed_pairs, wiped, base_col}
 use Rattle.vt100_cells.proofs.ListLemmas.{cell_at_past, cell_at-by_position, length-by_position}
-use Rattle.vt100_rows.specs.Row.{RowView, IsRow, IsBlankFrom, IsFilledAfter, IsRowFields, blank_row}
+use Rattle.vt100_rows.specs.Row.{RowView, IsRow, IsBlankFrom, IsFilledAfter, IsRowFields}
 use Rattle.vt100_rows.proofs.RowLemmas.{IsRow-at}
 
 pub fields-at : (cells : List CellView) (wrapped : Bool) (filled : ℕ) (w : RowView)
@@ -135,15 +135,3 @@ resets-prefix (x ∷ xs) zero h b =
 resets-prefix (x ∷ xs) (suc end) h b =
     let rest = resets-prefix xs end (omega (arith, h)) (λ k l. b (suc k) (omega (arith, l))) in
     λ i. default_cell ∷ rest i
-
--- a row of default cells is blank, since its last cell shows nothing
-pub blank-row : (v : RowView) → IsRow v → IsBlankFrom v.cells 0 → v ≡ blank_row (length v.cells)
-blank-row v r b =
-    let cells : v.cells ≡ replicate (length v.cells) default_cell = resets-prefix v.cells 0 (omega arith) b in
-    let last : is_filled (last_cell v.cells) ≡ false = ap is_filled (b (length v.cells - 1) (omega arith)) in
-    let unwrapped : v.wrapped ≡ false =
-    (elim v.wrapped as (λ w. (w ≡ true → is_filled (last_cell v.cells) ≡ true) → w ≡ false) [
-      | true ↦ λ f. absurd (false≢true (sym last ∙ f refl))
-      | false ↦ λ f. refl
-    ]) r.filled in
-    λ k. record { cells = cells k; wrapped = unwrapped k }

@@ -113,10 +113,6 @@ impl Row {
     pub fn reset(&mut self)
         ensures { self.new ≡ blank_row (length self.old.cells) }
     {
-        if self.filled == 0 {
-            // Then each cell is one, and the row isn't wrapped.
-            return;
-        }
         let end = usize::from(self.filled).min(self.cells.len());
         reset_prefix(&mut self.cells, end);
         self.wrapped = false;

@@ -1,9 +1,9 @@
-use Rattle.std.proofs.Common.{◌≡◌, ◌∙◌, ap, arith, length, subst, sym, min, List}
+use Rattle.std.proofs.Common.{◌≡◌, arith, length, subst, sym, min, List}
 use Rattle.vt100_cells.specs.Cell.{CellView}
 use Rattle.std.proofs.lemmas.Grind.{common_steps}
-use Rattle.vt100_rows.specs.Row.{RowView, IsRow, IsBlankFrom, blank_row}
+use Rattle.vt100_rows.specs.Row.{IsRow, IsBlankFrom, blank_row}
 use Rattle.vt100_rows.proofs.RowLemmas.{IsRow-blank}
-use Rattle.vt100_rows.proofs.BlankLemmas.{fields-at, blank-min, blank-new, blank-row}
+use Rattle.vt100_rows.proofs.BlankLemmas.{fields-at, blank-min, blank-new}
 use Rattle.vt100_rows.proofs.row.Row.reset.Goals as goal
 
 pub reset_prefix-requires-clause-blank : goal.reset_prefix-requires-clause-blank
@@ -19,10 +19,3 @@ invariant_of-self c =
     (let r : IsRow c.args.self.now = rw (← c.self.view_is) c.self.invariant.row
     in IsRow-blank (length c.args.self.now.cells) r.narrow)
     (blank-new (length c.args.self.now.cells))
-
-pub returns-then-self-eq0 : goal.returns-then-self-eq0
-returns-then-self-eq0 c =
-    let v : RowView = record { cells = c.self.inside.cells.items; wrapped = c.self.inside.wrapped } in
-    let blank : IsBlankFrom v.cells 0 = subst (IsBlankFrom v.cells) c.if-self-eq0.true c.self.invariant.blank in
-    let same : v ≡ blank_row (length v.cells) = blank-row v c.self.invariant.row blank in
-    sym c.self.view_is ∙ same ∙ ap (λ (w : RowView). blank_row (length w.cells)) c.self.view_is
