@@ -70,7 +70,6 @@ impl<CB: Callbacks> WrappedScreen<CB> {
     }
 
     /// Moves the cursor a row down, where the scroll region moves up at its last row (LF).
-    #[inline(never)]
     pub fn lf(&mut self) -> Result<(), ScreenError>
         ensures { MayScroll CB.scrolls line_fed self.old result self.new }
     {
