@@ -1,7 +1,7 @@
 //! The parser: what each byte does in each state, and how bytes are read many at a time.
 
 ghost use Rattle.std.specs.Prelude.{◌≡◌, ◌≢◌, ◌<◌, ◌≤◌, ℕ, List, [], ◌∷◌, ◌++◌, length, IsTrue, take, slice_index};
-ghost use Rattle.std.specs.Prelude.{false, true, not, ◌&&◌, IfSome};
+ghost use Rattle.std.specs.Prelude.{false, true, not, ◌&&◌, ◌==◌, IfSome};
 ghost use Rattle.std.specs.Int.{is_in_range};
 ghost use Rattle.vte_core.specs.Byte.{ReadsByte, ReadsOther};
 ghost use Rattle.vte_core.specs.Bytes.{each, is_device_data, is_esc, is_private, is_swallowed, opens_sequence};
@@ -452,21 +452,14 @@ impl<const N: usize> Parser<N> {
         1
     }
 
-    /// Reads what ESC begins after ground text: a short escape sequence, or a control sequence up to the first byte that
-    /// has an event, and with it, or else ESC and the byte after it. Returns how many bytes it read.
-    fn read_begun<P: Perform>(&mut self, performer: &mut P, bytes: &[u8]) -> usize
+    /// Reads a control sequence that ESC begins after ground text, up to the first byte that has an event, and with it, or
+    /// else ESC and the byte after it. Returns how many bytes it read.
+    #[inline(always)]
+    fn read_opened<P: Perform>(&mut self, performer: &mut P, bytes: &[u8]) -> usize
         requires begins { BeginsWithEsc bytes.now }
         requires ground { self.old.state ≡ State.Ground }
         ensures { ReadsStep P.step N self.old performer.old bytes.now result self.new performer.new }
     {
-        if let Some((mark, byte)) = self.marked(bytes) {
-            performer.esc_dispatch(&[mark], false, byte);
-            return 3;
-        }
-        if let Some(byte) = self.unmarked(bytes) {
-            performer.esc_dispatch(&[], false, byte);
-            return 2;
-        }
         let quiet = self.begin_csi(bytes);
         if quiet == 0 {
             return self.read_esc(performer, bytes);
@@ -478,7 +471,7 @@ impl<const N: usize> Parser<N> {
         quiet
     }
 
-    /// Reads a private control sequence of plain numbers at once, and any other sequence as `read_begun` does, which comes
+    /// Reads a private control sequence of plain numbers at once, and any other sequence as `read_opened` does, which comes
     /// to the same. Returns how many bytes it read.
     #[inline(never)]
     fn read_other<P: Perform>(&mut self, performer: &mut P, bytes: &[u8]) -> usize
@@ -493,11 +486,30 @@ impl<const N: usize> Parser<N> {
                 return len + 4;
             }
         }
-        self.read_begun(performer, bytes)
+        self.read_opened(performer, bytes)
+    }
+
+    /// Reads a short escape sequence that ESC begins after ground text at once, and any other sequence as `read_other` does,
+    /// which comes to the same. Returns how many bytes it read.
+    #[inline(always)]
+    fn read_begun<P: Perform>(&mut self, performer: &mut P, bytes: &[u8]) -> usize
+        requires begins { BeginsWithEsc bytes.now }
+        requires ground { self.old.state ≡ State.Ground }
+        ensures { ReadsStep P.step N self.old performer.old bytes.now result self.new performer.new }
+    {
+        if let Some((mark, byte)) = self.marked(bytes) {
+            performer.esc_dispatch(&[mark], false, byte);
+            return 3;
+        }
+        if let Some(byte) = self.unmarked(bytes) {
+            performer.esc_dispatch(&[], false, byte);
+            return 2;
+        }
+        self.read_other(performer, bytes)
     }
 
     /// Reads a control sequence of plain numbers at once, with one intermediate or none, and any other sequence as
-    /// `read_other` does, which comes to the same. Returns how many bytes it read.
+    /// `read_begun` does, which comes to the same. Returns how many bytes it read.
     #[inline(always)]
     fn read_escape<P: Perform>(&mut self, performer: &mut P, bytes: &[u8]) -> usize
         requires begins { BeginsWithEsc bytes.now }
@@ -515,7 +527,7 @@ impl<const N: usize> Parser<N> {
                 return len + 4;
             }
         }
-        self.read_other(performer, bytes)
+        self.read_begun(performer, bytes)
     }
 
     /// Reads ground text up to the next ESC, or a control sequence after it, or ESC. Returns how many bytes it read.
@@ -576,22 +588,20 @@ impl<const N: usize> Parser<N> {
         quiet + 1
     }
 
-    /// Reads the `[` after ESC, and the header that follows, if they stand at the start. Returns how many bytes they are.
+    /// Reads the `[` after ESC, and the header that follows. Returns how many bytes they are.
     #[inline(always)]
     fn open_csi(&mut self, bytes: &[u8]) -> usize
-        requires { self.old.state ≡ State.Escape }
+        requires some { 0 < length bytes.now }
+        requires bracket { slice_index bytes.now 0 ≡ 0x5B }
+        requires escape { self.old.state ≡ State.Escape }
+        requires alone { (length self.old.intermediates.kept.items == 0) ≡ true }
         ensures reads { ReadsQuietly N self.old bytes.now result self.new }
-        ensures opened { 0 < result → self.new.state ≡ State.Csi }
-        ensures not_opened { result ≡ 0 → self.new.state ≡ State.Escape }
+        ensures some { 0 < result }
+        ensures opened { self.new.state ≡ State.Csi }
     {
-        match bytes {
-            [b'[', rest @ ..] if self.intermediates.kept.is_empty() => {
-                self.state = State::Csi;
-                self.header.clear();
-                1 + self.header.read(rest)
-            }
-            _ => 0,
-        }
+        self.state = State::Csi;
+        self.header.clear();
+        1 + self.header.read(&bytes[1..])
     }
 
     /// Reads the byte after ESC and its intermediates, and where that begins a control sequence its header and the byte
@@ -602,11 +612,11 @@ impl<const N: usize> Parser<N> {
         requires escape { self.old.state ≡ State.Escape }
         ensures { ReadsStep P.step N self.old performer.old bytes.now result self.new performer.new }
     {
-        let quiet = self.open_csi(bytes);
-        if quiet == 0 {
+        if bytes[0] != b'[' || !self.intermediates.kept.is_empty() {
             self.after_escape(performer, bytes[0]);
             return 1;
         }
+        let quiet = self.open_csi(bytes);
         if quiet < bytes.len() {
             self.end_csi(performer, bytes[quiet]);
             return quiet + 1;

@@ -12,4 +12,4 @@ returns-then-is_final-2 g c = marked_csi_step c.args.bytes.now c.in-Some.len c.r
     c.dispatch_marked.ensures
 
 pub returns : goal.returns
-returns g c = from_same c.args.bytes.now c.read_other.result c.read_plain.ensures.state_after c.read_other.ensures
+returns g c = from_same c.args.bytes.now c.read_begun.result c.read_plain.ensures.state_after c.read_begun.ensures

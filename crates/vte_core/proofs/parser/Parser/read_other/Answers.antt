@@ -6,4 +6,4 @@ returns-then-is_final g c = private_step c.args.bytes.now c.in-Some.len c.requir
     (rw (← c.is_final.ensures) c.if-is_final.true) c.read_private.ensures.state_after c.dispatch_marked.ensures
 
 pub returns : goal.returns
-returns g c = from_same c.args.bytes.now c.read_begun.result c.read_private.ensures.state_after c.read_begun.ensures
+returns g c = from_same c.args.bytes.now c.read_opened.result c.read_private.ensures.state_after c.read_opened.ensures
