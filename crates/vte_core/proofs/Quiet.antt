@@ -284,3 +284,15 @@ escape-csi n p q bs k some e s none header at =
     let first : take 1 bs ≡ 0x5B ∷ [] = take_more bs 0 0 some ∙ ap (λ (c : ℕ). c ∷ []) e in
     let m = begun-header n (InEscape []) InCsi bs (0x5B ∷ []) 1 k (header-csi n) first refl refl header in
     rw u.0 (m.0, m.1, u.1)
+
+-- ESC after ESC
+pub escs-quiet : (n : ℕ) (is xs : List ℕ) → each is_esc xs ≡ true → 0 < length xs
+    → (events_from n (InEscape is) xs ≡ []) × (after_bytes (InEscape is) xs ≡ InEscape [])
+escs-quiet n is [] all some = absurd (omega (arith, some))
+escs-quiet n is (b ∷ []) all some =
+    let g = each-first is_esc b [] all in
+    (rw g.0 refl, rw g.0 refl)
+escs-quiet n is (b ∷ c ∷ xs) all some =
+    let g = each-first is_esc b (c ∷ xs) all in
+    let more = escs-quiet n [] (c ∷ xs) g.1 (omega arith) in
+    (rw g.0 more.0, rw g.0 more.1)

@@ -588,6 +588,18 @@ impl<const N: usize> Parser<N> {
         quiet + 1
     }
 
+    /// Reads ESC after ESC, once or more often, which begins the escape sequence anew. Returns how many bytes they are.
+    #[inline(always)]
+    fn begin_anew(&mut self, bytes: &[u8]) -> usize
+        requires begins { BeginsWithEsc bytes.now }
+        requires escape { self.old.state ≡ State.Escape }
+        ensures reads { ReadsQuietly N self.old bytes.now result self.new }
+        ensures some { 0 < result }
+    {
+        self.intermediates.clear();
+        esc_len(bytes)
+    }
+
     /// Reads the `[` after ESC, and the header that follows. Returns how many bytes they are.
     #[inline(always)]
     fn open_csi(&mut self, bytes: &[u8]) -> usize
@@ -605,13 +617,16 @@ impl<const N: usize> Parser<N> {
     }
 
     /// Reads the byte after ESC and its intermediates, and where that begins a control sequence its header and the byte
-    /// after it. Returns how many bytes it read.
+    /// after it, or else where it is ESC all that follow. Returns how many bytes it read.
     #[inline(always)]
     fn read_escaped<P: Perform>(&mut self, performer: &mut P, bytes: &[u8]) -> usize
         requires some { 0 < length bytes.now }
         requires escape { self.old.state ≡ State.Escape }
         ensures { ReadsStep P.step N self.old performer.old bytes.now result self.new performer.new }
     {
+        if bytes[0] == 0x1B {
+            return self.begin_anew(bytes);
+        }
         if bytes[0] != b'[' || !self.intermediates.kept.is_empty() {
             self.after_escape(performer, bytes[0]);
             return 1;
@@ -752,6 +767,21 @@ impl<const N: usize> Parser<N> {
         }
         bytes.len()
     }
+}
+
+/// How many bytes at the start are ESC, of which the first one is.
+#[inline(always)]
+fn esc_len(bytes: &[u8]) -> usize
+    requires { BeginsWithEsc bytes.now }
+    ensures some { 0 < result }
+    ensures within { result ≤ length bytes.now }
+    ensures escs { each is_esc (take result bytes.now) ≡ true }
+{
+    let mut len = 1;
+    while len < bytes.len() && bytes[len] == 0x1B {
+        len += 1;
+    }
+    len
 }
 
 /// Whether the byte ends an escape sequence, and isn't CAN or SUB.

@@ -24,6 +24,23 @@ returns-then-bytes-ne91 g c = record {
       (rw c.requires.escape refl) h);
 }
 
+pub returns-then-bytes-eq27 : goal.returns-then-bytes-eq27
+returns-then-bytes-eq27 g c =
+    let bs = c.args.bytes.now in
+    let k = c.begin_anew.result in
+    let quiet = c.begin_anew.ensures in
+    record {
+      some = quiet.some;
+      reads = reads_quiet bs k quiet.reads;
+      is_step = λ q h. record {
+        quiet = take k bs;
+        last = [];
+        parts = sym (append-nil (take k bs));
+        nothing = quiet.reads.quiet q h;
+        one = inl refl;
+      };
+    }
+
 pub returns : goal.returns
 returns g c =
     let bs = c.args.bytes.now in
