@@ -235,13 +235,13 @@ first_two [] a b h e f = absurd (omega (arith, h))
 first_two (x ∷ []) a b h e f = absurd (omega (arith, h))
 first_two (x ∷ y ∷ xs) a b h e f = let first : x ≡ a = e in let second : y ≡ b = f in rw (first, second) refl
 
--- some of a header, after the bytes at the start that begin it
-begun-header : (n : ℕ) (q : Pending) (f : List ℕ → Pending) (bs prefix : List ℕ) (j k : ℕ)
-    → ((b : ℕ) → is_header b ≡ true → Keeps n f b) → take j bs ≡ prefix → events_from n q prefix ≡ []
-    → after_bytes q prefix ≡ f [] → each is_header (take k (take (length bs - j) (drop j bs))) ≡ true
+-- some bytes that are kept, after those at the start that begin them
+begun-kept : (n : ℕ) (q : Pending) (f : List ℕ → Pending) (p : ℕ → Bool) (bs prefix : List ℕ) (j k : ℕ)
+    → ((b : ℕ) → p b ≡ true → Keeps n f b) → take j bs ≡ prefix → events_from n q prefix ≡ []
+    → after_bytes q prefix ≡ f [] → each p (take k (take (length bs - j) (drop j bs))) ≡ true
     → (events_from n q (take (j + k) bs) ≡ [])
     × (after_bytes q (take (j + k) bs) ≡ f (take k (take (length bs - j) (drop j bs))))
-begun-header n q f bs prefix j k keeps is quiet begun header =
+begun-kept n q f p bs prefix j k keeps is quiet begun kept =
     rw (
       read_more bs j k,
       is,
@@ -249,7 +249,7 @@ begun-header n q f bs prefix j k keeps is quiet begun header =
       after_bytes-append q prefix (take k (take (length bs - j) (drop j bs))),
       quiet,
       begun,
-    ) (all_kept n f is_header [] (take k (take (length bs - j) (drop j bs))) keeps header)
+    ) (all_kept n f p [] (take k (take (length bs - j) (drop j bs))) keeps kept)
 
 pub begun-csi : (n : ℕ) (p : Parser n) (q : Pending) (bs : List ℕ) (k : ℕ) → 2 ≤ length bs → get_or bs 0 0 ≡ 0x1B
     → get_or bs 1 0 ≡ 0x5B → p.state ≡ Ground → (length p.unfinished == 0) ≡ true
@@ -258,8 +258,19 @@ pub begun-csi : (n : ℕ) (p : Parser n) (q : Pending) (bs : List ℕ) (k : ℕ)
     × (after_bytes q (take (2 + k) bs) ≡ InCsi (take k (take (length bs - 2) (drop 2 bs))))
 begun-csi n p q bs k some e f s none header at =
     rw (begun-text n p q s (nil_of_len p.unfinished none) at)
-    (begun-header n (InText []) InCsi bs (0x1B ∷ 0x5B ∷ []) 2 k (header-csi n) (first_two bs _ _ some e f) refl refl
-    header)
+    (begun-kept n (InText []) InCsi is_header bs (0x1B ∷ 0x5B ∷ []) 2 k (header-csi n) (first_two bs _ _ some e f) refl
+    refl header)
+
+-- the same for the data of an operating system command
+pub begun-osc : (n : ℕ) (p : Parser n) (q : Pending) (bs : List ℕ) (k : ℕ) → 2 ≤ length bs → get_or bs 0 0 ≡ 0x1B
+    → get_or bs 1 0 ≡ 0x5D → p.state ≡ Ground → p.unfinished ≡ []
+    → each is_data (take k (take (length bs - 2) (drop 2 bs))) ≡ true → IsAt n p q
+    → (events_from n q (take (2 + k) bs) ≡ [])
+    × (after_bytes q (take (2 + k) bs) ≡ InOsc (take k (take (length bs - 2) (drop 2 bs))))
+begun-osc n p q bs k some e f s none kept at =
+    rw (begun-text n p q s none at)
+    (begun-kept n (InText []) InOsc is_data bs (0x1B ∷ 0x5D ∷ []) 2 k (data-osc n) (first_two bs _ _ some e f) refl refl
+    kept)
 
 -- a byte that begins a header, and some of it, after ESC alone
 
@@ -282,7 +293,7 @@ pub escape-csi : (n : ℕ) (p : Parser n) (q : Pending) (bs : List ℕ) (k : ℕ
 escape-csi n p q bs k some e s none header at =
     let u = begun-escape n p q s (nil_of_len p.intermediates.kept.items none) at in
     let first : take 1 bs ≡ 0x5B ∷ [] = take_more bs 0 0 some ∙ ap (λ (c : ℕ). c ∷ []) e in
-    let m = begun-header n (InEscape []) InCsi bs (0x5B ∷ []) 1 k (header-csi n) first refl refl header in
+    let m = begun-kept n (InEscape []) InCsi is_header bs (0x5B ∷ []) 1 k (header-csi n) first refl refl header in
     rw u.0 (m.0, m.1, u.1)
 
 -- ESC after ESC

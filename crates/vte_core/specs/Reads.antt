@@ -77,3 +77,10 @@ pub record BeginsUnmarked (n : ℕ) (p : Parser n) (bs : List ℕ) (f : ℕ) : T
   pub at_final : slice_index bs 1 ≡ f
   pub final : is_in_range 0x30 0x7E f ≡ true
   pub short : opens_sequence f ≡ false
+
+-- An operating system command comes first, after whole ground text.
+pub record BeginsCommand (n : ℕ) (p : Parser n) (bs : List ℕ) : Type 0 where
+  pub whole : p.unfinished ≡ []
+  pub some : 2 ≤ length bs
+  pub esc : slice_index bs 0 ≡ 0x1B
+  pub bracket : slice_index bs 1 ≡ 0x5D

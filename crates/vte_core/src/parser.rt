@@ -9,8 +9,8 @@ ghost use Rattle.vte_core.specs.Event as e;
 ghost use Rattle.vte_core.specs.Event.{Performs};
 ghost use Rattle.vte_core.specs.StepEvents.{final_events};
 ghost use Rattle.vte_core.specs.Pending.{Pending, InEscape, final_rest, final_reported};
-ghost use Rattle.vte_core.specs.Reads.{BeginsMarked, BeginsPlain, BeginsPrivate, BeginsUnmarked, BeginsWithEsc};
-ghost use Rattle.vte_core.specs.Reads.{Reads, ReadsSome, ReadsStep, ReadsQuietly};
+ghost use Rattle.vte_core.specs.Reads.{BeginsCommand, BeginsMarked, BeginsPlain, BeginsPrivate, BeginsUnmarked};
+ghost use Rattle.vte_core.specs.Reads.{BeginsWithEsc, Reads, ReadsSome, ReadsStep, ReadsQuietly};
 ghost use Rattle.vte_core.specs.Runs.{TellsEach};
 ghost use Rattle.vte_core.specs.Standing.{IsAt, IsAfter, state_is_text};
 ghost use Rattle.vte_core.specs.Stopping.{Stops};
@@ -471,8 +471,46 @@ impl<const N: usize> Parser<N> {
         quiet
     }
 
-    /// Reads a private control sequence of plain numbers at once, and any other sequence as `read_opened` does, which comes
-    /// to the same. Returns how many bytes it read.
+    /// Whether an operating system command stands at the start, after whole ground text.
+    #[inline(always)]
+    fn begins_command(&self, bytes: &[u8]) -> bool
+        ensures { IsTrue result → BeginsCommand N self.now bytes.now }
+    {
+        matches!(bytes, [0x1B, b']', ..]) && self.unfinished.is_empty()
+    }
+
+    /// Reads `ESC ]` and the data that follows. Returns how many bytes they are.
+    #[inline(always)]
+    fn open_osc(&mut self, bytes: &[u8]) -> usize
+        requires begins { BeginsCommand N self.old bytes.now }
+        requires ground { self.old.state ≡ State.Ground }
+        ensures reads { ReadsQuietly N self.old bytes.now result self.new }
+        ensures some { 0 < result }
+        ensures opened { self.new.state ≡ State.OscString }
+    {
+        self.state = State::OscString;
+        self.osc.clear();
+        2 + self.osc.read(&bytes[2..])
+    }
+
+    /// Reads an operating system command up to the first byte that has an event, and with it. Returns how many bytes it
+    /// read.
+    #[inline(always)]
+    fn read_command<P: Perform>(&mut self, performer: &mut P, bytes: &[u8]) -> usize
+        requires begins { BeginsCommand N self.old bytes.now }
+        requires ground { self.old.state ≡ State.Ground }
+        ensures { ReadsStep P.step N self.old performer.old bytes.now result self.new performer.new }
+    {
+        let quiet = self.open_osc(bytes);
+        if quiet < bytes.len() {
+            self.byte(performer, bytes[quiet]);
+            return quiet + 1;
+        }
+        quiet
+    }
+
+    /// Reads a private control sequence of plain numbers or an operating system command at once, and any other sequence as
+    /// `read_opened` does, which comes to the same. Returns how many bytes it read.
     #[inline(never)]
     fn read_other<P: Perform>(&mut self, performer: &mut P, bytes: &[u8]) -> usize
         requires begins { BeginsWithEsc bytes.now }
@@ -485,6 +523,9 @@ impl<const N: usize> Parser<N> {
                 self.dispatch_marked(performer, bytes[2], byte);
                 return len + 4;
             }
+        }
+        if self.begins_command(bytes) {
+            return self.read_command(performer, bytes);
         }
         self.read_opened(performer, bytes)
     }
