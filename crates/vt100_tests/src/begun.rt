@@ -1,4 +1,4 @@
-//! Calls that are made once more where memory was refused, and texts that hold something before more is appended.
+//! Texts that hold something before more is appended. What was refused memory is made once more.
 
 use crate::same::same;
 use std::alloc::Global;
@@ -9,20 +9,18 @@ use vt100_core::GridError;
 /// What a text holds before more is appended.
 const BEGUN: &str = "begun:";
 
-/// What this makes, at the second try if the first one got this refusal.
-pub fn retried<T, E: PartialEq + Drop, F: Fn() -> Result<T, E>>(refusal: E, make: F) -> Result<T, E>
-    requires { F.IsAlwaysCallable make }
-{
-    match make() {
-        Err(error) if error == refusal => make(),
-        answer => answer,
-    }
-}
-
 fn begun_text(alloc: Global) -> Result<String, GridError> {
     let mut text = String::new(alloc);
     text.push_str(BEGUN)?;
     Ok(text)
+}
+
+/// Such a text, made at the second try if the first was refused.
+fn retried_text(alloc: Global) -> Result<String, GridError> {
+    match begun_text(alloc) {
+        Err(GridError::Memory) => begun_text(alloc),
+        answer => answer,
+    }
 }
 
 /// Whether a text holds what it held before, and a prefix of what was to be appended.
@@ -63,7 +61,7 @@ pub fn check_appended<T, F: Fn(&mut String) -> Result<T, GridError>>(
 ) -> Result<T, Fail>
     requires { F.IsAlwaysCallable append }
 {
-    let mut text = retried(GridError::Memory, || begun_text(rt.alloc()))?;
+    let mut text = retried_text(rt.alloc())?;
     let answer = match append(&mut text) {
         Ok(answer) => answer,
         Err(error) => {

@@ -1,8 +1,7 @@
 //! Direct calls that may be refused, and writing to a parser. Memory is found here.
 
-use crate::owners::{parser_of, with};
 use crate::same::same;
-use crate::start::count;
+use crate::start::{count, parser_of};
 use std::io::Write;
 use std::process::Abort;
 use std::test::Fail;
@@ -40,9 +39,8 @@ fn check_wrapped(rt: &impl Abort, screen: &Screen) -> Result<(), Fail> {
 
 #[test]
 fn calls_on_a_screen_change_it(rt: HostRuntime) -> Result<(), Fail> {
-    with(parser_of(rt.alloc(), (2, 3, 1)), |parser| {
-        check_wrapped(&rt, parser.screen())
-    })
+    let parser = parser_of(rt.alloc(), (2, 3, 1))?;
+    check_wrapped(&rt, parser.screen())
 }
 
 /// How much is written, and what is shown then.
@@ -56,10 +54,8 @@ fn check_written(rt: &impl Abort, parser: &mut Parser<()>) -> Result<(), Fail> {
 
 #[test]
 fn writing_feeds(rt: HostRuntime) -> Result<(), Fail> {
-    with(
-        parser_of(rt.alloc(), (24, 80, 0)),
-        |parser| check_written(&rt, parser),
-    )
+    let mut parser = parser_of(rt.alloc(), (24, 80, 0))?;
+    check_written(&rt, &mut parser)
 }
 
 #[test]
@@ -91,9 +87,8 @@ fn check_default(rt: &impl Abort, parser: &mut Parser<()>) -> Result<(), Fail> {
 
 #[test]
 fn a_default_parser_is_blank(rt: HostRuntime) -> Result<(), Fail> {
-    with(Parser::new_default(rt.alloc()), |parser| {
-        check_default(&rt, parser)
-    })
+    let mut parser = Parser::new_default(rt.alloc())?;
+    check_default(&rt, &mut parser)
 }
 
 /// The cursor's places after each call that moves it, made at the second row and the third column.
@@ -134,7 +129,6 @@ fn check_zeros(rt: &impl Abort, screen: &Screen) -> Result<(), Fail> {
 
 #[test]
 fn zeros_count_as_one(rt: HostRuntime) -> Result<(), Fail> {
-    with(parser_of(rt.alloc(), (3, 4, 0)), |parser| {
-        check_zeros(&rt, parser.screen())
-    })
+    let parser = parser_of(rt.alloc(), (3, 4, 0))?;
+    check_zeros(&rt, parser.screen())
 }

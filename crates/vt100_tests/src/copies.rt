@@ -1,7 +1,7 @@
 //! Copies of what a screen shows, and its texts behind a text of the caller's.
 
-use crate::owners::{fed, with};
 use crate::same::same;
+use crate::start::fed;
 use std::alloc::AllocGlobal;
 use std::process::Abort;
 use std::test::Fail;
@@ -31,10 +31,8 @@ fn check_copy(rt: &impl Abort, parser: &mut Parser<()>) -> Result<(), Fail> {
 /// A copy of the alternate screen is a main one.
 #[test]
 fn copies_show_what_is_shown(rt: HostRuntime) -> Result<(), Fail> {
-    with(
-        fed(rt.alloc(), (2, 3, 1), b"x\x1b[?1049h\x1b[Ha"),
-        |parser| check_copy(&rt, parser),
-    )
+    let mut parser = fed(rt.alloc(), (2, 3, 1), b"x\x1b[?1049h\x1b[Ha")?;
+    check_copy(&rt, &mut parser)
 }
 
 /// A redraw, and a difference from the screen then, behind what a text holds.
@@ -55,8 +53,6 @@ fn check_appended(rt: &(impl Abort + AllocGlobal), parser: &mut Parser<()>) -> R
 
 #[test]
 fn texts_of_a_state_are_appended(rt: HostRuntime) -> Result<(), Fail> {
-    with(
-        fed(rt.alloc(), (2, 3, 1), b"a"),
-        |parser| check_appended(&rt, parser),
-    )
+    let mut parser = fed(rt.alloc(), (2, 3, 1), b"a")?;
+    check_appended(&rt, &mut parser)
 }

@@ -11,6 +11,8 @@ mod calls;
 #[cfg(test)]
 mod captures;
 #[cfg(test)]
+mod cases;
+#[cfg(test)]
 mod copies;
 #[cfg(test)]
 mod forms;
@@ -18,8 +20,6 @@ mod forms;
 mod grid;
 #[cfg(test)]
 mod log;
-#[cfg(test)]
-mod owners;
 #[cfg(test)]
 mod refusals;
 #[cfg(test)]
@@ -30,6 +30,8 @@ mod reported;
 mod rows;
 #[cfg(test)]
 mod same;
+#[cfg(test)]
+mod script;
 #[cfg(test)]
 mod shown;
 #[cfg(test)]

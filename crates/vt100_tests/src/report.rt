@@ -1,53 +1,32 @@
 //! All that a screen answers about itself.
 ghost use Rattle.std.specs.Iterator.{IsFinite};
 
-use crate::same::{same, same_for};
-use std::alloc::Global;
+use crate::cases::{call_of, numbers};
+use crate::same::same;
+use std::alloc::{AllocError, Global};
 use std::process::Abort;
-use std::test::Fail;
 use vt100::capture::{BasicFormattedCaptureRange, BasicFormattedCaptureState};
 use vt100::{
     Color, CursorStyle, GridError, MouseProtocolEncoding, MouseProtocolMode, Screen, ScreenError,
 };
 
-/// A call that makes texts of a screen. Some of them are of what differs from an earlier screen.
-#[derive(Clone, Copy, Debug)]
-pub enum Text {
-    Contents,
-    ContentsBetween(u16, u16, u16, u16),
-    ContentsFormattedBasic,
-    /// The kept rows too, by `write_contents_formatted_basic`.
-    AllRowsBasic,
-    ContentsFormatted,
-    ContentsDiff,
-    StateFormatted,
-    StateDiff,
-    InputModeFormatted,
-    InputModeDiff,
-    AttributesFormatted,
-    CursorStateFormatted,
-    Rows(u16, u16),
-    RowsFormatted(u16, u16),
-    RowsDiff(u16, u16),
-}
-
-/// Each of them.
-pub const TEXTS: &[Text] = &[
-    Text::Contents,
-    Text::ContentsBetween(0, 1, 1, 1),
-    Text::ContentsFormattedBasic,
-    Text::AllRowsBasic,
-    Text::ContentsFormatted,
-    Text::ContentsDiff,
-    Text::StateFormatted,
-    Text::StateDiff,
-    Text::InputModeFormatted,
-    Text::InputModeDiff,
-    Text::AttributesFormatted,
-    Text::CursorStateFormatted,
-    Text::Rows(0, 9),
-    Text::RowsFormatted(0, 9),
-    Text::RowsDiff(0, 9),
+/// Questions for each text that a screen makes.
+const TEXTS: &[&str] = &[
+    "contents",
+    "contents_between 0 1 1 1",
+    "contents_formatted_basic",
+    "all_rows_basic",
+    "contents_formatted",
+    "contents_diff",
+    "state_formatted",
+    "state_diff",
+    "input_mode_formatted",
+    "input_mode_diff",
+    "attributes_formatted",
+    "cursor_state_formatted",
+    "rows 0 9",
+    "rows_formatted 0 9",
+    "rows_diff 0 9",
 ];
 
 /// Appends to a text.
@@ -86,35 +65,114 @@ fn all_rows_basic(screen: &Screen, alloc: Global) -> Result<String, ScreenError>
     }
 }
 
-/// Makes a text of a screen, in some calls of what differs from `prev`.
-pub fn text_of(
+/// The texts of columns of the rows.
+fn rows_of<R: Abort>(
+    rt: &R,
     screen: &Screen,
     prev: &Screen,
     alloc: Global,
-    text: Text,
+    question: &str,
 ) -> Result<String, ScreenError> {
-    match text {
-        Text::Contents => screen.contents(),
-        Text::ContentsBetween(start_row, start_col, end_row, end_col) => {
-            screen.contents_between(start_row, start_col, end_row, end_col)
+    if let Some(places) = question.strip_prefix("contents_between ") {
+        let [start_row, start_col, end_row, end_col]: [u16; 4] = numbers(rt, places);
+        return screen.contents_between(start_row, start_col, end_row, end_col);
+    }
+    let (name, start, width) = call_of(rt, question);
+    match name {
+        "rows" => joined(alloc, screen, screen.rows(start, width)),
+        "rows_formatted" => joined(alloc, screen, screen.rows_formatted(start, width)),
+        "rows_diff" => joined(alloc, screen, screen.rows_diff(prev, start, width)),
+        _ => Err(ScreenError::Failed),
+    }
+}
+
+/// A text of a screen, in some calls of what differs from `prev`.
+fn text_of<R: Abort>(
+    rt: &R,
+    screen: &Screen,
+    prev: &Screen,
+    alloc: Global,
+    question: &str,
+) -> Result<String, ScreenError> {
+    match question {
+        "contents" => screen.contents(),
+        "contents_formatted_basic" => screen.contents_formatted_basic(),
+        "all_rows_basic" => all_rows_basic(screen, alloc),
+        "contents_formatted" => screen.contents_formatted(),
+        "contents_diff" => screen.contents_diff(prev),
+        "state_formatted" => screen.state_formatted(),
+        "state_diff" => screen.state_diff(prev),
+        "input_mode_formatted" => screen.input_mode_formatted(),
+        "input_mode_diff" => screen.input_mode_diff(prev),
+        "attributes_formatted" => screen.attributes_formatted(),
+        "cursor_state_formatted" => screen.cursor_state_formatted(),
+        _ => rows_of(rt, screen, prev, alloc, question),
+    }
+}
+
+/// What refuses a text is want of memory.
+fn was_written(written: Result<(), AllocError>) -> Result<(), ScreenError> {
+    match written {
+        Ok(()) => Ok(()),
+        Err(_) => Err(ScreenError::Memory),
+    }
+}
+
+/// What the screen is like, in words and numbers.
+fn add_state(text: &mut String, screen: &Screen, question: &str) -> Result<(), ScreenError> {
+    let (size, cursor, kept) = places(screen);
+    let written = match question {
+        "size" => write!(text, "{size:?}"),
+        "cursor" => write!(text, "{cursor:?}"),
+        "kept" => write!(text, "{kept:?}"),
+        "failed" => write!(text, "{}", screen.failed()),
+        "alternate_screen" => write!(text, "{}", screen.alternate_screen()),
+        "updating" => write!(text, "{}", screen.synchronized_update()),
+        _ => return Err(ScreenError::Failed),
+    };
+    was_written(written)
+}
+
+/// How long a text is, or its first two bytes and its last two.
+fn add_measure(text: &mut String, measured: &str, measure: &str) -> Result<(), ScreenError> {
+    let len = measured.len();
+    let first = measured.get(..2).unwrap_or("");
+    let last = measured.get(len.saturating_sub(2)..).unwrap_or("");
+    let written = match measure {
+        "length" => write!(text, "{len}"),
+        _ => write!(text, "{first:?} {last:?}"),
+    };
+    was_written(written)
+}
+
+fn state_of(alloc: Global, screen: &Screen, question: &str) -> Result<String, ScreenError> {
+    let mut text = String::new(alloc);
+    add_state(&mut text, screen, question)?;
+    Ok(text)
+}
+
+fn measure_of(alloc: Global, measured: &str, measure: &str) -> Result<String, ScreenError> {
+    let mut text = String::new(alloc);
+    add_measure(&mut text, measured, measure)?;
+    Ok(text)
+}
+
+/// The answer to a question. `is` asks what the screen is like, and `length` and `ends` measure a text. Any other question
+/// asks for a text, in some calls of what differs from `prev`.
+pub fn answer_of(
+    rt: &(impl Abort + AllocGlobal),
+    screen: &Screen,
+    prev: &Screen,
+    question: &str,
+) -> Result<String, ScreenError> {
+    let (name, rest) = question.split_once(' ').unwrap_or((question, ""));
+    match name {
+        "is" => state_of(rt.alloc(), screen, rest),
+        "length" | "ends" => {
+            let text = text_of(rt, screen, prev, rt.alloc(), rest)?;
+            measure_of(rt.alloc(), text.as_str(), name)
         }
-        Text::ContentsFormattedBasic => screen.contents_formatted_basic(),
-        Text::AllRowsBasic => all_rows_basic(screen, alloc),
-        Text::ContentsFormatted => screen.contents_formatted(),
-        Text::ContentsDiff => screen.contents_diff(prev),
-        Text::StateFormatted => screen.state_formatted(),
-        Text::StateDiff => screen.state_diff(prev),
-        Text::InputModeFormatted => screen.input_mode_formatted(),
-        Text::InputModeDiff => screen.input_mode_diff(prev),
-        Text::AttributesFormatted => screen.attributes_formatted(),
-        Text::CursorStateFormatted => screen.cursor_state_formatted(),
-        Text::Rows(start, width) => joined(alloc, screen, screen.rows(start, width)),
-        Text::RowsFormatted(start, width) => joined(
-            alloc,
-            screen,
-            screen.rows_formatted(start, width),
-        ),
-        Text::RowsDiff(start, width) => joined(alloc, screen, screen.rows_diff(prev, start, width)),
+        _ => text_of(rt, screen, prev, rt.alloc(), question),
     }
 }
 
@@ -191,52 +249,53 @@ fn add_cells(text: &mut String, screen: &Screen) -> Result<(), GridError> {
 fn add_getters(text: &mut String, screen: &Screen) -> Result<(), ScreenError> {
     let reported = (places(screen), switches(screen), choices(screen));
     let is_live = [screen.failed(), screen.is_live()];
-    if write!(text, "{reported:?} {is_live:?} ").is_err() {
-        return Err(ScreenError::Memory);
-    }
-    Ok(())
+    was_written(write!(text, "{reported:?} {is_live:?} "))
 }
 
 /// Everything that can be read of a screen: what each getter answers, its cells, and each text, against `prev` where it
 /// is one of what differs.
-pub fn report(screen: &Screen, prev: &Screen, alloc: Global) -> Result<String, ScreenError> {
-    let mut report = String::new(alloc);
+pub fn report(
+    rt: &(impl Abort + AllocGlobal),
+    screen: &Screen,
+    prev: &Screen,
+) -> Result<String, ScreenError> {
+    let mut report = String::new(rt.alloc());
     add_getters(&mut report, screen)?;
     add_cells(&mut report, screen)?;
     for text in TEXTS {
-        let reported = text_of(screen, prev, alloc, *text)?;
+        let reported = answer_of(rt, screen, prev, text)?;
         add(&mut report, reported.as_str())?;
         add(&mut report, "\n")?;
     }
     Ok(report)
 }
 
-/// Two screens read the same, as this reports it of a screen against another one.
-pub fn check_alike<F: Fn(&Screen, &Screen) -> Result<String, ScreenError>>(
-    rt: &impl Abort,
-    screen: &Screen,
-    copy: &Screen,
-    report: F,
-) -> Result<(), Fail>
-    requires { F.IsAlwaysCallable report }
-{
-    let reported = report(screen, copy)?;
-    let reported_by_copy = report(copy, screen)?;
-    same(rt, &reported.as_str(), &reported_by_copy.as_str());
-    Ok(())
+/// A screen that has failed can still be read.
+pub fn check_readable<R: Abort>(rt: &R, screen: &Screen) {
+    let ((rows, cols), (row, col), kept) = places(screen);
+    let [len, capacity, offset] = kept;
+    same(
+        rt,
+        &[
+            row < rows,
+            col <= cols,
+            len <= capacity,
+            offset <= len,
+            screen.cell(row, 0).is_some(),
+            screen.row_cells(row).is_some(),
+            screen.is_live(),
+        ],
+        &[true, true, true, true, true, true, false],
+    );
 }
 
-/// Each of these texts is made so by this.
-pub fn check_texts<F: Fn(Text) -> Result<String, ScreenError>>(
-    rt: &impl Abort,
-    texts: &[(Text, &str)],
-    make: F,
-) -> Result<(), Fail>
-    requires { F.IsAlwaysCallable make }
-{
-    for (text, want) in texts {
-        let reported = make(*text)?;
-        same_for(rt, text, &reported.as_str(), want);
-    }
-    Ok(())
+/// A screen has this size, and its main sheet this capacity. The alternate sheet's is 0.
+pub fn check_places<R: Abort>(rt: &R, screen: &Screen, size: (u16, u16), capacity: usize) {
+    let (size_then, _, [_, capacity_then, _]) = places(screen);
+    let capacity = if screen.alternate_screen() {
+        0
+    } else {
+        capacity
+    };
+    same(rt, &(size_then, capacity_then), &(size, capacity));
 }

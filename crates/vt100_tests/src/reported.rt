@@ -1,7 +1,6 @@
 //! The calls that callbacks get, in order, each call after its event's change, and captures of what they keep.
 
 use crate::log::{CallLog, logging_parser};
-use crate::owners::with;
 use crate::same::{same, same_for};
 use crate::start::{Start, count};
 use std::process::Abort;
@@ -30,11 +29,15 @@ fn check_stream(
     Ok(())
 }
 
+fn check_one(rt: &(impl Abort + AllocGlobal), case: &Reported) -> Result<(), Fail> {
+    let (start, stream, reported) = case;
+    let mut parser = logging_parser(rt.alloc(), *start)?;
+    check_stream(rt, &mut parser, stream, reported)
+}
+
 fn check_reported(rt: &(impl Abort + AllocGlobal), cases: &[Reported]) -> Result<(), Fail> {
-    for (start, stream, reported) in cases {
-        with(logging_parser(rt.alloc(), *start), |parser| {
-            check_stream(rt, parser, stream, reported)
-        })?;
+    for case in cases {
+        check_one(rt, case)?;
     }
     Ok(())
 }
@@ -168,10 +171,8 @@ fn check_two_sizes(rt: &impl Abort, parser: &mut Parser<CallLog>) -> Result<(), 
 /// A request for a size comes to callbacks that grant it, and a lower screen reports the rows that leave.
 #[test]
 fn sizes_are_reported(rt: HostRuntime) -> Result<(), Fail> {
-    with(
-        logging_parser(rt.alloc(), (2, 2, 0)),
-        |parser| check_two_sizes(&rt, parser),
-    )
+    let mut parser = logging_parser(rt.alloc(), (2, 2, 0))?;
+    check_two_sizes(&rt, &mut parser)
 }
 
 /// Captures the kept rows and those that are drawn on, and then those that are shown.
@@ -203,8 +204,6 @@ fn check_capture(rt: &impl Abort, parser: &mut Parser<CallLog>) -> Result<(), Fa
 /// Rows that left, and then the kept ones and those that are drawn on, are one capture.
 #[test]
 fn captures_go_on(rt: HostRuntime) -> Result<(), Fail> {
-    with(
-        logging_parser(rt.alloc(), (2, 2, 1)),
-        |parser| check_capture(&rt, parser),
-    )
+    let mut parser = logging_parser(rt.alloc(), (2, 2, 1))?;
+    check_capture(&rt, &mut parser)
 }

@@ -4,7 +4,7 @@ ghost use Rattle.std.specs.Prelude.{IfOk, ◌<◌, length};
 ghost use Rattle.vt100_core.specs.Grid.{IsAllocated};
 
 use super::*;
-use crate::begun::{check_appended, retried};
+use crate::begun::check_appended;
 use std::process::Abort;
 
 /// How many rows are drawn on, and whether each has so many columns.
@@ -77,13 +77,21 @@ fn retried_print<R: Abort>(rt: &R, grid: &mut Grid, text: &str) -> Result<(), Fa
     Ok(())
 }
 
+/// A grid's rows, as a text that is made at the second try if the first was refused.
+fn retried_text(alloc: Global, grid: &Grid) -> Result<String, GridError> {
+    match drawn(alloc, grid) {
+        Err(GridError::Memory) => drawn(alloc, grid),
+        answer => answer,
+    }
+}
+
 /// A grid's rows are these, and its cursor stands at this row and column.
 fn check_again(
     rt: &(impl Abort + AllocGlobal),
     grid: &Grid,
     want: (&str, u16, u16),
 ) -> Result<(), Fail> {
-    let text = retried(GridError::Memory, || drawn(rt.alloc(), grid))?;
+    let text = retried_text(rt.alloc(), grid)?;
     let Pos { row, col } = grid.pos();
     same(rt, &(text.as_str(), row, col), &want);
     Ok(())

@@ -1,12 +1,15 @@
 //! Calls on a row that find no memory. They are refused where the tests run with allocations that fail; else each
 //! succeeds at once.
 use super::*;
-use crate::begun::{check_appended, retried};
+use crate::begun::check_appended;
 use vt100_forms::Pos;
 
 /// A row, made at the second try if the first was refused.
 fn retried_row(alloc: Global, cols: u16, text: &str) -> Result<Row, GridError> {
-    retried(GridError::Memory, || row_of(alloc, cols, text))
+    match row_of(alloc, cols, text) {
+        Err(GridError::Memory) => row_of(alloc, cols, text),
+        answer => answer,
+    }
 }
 
 /// A wrapped row, made at the second try if the first was refused.
@@ -16,9 +19,25 @@ fn wrapped_row(alloc: Global, cols: u16, text: &str) -> Result<Row, GridError> {
     Ok(row)
 }
 
+/// A row's text, made at the second try if the first was refused.
+fn retried_text(alloc: Global, row: &Row) -> Result<String, GridError> {
+    match shown(alloc, row) {
+        Err(GridError::Memory) => shown(alloc, row),
+        answer => answer,
+    }
+}
+
+/// A copy, made at the second try if the first was refused.
+fn retried_copy(row: &Row) -> Result<Row, GridError> {
+    match row.clone() {
+        Err(GridError::Memory) => row.clone(),
+        answer => answer,
+    }
+}
+
 /// A row is this one.
 fn check_again(rt: &(impl Abort + AllocGlobal), row: &Row, want: &str) -> Result<(), Fail> {
-    let text = retried(GridError::Memory, || shown(rt.alloc(), row))?;
+    let text = retried_text(rt.alloc(), row)?;
     same(rt, &text.as_str(), &want);
     Ok(())
 }
@@ -61,7 +80,7 @@ const COPIED: &[(u16, &str, &str)] = &[
 fn rows_are_copied(rt: HostRuntime) -> Result<(), Fail> {
     for (cols, text, want) in COPIED {
         let row = wrapped_row(rt.alloc(), *cols, text)?;
-        let copy = retried(GridError::Memory, || row.clone())?;
+        let copy = retried_copy(&row)?;
         check_again(&rt, &copy, want)?;
         check_again(&rt, &row, want)?;
     }
