@@ -14,11 +14,6 @@ const DIFFERENCES: &[&str] = &[
     |contents_diff=\x1b[Hb|state_diff=\x1b[Hb|rows_diff 0 2=b/",
 ];
 
-#[test]
-fn differences_across_the_sheets_and_of_kept_rows(rt: HostRuntime) -> Result<(), Fail> {
-    play(&rt, DIFFERENCES)
-}
-
 /// Screens of which everything is read, as are their copies: small ones, both sheets, and kept rows.
 const READ: &[&str] = &[
     "1 1 0|copy|whole_scrollback|copy",
@@ -29,11 +24,6 @@ const READ: &[&str] = &[
     "3 2 1000000|feed a\r\nb\r\nc\r\nd\x1b=\x1b[?1;9;1006;2004h\x1b[5 q|copy|whole_scrollback|copy",
     "2 2 18446744073709551615|feed a\r\nb\r\nc\x1b[1;2;3;4;7;31;42m|copy|whole_scrollback|copy",
 ];
-
-#[test]
-fn everything_is_read(rt: HostRuntime) -> Result<(), Fail> {
-    play(&rt, READ)
-}
 
 /// Of four rows that left, as many are kept as the capacity allows, also where that is large.
 const CAPACITIES: &[&str] = &[
@@ -53,11 +43,6 @@ const CAPACITIES: &[&str] = &[
     |is kept=[4, 18446744073709551615, 0]|whole_scrollback|is kept=[4, 18446744073709551615, 4]",
 ];
 
-#[test]
-fn rows_are_kept_at_any_capacity(rt: HostRuntime) -> Result<(), Fail> {
-    play(&rt, CAPACITIES)
-}
-
 /// One row of 65,535 columns, whose last character stands in the last one. Then as many rows of one column, of which the
 /// last one alone shows a character.
 const LARGE: &[&str] = &[
@@ -72,23 +57,11 @@ const LARGE: &[&str] = &[
     |base.length contents=65535|base.ends contents=\"\\n\\n\" \"\\na\"",
 ];
 
-#[test]
-fn one_row_of_65535_columns_and_rows_of_one_column_are_printed(
-    rt: HostRuntime,
-) -> Result<(), Fail> {
-    play(&rt, LARGE)
-}
-
 /// A screen gets each of these sizes in turn.
 const SIZES: &[&str] = &[
     "2 2 3|feed a\r\nb\r\nc\x1b[?47h|size 1 1|is size=(1, 1)|size 1 65535|is size=(1, 65535)\
     |size 300 2|is size=(300, 2)|size 65535 1|is size=(65535, 1)|size 24 80|is size=(24, 80)|size 1 1|is size=(1, 1)",
 ];
-
-#[test]
-fn a_screen_takes_any_size(rt: HostRuntime) -> Result<(), Fail> {
-    play(&rt, SIZES)
-}
 
 /// Each of the 1,920 cells has the longest text, of 21 bytes, and each row goes on in the next. The texts are those of
 /// the cells. Before the redraw come the forms that hide or show the cursor, take the attributes back and clear the
@@ -101,6 +74,17 @@ const FULL: &[&str] = &[
 ];
 
 #[test]
-fn the_largest_texts_are_written_and_drawn_again(rt: HostRuntime) -> Result<(), Fail> {
-    play(&rt, FULL)
+fn screens_of_any_size_and_capacity_are_read(rt: HostRuntime) -> Result<(), Fail> {
+    for scripts in [DIFFERENCES, READ, CAPACITIES, SIZES] {
+        play(&rt, scripts)?;
+    }
+    Ok(())
+}
+
+#[test]
+fn the_largest_screens_are_written(rt: HostRuntime) -> Result<(), Fail> {
+    for scripts in [LARGE, FULL] {
+        play(&rt, scripts)?;
+    }
+    Ok(())
 }

@@ -1,11 +1,12 @@
 //! Direct calls that may be refused, and writing to a parser. Memory is found here.
 
 use crate::same::same;
-use crate::start::{count, parser_of};
+use crate::start::{Start, count, parser_of};
+use std::alloc::Global;
 use std::io::Write;
 use std::process::Abort;
 use std::test::Fail;
-use vt100::{GridError, Parser, Screen, ScreenError, WrappedScreen};
+use vt100::{GridError, Parser, ScreenError, WrappedScreen};
 
 /// What each call answers.
 fn answers(wrapped: &mut WrappedScreen<()>) -> [Result<(), ScreenError>; 8] {
@@ -29,18 +30,18 @@ fn check_answers(rt: &impl Abort, wrapped: &mut WrappedScreen<()>) -> Result<(),
 }
 
 /// A copy of a screen, with callbacks that do nothing.
-fn check_wrapped(rt: &impl Abort, screen: &Screen) -> Result<(), Fail> {
-    let mut wrapped = WrappedScreen {
-        screen: screen.clone()?,
+fn wrapped_screen(alloc: Global, start: Start) -> Result<WrappedScreen<()>, ScreenError> {
+    let parser = parser_of(alloc, start)?;
+    Ok(WrappedScreen {
+        screen: parser.screen().clone()?,
         callbacks: (),
-    };
-    check_answers(rt, &mut wrapped)
+    })
 }
 
 #[test]
 fn calls_on_a_screen_change_it(rt: HostRuntime) -> Result<(), Fail> {
-    let parser = parser_of(rt.alloc(), (2, 3, 1))?;
-    check_wrapped(&rt, parser.screen())
+    let mut wrapped = wrapped_screen(rt.alloc(), (2, 3, 1))?;
+    check_answers(&rt, &mut wrapped)
 }
 
 /// How much is written, and what is shown then.
@@ -108,15 +109,11 @@ fn places_at_zero(wrapped: &mut WrappedScreen<()>) -> [(u16, u16); 4] {
 }
 
 /// A row or column of 0 counts as 1. The region from 0 to 0 is thus the whole screen, of which the last row scrolls.
-fn check_zeros(rt: &impl Abort, screen: &Screen) -> Result<(), Fail> {
-    let mut wrapped = WrappedScreen {
-        screen: screen.clone()?,
-        callbacks: (),
-    };
+fn check_zeros(rt: &impl Abort, wrapped: &mut WrappedScreen<()>) -> Result<(), Fail> {
     wrapped.decstbm((1, 2));
     same(
         rt,
-        &places_at_zero(&mut wrapped),
+        &places_at_zero(wrapped),
         &[(1, 0), (0, 2), (0, 0), (0, 0)],
     );
     wrapped.cup((3, 1));
@@ -129,6 +126,6 @@ fn check_zeros(rt: &impl Abort, screen: &Screen) -> Result<(), Fail> {
 
 #[test]
 fn zeros_count_as_one(rt: HostRuntime) -> Result<(), Fail> {
-    let parser = parser_of(rt.alloc(), (3, 4, 0))?;
-    check_zeros(&rt, parser.screen())
+    let mut wrapped = wrapped_screen(rt.alloc(), (3, 4, 0))?;
+    check_zeros(&rt, &mut wrapped)
 }

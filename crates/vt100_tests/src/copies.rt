@@ -5,11 +5,10 @@ use crate::start::fed;
 use std::alloc::AllocGlobal;
 use std::process::Abort;
 use std::test::Fail;
-use vt100::Parser;
+use vt100::{Parser, Screen};
 
 /// Whether a copy shows the same at once, after more bytes, and copied again; then its sheet and its text.
-fn check_copy(rt: &impl Abort, parser: &mut Parser<()>) -> Result<(), Fail> {
-    let mut copy = parser.screen().clone_shown()?;
+fn check_copy(rt: &impl Abort, parser: &mut Parser<()>, copy: &mut Screen) -> Result<(), Fail> {
     let made = copy.shows_same(parser.screen());
     parser.process(b"\x1b[?2004hb")?;
     let behind = copy.shows_same(parser.screen());
@@ -32,17 +31,25 @@ fn check_copy(rt: &impl Abort, parser: &mut Parser<()>) -> Result<(), Fail> {
 #[test]
 fn copies_show_what_is_shown(rt: HostRuntime) -> Result<(), Fail> {
     let mut parser = fed(rt.alloc(), (2, 3, 1), b"x\x1b[?1049h\x1b[Ha")?;
-    check_copy(&rt, &mut parser)
+    let mut copy = parser.screen().clone_shown()?;
+    check_copy(&rt, &mut parser, &mut copy)
 }
 
-/// A redraw, and a difference from the screen then, behind what a text holds.
-fn check_appended(rt: &(impl Abort + AllocGlobal), parser: &mut Parser<()>) -> Result<(), Fail> {
-    let mut text = format!(in rt.alloc(); "redraw: ")?;
-    parser.screen().write_state_formatted(&mut text)?;
+/// Appends a redraw, and a difference from the screen then.
+fn append(parser: &mut Parser<()>, text: &mut String) -> Result<(), Fail> {
+    text.push_str("redraw: ")?;
+    parser.screen().write_state_formatted(text)?;
     text.push_str(", difference: ")?;
     let base = parser.screen().clone_shown()?;
     parser.process(b"\x1b[?2004hb")?;
-    parser.screen().write_state_diff(&mut text, &base)?;
+    parser.screen().write_state_diff(text, &base)?;
+    Ok(())
+}
+
+/// Each comes behind what a text holds.
+fn check_appended(rt: &(impl Abort + AllocGlobal), parser: &mut Parser<()>) -> Result<(), Fail> {
+    let mut text = String::new(rt.alloc());
+    append(parser, &mut text)?;
     same(
         rt,
         &text.as_str(),

@@ -54,11 +54,6 @@ const STREAMS: &[&str] = &[
     |contents=l\nm|is kept=[1, 3, 0]",
 ];
 
-#[test]
-fn a_stream_is_read_or_refused(rt: HostRuntime) -> Result<(), Fail> {
-    play_refusals(&rt, STREAMS)
-}
-
 /// New screens.
 const STARTS: &[&str] = &[
     "1 1 0|is size=(1, 1)|is cursor=(0, 0)|is kept=[0, 0, 0]",
@@ -69,21 +64,11 @@ const STARTS: &[&str] = &[
     "1 65535 9|is size=(1, 65535)|is cursor=(0, 0)|is kept=[0, 9, 0]",
 ];
 
-#[test]
-fn parsers_of_any_capacity_are_made_or_refused(rt: HostRuntime) -> Result<(), Fail> {
-    play_refusals(&rt, STARTS)
-}
-
 /// Screens of which everything is read, and of their copies.
 const READ: &[&str] = &[
     "2 3 3|feed a\r\nb\u{301}\r\n\x1b[1;31m中d\r\n|copy",
     "2 2 3|feed a\r\nb\r\nc\x1b[?25l\x1b[?1049h\x1b=\x1b[7mxy|copy",
 ];
-
-#[test]
-fn everything_is_read(rt: HostRuntime) -> Result<(), Fail> {
-    play_refusals(&rt, READ)
-}
 
 /// The texts of two rows, the second in bold, of the modes and of each row, and what differs from the first row alone.
 /// Then those of a kept row that is shown, and what differs from the row that is drawn on.
@@ -99,11 +84,6 @@ const TEXTS: &[&str] = &[
     |contents_formatted=\x1b[?25h\x1b[m\x1b[H\x1b[Ja|contents_diff=\x1b[Ha|rows 0 2=a/|rows_diff 0 2=a/",
 ];
 
-#[test]
-fn texts_of_rows_and_of_a_kept_row_are_made_or_refused(rt: HostRuntime) -> Result<(), Fail> {
-    play_refusals(&rt, TEXTS)
-}
-
 /// A copy of a screen that shows its alternate sheet. Sizes of both sheets: first higher, where the kept row comes back,
 /// then lower. There the rows under the cursor are lost, and those at the top are kept. Last come kept rows that are
 /// shown.
@@ -115,8 +95,19 @@ const CHANGES: &[&str] = &[
 ];
 
 #[test]
-fn copies_sizes_and_kept_rows_are_made_or_refused(rt: HostRuntime) -> Result<(), Fail> {
-    play_refusals(&rt, CHANGES)
+fn streams_are_read_or_refused(rt: HostRuntime) -> Result<(), Fail> {
+    for scripts in [STREAMS, STARTS, READ] {
+        play_refusals(&rt, scripts)?;
+    }
+    Ok(())
+}
+
+#[test]
+fn texts_copies_and_sizes_are_made_or_refused(rt: HostRuntime) -> Result<(), Fail> {
+    for scripts in [TEXTS, CHANGES] {
+        play_refusals(&rt, scripts)?;
+    }
+    Ok(())
 }
 
 /// A screen shows this text, and keeps so many rows.

@@ -73,11 +73,6 @@ const STRINGS_AND_CONTROLS: &[Reported] = &[
     ),
 ];
 
-#[test]
-fn strings_and_controls_are_reported(rt: HostRuntime) -> Result<(), Fail> {
-    check_reported(&rt, STRINGS_AND_CONTROLS)
-}
-
 const SEQUENCES: &[Reported] = &[
     (
         (2, 8, 0),
@@ -125,11 +120,6 @@ const SEQUENCES: &[Reported] = &[
     ),
 ];
 
-#[test]
-fn sequences_are_reported(rt: HostRuntime) -> Result<(), Fail> {
-    check_reported(&rt, SEQUENCES)
-}
-
 const ROWS: &[Reported] = &[
     ((1, 2, 0), b"abcd", "row ab; "),
     (
@@ -150,8 +140,11 @@ const ROWS: &[Reported] = &[
 ];
 
 #[test]
-fn rows_are_reported(rt: HostRuntime) -> Result<(), Fail> {
-    check_reported(&rt, ROWS)
+fn strings_controls_sequences_and_rows_are_reported(rt: HostRuntime) -> Result<(), Fail> {
+    for cases in [STRINGS_AND_CONTROLS, SEQUENCES, ROWS] {
+        check_reported(&rt, cases)?;
+    }
+    Ok(())
 }
 
 fn check_two_sizes(rt: &impl Abort, parser: &mut Parser<CallLog>) -> Result<(), Fail> {

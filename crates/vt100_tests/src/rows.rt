@@ -115,11 +115,6 @@ const MOVED: &[Edited] = &[
     (4, "abcd", Edit::Remove(1, 3), "ad.."),
 ];
 
-#[test]
-fn cells_that_come_and_move_keep_wide_characters_whole(rt: HostRuntime) -> Result<(), Fail> {
-    check_edits(&rt, MOVED)
-}
-
 const ERASED: &[Edited] = &[
     (4, "中文", Edit::Erase(0), "..文_>"),
     (4, "中文", Edit::Erase(1), "..文_>"),
@@ -130,11 +125,6 @@ const ERASED: &[Edited] = &[
     (4, "中文", Edit::ClearWide(1), "..文_>"),
     (4, "中文", Edit::ClearWide(3), "中_.."),
 ];
-
-#[test]
-fn cells_that_are_erased_keep_wide_characters_whole(rt: HostRuntime) -> Result<(), Fail> {
-    check_edits(&rt, ERASED)
-}
 
 const OF_ROWS: &[Edited] = &[
     (4, "ab中", Edit::Truncate(3), "ab."),
@@ -152,9 +142,13 @@ const OF_ROWS: &[Edited] = &[
     (3, "中x", Edit::Reset, "..."),
 ];
 
+/// Cells that come and move, cells that are erased, and whole rows.
 #[test]
-fn edits_of_rows_keep_wide_characters_whole(rt: HostRuntime) -> Result<(), Fail> {
-    check_edits(&rt, OF_ROWS)
+fn edits_keep_wide_characters_whole(rt: HostRuntime) -> Result<(), Fail> {
+    for cases in [MOVED, ERASED, OF_ROWS] {
+        check_edits(&rt, cases)?;
+    }
+    Ok(())
 }
 
 /// Columns, a text that is printed, and the row then.

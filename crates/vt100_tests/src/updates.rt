@@ -20,12 +20,7 @@ const STREAMS: &[&str] = &[
     "2 3 1|feed \x1b[?2026h\x1bc|base|is updating=false|base.is updating=false",
 ];
 
-#[test]
-fn an_update_is_open_or_closed(rt: HostRuntime) -> Result<(), Fail> {
-    play(&rt, STREAMS)
-}
-
-/// The same size, and another one. No text of the screen has the update.
+/// Another size ends an update, and so does the same size. No text of the screen has the update.
 const SIZES: &[&str] = &[
     "2 3 1|feed \x1b[?2026ha|is updating=true\
     |state_formatted=\x1b[?25h\x1b[m\x1b[H\x1b[Ja\x1b>\x1b[?1l\x1b[?2004l|size 2 3|is updating=false\
@@ -33,8 +28,10 @@ const SIZES: &[&str] = &[
     |state_formatted=\x1b[?25h\x1b[m\x1b[H\x1b[Jaa\x1b>\x1b[?1l\x1b[?2004l|size 1 3|is updating=false",
 ];
 
-/// Another size ends an update, and so does the same size.
 #[test]
-fn sizes_end_updates(rt: HostRuntime) -> Result<(), Fail> {
-    play(&rt, SIZES)
+fn updates_are_open_or_closed_and_end_at_a_size(rt: HostRuntime) -> Result<(), Fail> {
+    for scripts in [STREAMS, SIZES] {
+        play(&rt, scripts)?;
+    }
+    Ok(())
 }

@@ -25,11 +25,6 @@ const PRINTED: &[Case] = &[
     ((3, 3, None), &[GridStep::Print("ab中")], "ab\n中"),
 ];
 
-#[test]
-fn writes_the_text_of_rows(rt: HostRuntime) -> Result<(), Fail> {
-    check_texts(&rt, PRINTED)
-}
-
 const ERASED_OR_KEPT: &[Case] = &[
     // A row that was erased below one that is wrapped.
     (
@@ -66,8 +61,11 @@ const ERASED_OR_KEPT: &[Case] = &[
 ];
 
 #[test]
-fn writes_the_text_of_erased_and_kept_rows(rt: HostRuntime) -> Result<(), Fail> {
-    check_texts(&rt, ERASED_OR_KEPT)
+fn writes_the_text_of_printed_and_erased_and_kept_rows(rt: HostRuntime) -> Result<(), Fail> {
+    for cases in [PRINTED, ERASED_OR_KEPT] {
+        check_texts(&rt, cases)?;
+    }
+    Ok(())
 }
 
 /// What stood in the string stays, but for newlines at its end.

@@ -68,11 +68,6 @@ const PRINTED: &[Redraw] = &[
     ),
 ];
 
-#[test]
-fn redraws_printed_rows(rt: HostRuntime) -> Result<(), Fail> {
-    check_redraws(&rt, PRINTED)
-}
-
 const ERASED_OR_MOVED: &[Redraw] = &[
     // It waits behind an empty cell: no row above has a text at its end, or one has.
     (
@@ -116,8 +111,11 @@ const ERASED_OR_MOVED: &[Redraw] = &[
 ];
 
 #[test]
-fn redraws_empty_cells(rt: HostRuntime) -> Result<(), Fail> {
-    check_redraws(&rt, ERASED_OR_MOVED)
+fn redraws_printed_rows_and_empty_cells(rt: HostRuntime) -> Result<(), Fail> {
+    for cases in [PRINTED, ERASED_OR_MOVED] {
+        check_redraws(&rt, cases)?;
+    }
+    Ok(())
 }
 
 /// A new grid, what is done to the earlier one, what to the later one, and the difference.
@@ -190,11 +188,6 @@ const OF_TEXT: &[Difference] = &[
     ),
 ];
 
-#[test]
-fn writes_differences_of_text(rt: HostRuntime) -> Result<(), Fail> {
-    check_differences(&rt, OF_TEXT)
-}
-
 const OF_LINES_AND_HALVES: &[Difference] = &[
     (
         (3, 2, None),
@@ -241,6 +234,9 @@ const OF_LINES_AND_HALVES: &[Difference] = &[
 ];
 
 #[test]
-fn writes_differences_of_lines_and_wide_characters(rt: HostRuntime) -> Result<(), Fail> {
-    check_differences(&rt, OF_LINES_AND_HALVES)
+fn writes_differences_of_text_lines_and_wide_characters(rt: HostRuntime) -> Result<(), Fail> {
+    for cases in [OF_TEXT, OF_LINES_AND_HALVES] {
+        check_differences(&rt, cases)?;
+    }
+    Ok(())
 }
