@@ -16,6 +16,8 @@ pub struct CallLog {
     pub capture: String,
     pub state: BasicFormattedCaptureState,
     pub failed: bool,
+    /// Whether a size that was asked for was refused.
+    pub refused: bool,
 }
 
 impl CallLog {
@@ -25,6 +27,7 @@ impl CallLog {
             capture: String::new(alloc),
             state: BasicFormattedCaptureState::default(),
             failed: false,
+            refused: false,
         }
     }
 
@@ -79,7 +82,7 @@ impl CallLog {
 
     fn request(&mut self, screen: &mut Screen, rows: u16, cols: u16) {
         self.failed |= write!(self.text, "resize {rows} {cols} ").is_err();
-        self.failed |= screen.set_size(count(rows), count(cols)).is_err();
+        self.refused |= screen.set_size(count(rows), count(cols)).is_err();
     }
 }
 

@@ -1,9 +1,9 @@
 //! Calls that find no memory. They are refused where the tests run with allocations that fail; else each succeeds at
 //! once.
 ghost use Rattle.std.specs.Iterator.{IsFinite};
-ghost use Rattle.std.specs.Prelude.{⊤};
 
 use crate::cases::{call_of, columns, number};
+use crate::log::{CallLog, logging_parser};
 use crate::report::places;
 use crate::same::same;
 use crate::script::{check_copy, play_refusals};
@@ -12,8 +12,7 @@ use std::alloc::Global;
 use std::io::{ErrorKind, Write};
 use std::process::Abort;
 use std::test::Fail;
-use vt100::capture::RowContents;
-use vt100::{Call, Callbacks, Parser, Screen, ScreenError, WrappedScreen};
+use vt100::{Parser, Screen, ScreenError, WrappedScreen};
 
 /// A parser, made at the second try if the first was refused.
 fn retried_parser(alloc: Global, start: Start) -> Result<Parser<()>, ScreenError> {
@@ -134,39 +133,16 @@ fn retried_default(alloc: Global) -> Result<Parser<()>, ScreenError> {
     }
 }
 
-/// Grants each request for a size, and says whether that was refused.
-#[derive(Drop)]
-struct Grants {
-    refused: bool,
-}
-
-impl Callbacks for Grants {
-    ghost step = { λ _ _ _ _ _. ⊤ };
-
-    ghost scrolls = { λ _ _ _ _. ⊤ };
-
-    fn call(&mut self, screen: &mut Screen, call: Call<'_>) {
-        if let Call::Resize(rows, cols) = call {
-            self.refused |= screen.set_size(count(rows), count(cols)).is_err();
-        }
-    }
-
-    fn on_scroll(&mut self, _contents: RowContents<'_>, _alternate_screen: bool) {}
-}
-
-fn new_grants(alloc: Global) -> Result<Parser<Grants>, ScreenError> {
-    Parser::new_with_callbacks(alloc, count(2), count(2), 0, Grants { refused: false })
-}
-
-fn retried_grants(alloc: Global) -> Result<Parser<Grants>, ScreenError> {
-    match new_grants(alloc) {
-        Err(ScreenError::Memory) => new_grants(alloc),
+/// A parser whose callbacks grant each request for a size, made at the second try if the first was refused.
+fn retried_log(alloc: Global) -> Result<Parser<CallLog>, ScreenError> {
+    match logging_parser(alloc, (2, 2, 0)) {
+        Err(ScreenError::Memory) => logging_parser(alloc, (2, 2, 0)),
         answer => answer,
     }
 }
 
 /// Where a callback makes the screen fail, the bytes are refused for memory, and the next ones since it has failed.
-fn check_grants(rt: &impl Abort, parser: &mut Parser<Grants>) -> Result<(), Fail> {
+fn check_grants(rt: &impl Abort, parser: &mut Parser<CallLog>) {
     let answer = parser.process(b"\x1b[8;5;7tx");
     let is_refused = parser.callbacks().refused;
     let (first, second) = if is_refused {
@@ -179,13 +155,13 @@ fn check_grants(rt: &impl Abort, parser: &mut Parser<Grants>) -> Result<(), Fail
         &(parser.screen().failed(), answer, parser.process(b"")),
         &(is_refused, first, second),
     );
-    Ok(())
 }
 
 #[test]
 fn callbacks_that_are_refused(rt: HostRuntime) -> Result<(), Fail> {
-    let mut parser = retried_grants(rt.alloc())?;
-    check_grants(&rt, &mut parser)
+    let mut parser = retried_log(rt.alloc())?;
+    check_grants(&rt, &mut parser);
+    Ok(())
 }
 
 #[test]

@@ -23,7 +23,7 @@ fn check_stream(
     same_for(
         rt,
         &stream,
-        &(log.failed, log.text.as_str()),
+        &(log.failed || log.refused, log.text.as_str()),
         &(false, reported),
     );
     Ok(())

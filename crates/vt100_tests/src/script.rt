@@ -203,11 +203,10 @@ fn made_answer(
     question: &str,
 ) -> Result<String, ScreenError> {
     let screen = stage.parser.screen();
-    let answer = match question.strip_prefix("base.") {
+    match question.strip_prefix("base.") {
         Some(question) => answer_of(rt, &stage.base, screen, question),
         None => answer_of(rt, screen, &stage.base, question),
-    };
-    answer
+    }
 }
 
 /// A question is answered so.
