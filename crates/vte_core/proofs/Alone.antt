@@ -2,8 +2,8 @@
 use Rattle.std.proofs.Common.{◌≡◌, ℕ, ◌+◌, ◌<◌, ◌≤◌, List, [], ◌∷◌, length, take, drop, map, slice_range, sym, ◌∙◌, ap}
 use Rattle.std.proofs.Common.{arith, get_or, length-take-le}
 use Rattle.std.proofs.lemmas.Grind.{common_steps}
-use Rattle.vte_core.specs.Store.{total, cut_at, EndsFit}
-use Rattle.vte_core.proofs.Stores.{IsStore, ends_below, total-store, length-cut}
+use Rattle.vte_core.specs.Store.{total, cut_at, EndsFit, IsStore}
+use Rattle.vte_core.proofs.Stores.{ends_below, total-store, length-cut}
 
 -- each number in a group of its own
 abbrev pub each_alone : List ℕ → List (List ℕ)

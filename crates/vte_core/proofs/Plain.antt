@@ -7,13 +7,13 @@ use Rattle.vte_core.specs.Bytes.{each, is_numeric}
 use Rattle.vte_core.specs.Header.{groups_of, first_numbers}
 use Rattle.vte_core.specs.Plain.{IsShortNumber, number_by}
 use Rattle.vte_core.specs.Reading.{AreNumbers}
-use Rattle.vte_core.specs.Store.{total, cut_at}
+use Rattle.vte_core.specs.Store.{total, cut_at, IsStore}
 use Rattle.vte_core.proofs.Headers.{first-whole, total-append}
 use Rattle.vte_core.proofs.Numbered.{numbers-digit, numbers-semicolon, numbers-whole}
 use Rattle.vte_core.proofs.PhaseLemmas.{each-append, each-first}
 use Rattle.vte_core.proofs.Runs.{read_more}
 use Rattle.vte_core.proofs.StopLemmas.{whole_rest}
-use Rattle.vte_core.proofs.Stores.{IsStore, total-store, pushed_one}
+use Rattle.vte_core.proofs.Stores.{total-store, pushed_one}
 
 -- the bytes so far are the groups in these stores, each of one number, and then the number n
 pub record PlainSoFar (m : List ℕ) (count n : ℕ) (numbers ends : List ℕ) : Type 0 where

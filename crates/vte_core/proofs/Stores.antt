@@ -1,11 +1,11 @@
 -- Lists in one store.
-use Rattle.std.proofs.Common.{◌≡◌, ℕ, ◌+◌, ◌-◌, ◌<◌, ◌≤◌, List, [], ◌∷◌, ◌++◌, length, take, refl, sym, suc, ◌∙◌, ap}
+use Rattle.std.proofs.Common.{◌≡◌, ℕ, ◌+◌, ◌-◌, ◌<◌, ◌≤◌, List, [], ◌∷◌, ◌++◌, length, take, refl, sym, zero, suc, ◌∙◌, ap}
 use Rattle.std.proofs.Common.{arith, length-append, slice_range, subst, set, get_or}
 use Rattle.std.proofs.lemmas.Grind.{common_steps}
 use Rattle.std.proofs.lemmas.List.{take_more, take_more_set}
 use Rattle.std.proofs.Math.ListN.{length-set}
 use Rattle.std.specs.List.{concat}
-use Rattle.vte_core.specs.Store.{total, cut_at, EndsFit}
+use Rattle.vte_core.specs.Store.{total, cut_at, EndsFit, IsStore, rising}
 use Rattle.vte_core.proofs.Headers.{onto_last}
 
 pub ends_below : (start : ℕ) (ends xs : List ℕ) → EndsFit start ends xs → length ends + start ≤ length xs
@@ -82,11 +82,6 @@ pub fit_next : (start end : ℕ) (ends rest xs : List ℕ) → ends ≡ end ∷ 
 fit_next start end ends rest xs e h =
     let g : EndsFit start (end ∷ rest) xs = subst (λ ys. EndsFit start ys xs) e h
     in (g.0, omega (arith, ends_below end rest xs g.1), g.1)
-
--- the stores of a list of groups
-abbrev pub IsStore : List ℕ → List ℕ → ℕ → ℕ → Type 0
-IsStore numbers ends len groups = EndsFit 0 (take groups ends) (take len numbers) × (len ≤ 32) × (groups ≤ 32)
-    × (length numbers ≡ 32) × (length ends ≡ 32)
 
 length_prefix : (xs : List ℕ) (k : ℕ) → length xs ≡ 32 → k ≤ 32 → length (take k xs) ≡ k
 length_prefix xs k h l = grind (arith, common_steps)
@@ -185,3 +180,55 @@ onto_last-length b (s ∷ t ∷ ts) h = ap suc (onto_last-length b (t ∷ ts) (o
 pub extended-length : (b : ℕ) (now old : List (List ℕ)) → now ≡ onto_last b old → 0 < length old
     → length now ≡ length old
 extended-length b now old e h = ap length e ∙ onto_last-length b old h
+
+-- the count of the groups written otherwise
+pub store_at : (numbers ends : List ℕ) (len : ℕ) {g h : ℕ} → g ≡ h → IsStore numbers ends len g
+    → IsStore numbers ends len h
+store_at numbers ends len e s = subst (λ (k : ℕ). IsStore numbers ends len k) e s
+
+pub cut_by : (numbers ends : List ℕ) (len : ℕ) {g h : ℕ} → g ≡ h
+    → cut_at 0 (take g ends) (take len numbers) ≡ cut_at 0 (take h ends) (take len numbers)
+cut_by numbers ends len e = ap (λ (k : ℕ). cut_at 0 (take k ends) (take len numbers)) e
+
+-- the ends of groups of one number each
+pub length-rising : (n k : ℕ) → length (rising n k) ≡ k
+length-rising n zero = refl
+length-rising n (suc k) = ap suc (length-rising (suc n) k)
+
+pub set-rising : (n k i : ℕ) → i < k → set (rising n k) i (n + i) ≡ rising n k
+set-rising n zero i h = absurd (omega (arith, h))
+set-rising n (suc k) zero h = let e : n + 0 ≡ n = omega arith in rw e refl
+set-rising n (suc k) (suc i) h =
+    let e : n + suc i ≡ suc n + i = omega arith in
+    rw e (ap (λ (xs : List ℕ). n ∷ xs) (set-rising (suc n) k i (omega (arith, h))))
+
+pub fits-rising : (start k n : ℕ) (xs : List ℕ) → k ≤ n → length xs ≡ start + k
+    → EndsFit start (take k (rising (suc start) n)) xs
+fits-rising start zero n xs h e = omega (arith, e)
+fits-rising start (suc k) zero xs h e = absurd (omega (arith, h))
+fits-rising start (suc k) (suc n) xs h e =
+    (omega arith, fits-rising (suc start) k n xs (omega (arith, h)) (omega (arith, e)))
+
+pub lone_store : (numbers ends : List ℕ) (len : ℕ) → ends ≡ rising 1 32 → len ≤ 32 → length numbers ≡ 32
+    → IsStore numbers ends len len
+lone_store numbers ends len lone few all = (
+  rw lone (fits-rising 0 len 32 (take len numbers) few (omega (arith, length_prefix numbers len all few))),
+  few,
+  few,
+  all,
+  ap length lone,
+)
+
+-- one more end of such groups is already there
+pub lone_more : (ends : List ℕ) (k : ℕ) → ends ≡ rising 1 32 → k < 32 → set ends k (k + 1) ≡ ends
+lone_more ends k lone h =
+    let e : k + 1 ≡ 1 + k = omega arith in
+    rw (lone, e) (set-rising 1 32 k h)
+
+-- groups of one number each are a whole store
+pub lone_whole : (numbers ends : List ℕ) (len subs : ℕ) → subs ≡ 0 → ends ≡ rising 1 32 → len ≤ 32
+    → length numbers ≡ 32
+    → IsStore numbers ends len (len - subs) × (subs ≤ len) × (subs ≡ 0 → ends ≡ rising 1 32)
+lone_whole numbers ends len subs none lone few all =
+    let same : len ≡ len - subs = omega (arith, none) in
+    (store_at numbers ends len same (lone_store numbers ends len lone few all), omega (arith, none), λ e. lone)

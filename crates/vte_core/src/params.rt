@@ -1,6 +1,8 @@
 //! The parameters of a control sequence or a device control string.
 
-ghost use Rattle.std.specs.Prelude.{◌≡◌, ◌+◌, ◌<◌, ◌≤◌, ◌==◌, ℕ, List, [], ◌∷◌, ◌++◌, length, take, map, IfSome, IfNone};
+ghost use Rattle.std.specs.Prelude.{◌≡◌, ◌+◌, ◌-◌, ◌<◌, ◌≤◌, ◌==◌, ℕ, List, [], ◌∷◌, ◌++◌, length, take, map, true, false};
+ghost use Rattle.std.specs.Prelude.{IfSome, IfNone};
+ghost use Rattle.std.specs.Int.{is_in_range};
 ghost use Rattle.vte_core.specs.Store.{total};
 ghost use Rattle.vte_core.specs.Plain.{ArePlain, IsShortNumber};
 ghost use Rattle.vte_core.specs.ParamsText.{group_text, groups_text};
@@ -13,6 +15,9 @@ use std::marker::Model;
 /// How many numbers are kept.
 pub(crate) const MAX_PARAMS: usize = 32;
 
+/// How many bytes are looked at for a number: four digits and another byte.
+const NUMBER_LEN: usize = 5;
+
 /// Groups of numbers, up to 32 numbers in all, each at most 65,535. A group is what stands between two `;`; the
 /// subparameters that `:` separates are its numbers (ITU-T T.416, section 13.1.8). A number without digits is 0.
 #[derive(Drop)]
@@ -22,20 +27,27 @@ pub struct Params {
     len: usize,
     /// Where each group ends.
     ends: [usize; MAX_PARAMS],
-    /// How many groups there are.
-    groups: usize,
+    /// How many of the numbers are subparameters: not the first of their group. Where there are none each number is a
+    /// group, and the ends are those of such groups.
+    subparameters: usize,
 }
 
+/// Where groups end of which each is one number.
+const LONE_ENDS: [usize; MAX_PARAMS] = [
+    1, 2, 3, 4, 5, 6, 7, 8, 9, 10, 11, 12, 13, 14, 15, 16, 17, 18, 19, 20, 21, 22, 23, 24, 25, 26,
+    27, 28, 29, 30, 31, 32,
+];
+
 impl Model for Params {
-    ghost use Rattle.std.specs.Prelude.{◌≡◌, ◌≤◌, List, ℕ, length, take};
-    ghost use Rattle.vte_core.specs.Store.{cut_at, EndsFit};
+    ghost use Rattle.std.specs.Prelude.{◌≡◌, ◌≤◌, ◌-◌, List, ℕ, take};
+    ghost use Rattle.vte_core.specs.Store.{cut_at, IsStore, rising};
 
     ghost Value = { List (List ℕ) };
 
-    ghost view = { λ p. cut_at 0 (take p.groups p.ends) (take p.len p.numbers) };
+    ghost view = { λ p. cut_at 0 (take (p.len - p.subparameters) p.ends) (take p.len p.numbers) };
 
-    ghost invariant = { λ p. EndsFit 0 (take p.groups p.ends) (take p.len p.numbers) × (p.len ≤ 32) × (p.groups ≤ 32)
-        × (length p.numbers ≡ 32) × (length p.ends ≡ 32) };
+    ghost invariant = { λ p. IsStore p.numbers p.ends p.len (p.len - p.subparameters) × (p.subparameters ≤ p.len)
+        × (p.subparameters ≡ 0 → p.ends ≡ rising 1 32) };
 }
 
 impl Default for Params {
@@ -54,8 +66,8 @@ impl Params {
         Params {
             numbers: [0; MAX_PARAMS],
             len: 0,
-            ends: [0; MAX_PARAMS],
-            groups: 0,
+            ends: LONE_ENDS,
+            subparameters: 0,
         }
     }
 
@@ -81,7 +93,7 @@ impl Params {
         ensures few { IfSome result (λ numbers. length numbers.now ≤ 32) }
         ensures others { IfNone result (length self.now < total self.now) }
     {
-        if self.groups == self.len {
+        if self.subparameters == 0 {
             Some(&self.numbers[..self.len])
         } else {
             None
@@ -100,8 +112,11 @@ impl Params {
     pub(crate) fn clear(&mut self)
         ensures { self.new ≡ [] }
     {
+        if self.subparameters != 0 {
+            self.ends = LONE_ENDS;
+            self.subparameters = 0;
+        }
         self.len = 0;
-        self.groups = 0;
     }
 
     /// One more group, of one number.
@@ -110,9 +125,8 @@ impl Params {
         ensures { self.new ≡ self.old ++ (number ∷ []) ∷ [] }
     {
         self.numbers[self.len] = number;
+        self.ends[self.len - self.subparameters] = self.len + 1;
         self.len += 1;
-        self.ends[self.groups] = self.len;
-        self.groups += 1;
     }
 
     /// One more number of the last group.
@@ -124,29 +138,34 @@ impl Params {
         ensures groups { length self.new ≡ length self.old }
     {
         self.numbers[self.len] = number;
+        self.ends[self.len - self.subparameters - 1] = self.len + 1;
         self.len += 1;
-        self.ends[self.groups - 1] = self.len;
+        self.subparameters += 1;
     }
 
     /// Reads numbers that `;` alone separates, up to the first other byte. Returns how many bytes they are; nothing where
-    /// they are more than are kept, or one has more than four digits, or where few bytes are left.
+    /// they are more than are kept, or one has more than four digits, or where few bytes are left, or many are read.
     #[inline(always)]
     pub(crate) fn read_plain(&mut self, bytes: &[u8]) -> Option<usize>
         ensures { IfSome result (λ k. ArePlain bytes.now k self.new) }
     {
-        self.len = 0;
-        self.groups = 0;
+        if bytes.len() < NUMBER_LEN {
+            return None;
+        }
+        if self.subparameters != 0 {
+            self.ends = LONE_ENDS;
+            self.subparameters = 0;
+        }
+        let last = (bytes.len() - NUMBER_LEN).min(MAX_PARAMS - 1);
         let mut count = 0;
         let mut read = 0;
-        while count < MAX_PARAMS {
+        while read <= last {
             let (number, digits) = short_number(&bytes[read..])?;
             self.numbers[count] = number;
-            self.ends[count] = count + 1;
             count += 1;
             read += digits;
             if bytes[read] != b';' {
                 self.len = count;
-                self.groups = count;
                 return Some(read);
             }
             read += 1;
@@ -155,35 +174,47 @@ impl Params {
     }
 }
 
-/// The number of up to four digits at the start, and how many they are; nothing where a fifth follows, or where fewer
-/// than five bytes are left.
+/// The digit that the byte is, or a larger number where it is none.
+#[inline(always)]
+fn digit(byte: u8) -> u32
+    ensures digit { is_in_range 0x30 0x39 byte ≡ true → result ≡ byte - 0x30 }
+    ensures other { is_in_range 0x30 0x39 byte ≡ false → 9 < result }
+    ensures less { is_in_range 0x30 0x39 byte ≡ true → result ≤ 9 }
+{
+    (byte as u32).wrapping_sub(0x30)
+}
+
+/// The number of up to four digits at the start, and how many they are; nothing where a fifth follows.
 #[inline(always)]
 fn short_number(bytes: &[u8]) -> Option<(u16, usize)>
+    requires { 5 ≤ length bytes.now }
     ensures { IfSome result (λ x. IsShortNumber bytes.now x.0 x.1) }
 {
     let [first, second, third, fourth, fifth, ..] = bytes else {
-        return None;
+        unreachable!();
     };
-    if !first.is_ascii_digit() {
+    let number = digit(*first);
+    if number > 9 {
         return Some((0, 0));
     }
-    let number = (*first - b'0') as u16;
-    if !second.is_ascii_digit() {
-        return Some((number, 1));
+    let next = digit(*second);
+    if next > 9 {
+        return Some((number as u16, 1));
     }
-    let number = number * 10 + (*second - b'0') as u16;
-    if !third.is_ascii_digit() {
-        return Some((number, 2));
+    let number = number * 10 + next;
+    let next = digit(*third);
+    if next > 9 {
+        return Some((number as u16, 2));
     }
-    let number = number * 10 + (*third - b'0') as u16;
-    if !fourth.is_ascii_digit() {
-        return Some((number, 3));
+    let number = number * 10 + next;
+    let next = digit(*fourth);
+    if next > 9 {
+        return Some((number as u16, 3));
     }
-    let number = number * 10 + (*fourth - b'0') as u16;
-    if fifth.is_ascii_digit() {
+    if digit(*fifth) <= 9 {
         return None;
     }
-    Some((number, 4))
+    Some(((number * 10 + next) as u16, 4))
 }
 
 /// The groups of a [`Params`] that are left.
@@ -229,7 +260,7 @@ impl Params {
     {
         ParamsIter {
             numbers: &self.numbers[..self.len],
-            ends: &self.ends[..self.groups],
+            ends: &self.ends[..self.len - self.subparameters],
             start: 0,
         }
     }

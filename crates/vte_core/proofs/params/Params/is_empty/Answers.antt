@@ -3,4 +3,4 @@ use Rattle.vte_core.proofs.Stores.{total-store}
 use Rattle.vte_core.proofs.params.Params.is_empty.Goals as goal
 
 pub returns : goal.returns
-returns c = ap (λ n. n == 0) (sym (total-store _ _ _ _ _ c.self.invariant c.self.view_is))
+returns c = ap (λ n. n == 0) (sym (total-store _ _ _ _ _ c.self.invariant.0 c.self.view_is))
