@@ -1,6 +1,6 @@
 //! The parser: what each byte does in each state, and how bytes are read many at a time.
 
-ghost use Rattle.std.specs.Prelude.{◌≡◌, ◌≢◌, ◌<◌, ◌≤◌, ℕ, List, [], ◌∷◌, ◌++◌, length, IsTrue, take, slice_index};
+ghost use Rattle.std.specs.Prelude.{◌≡◌, ◌≢◌, ◌<◌, ◌≤◌, ℕ, List, [], ◌∷◌, ◌++◌, length, IsTrue, take, drop, slice_index};
 ghost use Rattle.std.specs.Prelude.{false, true, not, ◌&&◌, ◌==◌, IfSome};
 ghost use Rattle.std.specs.Int.{is_in_range};
 ghost use Rattle.vte_core.specs.Byte.{ReadsByte, ReadsOther};
@@ -11,7 +11,7 @@ ghost use Rattle.vte_core.specs.StepEvents.{final_events};
 ghost use Rattle.vte_core.specs.Pending.{Pending, InEscape, final_rest, final_reported};
 ghost use Rattle.vte_core.specs.Reads.{BeginsCommand, BeginsMarked, BeginsPlain, BeginsPrivate, BeginsUnmarked};
 ghost use Rattle.vte_core.specs.Reads.{BeginsWithEsc, Reads, ReadsSome, ReadsStep, ReadsQuietly};
-ghost use Rattle.vte_core.specs.Runs.{TellsEach};
+ghost use Rattle.vte_core.specs.Runs.{TellsEach, is_one_step};
 ghost use Rattle.vte_core.specs.Standing.{IsAt, IsAfter, state_is_text};
 ghost use Rattle.vte_core.specs.Stopping.{Stops};
 ghost use Rattle.vte_core.specs.Reported.{Reported};
@@ -22,6 +22,9 @@ use crate::osc_data::OscData;
 use crate::perform::Perform;
 use crate::table::{Action, step_of};
 use crate::text::Unfinished;
+
+/// Where so many bytes are left, short text and a sequence of 32 numbers after it are looked at without asking again.
+const TURN_LEN: usize = 64;
 
 /// What the bytes so far have begun.
 #[derive(Clone, Copy)]
@@ -368,16 +371,15 @@ impl<const N: usize> Parser<N> {
     /// another byte stand at the start. Returns how many bytes the numbers are.
     #[inline(always)]
     fn read_plain(&mut self, bytes: &[u8]) -> Option<usize>
-        requires { self.old.state ≡ State.Ground }
+        requires begins { BeginsWithEsc bytes.now }
+        requires ground { self.old.state ≡ State.Ground }
+        requires whole { self.old.unfinished ≡ [] }
         ensures state_after { (q : Pending) → IsAt N self.old q → IsAt N self.new q }
         ensures ground { self.new.state ≡ State.Ground }
         ensures begins { IfSome result (λ k. BeginsPlain N self.old bytes.now k self.new) }
     {
         match bytes {
-            [0x1B, b'[', rest @ ..] if self.unfinished.is_empty() => self
-                .header
-                .numbers
-                .read_plain(rest),
+            [_, b'[', rest @ ..] => self.header.numbers.read_plain(rest),
             _ => None,
         }
     }
@@ -555,6 +557,7 @@ impl<const N: usize> Parser<N> {
     fn read_escape<P: Perform>(&mut self, performer: &mut P, bytes: &[u8]) -> usize
         requires begins { BeginsWithEsc bytes.now }
         requires ground { self.old.state ≡ State.Ground }
+        requires whole { self.old.unfinished ≡ [] }
         ensures { ReadsStep P.step N self.old performer.old bytes.now result self.new performer.new }
     {
         if let Some(len) = self.read_plain(bytes) {
@@ -571,15 +574,45 @@ impl<const N: usize> Parser<N> {
         self.read_begun(performer, bytes)
     }
 
-    /// Reads ground text up to the next ESC, or a control sequence after it, or ESC. Returns how many bytes it read.
+    /// Reads as `read_escape` does, where a character may be unfinished.
     #[inline(always)]
+    fn read_any_escape<P: Perform>(&mut self, performer: &mut P, bytes: &[u8]) -> usize
+        requires begins { BeginsWithEsc bytes.now }
+        requires ground { self.old.state ≡ State.Ground }
+        ensures { ReadsStep P.step N self.old performer.old bytes.now result self.new performer.new }
+    {
+        if self.unfinished.is_empty() {
+            self.read_escape(performer, bytes)
+        } else {
+            self.read_begun(performer, bytes)
+        }
+    }
+
+    /// Reads short ground text of ASCII up to the next ESC, if it stands at the start. Returns how many bytes it read.
+    #[inline(always)]
+    fn read_short<P: Perform>(&mut self, performer: &mut P, bytes: &[u8]) -> usize
+        requires room { 8 < length bytes.now }
+        requires ground { self.old.state ≡ State.Ground }
+        requires whole { self.old.unfinished ≡ [] }
+        ensures reads { Reads P.step N self.old performer.old bytes.now result self.new performer.new }
+        ensures within { result < length bytes.now }
+        ensures state { self.new.state ≡ State.Ground }
+        ensures whole { self.new.unfinished ≡ [] }
+        ensures is_step { 0 < result → (q : Pending) → IsAt N self.old q
+            → is_one_step q (take result bytes.now) (drop result bytes.now) ≡ true }
+    {
+        self.unfinished.read_short(performer, bytes)
+    }
+
+    /// Reads ground text up to the next ESC, or a control sequence after it, or ESC. Returns how many bytes it read.
+    #[inline(never)]
     fn read_ground<P: Perform>(&mut self, performer: &mut P, bytes: &[u8]) -> usize
         requires some { 0 < length bytes.now }
         requires ground { self.old.state ≡ State.Ground }
         ensures { ReadsStep P.step N self.old performer.old bytes.now result self.new performer.new }
     {
         if bytes[0] == 0x1B {
-            return self.read_escape(performer, bytes);
+            return self.read_any_escape(performer, bytes);
         }
         self.unfinished.read(performer, bytes)
     }
@@ -601,7 +634,7 @@ impl<const N: usize> Parser<N> {
 
     /// Reads ground text up to the next ESC, and then as `read_escape` does, if there is one. Returns how many bytes it
     /// read.
-    #[inline(always)]
+    #[inline(never)]
     fn read_through<P: Perform>(&mut self, performer: &mut P, bytes: &[u8]) -> usize
         requires some { 0 < length bytes.now }
         requires ground { self.old.state ≡ State.Ground }
@@ -611,7 +644,40 @@ impl<const N: usize> Parser<N> {
         if text == bytes.len() {
             return text;
         }
-        text + self.read_escape(performer, &bytes[text..])
+        text + self.read_any_escape(performer, &bytes[text..])
+    }
+
+    /// Reads as `read_ground` does, but short text and sequences after it without a call.
+    #[inline(always)]
+    fn read_near<P: Perform>(&mut self, performer: &mut P, bytes: &[u8]) -> usize
+        requires room { 8 < length bytes.now }
+        requires whole { self.old.unfinished ≡ [] }
+        requires ground { self.old.state ≡ State.Ground }
+        ensures { ReadsStep P.step N self.old performer.old bytes.now result self.new performer.new }
+    {
+        let text = self.read_short(performer, bytes);
+        if text > 0 {
+            return text;
+        }
+        if bytes[0] == 0x1B {
+            return self.read_escape(performer, bytes);
+        }
+        self.read_ground(performer, bytes)
+    }
+
+    /// Reads as `read_through` does, but short text and a sequence after it without a call.
+    #[inline(always)]
+    fn read_turn<P: Perform>(&mut self, performer: &mut P, bytes: &[u8]) -> usize
+        requires room { 8 < length bytes.now }
+        requires whole { self.old.unfinished ≡ [] }
+        requires ground { self.old.state ≡ State.Ground }
+        ensures { ReadsSome P.step N self.old performer.old bytes.now result self.new performer.new }
+    {
+        let text = self.read_short(performer, bytes);
+        if bytes[text] == 0x1B {
+            return text + self.read_escape(performer, &bytes[text..]);
+        }
+        text + self.read_through(performer, &bytes[text..])
     }
 
     /// Reads what has no event, and the byte after it, if there is one. Returns how many bytes it read.
@@ -701,6 +767,8 @@ impl<const N: usize> Parser<N> {
         ensures { ReadsStep P.step N self.old performer.old bytes.now result self.new performer.new }
     {
         match self.state {
+            State::Ground if bytes.len() >= TURN_LEN && self.unfinished.is_empty() =>
+                self.read_near(performer, bytes),
             State::Ground => self.read_ground(performer, bytes),
             _ => self.read_sequence(performer, bytes),
         }
@@ -768,6 +836,8 @@ impl<const N: usize> Parser<N> {
         ensures { ReadsSome P.step N self.old performer.old bytes.now result self.new performer.new }
     {
         match self.state {
+            State::Ground if bytes.len() >= TURN_LEN && self.unfinished.is_empty() =>
+                self.read_turn(performer, bytes),
             State::Ground => self.read_through(performer, bytes),
             _ => self.read_outside(performer, bytes),
         }

@@ -436,6 +436,20 @@ fn ascii_text(bytes: &[u8]) -> &str
     unsafe { str::from_utf8_unchecked(bytes) }
 }
 
+/// Prints the byte if it's printable ASCII. Returns how many characters it printed.
+#[inline(always)]
+fn print_alone<P: Perform>(performer: &mut P, byte: u8) -> usize
+    ensures few { result ≤ 1 }
+    ensures printable { each is_printable (take result (byte ∷ [])) ≡ true }
+    ensures reported { Performs P.step performer.old (map Print (take result (byte ∷ []))) performer.new }
+{
+    if !is_printable(byte) {
+        return 0;
+    }
+    performer.print(byte as char);
+    1
+}
+
 /// Whether each of the bytes is a control of ASCII, other than ESC.
 #[inline(always)]
 fn are_controls(bytes: &[u8]) -> bool
@@ -700,6 +714,32 @@ impl Unfinished {
         } else {
             self.resume(performer, bytes)
         }
+    }
+
+    /// Reads ground text of one to eight printable characters of ASCII up to the next ESC. Returns how many bytes it read:
+    /// none where other text stands at the start.
+    #[inline(always)]
+    pub fn read_short<P: Perform>(&mut self, performer: &mut P, bytes: &[u8]) -> usize
+        requires room { 8 < length bytes.now }
+        requires whole { self.old ≡ [] }
+        ensures within { result < length bytes.now }
+        ensures len { 0 < result → result ≡ length (before is_esc bytes.now) }
+        ensures reported { Performs P.step performer.old (run_reported [] (take result bytes.now)) performer.new }
+        ensures rest { run_rest [] (take result bytes.now) ≡ [] }
+        ensures whole { self.new ≡ [] }
+    {
+        if bytes[0] == 0x1B {
+            return 0;
+        }
+        if bytes[1] == 0x1B {
+            return print_alone(performer, bytes[0]);
+        }
+        let len = short_len(bytes);
+        if bytes[len] != 0x1B {
+            return 0;
+        }
+        performer.print_ascii(ascii_text(&bytes[..len]));
+        len
     }
 
     /// Reads as [`read_some`](Self::read_some) does.

@@ -1,5 +1,4 @@
-use Rattle.std.proofs.Common.{◌≡◌, ◌∙◌, ◌+◌, ◌-◌, arith, set}
-use Rattle.vte_core.specs.Store.{rising}
+use Rattle.std.proofs.Common.{◌≡◌, ◌∙◌, ◌+◌, ◌-◌, arith}
 use Rattle.vte_core.proofs.Stores.{cut_by, lone_more, numbers_below, groups_below, pushed_one, store_at}
 use Rattle.vte_core.proofs.params.Params.push.Goals as goal
 

@@ -4,9 +4,9 @@ use Rattle.vte_core.proofs.parser.Parser.read_through.Goals as goal
 
 pub returns : goal.returns
 returns g c =
-    let one = c.read_escape.ensures in
+    let one = c.read_any_escape.ensures in
     record {
       some = omega (arith, one.some);
-      reads = reads_on c.args.bytes.now c.read_text-text.result c.read_escape.result c.read_text-text.ensures.reads
+      reads = reads_on c.args.bytes.now c.read_text-text.result c.read_any_escape.result c.read_text-text.ensures.reads
           one.reads;
     }
