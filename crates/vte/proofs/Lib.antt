@@ -2,6 +2,7 @@ pub mod Splits
 pub mod Joins
 pub mod RunLemmas
 pub mod PrintLemmas
+pub mod SgrLemmas
 pub mod HoldLemmas
 pub mod MarkLemmas
 pub mod AskLemmas

@@ -1,17 +1,18 @@
 //! Control sequences (CSI: ECMA-48, the DEC terminals and xterm).
-ghost use Rattle.std.specs.Prelude.{◌≡◌, ◌≢◌, ◌≤◌, ◌<◌, ℕ, Option, length, map};
+ghost use Rattle.std.specs.Prelude.{◌≡◌, ◌≢◌, ◌≤◌, ◌<◌, ◌-◌, ℕ, pos, [], Option, length, map};
 ghost use Rattle.std.specs.List.{list_any};
 ghost use Rattle.vte_types.specs.Call.{Calls, set_mode as set_mode_call, unset_mode as unset_mode_call};
 ghost use Rattle.vte_types.specs.Call.{set_private_mode as set_private_call, unset_private_mode as unset_private_call};
+ghost use Rattle.vte_types.specs.Call.{goto as goto_call, set_scrolling_region as set_scrolling_region_call};
 ghost use Rattle.vte_types.specs.Lookup.{lookup};
 ghost use Rattle.vte_types.specs.Mode.{mode_of, private_mode_of};
 ghost use Rattle.vte.specs.Escape.{calls_at};
 ghost use Rattle.vte.specs.Sgr.{first};
-ghost use Rattle.vte.specs.Csi.{number_or, rest, identify_calls, plain_calls, uncounted_rows, uncounted_calls};
+ghost use Rattle.vte.specs.Csi.{number_or, rest, nonzero, identify_calls, plain_calls, uncounted_rows, uncounted_calls};
 ghost use Rattle.vte.specs.Csi.{placing_rows, placing_calls, clear_screen_rows, clear_line_rows, clear_tabs_rows};
 ghost use Rattle.vte.specs.Csi.{repeat_calls, window_rows, keyboard_modes, behaviour_of, asks_four, calls_by};
 ghost use Rattle.vte.specs.Csi.{equals_rows, less_rows, space_rows, dollar_rows, question_dollar_rows, question_rows};
-ghost use Rattle.vte.specs.Csi.{char_path, update_mode, style_rows, marked_calls, csi_calls, opens_group};
+ghost use Rattle.vte.specs.Csi.{char_path, update_mode, style_rows, csi_calls, opens_group};
 ghost use Rattle.vte.specs.Csi.{opening_groups, greater_rows};
 ghost use Rattle.vte.specs.Timeout.{Ticked, sets_of};
 
@@ -45,7 +46,38 @@ fn next_or(groups: &mut ParamsIter<'_>, default: u16) -> u16
     }
 }
 
+/// The first number, or the default if there is none or it is 0.
+#[inline(always)]
+fn first_or(params: &Params, default: u16) -> u16
+    ensures number { result ≡ number_or default params.now }
+    ensures least { 1 ≤ default → 1 ≤ result }
+{
+    match params.numbers() {
+        Some([]) | Some([0, ..]) => default,
+        Some([number, ..]) => *number,
+        None => first_of_groups(params, default),
+    }
+}
+
+/// The same where a group has several numbers.
+#[inline(never)]
+fn first_of_groups(params: &Params, default: u16) -> u16
+    ensures number { result ≡ number_or default params.now }
+    ensures least { 1 ≤ default → 1 ≤ result }
+{
+    next_or(&mut params.iter(), default)
+}
+
+/// The first number as a count.
+#[inline(always)]
+fn count_in(params: &Params) -> usize
+    ensures { result ≡ number_or 1 params.now }
+{
+    usize::from(first_or(params, 1))
+}
+
 /// Makes the calls of a control sequence, and returns whether it opened a synchronized update.
+#[inline(always)]
 pub fn csi<H: Handler, T: Timeout>(
     handler: &mut H,
     timeout: &mut T,
@@ -59,10 +91,6 @@ pub fn csi<H: Handler, T: Timeout>(
         timeout.new }
     ensures opened { result ≡ list_any opens_group (opening_groups params.now intermediates.now action) }
 {
-    if action == 'c' {
-        identify_terminal(handler, params.iter(), intermediates);
-        return false;
-    }
     if intermediates.is_empty() {
         plain(handler, last, params, action);
         return false;
@@ -82,11 +110,15 @@ fn marked<H: Handler, T: Timeout>(
 ) -> bool
     requires { 0 < length intermediates.now }
     ensures calls { (last : Option ℕ)
-        → Calls H.step handler.old (marked_calls last params.now intermediates.now action) handler.new }
+        → Calls H.step handler.old (csi_calls last params.now intermediates.now action) handler.new }
     ensures timeout { Ticked T.ticking timeout.old (sets_of (opening_groups params.now intermediates.now action))
         timeout.new }
     ensures opened { result ≡ list_any opens_group (opening_groups params.now intermediates.now action) }
 {
+    if action == 'c' {
+        identify_terminal(handler, params, intermediates);
+        return false;
+    }
     match intermediates {
         [b'?'] if action == 'h' => return set_private_modes(handler, timeout, params.iter()),
         [b'?'] => question(handler, params.iter(), action),
@@ -102,101 +134,150 @@ fn marked<H: Handler, T: Timeout>(
 }
 
 /// DA (`c`).
-fn identify_terminal<H: Handler>(handler: &mut H, mut groups: ParamsIter<'_>, intermediates: &[u8])
-    ensures { Calls H.step handler.old (identify_calls groups.entry intermediates.now) handler.new }
+fn identify_terminal<H: Handler>(handler: &mut H, params: &Params, intermediates: &[u8])
+    ensures { Calls H.step handler.old (identify_calls params.now intermediates.now) handler.new }
 {
-    if next_or(&mut groups, 0) == 0 {
+    if first_or(params, 0) == 0 {
         handler.identify_terminal(intermediates.first().map(|mark| *mark as char));
     }
 }
 
 /// Sequences without intermediates: SGR, which is the most frequent, and all others.
+#[inline(always)]
 fn plain<H: Handler>(handler: &mut H, last: Option<char>, params: &Params, action: char)
-    ensures { Calls H.step handler.old (plain_calls last params.now action) handler.new }
+    ensures { Calls H.step handler.old (csi_calls last params.now [] action) handler.new }
 {
     if action == 'm' {
-        sgr(handler, params.iter());
+        sgr(handler, params);
     } else {
-        counted_final(handler, last, params, action);
+        other_plain(handler, last, params, action);
+    }
+}
+
+/// Sequences without intermediates: DA, and all others.
+#[inline(never)]
+fn other_plain<H: Handler>(handler: &mut H, last: Option<char>, params: &Params, action: char)
+    ensures { Calls H.step handler.old (csi_calls last params.now [] action) handler.new }
+{
+    match action {
+        'c' => identify_terminal(handler, params, &[]),
+        _ => counted_final(handler, last, params, action),
     }
 }
 
 /// Sequences without intermediates: the final bytes that take a count, and all others.
+#[inline(always)]
 fn counted_final<H: Handler>(handler: &mut H, last: Option<char>, params: &Params, action: char)
     ensures { Calls H.step handler.old (plain_calls last params.now action) handler.new }
 {
-    let number = next_or(&mut params.iter(), 1);
-    let count = usize::from(number);
     match action {
-        '@' => handler.insert_blank(count),
-        'P' => handler.delete_chars(count),
-        'X' => handler.erase_chars(count),
-        'A' => handler.move_up(count),
-        'B' | 'e' => handler.move_down(count),
-        'C' | 'a' => handler.move_forward(count),
-        'D' => handler.move_backward(count),
-        'E' => handler.move_down_and_cr(count),
-        'F' => handler.move_up_and_cr(count),
-        'L' => handler.insert_blank_lines(count),
-        'M' => handler.delete_lines(count),
-        'S' => handler.scroll_up(count),
-        'T' => handler.scroll_down(count),
-        'I' => handler.move_forward_tabs(number),
-        'Z' => handler.move_backward_tabs(number),
-        _ => uncounted_final(handler, last, params.iter(), action),
+        '@' => handler.insert_blank(count_in(params)),
+        'P' => handler.delete_chars(count_in(params)),
+        'X' => handler.erase_chars(count_in(params)),
+        'A' => handler.move_up(count_in(params)),
+        'B' | 'e' => handler.move_down(count_in(params)),
+        'C' | 'a' => handler.move_forward(count_in(params)),
+        'D' => handler.move_backward(count_in(params)),
+        'E' => handler.move_down_and_cr(count_in(params)),
+        'F' => handler.move_up_and_cr(count_in(params)),
+        'L' => handler.insert_blank_lines(count_in(params)),
+        'M' => handler.delete_lines(count_in(params)),
+        'S' => handler.scroll_up(count_in(params)),
+        'T' => handler.scroll_down(count_in(params)),
+        'I' => handler.move_forward_tabs(first_or(params, 1)),
+        'Z' => handler.move_backward_tabs(first_or(params, 1)),
+        _ => uncounted_final(handler, last, params, action),
     }
 }
 
 /// The final bytes that read their parameters in ways of their own.
-fn uncounted_final<H: Handler>(
-    handler: &mut H,
-    last: Option<char>,
-    mut groups: ParamsIter<'_>,
-    action: char,
-)
-    ensures { Calls H.step handler.old (uncounted_calls (lookup action uncounted_rows) last groups.entry action)
+#[inline(always)]
+fn uncounted_final<H: Handler>(handler: &mut H, last: Option<char>, params: &Params, action: char)
+    ensures { Calls H.step handler.old (uncounted_calls (lookup action uncounted_rows) last params.now action)
         handler.new }
 {
     match action {
-        'J' => clear_screen(handler, next_or(&mut groups, 0)),
-        'K' => clear_line(handler, next_or(&mut groups, 0)),
-        'g' => clear_tabs(handler, next_or(&mut groups, 0)),
-        'h' => set_modes(handler, groups),
-        'l' => unset_modes(handler, groups),
-        'm' => sgr(handler, groups),
-        'n' => handler.device_status(usize::from(next_or(&mut groups, 0))),
-        't' => window(handler, next_or(&mut groups, 1)),
-        'b' => repeat(handler, last, next_or(&mut groups, 1)),
-        _ => placing_final(handler, groups, action),
+        'J' => clear_screen(handler, first_or(params, 0)),
+        'K' => clear_line(handler, first_or(params, 0)),
+        'g' => clear_tabs(handler, first_or(params, 0)),
+        'h' => set_modes(handler, params),
+        'l' => unset_modes(handler, params),
+        'm' => sgr(handler, params),
+        'n' => handler.device_status(usize::from(first_or(params, 0))),
+        't' => window(handler, first_or(params, 1)),
+        'b' => repeat(handler, last, first_or(params, 1)),
+        _ => placing_final(handler, params, action),
     }
 }
 
 /// The final bytes that set the cursor's place, the scroll region or the saved cursor.
-fn placing_final<H: Handler>(handler: &mut H, mut groups: ParamsIter<'_>, action: char)
-    ensures { Calls H.step handler.old (placing_calls (lookup action placing_rows) groups.entry) handler.new }
+#[inline(always)]
+fn placing_final<H: Handler>(handler: &mut H, params: &Params, action: char)
+    ensures { Calls H.step handler.old (placing_calls (lookup action placing_rows) params.now) handler.new }
 {
     match action {
-        'G' | '`' => handler.goto_col(usize::from(next_or(&mut groups, 1)) - 1),
-        'd' => handler.goto_line(i32::from(next_or(&mut groups, 1) - 1)),
-        'H' | 'f' => {
-            let line = next_or(&mut groups, 1);
-            let col = next_or(&mut groups, 1);
-            handler.goto(i32::from(line - 1), usize::from(col) - 1);
-        }
-        'r' => {
-            let top = next_or(&mut groups, 1);
-            let bottom = next_or(&mut groups, 0);
-            let bottom = if bottom == 0 {
-                None
-            } else {
-                Some(usize::from(bottom))
-            };
-            handler.set_scrolling_region(usize::from(top), bottom);
-        }
+        'G' | '`' => handler.goto_col(usize::from(first_or(params, 1)) - 1),
+        'd' => handler.goto_line(i32::from(first_or(params, 1) - 1)),
+        'H' | 'f' => goto(handler, params),
+        'r' => set_scrolling_region(handler, params),
         's' => handler.save_cursor_position(),
         'u' => handler.restore_cursor_position(),
         _ => {}
     }
+}
+
+/// CUP (`H`), HVP (`f`).
+#[inline(always)]
+fn goto<H: Handler>(handler: &mut H, params: &Params)
+    ensures { H.step handler.old (goto_call (pos (number_or 1 params.now - 1)) (number_or 1 (rest params.now) - 1))
+        handler.new }
+{
+    let (line, col) = place_in(params);
+    handler.goto(i32::from(line - 1), usize::from(col) - 1);
+}
+
+/// The first two numbers, each 1 if there is none or it is 0.
+#[inline(always)]
+fn place_in(params: &Params) -> (u16, u16)
+    ensures first { result.0 ≡ number_or 1 params.now }
+    ensures second { result.1 ≡ number_or 1 (rest params.now) }
+    ensures least_first { 1 ≤ result.0 }
+    ensures least_second { 1 ≤ result.1 }
+{
+    if let Some([line, col, ..]) = params.numbers() {
+        return ((*line).max(1), (*col).max(1));
+    }
+    place_in_groups(params)
+}
+
+/// The same where fewer numbers follow, or a group has several.
+#[inline(never)]
+fn place_in_groups(params: &Params) -> (u16, u16)
+    ensures first { result.0 ≡ number_or 1 params.now }
+    ensures second { result.1 ≡ number_or 1 (rest params.now) }
+    ensures least_first { 1 ≤ result.0 }
+    ensures least_second { 1 ≤ result.1 }
+{
+    let mut groups = params.iter();
+    let line = next_or(&mut groups, 1);
+    (line, next_or(&mut groups, 1))
+}
+
+/// DECSTBM (`r`).
+#[inline(never)]
+fn set_scrolling_region<H: Handler>(handler: &mut H, params: &Params)
+    ensures { H.step handler.old (set_scrolling_region_call (number_or 1 params.now)
+        (nonzero (number_or 0 (rest params.now)))) handler.new }
+{
+    let mut groups = params.iter();
+    let top = next_or(&mut groups, 1);
+    let bottom = next_or(&mut groups, 0);
+    let bottom = if bottom == 0 {
+        None
+    } else {
+        Some(usize::from(bottom))
+    };
+    handler.set_scrolling_region(usize::from(top), bottom);
 }
 
 /// ED (`J`).
@@ -249,6 +330,7 @@ fn window<H: Handler>(handler: &mut H, number: u16)
 }
 
 /// REP (`b`): prints the last printed character `count` times.
+#[inline(never)]
 fn repeat<H: Handler>(handler: &mut H, last: Option<char>, count: u16)
     ensures { Calls H.step handler.old (repeat_calls last count) handler.new }
 {
@@ -260,18 +342,22 @@ fn repeat<H: Handler>(handler: &mut H, last: Option<char>, count: u16)
 }
 
 /// SM (`h`).
-fn set_modes<H: Handler>(handler: &mut H, mut groups: ParamsIter<'_>)
-    ensures { Calls H.step handler.old (map (λ g. set_mode_call (mode_of (first g))) groups.entry) handler.new }
+#[inline(never)]
+fn set_modes<H: Handler>(handler: &mut H, params: &Params)
+    ensures { Calls H.step handler.old (map (λ g. set_mode_call (mode_of (first g))) params.now) handler.new }
 {
+    let mut groups = params.iter();
     while let Some(number) = next_number(&mut groups) {
         handler.set_mode(Mode::new(number));
     }
 }
 
 /// RM (`l`).
-fn unset_modes<H: Handler>(handler: &mut H, mut groups: ParamsIter<'_>)
-    ensures { Calls H.step handler.old (map (λ g. unset_mode_call (mode_of (first g))) groups.entry) handler.new }
+#[inline(never)]
+fn unset_modes<H: Handler>(handler: &mut H, params: &Params)
+    ensures { Calls H.step handler.old (map (λ g. unset_mode_call (mode_of (first g))) params.now) handler.new }
 {
+    let mut groups = params.iter();
     while let Some(number) = next_number(&mut groups) {
         handler.unset_mode(Mode::new(number));
     }

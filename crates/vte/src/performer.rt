@@ -76,6 +76,13 @@ impl<'a, H: Handler, T: Timeout> Perform for Performer<'a, H, T> {
         }
     }
 
+    fn print_ascii(&mut self, text: &str) {
+        self.handler.input_ascii(text);
+        if let [.., last] = text.as_bytes() {
+            self.state.preceding_char = Some(*last as char);
+        }
+    }
+
     fn execute(&mut self, byte: u8) {
         execute(self.handler, byte);
     }
@@ -84,6 +91,7 @@ impl<'a, H: Handler, T: Timeout> Perform for Performer<'a, H, T> {
         osc(self.handler, params, bell_terminated);
     }
 
+    #[inline(always)]
     fn csi_dispatch(&mut self, params: &Params, intermediates: &[u8], ignore: bool, action: char) {
         if ignore {
             return;

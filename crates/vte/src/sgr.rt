@@ -1,6 +1,6 @@
 //! SGR: the attributes that groups of numbers ask for (ECMA-48 8.3.117; colours by ITU-T T.416).
 ghost use Rattle.std.specs.Prelude.{◌≡◌, ◌≤◌, ℕ, List, length, ◌∷◌, [], ◌++◌, map, MatchOption, option_to_list};
-ghost use Rattle.std.specs.Prelude.{◌+◌, ◌<◌, ◌≢◌, Some};
+ghost use Rattle.std.specs.Prelude.{◌+◌, ◌<◌, ◌≢◌, Some, drop};
 ghost use Rattle.std.specs.Option.{option_map};
 ghost use Rattle.vte_types.specs.Call.{Calls, terminal_attribute};
 ghost use Rattle.vte_types.specs.Lookup.{lookup};
@@ -8,9 +8,9 @@ ghost use Rattle.vte_types.specs.declared.attr.Attr.TheVariants as said;
 ghost use Rattle.vte_types.specs.declared.color.Color.TheVariants.{Named};
 ghost use Rattle.vte.specs.Sgr.{singles, rgb_color, indexed_color, group_color, colored, target_of};
 ghost use Rattle.vte.specs.Sgr.{first, attributes, nothing, selector, underline_of, group_attr, awaited};
-ghost use Rattle.vte.specs.SgrSteps.{SetsFirst};
+ghost use Rattle.vte.specs.SgrSteps.{SetsFirst, each_alone};
 
-use vte_core::ParamsIter;
+use vte_core::{Params, ParamsIter};
 use vte_types::attr::Attr;
 use vte_types::color::{Color, NamedColor};
 use vte_types::handler::Handler;
@@ -267,10 +267,12 @@ fn attribute(group: &[u16]) -> Option<Attr>
     }
 }
 
-/// Makes the calls of an SGR sequence.
-pub fn sgr<H: Handler>(handler: &mut H, mut groups: ParamsIter<'_>)
-    ensures { Calls H.step handler.old (map terminal_attribute (attributes nothing groups.entry)) handler.new }
+/// Makes the calls of groups.
+#[inline(never)]
+fn set_groups<H: Handler>(handler: &mut H, params: &Params)
+    ensures { Calls H.step handler.old (map terminal_attribute (attributes nothing params.now)) handler.new }
 {
+    let mut groups = params.iter();
     while let Some(group) = groups.next() {
         match group {
             [code] => set_code(handler, *code, &mut groups),
@@ -280,5 +282,83 @@ pub fn sgr<H: Handler>(handler: &mut H, mut groups: ParamsIter<'_>)
                 }
             }
         }
+    }
+}
+
+/// The colour whose numbers follow 38, 48 or 58, each in a group of its own, and how many of them are read.
+#[inline(always)]
+fn color_in_numbers(numbers: &[u16]) -> (Option<Color>, usize)
+    ensures gives { (t : Target) → attributes (selector t) (each_alone numbers.now)
+        ≡ option_to_list (option_map (colored t) result.0)
+        ++ attributes nothing (each_alone (drop result.1 numbers.now)) }
+    ensures within { result.1 ≤ length numbers.now }
+{
+    match numbers {
+        [5, i, ..] => (indexed(*i), 2),
+        [2, r, g, b, ..] if *r < 256 && *g < 256 => (rgb(*r, *g, *b), 4),
+        [2, r, _, ..] if *r < 256 => (None, 3),
+        [2, _, ..] => (None, 2),
+        [_, ..] => (None, 1),
+        [] => (None, 0),
+    }
+}
+
+/// Makes the call of a number in a group of its own. A colour also takes the numbers after it. Returns how many of those
+/// it takes.
+#[inline(always)]
+fn set_number<H: Handler>(handler: &mut H, code: u16, others: &[u16]) -> usize
+    ensures calls { SetsFirst H.step (code ∷ []) handler.old (each_alone others.now) handler.new
+        (each_alone (drop result others.now)) }
+    ensures within { result ≤ length others.now }
+{
+    match code {
+        38 => {
+            let (color, len) = color_in_numbers(others);
+            if let Some(color) = color {
+                handler.terminal_attribute(Attr::Foreground(color));
+            }
+            len
+        }
+        48 => {
+            let (color, len) = color_in_numbers(others);
+            if let Some(color) = color {
+                handler.terminal_attribute(Attr::Background(color));
+            }
+            len
+        }
+        58 => {
+            let (color, len) = color_in_numbers(others);
+            if let Some(color) = color {
+                handler.terminal_attribute(Attr::UnderlineColor(Some(color)));
+            }
+            len
+        }
+        _ => {
+            set_single(handler, code);
+            0
+        }
+    }
+}
+
+/// Makes the calls of groups of one number each.
+#[inline(never)]
+fn set_numbers<H: Handler>(handler: &mut H, numbers: &[u16])
+    ensures { Calls H.step handler.old (map terminal_attribute (attributes nothing (each_alone numbers.now))) handler.new }
+{
+    let mut rest = numbers;
+    while let [code, others @ ..] = rest {
+        let len = set_number(handler, *code, others);
+        rest = &others[len..];
+    }
+}
+
+/// Makes the calls of an SGR sequence.
+#[inline(always)]
+pub fn sgr<H: Handler>(handler: &mut H, params: &Params)
+    ensures { Calls H.step handler.old (map terminal_attribute (attributes nothing params.now)) handler.new }
+{
+    match params.numbers() {
+        Some(numbers) => set_numbers(handler, numbers),
+        None => set_groups(handler, params),
     }
 }

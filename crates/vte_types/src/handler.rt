@@ -1,6 +1,6 @@
 //! The trait that receives a terminal's calls.
 ghost use Rattle.std.specs.Option.{option_map};
-ghost use Rattle.std.specs.Prelude.{map};
+ghost use Rattle.std.specs.Prelude.{map, All, ◌≤◌, ◌<◌};
 ghost use Rattle.std.specs.Str.{chars};
 ghost use Rattle.vte_types.specs.Call as said;
 ghost use Rattle.vte_types.specs.Call.{Calls, link_of};
@@ -78,6 +78,16 @@ pub trait Handler {
         for c in text.chars() {
             self.input(c);
         }
+    }
+
+    /// Writes printable ASCII (0x20 to 0x7E) at the cursor, as [`input_str`](Self::input_str) does. A handler that is
+    /// faster where it need not look for other characters may override this method.
+    #[doc(hidden)]
+    fn input_ascii(&mut self, text: &str)
+        requires { All (λ b. (32 ≤ b) × (b < 127)) text.now }
+        ensures { Calls step self.old (map said.input (chars text.now)) self.new }
+    {
+        self.input_str(text);
     }
 
     /// Moves the cursor to a line and a column, both from 0 (CUP, HVP).

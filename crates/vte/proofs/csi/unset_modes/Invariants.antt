@@ -8,7 +8,7 @@ use Rattle.vte.proofs.csi.unset_modes.Given as goal
 abbrev pub invariant-loop-number : goal.invariant-loop-number
 invariant-loop-number g l =
     (end : _) → Calls g.H.Handler.step l.handler (map (λ x. unset_mode (mode_of (first x))) l.groups) end
-    → Calls g.H.Handler.step l.initial.handler (map (λ x. unset_mode (mode_of (first x))) l.initial.groups) end
+    → Calls g.H.Handler.step l.fn.handler (map (λ x. unset_mode (mode_of (first x))) l.fn.params) end
 
 abbrev pub decreases-loop-number : goal.decreases-loop-number
 decreases-loop-number g l = length l.groups
