@@ -1,10 +1,11 @@
 -- Characters of one column, as characters that are shown one after another.
 use Rattle.std.proofs.Common.{◌≡◌, ℕ, zero, ◌+◌, ◌<◌, ◌≤◌, List, [], ◌∷◌, ◌++◌, sym, refl, ap}
-use Rattle.std.proofs.Common.{◌∙◌, arith, length, set, take, drop, map, subst}
+use Rattle.std.proofs.Common.{◌∙◌, arith, length, length-drop, set, take, drop, map, subst, append-nil}
 use Rattle.std.specs.Prelude.{All}
 use Rattle.std.specs.Str.{IsUtf8, chars}
 use Rattle.std.specs.Char.{encode_utf8}
 use Rattle.std.proofs.lemmas.List.{get_or-set_same, set-get_or, set-set, map-append, take-append-drop, nil_from_length}
+use Rattle.std.proofs.lemmas.List.{take_all}
 use Rattle.std.proofs.lemmas.List.Elements.{All-drop}
 use Rattle.std.proofs.lemmas.Str.{chars_past_char, chars-nil}
 use Rattle.vt100_cells.specs.Cell.{IsPrintable, cell_of}
@@ -46,11 +47,12 @@ run_at-more p x xs h =
     let count : p.col + 1 + length xs ≡ p.col + length (x ∷ xs) = omega arith in
     λ i. record p { rows = r i; col = count i }
 
+-- a character of printable ASCII
+pub one-printable : (c : ℕ) → IsPrintable c → Takes 1 c
+one-printable c p = let narrow = narrow-printable_is c p in (narrow.0, narrow.1, λ e. absurd (omega (arith, e, p.1)))
+
 pub printable-takes : (xs : List ℕ) → All IsPrintable xs → All (Takes 1) xs
-printable-takes xs p k d l =
-    let c = p k d l in
-    let narrow = narrow-printable_is _ c in
-    (narrow.0, narrow.1, λ e. absurd (omega (arith, e, c.1)))
+printable-takes xs p k d l = one-printable _ (p k d l)
 
 pub takes-narrow : (xs : List ℕ) → All (Takes 1) xs → All IsNarrow xs
 takes-narrow xs s k d l = let c = s k d l in (c.0, c.1)
@@ -69,7 +71,7 @@ shows-one p q x j s room fits =
       shows = printed-is q (cell_of x q.attrs) 1 j (span_of-cell x 1 q.attrs (drawn-is x 1 s.1).1 (omega arith)) fits;
     }))
 
-IsPicture-one : (p : PictureView) (x : ℕ) → IsPicture p → Takes 1 x → p.col + 1 ≤ p.size.cols
+pub IsPicture-one : (p : PictureView) (x : ℕ) → IsPicture p → Takes 1 x → p.col + 1 ≤ p.size.cols
     → IsPicture (put_at p (cell_of x p.attrs) 1)
 IsPicture-one p x i s fits =
     IsPicture-put p (cell_of x p.attrs) 1 i (IsCell-narrow x p.attrs s.0 s.1) refl
@@ -131,6 +133,17 @@ runs-on p q r xs n first more =
 pub prefix-run : (text : List ℕ) (n : ℕ) (p q : PictureView) → All IsPrintable (take n text)
     → Calls Does p (map input (take n text)) q → ShowsPrefix text (drop n text) p q
 prefix-run text n p q s shown = (take n text, printable-chars text n s, shown)
+
+-- the characters of printable ASCII are its bytes
+pub chars-run : (text : List ℕ) → All IsPrintable text → chars text ≡ text
+chars-run text s =
+    let n = length text in
+    let all : take n text ≡ text = take_all n text (omega arith) in
+    let left : length (drop n text) ≡ 0 = length-drop n text ∙ (omega arith) in
+    printable-chars text n (subst (λ (xs : List ℕ). All IsPrintable xs) (sym all) s)
+    ∙ ap (λ xs. xs ++ chars (drop n text)) all
+    ∙ ap (λ xs. text ++ xs) (ap chars (nil_from_length (drop n text) left) ∙ chars-nil)
+    ∙ append-nil text
 
 pub prefix-char : (text left : List ℕ) (c : ℕ) (p q : PictureView) → IsUtf8 text → text ≡ encode_utf8 c ++ left
     → Becomes p q (printed p.size c (term_of_picture p)) → ShowsPrefix text left p q

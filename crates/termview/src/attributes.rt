@@ -2,17 +2,18 @@
 ghost use Rattle.std.specs.Prelude.{◌≡◌};
 ghost use Rattle.termview.specs.Step.{with_attr, color_of, named_color};
 
-use vt100_forms::attrs::{Attrs, Color};
+use vt100_cells::PackedAttrs;
+use vt100_forms::attrs::Color;
 use vte_types::attr::Attr;
 use vte_types::color::{Color as AnsiColor, NamedColor};
 
 /// Changes one attribute. Attributes and colours that a `vt100` screen doesn't have change nothing.
 #[inline(always)]
-pub(crate) fn set_attribute(attrs: &mut Attrs, attr: Attr)
+pub(crate) fn set_attribute(attrs: &mut PackedAttrs, attr: Attr)
     ensures { attrs.new ≡ with_attr attr attrs.old }
 {
     match attr {
-        Attr::Reset => *attrs = Attrs::new(),
+        Attr::Reset => *attrs = PackedAttrs::new(),
         Attr::Bold => attrs.set_bold(),
         Attr::Dim => attrs.set_dim(),
         Attr::CancelBoldDim => attrs.set_normal_intensity(),
@@ -22,8 +23,16 @@ pub(crate) fn set_attribute(attrs: &mut Attrs, attr: Attr)
         Attr::CancelUnderline => attrs.set_underline(false),
         Attr::Reverse => attrs.set_inverse(true),
         Attr::CancelReverse => attrs.set_inverse(false),
-        Attr::Foreground(color) => attrs.fgcolor = color_of(color).unwrap_or(attrs.fgcolor),
-        Attr::Background(color) => attrs.bgcolor = color_of(color).unwrap_or(attrs.bgcolor),
+        Attr::Foreground(color) => {
+            if let Some(color) = color_of(color) {
+                attrs.set_fgcolor(color);
+            }
+        }
+        Attr::Background(color) => {
+            if let Some(color) = color_of(color) {
+                attrs.set_bgcolor(color);
+            }
+        }
         _ => {}
     }
 }

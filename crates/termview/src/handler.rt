@@ -14,6 +14,7 @@ impl Handler for Picture {
     ghost step = { λ p call q. Becomes p q (view_step p.size call (term_of_picture p)) };
 
     #[tactic(auto, unfolding(crate::specs::Step::view_step))]
+    #[inline(always)]
     fn call(&mut self, call: Call<'_>) {
         match call {
             Call::Input(c) => self.input(c),
@@ -48,6 +49,10 @@ impl Handler for Picture {
         while !rest.is_empty() {
             rest = self.input_some(rest);
         }
+    }
+
+    fn input_ascii(&mut self, text: &str) {
+        self.input_run(text.as_bytes());
     }
 
     #[tactic(auto, unfolding(crate::specs::Step::view_step))]

@@ -18,7 +18,7 @@ ghost use Rattle.termview.specs.Seen.{cell_shown, text_shown};
 use crate::error::ViewError;
 use std::alloc::Global;
 use std::marker::Model;
-use vt100_cells::{Cell, columns};
+use vt100_cells::{Cell, PackedAttrs, columns};
 use vt100_forms::attrs::Attrs;
 use vt100_forms::{CursorStyle, MouseProtocolEncoding, MouseProtocolMode, Pos};
 use vt100_rows::printable::printable_len;
@@ -32,7 +32,7 @@ pub struct Picture {
     pub(crate) rows: Vec<Row>,
     pub(crate) pos: Pos,
     pub(crate) saved_pos: Pos,
-    pub(crate) attrs: Attrs,
+    pub(crate) attrs: PackedAttrs,
     pub(crate) saved_attrs: Attrs,
     pub(crate) hide_cursor: bool,
     pub(crate) application_keypad: bool,
@@ -66,7 +66,7 @@ impl Picture {
             rows: blank_rows(alloc, size)?,
             pos: Pos { row: 0, col: 0 },
             saved_pos: Pos { row: 0, col: 0 },
-            attrs: Attrs::new(),
+            attrs: PackedAttrs::new(),
             saved_attrs: Attrs::new(),
             hide_cursor: false,
             application_keypad: false,
@@ -86,7 +86,32 @@ impl Picture {
     ///
     /// Control characters and U+FFFD are dropped. So are characters wider than the screen, and zero-width ones in the
     /// first column.
+    #[inline(always)]
     pub(crate) fn input(&mut self, c: char)
+        ensures { Becomes self.old self.new (printed self.old.size c (term_of_picture self.old)) }
+    {
+        if let ' '..='~' = c {
+            self.input_letter(c as u8);
+        } else {
+            self.input_any(c);
+        }
+    }
+
+    /// Prints one character of printable ASCII.
+    #[inline(always)]
+    fn input_letter(&mut self, c: u8)
+        requires { IsPrintable c }
+        ensures { Becomes self.old self.new (printed self.old.size c (term_of_picture self.old)) }
+    {
+        // A row has a column.
+        let _cols = self.size.cols();
+        self.make_room(1);
+        self.put_letter(c);
+    }
+
+    /// Prints one character, as [`input`](Self::input) does.
+    #[inline(never)]
+    fn input_any(&mut self, c: char)
         ensures { Becomes self.old self.new (printed self.old.size c (term_of_picture self.old)) }
     {
         if c == char::REPLACEMENT_CHARACTER {
@@ -131,7 +156,7 @@ impl Picture {
     }
 
     /// Prints printable ASCII, row by row. The effect is that of [`input`](Self::input) for each character.
-    fn input_run(&mut self, text: &[u8])
+    pub(crate) fn input_run(&mut self, text: &[u8])
         requires { All IsPrintable text.now }
         ensures { Calls Does self.old (map said.input text.now) self.new }
     {
@@ -169,7 +194,7 @@ impl Picture {
         } }
     {
         let col = self.pos.col;
-        self.rows[usize::from(self.pos.row)].put_run(col, text, self.attrs);
+        self.rows[usize::from(self.pos.row)].print_run(col, text, &self.attrs);
         self.pos.col = col + text.len() as u16;
     }
 
@@ -213,11 +238,24 @@ impl Picture {
         ensures { Becomes self.old self.new (print self.old.size (cell_of c self.old.attrs) (term_of_picture self.old)) }
     {
         let col = self.pos.col;
-        self.rows[usize::from(self.pos.row)].put(col, c, columns, self.attrs);
+        self.rows[usize::from(self.pos.row)].put(col, c, columns, self.attrs.attrs());
         self.pos.col = col + columns;
     }
 
+    /// Puts a character of printable ASCII at the cursor.
+    #[inline(always)]
+    fn put_letter(&mut self, c: u8)
+        requires printable { IsPrintable c }
+        requires fits { self.old.col + 1 ≤ self.old.size.cols }
+        ensures { Becomes self.old self.new (print self.old.size (cell_of c self.old.attrs) (term_of_picture self.old)) }
+    {
+        let col = self.pos.col;
+        self.rows[usize::from(self.pos.row)].print_letter(col, c, &self.attrs);
+        self.pos.col = col + 1;
+    }
+
     /// Moves the cursor to the next row unless its row has this many columns left.
+    #[inline(always)]
     pub(crate) fn make_room(&mut self, columns: u16)
         requires { columns ≤ self.old.size.cols }
         ensures picture { Becomes self.old self.new (made_to_fit self.old.size columns (term_of_picture self.old)) }
@@ -230,6 +268,7 @@ impl Picture {
 
     /// Moves the cursor to the start of the next row. The row that it leaves is flagged as wrapped if its last column
     /// shows something.
+    #[inline(never)]
     fn wrap(&mut self)
         ensures picture { Becomes self.old self.new (wrap self.old.size (term_of_picture self.old)) }
         ensures start { self.new.col ≡ 0 }
@@ -309,7 +348,7 @@ impl Picture {
         ensures { Becomes self.old self.new (erase self.old.size end (term_of_picture self.old)) }
     {
         let start = self.pos.col;
-        self.rows[usize::from(self.pos.row)].erase_range(start..end, self.attrs);
+        self.rows[usize::from(self.pos.row)].erase_range(start..end, self.attrs.attrs());
     }
 
     /// Erases the cursor's row from the cursor to its end (EL).
@@ -325,7 +364,7 @@ impl Picture {
     {
         let row = usize::from(self.pos.row);
         let width = self.size.cols();
-        erase_forward(&mut self.rows, row, self.pos.col, width, self.attrs);
+        erase_forward(&mut self.rows, row, self.pos.col, width, self.attrs.attrs());
     }
 
     /// Moves the cursor to the left.
@@ -347,7 +386,7 @@ impl Picture {
         ensures { Becomes self.old self.new (cursor_saved (term_of_picture self.old)) }
     {
         self.saved_pos = self.pos;
-        self.saved_attrs = self.attrs;
+        self.saved_attrs = self.attrs.attrs();
     }
 
     /// Restores the cursor and the drawing attributes that were saved last.
@@ -355,7 +394,7 @@ impl Picture {
         ensures { Becomes self.old self.new (cursor_restored (term_of_picture self.old)) }
     {
         self.pos = self.saved_pos;
-        self.attrs = self.saved_attrs;
+        self.attrs = PackedAttrs::of(self.saved_attrs);
     }
 }
 

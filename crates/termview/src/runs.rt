@@ -10,7 +10,7 @@ ghost use Rattle.termview.specs.Picture.{Does, ShowsPrefix, Takes};
 
 use crate::picture::Picture;
 use arrayvec::ArrayVec;
-use vt100_cells::{PackedAttrs, columns};
+use vt100_cells::columns;
 
 /// How many characters are printed at once.
 const RUN_LEN: usize = 32;
@@ -104,8 +104,7 @@ impl Picture {
         } }
     {
         let col = self.pos.col;
-        let attrs = PackedAttrs::of(self.attrs);
-        self.rows[usize::from(self.pos.row)].print_narrow(col, text, &attrs);
+        self.rows[usize::from(self.pos.row)].print_narrow(col, text, &self.attrs);
         self.pos.col = col + text.len() as u16;
     }
 
@@ -152,7 +151,7 @@ impl Picture {
         } }
     {
         let col = self.pos.col;
-        self.rows[usize::from(self.pos.row)].put_pairs(col, text, self.attrs);
+        self.rows[usize::from(self.pos.row)].put_pairs(col, text, self.attrs.attrs());
         self.pos.col = col + 2 * text.len() as u16;
     }
 }

@@ -185,48 +185,48 @@ impl<T: Timeout> View<T> {
     pub fn fgcolor(&self) -> Color
         ensures { result ≡ (shown_by self.now).attrs.fgcolor }
     {
-        self.picture.attrs.fgcolor
+        self.picture.attrs.attrs().fgcolor
     }
 
     /// The background colour of the text that comes next.
     pub fn bgcolor(&self) -> Color
         ensures { result ≡ (shown_by self.now).attrs.bgcolor }
     {
-        self.picture.attrs.bgcolor
+        self.picture.attrs.attrs().bgcolor
     }
 
     /// Whether the text that comes next is bold.
     pub fn bold(&self) -> bool
         ensures { result ≡ is_bold (shown_by self.now).attrs }
     {
-        self.picture.attrs.bold()
+        self.picture.attrs.attrs().bold()
     }
 
     /// Whether the text that comes next is dim.
     pub fn dim(&self) -> bool
         ensures { result ≡ is_dim (shown_by self.now).attrs }
     {
-        self.picture.attrs.dim()
+        self.picture.attrs.attrs().dim()
     }
 
     /// Whether the text that comes next is italic.
     pub fn italic(&self) -> bool
         ensures { result ≡ is_italic (shown_by self.now).attrs }
     {
-        self.picture.attrs.italic()
+        self.picture.attrs.attrs().italic()
     }
 
     /// Whether the text that comes next is underlined.
     pub fn underline(&self) -> bool
         ensures { result ≡ is_underlined (shown_by self.now).attrs }
     {
-        self.picture.attrs.underline()
+        self.picture.attrs.attrs().underline()
     }
 
     /// Whether the foreground and background of the text that comes next are exchanged (SGR 7).
     pub fn inverse(&self) -> bool
         ensures { result ≡ is_inverse (shown_by self.now).attrs }
     {
-        self.picture.attrs.inverse()
+        self.picture.attrs.attrs().inverse()
     }
 }

@@ -2,7 +2,7 @@ use Rattle.std.proofs.Common.{arith, ◌∙◌, sym, ◌≡◌, None}
 use Rattle.std.proofs.lemmas.Grind.{common_steps}
 use Rattle.vt100_cells.specs.Cell.{drawn_columns}
 use Rattle.termview.proofs.PictureSteps.{unread, read, drops-control}
-use Rattle.termview.proofs.picture.Picture.input.Goals as goal
+use Rattle.termview.proofs.picture.Picture.input_any.Goals as goal
 
 pub returns-then-c-eq-REPLACEMENT_CHARACTER : goal.returns-then-c-eq-REPLACEMENT_CHARACTER
 returns-then-c-eq-REPLACEMENT_CHARACTER c =
