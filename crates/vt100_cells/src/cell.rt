@@ -289,6 +289,15 @@ impl Cell {
         &self.text
     }
 
+    /// Empties the cell, which keeps its attributes.
+    #[inline(always)]
+    pub(crate) fn clear(&mut self)
+        ensures { self.new ≡ empty_cell self.old.attrs }
+    {
+        self.text = CellText::new();
+        self.span = Span::Narrow;
+    }
+
     /// Whether the cell takes the next column too.
     pub fn is_wide(&self) -> bool
         ensures value { result ≡ self.now.wide }

@@ -149,12 +149,12 @@ pub fn ends_filled(cells: &[Cell]) -> bool
 }
 
 /// Empties the cell at column `i`, which keeps its attributes.
+#[inline(always)]
 fn clear_at(cells: &mut [Cell], i: usize)
     requires { i < length cells.old }
     ensures { cells.new ≡ slice_set cells.old i (empty_cell (cell_at cells.old i).attrs) }
 {
-    let attrs = at(cells, i).attrs();
-    cells[i] = Cell::empty(attrs);
+    cells[i].clear();
 }
 
 /// Empties the cell directly left of column `i` if it is wide.
@@ -202,6 +202,7 @@ fn fill(cells: &mut [Cell], cell: Cell)
 }
 
 /// Empties the columns from `s` up to `e`, with these attributes, and the halves of wide characters that are left.
+#[inline(always)]
 pub fn wipe(cells: &mut [Cell], s: usize, e: usize, attrs: Attrs)
     requires some { s < e }
     requires in_row { e ≤ length cells.old }

@@ -1,6 +1,6 @@
 //! Drawing attributes, as a cell holds them.
 ghost use Rattle.std.specs.Prelude.{◌≡◌, Bool};
-ghost use Rattle.vt100_forms.specs.Attrs.{default_attrs, with_bold, with_dim, with_normal_intensity, with_italic};
+ghost use Rattle.vt100_forms.specs.Attrs.{attrs_eq, default_attrs, with_bold, with_dim, with_normal_intensity, with_italic};
 ghost use Rattle.vt100_forms.specs.Attrs.{with_underline, with_inverse};
 ghost use Rattle.vt100_cells.specs.Cell.{cell_of};
 
@@ -81,6 +81,14 @@ impl PackedAttrs {
         ensures { result ≡ self.now }
     {
         self.space.attrs()
+    }
+
+    /// Whether they are the default attributes.
+    #[inline(always)]
+    pub fn is_default(&self) -> bool
+        ensures { result ≡ attrs_eq self.now default_attrs }
+    {
+        self.space.has_attrs_of(&Cell::new())
     }
 
     /// A space that is drawn with them.

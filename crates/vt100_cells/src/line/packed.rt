@@ -9,6 +9,7 @@ use crate::cell::{Cell, PackedAttrs};
 use crate::line::{at, clear_left, is_continuation_at, put_within, write_run};
 
 /// Puts the printable ASCII characters of `text` at column `start` and after it, as [`put_run`](super::put_run) does.
+#[inline(always)]
 pub fn print_run(cells: &mut [Cell], start: usize, text: &[u8], attrs: &PackedAttrs)
     requires some { 0 < length text.now }
     requires in_row { start + length text.now ≤ length cells.old }
