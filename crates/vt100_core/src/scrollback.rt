@@ -76,6 +76,7 @@ impl ScrollbackState {
     }
 
     /// Shows the newest `offset` of the kept rows, and makes those that a screen of this height shows as wide as it.
+    #[inline(always)]
     pub(crate) fn show(&mut self, offset: usize, height: u16, width: u16) -> Result<(), GridError>
         requires valid { IsKept (kept_of self.old) }
         requires some { offset ≤ length self.old.rows.items }

@@ -41,6 +41,7 @@ pub fn drop_oldest<S: RowSink>(rows: &mut VecDeque<Row>, n: usize, sink: &mut S)
 
 /// Moves the rows from `first` up to `end`, without the default cells at their ends, to the end of the kept ones, and
 /// leaves blank rows in their place. The first of these takes the memory of the spare row, if there is one.
+#[inline(always)]
 pub fn keep_rows(
     kept: &mut VecDeque<Row>,
     rows: &mut [Row],
@@ -88,6 +89,7 @@ fn blank_row_in(alloc: Global, spare: Option<Row>, width: u16) -> Result<Row, Gr
 }
 
 /// Makes the kept rows from `first` up to `end` at least `width` columns wide.
+#[inline(always)]
 pub fn widen(
     rows: &mut VecDeque<Row>,
     first: usize,

@@ -164,6 +164,7 @@ impl Row {
 
     /// Empties the cells of the range, as [`erase`](Self::erase) of each of them does.
     #[doc(hidden)]
+    #[inline(always)]
     pub fn erase_range(&mut self, range: Range<u16>, attrs: Attrs)
         requires { range.end ≤ length self.old.cells }
         ensures { self.new ≡ wiped_row self.old range.start range.end attrs }

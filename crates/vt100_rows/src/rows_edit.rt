@@ -32,6 +32,7 @@ pub fn blank_rows(alloc: Global, size: Size) -> Result<Vec<Row>, GridError>
 }
 
 /// Makes the rows from `first` up to `end` blank.
+#[inline(always)]
 pub fn reset_between(rows: &mut [Row], first: usize, end: usize)
     requires in_part { first ≤ end }
     requires in_rows { end ≤ length rows.old }
@@ -90,6 +91,7 @@ pub fn erase_backward(rows: &mut [Row], row: usize, end: u16, attrs: Attrs)
 }
 
 /// Moves the rows from `first` up to `end` up by `n`; the first `n` of them come in below.
+#[inline(always)]
 pub fn turn_up(rows: &mut [Row], first: usize, end: usize, n: usize)
     requires in_part { first + n ≤ end }
     requires in_rows { end ≤ length rows.old }

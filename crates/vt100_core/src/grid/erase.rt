@@ -3,6 +3,7 @@ ghost use Rattle.std.specs.Prelude.{◌≡◌, ℕ, ◌+◌, ◌-◌, ◌<◌, �
 
 use crate::grid::Grid;
 use std::ops::Range;
+use vt100_cells::PackedAttrs;
 use vt100_forms::attrs::Attrs;
 use vt100_rows::rows_edit::{clear_all, erase_backward, erase_forward};
 
@@ -51,12 +52,29 @@ impl Grid {
     }
 
     /// Empties the cursor's row from the cursor on (EL 0). Where the cursor is past the last column nothing is erased.
+    #[inline(always)]
     pub fn erase_row_forward(&mut self, attrs: Attrs)
         requires { IsAllocated self.old }
         ensures grid { self.new ≡ columns_erased self.old self.old.col self.old.width attrs }
         ensures allocated { IsAllocated self.new }
     {
         self.erase_columns(self.pos.col..self.size.cols(), attrs);
+    }
+
+    /// Empties the cursor's row from the cursor on, as [`erase_row_forward`](Self::erase_row_forward) does. Mostly the
+    /// attributes are the default ones, and then none is looked at.
+    #[doc(hidden)]
+    #[inline(never)]
+    pub fn erase_forward(&mut self, attrs: &PackedAttrs)
+        requires { IsAllocated self.old }
+        ensures grid { self.new ≡ columns_erased self.old self.old.col self.old.width attrs.now }
+        ensures allocated { IsAllocated self.new }
+    {
+        if attrs.is_default() {
+            self.erase_row_forward(Attrs::new());
+        } else {
+            self.erase_row_forward(attrs.attrs());
+        }
     }
 
     /// Empties the cursor's row up to the cursor and at it (EL 1).
@@ -70,6 +88,7 @@ impl Grid {
     }
 
     /// Empties columns of the cursor's row.
+    #[inline(always)]
     fn erase_columns(&mut self, range: Range<u16>, attrs: Attrs)
         requires allocated { IsAllocated self.old }
         requires in_row { range.end ≤ self.old.width }

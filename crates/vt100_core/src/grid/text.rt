@@ -49,6 +49,16 @@ impl Grid {
         self.any_text(c, attrs, sink)
     }
 
+    /// Whether the cursor's row has room for a character of one column. [`print`](Self::print) of one scrolls nothing
+    /// then.
+    #[doc(hidden)]
+    #[inline(always)]
+    pub fn has_room(&self) -> bool
+        ensures { result ≡ nat_lt self.now.col self.now.width }
+    {
+        self.pos.col < self.size.cols()
+    }
+
     /// Wraps to the next row if the cursor is past the last column, as [`col_wrap`](Self::col_wrap) does.
     #[inline]
     fn make_room<S: RowSink>(&mut self, sink: &mut S) -> Result<(), GridError>

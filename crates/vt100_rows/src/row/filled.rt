@@ -9,6 +9,7 @@ use vt100_cells::line::{insert, remove, wipe};
 use vt100_forms::attrs::Attrs;
 
 /// Empties the columns from `s` up to `e`, as [`wipe`] does.
+#[inline(always)]
 pub(crate) fn wipe_filled(cells: &mut [Cell], s: u16, e: u16, attrs: Attrs, filled: u16)
     requires some { s < e }
     requires in_row { e ≤ length cells.old }

@@ -13,6 +13,7 @@ use vt100_cells::line::{print_letter, print_narrow, print_run};
 impl Row {
     /// Puts the characters of `text` at column `col` and after it, as [`put_run`](Self::put_run) does.
     #[doc(hidden)]
+    #[inline(always)]
     pub fn print_run(&mut self, col: u16, text: &[u8], attrs: &PackedAttrs)
         requires printable { All IsPrintable text.now }
         requires in_row { col + length text.now ≤ length self.old.cells }

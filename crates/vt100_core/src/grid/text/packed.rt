@@ -14,7 +14,7 @@ impl Grid {
     ghost use Rattle.vt100_core.specs.Text.{Prints, PrintsAll, PrintsFirst, put_at, printed};
 
     /// Prints one character at the cursor, as [`text`](Self::text) does.
-    #[inline]
+    #[inline(always)]
     pub fn print<S: RowSink>(
         &mut self,
         c: char,
