@@ -1,6 +1,7 @@
 pub mod CallOf
 pub mod Copies
 pub mod Draws
+pub mod Finals
 pub mod Goes
 pub mod Laws
 pub mod Memory

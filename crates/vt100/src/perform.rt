@@ -8,10 +8,14 @@ ghost use Rattle.screen_model.specs.Effect.{row_effect, other_rows, private_rows
 ghost use Rattle.screen_model.specs.Effect.{first, second, effect_or, escape_rows, osc_calls, is_unhandled};
 ghost use Rattle.screen_model.specs.Effect.{is_selector, is_question, is_base64};
 ghost use Rattle.screen_model.specs.Lookup.{lookup};
+ghost use Rattle.screen_model.specs.Effect.{effect};
 ghost use Rattle.screen_model.specs.Call as said;
+ghost use Rattle.std.specs.Int.{is_in_range};
+ghost use Rattle.vte_core.specs.Event as e;
 ghost use Rattle.vt100.specs.Goes.{Handles, MakesCalls};
-ghost use Rattle.vt100.specs.Memory.{plain_may_allocate, private_may_allocate};
+ghost use Rattle.vt100.specs.Memory.{may_allocate, plain_may_allocate, private_may_allocate};
 ghost use Rattle.vt100.specs.Runs.{PrintsPrefix};
+ghost use Rattle.vt100.specs.Finals.{IsRare};
 
 use crate::callbacks::Callbacks;
 use crate::screen::WrappedScreen;
@@ -58,16 +62,18 @@ impl<CB: Callbacks> Perform for WrappedScreen<CB> {
         false
     }
 
+    #[inline(never)]
     fn print(&mut self, c: char) {
         if self.screen.failed() {
             return;
         }
-        if is_unhandled(c) {
-            self.callbacks.unhandled_char(&mut self.screen, c);
-        } else {
-            // A refusal is kept in the screen, which has failed then.
+        // The short way, which needs no stack, for most characters.
+        if is_letter(c) && self.screen.has_room() {
+            // Nothing scrolls, so nothing is refused.
             let _ = self.text(c);
+            return;
         }
+        self.print_any(c);
     }
 
     fn print_str(&mut self, text: &str) {
@@ -177,6 +183,21 @@ impl<CB: Callbacks> WrappedScreen<CB> {
         }
     }
 
+    /// Prints a character, or reports it.
+    #[inline(never)]
+    fn print_any(&mut self, c: char)
+        requires { self.old.screen.failed ≡ false }
+        ensures { Handles CB.step CB.scrolls (effect (e.Print c)) (may_allocate (e.Print c) self.old.screen.state)
+            self.old self.new }
+    {
+        if is_unhandled(c) {
+            self.callbacks.unhandled_char(&mut self.screen, c);
+        } else {
+            // A refusal is kept in the screen, which has failed then.
+            let _ = self.text(c);
+        }
+    }
+
     /// Prints the first character of a text, and returns what is left.
     #[inline(always)]
     fn print_first<'a>(&mut self, text: &'a str) -> &'a str
@@ -226,6 +247,17 @@ impl<CB: Callbacks> WrappedScreen<CB> {
         self.unhandled_groups(unhandled, params, &[], 'm');
     }
 
+    /// EL. `plain_csi` calls it apart, so that the sequences that move the cursor need no stack.
+    #[inline(never)]
+    fn el_csi(&mut self, params: &Params)
+        requires { self.old.screen.failed ≡ false }
+        ensures { Handles CB.step CB.scrolls (plain_effect (lookup 0x4B plain_rows) params.now 0x4B)
+            (plain_may_allocate params.now 0x4B self.old.screen.state) self.old self.new }
+    {
+        let unhandled = self.el(canonicalize_params_1(params, 0));
+        self.unhandled_groups(unhandled, params, &[], 'K');
+    }
+
     /// A control sequence without intermediates.
     #[inline(never)]
     fn plain_csi(&mut self, params: &Params, action: char)
@@ -234,15 +266,30 @@ impl<CB: Callbacks> WrappedScreen<CB> {
             (plain_may_allocate params.now action self.old.screen.state) self.old self.new }
     {
         match action {
-            '@' => self.ich(canonicalize_params_1(params, 1)),
             'A' => self.cuu(canonicalize_params_1(params, 1)),
             'B' => self.cud(canonicalize_params_1(params, 1)),
             'C' => self.cuf(canonicalize_params_1(params, 1)),
             'D' => self.cub(canonicalize_params_1(params, 1)),
-            'E' => self.cnl(canonicalize_params_1(params, 1)),
-            'F' => self.cpl(canonicalize_params_1(params, 1)),
             'G' => self.cha(canonicalize_params_1(params, 1)),
             'H' | 'f' => self.cup(canonicalize_params_2(params, 1, 1)),
+            'K' => self.el_csi(params),
+            'd' => self.vpa(canonicalize_params_1(params, 1)),
+            _ => self.rare_csi(params, action),
+        }
+    }
+
+    /// One of those that most streams have few of.
+    #[inline(never)]
+    fn rare_csi(&mut self, params: &Params, action: char)
+        requires live { self.old.screen.failed ≡ false }
+        requires rare { IsRare action }
+        ensures { Handles CB.step CB.scrolls (plain_effect (lookup action plain_rows) params.now action)
+            (plain_may_allocate params.now action self.old.screen.state) self.old self.new }
+    {
+        match action {
+            '@' => self.ich(canonicalize_params_1(params, 1)),
+            'E' => self.cnl(canonicalize_params_1(params, 1)),
+            'F' => self.cpl(canonicalize_params_1(params, 1)),
             'L' => self.il(canonicalize_params_1(params, 1)),
             'M' => self.dl(canonicalize_params_1(params, 1)),
             'P' => self.dch(canonicalize_params_1(params, 1)),
@@ -257,7 +304,6 @@ impl<CB: Callbacks> WrappedScreen<CB> {
                 // A refusal is kept in the screen, which has failed then.
                 let _ = self.rep(canonicalize_params_1(params, 1));
             }
-            'd' => self.vpa(canonicalize_params_1(params, 1)),
             'r' => {
                 let (rows, _) = self.screen.size();
                 self.decstbm(canonicalize_params_2(params, 1, rows.get()));
@@ -457,6 +503,14 @@ impl<CB: Callbacks> WrappedScreen<CB> {
     }
 }
 
+/// Whether a character is printable ASCII.
+#[inline(always)]
+fn is_letter(c: char) -> bool
+    ensures { result ≡ is_in_range 0x20 0x7E c }
+{
+    matches!(c, ' '..='~')
+}
+
 /// Whether a character isn't drawn, but reported: U+FFFD, and the controls from U+0080 to U+009F.
 #[inline]
 pub(crate) fn is_unhandled(c: char) -> bool
@@ -567,8 +621,16 @@ fn canonicalize_params_1(params: &Params, default: u16) -> u16
     match params.numbers() {
         Some([number, ..]) => number_or(*number, default),
         Some([]) => default,
-        None => next_or(&mut params.iter(), default),
+        None => led_by_group(params, default),
     }
+}
+
+/// The same by the groups.
+#[inline(never)]
+fn led_by_group(params: &Params, default: u16) -> u16
+    ensures { result ≡ number_or default params.now }
+{
+    next_or(&mut params.iter(), default)
 }
 
 /// A number, or the default where it is 0.
@@ -580,13 +642,23 @@ fn number_or(number: u16, default: u16) -> u16
 }
 
 /// The first numbers of the first two groups, each or its default where it is absent or 0.
+#[inline(always)]
 fn canonicalize_params_2(params: &Params, default1: u16, default2: u16) -> (u16, u16)
     ensures first { result.0 ≡ number_or default1 params.now }
     ensures second { result.1 ≡ number_or default2 (later params.now) }
 {
-    if let Some([first, second, ..]) = params.numbers() {
-        return (number_or(*first, default1), number_or(*second, default2));
+    match params.numbers() {
+        Some([first, second, ..]) => (number_or(*first, default1), number_or(*second, default2)),
+        _ => led_by_groups(params, default1, default2),
     }
+}
+
+/// The same by the groups.
+#[inline(never)]
+fn led_by_groups(params: &Params, default1: u16, default2: u16) -> (u16, u16)
+    ensures first { result.0 ≡ number_or default1 params.now }
+    ensures second { result.1 ≡ number_or default2 (later params.now) }
+{
     let mut groups = params.iter();
     (
         next_or(&mut groups, default1),

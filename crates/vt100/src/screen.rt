@@ -1,5 +1,5 @@
 //! The screen of a terminal.
-ghost use Rattle.std.specs.Prelude.{◌≡◌, Ok, Err, IsErr, IfOk, OnOk, OnErr, true};
+ghost use Rattle.std.specs.Prelude.{◌≡◌, Ok, Err, IsErr, IfOk, OnOk, OnErr, true, nat_lt};
 ghost use Rattle.screen_model.specs.State.{fresh_state};
 ghost use Rattle.vt100.specs.Tries.{alive};
 ghost use Rattle.vt100.specs.declared.error.ScreenError.TheVariants.{Memory};
@@ -100,6 +100,16 @@ impl Screen {
             alloc,
             failed: false,
         })
+    }
+}
+
+impl Screen {
+    /// Whether the cursor's row has room for a character of one column.
+    #[inline(always)]
+    pub(crate) fn has_room(&self) -> bool
+        ensures { result ≡ nat_lt self.now.state.shown.col self.now.state.shown.width }
+    {
+        self.grid.has_room()
     }
 }
 

@@ -110,6 +110,7 @@ impl<CB: Callbacks> WrappedScreen<CB> {
     /// Empties the cursor's row from the cursor on (0), up to the cursor and at it (1), or whole (2), with the drawing
     /// attributes (EL). Answers how many sequences were unhandled: 1 at another number.
     #[tactic(auto, using(crate::proofs::ProperScreens::drawn_rules))]
+    #[inline(always)]
     pub fn el(&mut self, mode: u16) -> usize
         ensures { Counts CB.scrolls (line_erased mode) self.old.screen self.old.callbacks result self.new.screen
             self.new.callbacks }
@@ -117,11 +118,13 @@ impl<CB: Callbacks> WrappedScreen<CB> {
         if self.screen.failed {
             return 0;
         }
-        let attrs = self.screen.attrs.attrs();
         match mode {
-            0 => self.screen.grid.erase_row_forward(attrs),
-            1 => self.screen.grid.erase_row_backward(attrs),
-            2 => self.screen.grid.erase_row(attrs),
+            0 => self.screen.grid.erase_forward(&self.screen.attrs),
+            1 => self
+                .screen
+                .grid
+                .erase_row_backward(self.screen.attrs.attrs()),
+            2 => self.screen.grid.erase_row(self.screen.attrs.attrs()),
             _ => return 1,
         }
         0

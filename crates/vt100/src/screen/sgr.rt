@@ -31,8 +31,31 @@ impl<CB: Callbacks> WrappedScreen<CB> {
 }
 
 /// Reads all groups; without any the attributes become the default ones. Answers how many were unhandled.
-#[inline(never)]
+#[inline(always)]
 fn read_sgr(attrs: &mut PackedAttrs, params: &Params) -> usize
+    ensures { read_of attrs.new result ≡ sgr_read params.now attrs.old }
+{
+    match params.numbers() {
+        Some([code]) => read_alone(attrs, *code),
+        _ => read_several(attrs, params),
+    }
+}
+
+/// Reads a number that is the only group. Most sequences have one.
+#[inline(never)]
+fn read_alone(attrs: &mut PackedAttrs, code: u16) -> usize
+    ensures { read_of attrs.new result ≡ sgr_read ((code ∷ []) ∷ []) attrs.old }
+{
+    match read_number(attrs, code, &[]) {
+        Ok((is_handled, _)) => usize::from(!is_handled),
+        Err(End::Value) => 0,
+        Err(End::Kind) => 1,
+    }
+}
+
+/// Reads all groups, as `read_sgr` does.
+#[inline(never)]
+fn read_several(attrs: &mut PackedAttrs, params: &Params) -> usize
     ensures { read_of attrs.new result ≡ sgr_read params.now attrs.old }
 {
     match params.numbers() {

@@ -1,25 +1,17 @@
-use Rattle.std.proofs.Common.{◌≡◌, ◌∙◌, [], ◌∷◌, Bool, true, false, cond, not, ◌&&◌, ap, sym}
+use Rattle.std.proofs.Common.{◌≡◌, ◌∙◌, [], ◌∷◌, Bool, false, cond, not, ◌&&◌, ap, sym, arith}
+use Rattle.std.proofs.lemmas.Grind.{common_steps}
 use Rattle.screen_model.specs.Call as said
 use Rattle.screen_model.specs.Effect.{is_unhandled, calling, steps}
 use Rattle.screen_model.specs.Step.{typed}
 use Rattle.vt100.specs.Memory.{keeps_row}
-use Rattle.vt100.proofs.EventLemmas.{does_as, does_call, does_scroll, does_where}
+use Rattle.vt100.proofs.EventLemmas.{does_as, does_scroll, does_where}
 use Rattle.vt100.proofs.perform.WrappedScreenPerform.print.Goals as goal
 
-pub returns-then-is_unhandled : goal.returns-then-is_unhandled
-returns-then-is_unhandled g c =
+pub returns-then-has_room : goal.returns-then-has_room
+returns-then-has_room g c =
     let ch = c.args.c in
     let s = c.args.self.now.screen.state in
-    let is : is_unhandled ch ≡ true = sym c.is_unhandled.ensures ∙ c.if-is_unhandled.true in
-    does_as (calling (said.unhandled_char ch ∷ []))
-    (ap (λ (b : Bool). cond b (calling (said.unhandled_char ch ∷ []) s) (steps (typed ch s))) (sym is))
-    (does_call (said.unhandled_char ch) (sym c.failed.ensures ∙ c.if-failed.false) c.unhandled_char.ensures)
-
-pub returns-else-is_unhandled : goal.returns-else-is_unhandled
-returns-else-is_unhandled g c =
-    let ch = c.args.c in
-    let s = c.args.self.now.screen.state in
-    let is : is_unhandled ch ≡ false = sym c.is_unhandled.ensures ∙ c.if-is_unhandled.false in
+    let is : is_unhandled ch ≡ false = grind (arith, common_steps) in
     does_where (ap (λ (b : Bool). not b && keeps_row s (typed ch s).state) (sym is)) (does_as (λ t. steps (typed ch t))
     (ap (λ (b : Bool). cond b (calling (said.unhandled_char ch ∷ []) s) (steps (typed ch s))) (sym is))
     (does_scroll c.text.ensures))
