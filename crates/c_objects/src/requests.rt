@@ -72,6 +72,8 @@ impl Requests {
 
     /// Queues a request of this kind. If it is too long, the queue is full or an allocation fails, it is counted as
     /// dropped.
+    // Few streams have requests, and what reads the others is faster without this inlined.
+    #[inline(never)]
     fn queue(&mut self, kind: u8, size: (u16, u16), letters: &[u8], text: &[u8])
         ensures { Queues self.old (record {
           kind = kind;
