@@ -142,21 +142,35 @@ fn identify_terminal<H: Handler>(handler: &mut H, params: &Params, intermediates
     }
 }
 
-/// Sequences without intermediates: SGR, which is the most frequent, and all others.
+/// Sequences without intermediates. The frequent ones are compared first, since a jump by a table is often mispredicted.
 #[inline(always)]
 fn plain<H: Handler>(handler: &mut H, last: Option<char>, params: &Params, action: char)
     ensures { Calls H.step handler.old (csi_calls last params.now [] action) handler.new }
 {
-    if action == 'm' {
-        sgr(handler, params);
-    } else {
-        other_plain(handler, last, params, action);
+    match action {
+        'm' => sgr(handler, params),
+        'H' => goto(handler, params),
+        'K' => clear_line(handler, first_or(params, 0)),
+        _ => moving_plain(handler, last, params, action),
     }
 }
 
-/// Sequences without intermediates: DA, and all others.
+/// The same, with the moves by a count first.
 #[inline(never)]
-fn other_plain<H: Handler>(handler: &mut H, last: Option<char>, params: &Params, action: char)
+fn moving_plain<H: Handler>(handler: &mut H, last: Option<char>, params: &Params, action: char)
+    ensures { Calls H.step handler.old (csi_calls last params.now [] action) handler.new }
+{
+    match action {
+        'A' => handler.move_up(count_in(params)),
+        'C' => handler.move_forward(count_in(params)),
+        'D' => handler.move_backward(count_in(params)),
+        _ => any_plain(handler, last, params, action),
+    }
+}
+
+/// The same, by a table.
+#[inline(never)]
+fn any_plain<H: Handler>(handler: &mut H, last: Option<char>, params: &Params, action: char)
     ensures { Calls H.step handler.old (csi_calls last params.now [] action) handler.new }
 {
     match action {

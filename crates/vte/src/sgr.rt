@@ -52,9 +52,24 @@ fn bright(number: u16) -> NamedColor
     }
 }
 
-/// Makes the call of a group of one number, if that sets an attribute by itself.
+/// Makes the call of a group of one number, if that sets an attribute by itself. The frequent ones are compared first,
+/// since a jump by a table is often mispredicted.
 #[inline(always)]
 fn set_single<H: Handler>(handler: &mut H, code: u16)
+    ensures { Calls H.step handler.old (map terminal_attribute (option_to_list (lookup code singles))) handler.new }
+{
+    match code {
+        0 => handler.terminal_attribute(Attr::Reset),
+        30..=37 => set_foreground(handler, plain(code - 30)),
+        40..=47 => set_background(handler, plain(code - 40)),
+        39 => set_foreground(handler, NamedColor::Foreground),
+        _ => set_any_single(handler, code),
+    }
+}
+
+/// The same, by a table.
+#[inline(never)]
+fn set_any_single<H: Handler>(handler: &mut H, code: u16)
     ensures { Calls H.step handler.old (map terminal_attribute (option_to_list (lookup code singles))) handler.new }
 {
     match code {
@@ -249,7 +264,7 @@ fn set_code<H: Handler>(handler: &mut H, code: u16, groups: &mut ParamsIter<'_>)
                 handler.terminal_attribute(Attr::UnderlineColor(Some(color)));
             }
         }
-        _ => set_single(handler, code),
+        _ => set_any_single(handler, code),
     }
 }
 
