@@ -327,6 +327,7 @@ fn set_number<H: Handler>(handler: &mut H, code: u16, others: &[u16]) -> usize
     ensures within { result ≤ length others.now }
 {
     match code {
+        50.. => set_high_number(handler, code, others),
         38 => {
             let (color, len) = color_in_numbers(others);
             if let Some(color) = color {
@@ -341,6 +342,22 @@ fn set_number<H: Handler>(handler: &mut H, code: u16, others: &[u16]) -> usize
             }
             len
         }
+        _ => {
+            set_single(handler, code);
+            0
+        }
+    }
+}
+
+/// The same for the numbers from 50 on, which are rare.
+#[inline(never)]
+fn set_high_number<H: Handler>(handler: &mut H, code: u16, others: &[u16]) -> usize
+    requires { 50 ≤ code }
+    ensures calls { SetsFirst H.step (code ∷ []) handler.old (each_alone others.now) handler.new
+        (each_alone (drop result others.now)) }
+    ensures within { result ≤ length others.now }
+{
+    match code {
         58 => {
             let (color, len) = color_in_numbers(others);
             if let Some(color) = color {
@@ -349,7 +366,7 @@ fn set_number<H: Handler>(handler: &mut H, code: u16, others: &[u16]) -> usize
             len
         }
         _ => {
-            set_single(handler, code);
+            set_any_single(handler, code);
             0
         }
     }
