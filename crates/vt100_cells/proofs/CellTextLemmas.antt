@@ -50,7 +50,7 @@ text_of-pushed t k ys h e f =
     ap chars (take-put_mid t.len k t.bytes ys (t.len + k) (omega arith) (omega (arith, h.fits, h.whole)))
     ∙ chars-append (take t.len t.bytes) ys (IsUtf8-had (take t.len t.bytes) h.utf8)
 
-chars-encode : (c : ℕ) → IsScalar c → chars (encode_utf8 c) ≡ c ∷ []
+pub chars-encode : (c : ℕ) → IsScalar c → chars (encode_utf8 c) ≡ c ∷ []
 chars-encode c h = ap chars (sym (append-nil (encode_utf8 c))) ∙ chars-encodes (c ∷ []) (search (rules, h))
 
 -- the fields are those of a text
@@ -105,7 +105,7 @@ text-replaced t c h e l =
 
 -- ---- one character of three bytes
 
-encode-three : (c : ℕ) → 0x800 ≤ c → c < 0x1_0000
+pub encode-three : (c : ℕ) → 0x800 ≤ c → c < 0x1_0000
     → encode_utf8 c ≡ (224 + c / 4096) ∷ (128 + c / 64 % 64) ∷ (128 + c % 64) ∷ []
 unfolding encode_utf8
 encode-three c l h = grind (arith, nat_tests)

@@ -19,3 +19,4 @@ pub mod WideScripts
 pub mod NarrowScripts
 pub mod JoiningMarks
 pub mod NarrowLemmas
+pub mod ShortLemmas

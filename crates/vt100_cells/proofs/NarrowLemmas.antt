@@ -33,7 +33,7 @@ pub encode-two : (c : ℕ) → 0x80 ≤ c → c < 0x800 → encode_utf8 c ≡ (1
 unfolding encode_utf8
 encode-two c l h = grind (arith, nat_tests)
 
-text-two : (c : ℕ) → IsScalar c → 0x80 ≤ c → c < 0x800
+pub text-two : (c : ℕ) → IsScalar c → 0x80 ≤ c → c < 0x800
     → IsTextOf (record { bytes = (192 + c / 64) ∷ (128 + c % 64) ∷ replicate 19 0; len = 2 }) (c ∷ [])
 text-two c s l h =
     let e = encode-two c l h in

@@ -16,9 +16,11 @@ abbrev is_wide_kind : Kind → Bool
 is_wide_kind kinds.Wide = true
 is_wide_kind _ = false
 
--- kana, ideographs and Hangul
+-- kana, ideographs, Hangul and full forms, with their punctuation
 abbrev pub wide_scripts : List Range
-wide_scripts = (0x3041, 0x3096) ∷ (0x30A0, 0x30FF) ∷ (0x4E00, 0x9FFF) ∷ (0xAC00, 0xD7A3) ∷ []
+wide_scripts =
+    (0x3000, 0x3029) ∷ (0x3030, 0x303E) ∷ (0x3041, 0x3096) ∷ (0x309B, 0x30FF) ∷ (0x3250, 0x9FFF) ∷ (0xAC00, 0xD7A3)
+    ∷ (0xFF01, 0xFF60) ∷ []
 
 -- where c stands in such a script, its kind is wide
 abbrev is_wide_there : ℕ → Bool
@@ -52,7 +54,7 @@ width-wide c l h = let two = of_wide c (kind c) h in grind (arith, nat_tests)
 or-second : (b : Bool) (d : Bool) → b ≡ true → (not b || d) ≡ true → d ≡ true
 or-second b d e h = ap (λ x. not x || d) (sym e) ∙ h
 
-pub drawn-wide : (c : ℕ) → c ≤ 0xD7A3 → in_ranges wide_scripts c ≡ true → 0x3000 ≤ c → Some 2 ≡ drawn_columns c
+pub drawn-wide : (c : ℕ) → c ≤ 0xFFFF → in_ranges wide_scripts c ≡ true → 0x3000 ≤ c → Some 2 ≡ drawn_columns c
 drawn-wide c l i h =
     let w = width-wide c h (or-second (in_ranges wide_scripts c) (is_wide_kind (kind c)) i (scripts-wide c (omega arith))) in
     rw w refl

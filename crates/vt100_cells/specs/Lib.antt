@@ -6,3 +6,4 @@ pub mod Cells
 pub mod Line
 pub use Rattle.vt100_forms.specs.Attrs
 pub mod Narrow
+pub mod ShortFields

@@ -9,6 +9,7 @@ mod packed;
 
 use crate::cell_color::CellColor;
 use crate::cell_text::CellText;
+use crate::short_char::ShortChar;
 pub use packed::PackedAttrs;
 use std::marker::Model;
 use std::mem::size_of;
@@ -179,6 +180,27 @@ impl Cell {
         ensures { self.new ≡ cell_of c self.old.attrs }
     {
         self.text.replace_space(c);
+    }
+
+    /// Puts the character `c`, which takes one column, in place of a space.
+    #[inline(always)]
+    pub(crate) fn replace_by_narrow(&mut self, c: ShortChar)
+        requires space { self.old ≡ cell_of 32 self.old.attrs }
+        requires narrow { drawn_columns c ≡ Some 1 }
+        ensures { self.new ≡ cell_of c self.old.attrs }
+    {
+        self.text.replace_by_short(c);
+    }
+
+    /// Puts the wide character `c` in place of an ideographic space.
+    #[inline(always)]
+    pub(crate) fn replace_by_short_wide(&mut self, c: ShortChar)
+        requires space { self.old ≡ cell_of 0x3000 self.old.attrs }
+        requires wide { IsWide c }
+        ensures value { self.new ≡ cell_of c self.old.attrs }
+        ensures character { IsScalar c }
+    {
+        self.text.replace_by_short(c);
     }
 
     /// Whether the text takes one more zero-width character. For rows alone.

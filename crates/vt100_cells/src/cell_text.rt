@@ -6,6 +6,7 @@ ghost use Rattle.std.specs.Char.{IsScalar};
 ghost use Rattle.unicode_width.specs.Width.{str_width};
 ghost use Rattle.vt100_cells.specs.Cell.{text_eq};
 
+use crate::short_char::ShortChar;
 use std::marker::Model;
 use std::str;
 use unicode_width::UnicodeWidthStr;
@@ -154,6 +155,19 @@ impl CellText {
         } else {
             *self = CellText::of_char(c);
         }
+    }
+
+    /// Puts the character `c` in place of another one of at most three bytes.
+    #[inline(always)]
+    pub(crate) fn replace_by_short(&mut self, c: ShortChar)
+        requires short { length (encode_utf8_all self.old) ≤ 3 }
+        ensures text { self.new ≡ c ∷ [] }
+        ensures character { IsScalar c }
+    {
+        self.len = c.len;
+        self.bytes[0] = c.bytes[0];
+        self.bytes[1] = c.bytes[1];
+        self.bytes[2] = c.bytes[2];
     }
 
     pub(crate) fn is_empty(&self) -> bool

@@ -12,7 +12,9 @@ mod cell_color;
 mod cell_text;
 pub mod laws;
 pub mod line;
+mod short_char;
 mod width;
 
 pub use cell::{Cell, PackedAttrs};
+pub use short_char::{ShortChar, split_narrow, split_wide};
 pub use width::columns;

@@ -13,7 +13,9 @@ mod packed;
 
 use crate::cell::{Cell, is_same};
 use crate::cell_text::START_BYTES;
-pub use packed::{print_letter, print_narrow, print_run};
+pub use packed::{
+    print_letter, print_narrow, print_pairs, print_run, print_short, short_pairs_end,
+};
 use vt100_forms::attrs::Attrs;
 
 /// The cell at column `i`.

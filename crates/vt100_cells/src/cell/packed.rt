@@ -99,6 +99,14 @@ impl PackedAttrs {
         &self.space
     }
 
+    /// An ideographic space that is drawn with them.
+    #[inline(always)]
+    pub(crate) fn wide_space(&self) -> Cell
+        ensures { result ≡ cell_of 0x3000 self.now }
+    {
+        Cell::of_char('\u{3000}', 2, self.attrs())
+    }
+
     /// Changes the colour of the character.
     #[inline(always)]
     pub fn set_fgcolor(&mut self, color: Color)
