@@ -1,12 +1,15 @@
 //! Printing on a row with packed attributes.
-ghost use Rattle.std.specs.Prelude.{◌≡◌, ◌+◌, ◌<◌, ◌≤◌, length, All};
-ghost use Rattle.vt100_cells.specs.Cell.{IsPrintable, cell_of};
+ghost use Rattle.std.specs.Prelude.{◌≡◌, ◌+◌, ◌*◌, ◌<◌, ◌≤◌, length, All};
+ghost use Rattle.std.specs.Char.{IsScalar};
+ghost use Rattle.vt100_cells.specs.Cell.{IsPrintable, IsWide, cell_of};
 ghost use Rattle.vt100_cells.specs.Narrow.{IsNarrow};
-ghost use Rattle.vt100_rows.specs.Row.{placed, placed_each};
+ghost use Rattle.vt100_rows.specs.Row.{placed, placed_each, placed_pairs};
 
 use crate::row::Row;
-use vt100_cells::PackedAttrs;
-use vt100_cells::line::{print_letter, print_narrow, print_run};
+use vt100_cells::line::{
+    print_letter, print_narrow, print_pairs, print_run, print_short, short_pairs_end,
+};
+use vt100_cells::{PackedAttrs, ShortChar};
 
 /// The calls mean the same as those with [`Attrs`](vt100_forms::attrs::Attrs). They are for the grid of `vt100_core`
 /// alone, which meets their conditions.
@@ -48,6 +51,42 @@ impl Row {
         if !text.is_empty() {
             self.filled = self.filled.max((col + text.len() as u16).saturating_add(1));
             print_narrow(&mut self.cells, usize::from(col), text, attrs);
+        }
+    }
+
+    /// Puts the characters of `text`, each of which takes one column, at column `col` and after it, as
+    /// [`print_narrow`](Self::print_narrow) does.
+    #[doc(hidden)]
+    pub fn print_short(&mut self, col: u16, text: &[ShortChar], attrs: &PackedAttrs)
+        requires narrow { All IsNarrow text.now }
+        requires in_row { col + length text.now ≤ length self.old.cells }
+        ensures { self.new ≡ placed_each self.old col text.now attrs.now }
+    {
+        if !text.is_empty() {
+            self.filled = self.filled.max((col + text.len() as u16).saturating_add(1));
+            print_short(&mut self.cells, usize::from(col), text, attrs);
+        }
+    }
+
+    /// Puts the characters of `text`, each of which takes two columns, at column `col` and after it, as
+    /// [`put_pairs`](Self::put_pairs) does.
+    #[doc(hidden)]
+    pub fn print_pairs(&mut self, col: u16, text: &[ShortChar], attrs: &PackedAttrs)
+        requires wide { All IsWide text.now }
+        requires in_row { col + 2 * length text.now ≤ length self.old.cells }
+        ensures each { self.new ≡ placed_pairs self.old col text.now attrs.now }
+        ensures characters { All IsScalar text.now }
+    {
+        if !text.is_empty() {
+            let filled = self
+                .filled
+                .max((col + 2 * text.len() as u16).saturating_add(1));
+            let col = usize::from(col);
+            if short_pairs_end(&self.cells, col, text) {
+                self.wrapped = false;
+            }
+            print_pairs(&mut self.cells, col, text, attrs);
+            self.filled = filled;
         }
     }
 }
