@@ -1,8 +1,8 @@
 -- Grids without kept rows.
-use Rattle.std.proofs.Common.{◌≡◌, ◌∙◌, ℕ, ◌<◌, ◌≤◌, Bool, true, List, length, arith, sym, subst, refl}
+use Rattle.std.proofs.Common.{◌≡◌, ◌∙◌, List, length, arith, sym, subst, refl}
 use Rattle.std.proofs.lemmas.Bool.{false≢true}
 use Rattle.vt100_rows.specs.Row.{RowView}
-use Rattle.vt100_rows.specs.Sheet.{row_at, IsSheet, HaveSameWidths}
+use Rattle.vt100_rows.specs.Sheet.{HaveSameWidths}
 use Rattle.vt100_core.specs.Grid.{GridView, KeptPart, IsKept, IsGrid, IsAllocated, new_grid}
 use Rattle.vt100_core.specs.declared.scrollback.Scrollback.TheVariants.{Disabled}
 use Rattle.vt100_core.specs.Copy.{nothing_kept, without_kept}

@@ -1,6 +1,6 @@
 -- How many rows have scrolled off.
 use Rattle.std.proofs.Common.{◌≡◌, ℕ, ◌+◌, ◌-◌, ◌^◌, ◌<◌, ◌≤◌, ◌==◌, Bool, true, false, cond, not, ◌&&◌, List, [], ◌∷◌}
-use Rattle.std.proofs.Common.{◌++◌, length, take, drop, map, min, refl, sym, ap, ◌∙◌, arith, nat_le, nat_lt, length-drop}
+use Rattle.std.proofs.Common.{◌++◌, length, drop, map, min, refl, sym, ap, ◌∙◌, arith, nat_le, nat_lt, length-drop}
 use Rattle.std.proofs.Common.{length-append, length-take-le}
 use Rattle.std.proofs.lemmas.Bool.{cond_both, cond-true, and_from, eq-eqb, false≢true}
 use Rattle.std.proofs.lemmas.List.{length-map}

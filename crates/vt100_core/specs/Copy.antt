@@ -1,5 +1,5 @@
 -- Copies and comparisons of what is drawn on.
-use Rattle.std.specs.Prelude.{ℕ, ◌≡◌, true, []}
+use Rattle.std.specs.Prelude.{◌≡◌, true, []}
 use Rattle.vt100_core.specs.Grid.{KeptPart, GridView}
 
 -- no row is kept

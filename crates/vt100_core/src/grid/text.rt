@@ -7,6 +7,7 @@ ghost use Rattle.vt100_rows.specs.Row.{join_row, join_answer, placed_each};
 
 mod narrow;
 mod packed;
+mod short;
 
 use crate::grid::Grid;
 use crate::printed::Printed;

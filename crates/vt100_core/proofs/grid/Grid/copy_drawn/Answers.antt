@@ -1,4 +1,4 @@
-use Rattle.std.proofs.Common.{◌∙◌, ap, sym}
+use Rattle.std.proofs.Common.{◌∙◌, ap}
 use Rattle.vt100_core.specs.Grid.{GridView}
 use Rattle.vt100_core.specs.GridFields.{grid_of}
 use Rattle.vt100_core.specs.KeptFields.{kept_of}
