@@ -1,6 +1,6 @@
 -- What the parser's functions do with the first k of some bytes: the parser (p) and the performer (old) before them,
 -- and after them (r, new).
-use Rattle.std.specs.Prelude.{◌≡◌, ◌<◌, ◌≤◌, ℕ, true, false, List, [], take, drop, length, slice_index}
+use Rattle.std.specs.Prelude.{◌≡◌, ◌+◌, ◌<◌, ◌≤◌, ℕ, Bool, true, false, List, [], take, drop, length, slice_index}
 use Rattle.std.specs.Int.{is_in_range}
 use Rattle.vte_core.specs.Bytes.{is_intermediate, is_private, opens_sequence}
 use Rattle.vte_core.specs.Event.{Event}
@@ -8,6 +8,7 @@ use Rattle.vte_core.specs.Pending.{Pending, events_from, after_bytes}
 use Rattle.vte_core.specs.Plain.{ArePlain}
 use Rattle.vte_core.specs.Runs.{PerformsEvents, IsStep}
 use Rattle.vte_core.specs.Standing.{IsAt}
+use Rattle.vte_core.specs.Stopping.{StopsAt}
 use Rattle.vte_core.specs.declared.parser.Parser.{Parser}
 
 -- ESC comes first
@@ -34,6 +35,15 @@ pub record ReadsStep {S : Type 0} (step : S → Event → S
   pub some : 0 < k
   pub reads : Reads step n p old bs k r new
   pub is_step : (q : Pending) → IsAt n p q → IsStep n q (take k bs) (drop k bs)
+
+-- the same, and the performer is asked before them and after them, and wherever else it has to be: what stops as it
+-- should on the bytes that are left does so on all of them
+pub record ReadsAsked {S : Type 0} (step : S → Event → S → Type 0) (terminated : S
+    → Bool) (n : ℕ) (p : Parser n) (old : S) (bs : List ℕ) (k : ℕ) (r : Parser n) (new : S) : Type 0 where
+  pub reads : Reads step n p old bs k r new
+  pub stops : (q : Pending) → IsAt n p q → (j : ℕ) (end : S)
+      → StopsAt step terminated n (after_bytes q (take k bs)) true (drop k bs) new j end
+      → StopsAt step terminated n q true bs old (k + j) end
 
 -- they have no events
 pub record ReadsQuietly (n : ℕ) (p : Parser n) (bs : List ℕ) (k : ℕ) (r : Parser n) : Type 0 where

@@ -10,7 +10,7 @@ ghost use Rattle.vte_core.specs.Event.{Performs};
 ghost use Rattle.vte_core.specs.StepEvents.{final_events};
 ghost use Rattle.vte_core.specs.Pending.{Pending, InEscape, final_rest, final_reported};
 ghost use Rattle.vte_core.specs.Reads.{BeginsCommand, BeginsMarked, BeginsPlain, BeginsPrivate, BeginsUnmarked};
-ghost use Rattle.vte_core.specs.Reads.{BeginsWithEsc, Reads, ReadsSome, ReadsStep, ReadsQuietly};
+ghost use Rattle.vte_core.specs.Reads.{BeginsWithEsc, Reads, ReadsAsked, ReadsSome, ReadsStep, ReadsQuietly};
 ghost use Rattle.vte_core.specs.Runs.{TellsEach, is_one_step};
 ghost use Rattle.vte_core.specs.Standing.{IsAt, IsAfter, state_is_text};
 ghost use Rattle.vte_core.specs.Stopping.{Stops};
@@ -647,22 +647,24 @@ impl<const N: usize> Parser<N> {
         text + self.read_any_escape(performer, &bytes[text..])
     }
 
-    /// Reads as `read_ground` does, but short text and sequences after it without a call.
+    /// Reads as `read_ground` does, but short text and, where the performer goes on, a sequence after it without a call.
     #[inline(always)]
     fn read_near<P: Perform>(&mut self, performer: &mut P, bytes: &[u8]) -> usize
         requires room { 8 < length bytes.now }
         requires whole { self.old.unfinished ≡ [] }
         requires ground { self.old.state ≡ State.Ground }
-        ensures { ReadsStep P.step N self.old performer.old bytes.now result self.new performer.new }
+        requires goes_on { P.is_terminated performer.old ≡ false }
+        ensures some { 0 < result }
+        ensures asked { ReadsAsked P.step P.is_terminated N self.old performer.old bytes.now result self.new performer.new }
     {
         let text = self.read_short(performer, bytes);
-        if text > 0 {
+        if text > 0 && performer.terminated() {
             return text;
         }
-        if bytes[0] == 0x1B {
-            return self.read_escape(performer, bytes);
+        if bytes[text] == 0x1B {
+            return text + self.read_escape(performer, &bytes[text..]);
         }
-        self.read_ground(performer, bytes)
+        text + self.read_ground(performer, &bytes[text..])
     }
 
     /// Reads as `read_through` does, but short text and a sequence after it without a call.
@@ -759,12 +761,14 @@ impl<const N: usize> Parser<N> {
         }
     }
 
-    /// Reads bytes up to the first that has an event, and with it, or ground text up to the next ESC. Returns how
-    /// many bytes it read.
+    /// Reads bytes up to the first that has an event, and with it, or ground text up to the next ESC, and after short text
+    /// a sequence too, where the performer goes on. Returns how many bytes it read.
     #[inline(always)]
     fn read_step<P: Perform>(&mut self, performer: &mut P, bytes: &[u8]) -> usize
-        requires { 0 < length bytes.now }
-        ensures { ReadsStep P.step N self.old performer.old bytes.now result self.new performer.new }
+        requires some { 0 < length bytes.now }
+        requires goes_on { P.is_terminated performer.old ≡ false }
+        ensures some { 0 < result }
+        ensures asked { ReadsAsked P.step P.is_terminated N self.old performer.old bytes.now result self.new performer.new }
     {
         match self.state {
             State::Ground if bytes.len() >= TURN_LEN && self.unfinished.is_empty() =>

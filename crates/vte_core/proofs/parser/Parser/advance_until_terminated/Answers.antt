@@ -2,12 +2,10 @@ use Rattle.std.proofs.Common.{◌≡◌, ◌∙◌, sym, ap, arith, List, ℕ, t
 use Rattle.std.proofs.Common.{drop, length, length-take, refl, ◌≤◌}
 use Rattle.std.proofs.lemmas.Grind.{common_steps}
 use Rattle.std.proofs.Math.Nat.{zero-add}
-use Rattle.vte_core.specs.Pending.{pending, after_bytes, events_from}
-use Rattle.vte_core.proofs.StopLemmas.{stop_now, stop_end, stops-said}
+use Rattle.vte_core.specs.Pending.{pending, after_bytes}
+use Rattle.vte_core.proofs.StopLemmas.{stop_now, stop_end, stops-said, whole_rest}
 use Rattle.vte_core.proofs.Runs.{read_more, piece_and_rest}
 use Rattle.vte_core.proofs.ReadsLemmas.{reads_none, reads_on, state_after_past, reported_past}
-use Rattle.vte_core.proofs.Quiet.{step_stops}
-use Rattle.vte_core.proofs.Telling.{same_events}
 use Rattle.vte_core.proofs.Machine.{after_bytes-append}
 use Rattle.vte_core.proofs.parser.Parser.advance_until_terminated.Goals as goal
 
@@ -26,25 +24,23 @@ loop-read-preserved g c =
     let k = c.read_step-read.result in
     let inv = c.loop-read.invariant in
     let read = c.read_step-read.ensures in
-    let tells = read.reads.reported in
-    let piece : List ℕ = take k (take (length bs - i) (drop i bs)) in
     let quiet : g.P.Perform.is_terminated c.loop-read.performer ≡ false =
     sym c.terminated.ensures ∙ c.if-terminated.false in
     record {
-      reads = reads_on bs i k inv.reads read.reads;
+      reads = reads_on bs i k inv.reads read.asked.reads;
       none = λ h. absurd (omega (arith, h, read.some));
       stops = λ q h j new r.
           let now = after_bytes q (take i bs) in
-          let at = inv.reads.state_after q h in
-          let rest : List ℕ = drop k (take (length bs - i) (drop i bs)) in
-          let parts = piece_and_rest bs i k read.reads.within in
-          let left = rw (parts.2, read_more bs i k, after_bytes-append q (take i bs) piece) at r in
-          let gone = same_events g.P.Perform.step c.loop-read.performer c.read_step-read.new.performer tells.reported
-          (events_from g.row.N now piece) (tells.added now at) tells.performed in
-          let whole = step_stops g.P.Perform.step g.P.Perform.is_terminated g.row.N now piece rest
-          c.loop-read.performer c.read_step-read.new.performer j new (read.is_step now at) quiet gone left in
-          let m : i + k + j ≡ i + (length piece + j) = omega (arith, parts.1) in
-          rw m (inv.stops q h (length piece + j) new (rw parts.0 at whole));
+          let parts = piece_and_rest bs i k read.asked.reads.within in
+          let left = rw (
+            parts.2,
+            read_more bs i k,
+            after_bytes-append q (take i bs) (take k (take (length bs - i) (drop i bs))),
+          ) at r in
+          let on = read.asked.stops now (inv.reads.state_after q h) j new left in
+          let rest = rw (whole_rest bs i) at on in
+          let m : i + k + j ≡ i + (k + j) = omega arith in
+          rw m (inv.stops q h (k + j) new rest);
       already = λ t. let stopped = ap g.P.Perform.is_terminated (inv.already t).1 ∙ t in cc (quiet, stopped);
     }
 
