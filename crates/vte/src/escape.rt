@@ -8,8 +8,8 @@ use vte_types::C0;
 use vte_types::charset::{CharsetIndex, StandardCharset};
 use vte_types::handler::Handler;
 
-/// Makes the call of a control character, if it has one. The ends of lines are compared first, since a jump by a table
-/// is often mispredicted.
+/// Makes the call of a control character, if it has one. The frequent ones are compared first, since a jump by a table is
+/// often mispredicted.
 #[inline(always)]
 pub fn execute<H: Handler>(handler: &mut H, byte: u8)
     ensures { Calls H.step handler.old (execute_calls byte) handler.new }
@@ -17,6 +17,8 @@ pub fn execute<H: Handler>(handler: &mut H, byte: u8)
     match byte {
         C0::CR => handler.carriage_return(),
         C0::LF => handler.linefeed(),
+        C0::BS => handler.backspace(),
+        0x10..=0x19 => {}
         _ => execute_any(handler, byte),
     }
 }
