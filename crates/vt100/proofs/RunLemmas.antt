@@ -42,7 +42,7 @@ use Rattle.vt100.specs.Runs.{IsHandled, IsRun, characters, typed_all, last_of, P
 use Rattle.vt100.specs.Draws.{Draws, drawn_on}
 use Rattle.vt100.specs.declared.screen.reported.ScrollingEdit.TheVariants.{Characters}
 use Rattle.vt100.specs.declared.screen.reported.CharRun.{CharRun}
-use Rattle.vt100.specs.declared.screen.reported.CharRun.TheVariants.{Ascii, Narrow, Wide}
+use Rattle.vt100.specs.declared.screen.reported.CharRun.TheVariants.{Ascii, Narrow, Wide, ShortNarrow, ShortWide}
 use Rattle.vt100.specs.declared.screen.reported.Reporter.{Reporter}
 use Rattle.vt100.proofs.ReceiveLemmas.{Reports, receives_all, receives_whole, draws_all, scroll_as, refused_keeps}
 use Rattle.vt100.proofs.ReceiveLemmas.{not_grown}
@@ -66,6 +66,8 @@ run-spacing : (w : ℕ) → 0 < w → (run : CharRun) → IsRun w run → All (I
 run-spacing w some (Ascii text) p k d l = spacing w 1 _ (omega arith) some (printable-is _ (p k d l))
 run-spacing w some (Narrow text) p k d l = spacing w 1 _ (omega arith) some (drawn-is _ 1 (p k d l).1)
 run-spacing w some (Wide text) p k d l = spacing w 2 _ (omega arith) p.1 (drawn-is _ 2 (p.0 k d l))
+run-spacing w some (ShortNarrow text) p k d l = spacing w 1 _ (omega arith) some (drawn-is _ 1 (p k d l).1)
+run-spacing w some (ShortWide text) p k d l = spacing w 2 _ (omega arith) p.1 (drawn-is _ 2 (p.0 k d l))
 
 not-dropped : (u : Bool) (k w col : ℕ) → u ≡ false → 0 < k → k ≤ w
     → (u || (nat_lt w k || ((k == 0) && (col == 0)))) ≡ false

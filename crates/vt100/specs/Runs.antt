@@ -12,7 +12,7 @@ use Rattle.screen_model.specs.Step.{Stepped, quietly, typed}
 use Rattle.screen_model.specs.Call.{Call, ScreenView}
 use Rattle.screen_model.specs.Effect.{is_unhandled}
 use Rattle.vt100.specs.declared.screen.reported.CharRun.{CharRun}
-use Rattle.vt100.specs.declared.screen.reported.CharRun.TheVariants.{Ascii, Narrow, Wide}
+use Rattle.vt100.specs.declared.screen.reported.CharRun.TheVariants.{Ascii, Narrow, Wide, ShortNarrow, ShortWide}
 use Rattle.vt100.specs.Goes.{GoesThrough}
 
 -- the characters of a run
@@ -20,12 +20,16 @@ abbrev pub characters : CharRun → List ℕ
 characters (Ascii text) = text.now
 characters (Narrow text) = text.now
 characters (Wide text) = text.now
+characters (ShortNarrow text) = text.now
+characters (ShortWide text) = text.now
 
 -- printable ASCII, or characters of one column, or of two, for a sheet of w
 abbrev pub IsRun : ℕ → CharRun → Type 0
 IsRun w (Ascii text) = All IsPrintable text.now
 IsRun w (Narrow text) = All IsNarrow text.now
 IsRun w (Wide text) = All IsWide text.now × (2 ≤ w)
+IsRun w (ShortNarrow text) = All IsNarrow text.now
+IsRun w (ShortWide text) = All IsWide text.now × (2 ≤ w)
 
 -- a character that takes n columns
 abbrev pub Takes : ℕ → ℕ → Type 0

@@ -9,7 +9,7 @@ ghost use Rattle.vt100.specs.Tries.{ReceivesPrefix};
 ghost use Rattle.vt100.specs.Draws.{IsDrawable, Draws, drawn, printed_by};
 
 use crate::callbacks::Callbacks;
-use vt100_cells::PackedAttrs;
+use vt100_cells::{PackedAttrs, ShortChar};
 use vt100_core::capture::RowContents;
 use vt100_core::{Grid, GridError, Printed, Row, RowSink, Size};
 
@@ -39,6 +39,10 @@ pub(crate) enum CharRun<'a> {
     Narrow(&'a [char]),
     /// Characters of two columns, where a row has room for one.
     Wide(&'a [char]),
+    /// Characters of one column, with their bytes.
+    ShortNarrow(&'a [ShortChar]),
+    /// Characters of two columns, where a row has room for one, with their bytes.
+    ShortWide(&'a [ShortChar]),
 }
 
 /// Operations that can scroll rows off a sheet.
@@ -77,6 +81,14 @@ pub(super) fn draw<CB: Callbacks>(
         }
         ScrollingEdit::Characters(CharRun::Wide(text)) => {
             grid.wide_run(text, attrs.attrs(), reporter)?;
+            Ok(Printed::Spacing)
+        }
+        ScrollingEdit::Characters(CharRun::ShortNarrow(text)) => {
+            grid.short_run(text, attrs, reporter)?;
+            Ok(Printed::Spacing)
+        }
+        ScrollingEdit::Characters(CharRun::ShortWide(text)) => {
+            grid.pairs_run(text, attrs, reporter)?;
             Ok(Printed::Spacing)
         }
         ScrollingEdit::LineFeed => {

@@ -1,6 +1,7 @@
 //! Characters of one column each, or of two each, printed at once.
 ghost use Rattle.std.specs.Prelude.{◌≡◌, ◌<◌, ◌≤◌, ◌+◌, ◌++◌, ◌∷◌, [], IfSome, IfNone, IsTrue, All, length};
 ghost use Rattle.std.specs.Str.{chars};
+ghost use Rattle.vt100_cells.specs.Cell.{IsWide};
 ghost use Rattle.vt100.specs.Runs.{IsHandled, PrintsPrefix, Takes};
 
 use crate::callbacks::Callbacks;
@@ -8,15 +9,54 @@ use crate::perform::is_unhandled;
 use crate::screen::WrappedScreen;
 use crate::screen::reported::CharRun;
 use arrayvec::ArrayVec;
-use vt100_cells::columns;
+use vt100_cells::{ShortChar, columns, split_wide};
 
 /// How many characters are printed at once.
 const RUN_LEN: usize = 32;
 
+/// How many wide characters of the common scripts are printed at once: most rows are one run.
+const WIDE_RUN_LEN: usize = 64;
+
 impl<CB: Callbacks> WrappedScreen<CB> {
-    /// Prints the characters at the start of a text that take one column each, or two each, up to `RUN_LEN` of them,
-    /// and returns what is left. Where there is none, or no room for one in a row, nothing is done.
+    /// Prints the characters at the start of a text that take one column each, or two each, up to `WIDE_RUN_LEN` of
+    /// them, and returns what is left. Where there is none, or no room for one in a row, nothing is done.
     pub(crate) fn print_chars<'a>(&mut self, text: &'a str) -> Option<&'a str>
+        ensures shorter { IfSome result (λ rest. length rest.now < length text.now) }
+        ensures printed { IfSome result (λ rest. PrintsPrefix CB.step CB.scrolls text.now rest.now self.old.callbacks
+            self.old.screen self.new.callbacks self.new.screen) }
+        ensures none { IfNone result (self.new ≡ self.old) }
+    {
+        if split_wide(text).is_some() {
+            self.print_short_wide(text)
+        } else {
+            self.print_other(text)
+        }
+    }
+
+    /// The same for wide characters of the common scripts, which are printed from their bytes.
+    fn print_short_wide<'a>(&mut self, text: &'a str) -> Option<&'a str>
+        ensures shorter { IfSome result (λ rest. length rest.now < length text.now) }
+        ensures printed { IfSome result (λ rest. PrintsPrefix CB.step CB.scrolls text.now rest.now self.old.callbacks
+            self.old.screen self.new.callbacks self.new.screen) }
+        ensures none { IfNone result (self.new ≡ self.old) }
+    {
+        let (_, cols) = self.screen.size();
+        if cols.get() < 2 {
+            return None;
+        }
+        let mut run = ArrayVec::new();
+        let rest = take_wide(text, &mut run);
+        if run.is_empty() {
+            return None;
+        }
+        prove!(self.screen.is_live() || self.screen.failed());
+        // A refusal is kept in the screen, which has failed then.
+        let _ = self.run(CharRun::ShortWide(run.as_slice()));
+        Some(rest)
+    }
+
+    /// The same for any characters of one column each, or of two each.
+    fn print_other<'a>(&mut self, text: &'a str) -> Option<&'a str>
         ensures shorter { IfSome result (λ rest. length rest.now < length text.now) }
         ensures printed { IfSome result (λ rest. PrintsPrefix CB.step CB.scrolls text.now rest.now self.old.callbacks
             self.old.screen self.new.callbacks self.new.screen) }
@@ -129,4 +169,27 @@ fn begins_ascii(c: char, rest: &str) -> bool {
         are_ascii &= byte.is_ascii();
     }
     are_ascii
+}
+
+/// Takes the characters of two columns at the start of a text into an empty run, as many as it holds, and returns what
+/// is left.
+#[inline(always)]
+fn take_wide<'a>(text: &'a str, run: &mut ArrayVec<ShortChar, WIDE_RUN_LEN>) -> &'a str
+    requires { run.old.items ≡ [] }
+    ensures parts { chars text.now ≡ run.new.items ++ chars result.now }
+    ensures shorter { length result.now + length run.new.items ≤ length text.now }
+    ensures drawn { All IsWide run.new.items }
+    ensures handled { All IsHandled run.new.items }
+{
+    let mut rest = text;
+    while !run.is_full() {
+        match split_wide(rest) {
+            Some((c, left)) => {
+                run.push(c);
+                rest = left;
+            }
+            None => break,
+        }
+    }
+    rest
 }

@@ -1,6 +1,6 @@
 //! A screen with its callbacks.
 ghost use Rattle.std.specs.Prelude.{◌≡◌, OnOk, OnErr, IfOk, Err, true, false};
-ghost use Rattle.vt100.specs.Runs.{IsRun, characters, typed_all};
+ghost use Rattle.vt100.specs.Runs.{IsRun, characters, last_of, typed_all};
 ghost use Rattle.vt100.specs.Draws.{IsDrawable, drawn_on, last_drawn};
 ghost use Rattle.vt100.specs.Tries.{MayScroll};
 ghost use Rattle.screen_model.specs.Step.{typed, repeated, line_fed, region_up, last_after};
@@ -10,6 +10,7 @@ use crate::callbacks::Callbacks;
 use crate::error::ScreenError;
 use crate::screen::reported::{CharRun, Reporter, ScrollingEdit, draw};
 use crate::screen::{Screen, note_failure};
+use vt100_cells::ShortChar;
 use vt100_core::Printed;
 
 /// A screen with the callbacks that get its events.
@@ -123,7 +124,21 @@ fn last_drawn(drawing: ScrollingEdit<'_>, printed: Printed, last: Option<char>) 
         ScrollingEdit::Characters(CharRun::Ascii([.., byte])) => Some(*byte as char),
         ScrollingEdit::Characters(CharRun::Narrow([.., narrow])) => Some(*narrow),
         ScrollingEdit::Characters(CharRun::Wide([.., wide])) => Some(*wide),
+        ScrollingEdit::Characters(CharRun::ShortNarrow(text)) => last_short(text, last),
+        ScrollingEdit::Characters(CharRun::ShortWide(text)) => last_short(text, last),
         _ => last,
+    }
+}
+
+/// The last of some characters, or where there is none the one before them.
+#[inline(always)]
+fn last_short(text: &[ShortChar], last: Option<char>) -> Option<char>
+    ensures { result ≡ last_of text.now last }
+{
+    if text.is_empty() {
+        last
+    } else {
+        Some(text[text.len() - 1].to_char())
     }
 }
 

@@ -62,6 +62,42 @@ returns-in_ok-wide_run-in-Characters-Wide-clause-drawn g c =
     rw (w.is, rw w.is at w.field-0-is)
     (draws_run g.CB.Callbacks.scrolls _ _ _ e.grid e.sink e.begun e.limits e.keeps_none e.stays e.allocated)
 
+pub returns-in_err-short_run-in-Characters-ShortNarrow-clause-drawn :
+    goal.returns-in_err-short_run-in-Characters-ShortNarrow-clause-drawn
+returns-in_err-short_run-in-Characters-ShortNarrow-clause-drawn g c =
+    let w = c.in-Characters-ShortNarrow in
+    let r = c.in_err-short_run-in-Characters-ShortNarrow in
+    let is : c.from_residual-in_err-short_run-in-Characters-ShortNarrow.result ≡ Err r.field-0.0 = search rules in
+    let e = r.ensures in
+    rw (w.is, rw w.is at w.field-0-is, is)
+    (draws_run g.CB.Callbacks.scrolls _ _ _ e.grid e.sink e.begun e.limits e.keeps_none e.stays e.allocated)
+
+pub returns-in_ok-short_run-in-Characters-ShortNarrow-clause-drawn :
+    goal.returns-in_ok-short_run-in-Characters-ShortNarrow-clause-drawn
+returns-in_ok-short_run-in-Characters-ShortNarrow-clause-drawn g c =
+    let w = c.in-Characters-ShortNarrow in
+    let e = c.in_ok-short_run-in-Characters-ShortNarrow.ensures in
+    rw (w.is, rw w.is at w.field-0-is)
+    (draws_run g.CB.Callbacks.scrolls _ _ _ e.grid e.sink e.begun e.limits e.keeps_none e.stays e.allocated)
+
+pub returns-in_err-pairs_run-in-Characters-ShortWide-clause-drawn :
+    goal.returns-in_err-pairs_run-in-Characters-ShortWide-clause-drawn
+returns-in_err-pairs_run-in-Characters-ShortWide-clause-drawn g c =
+    let w = c.in-Characters-ShortWide in
+    let r = c.in_err-pairs_run-in-Characters-ShortWide in
+    let is : c.from_residual-in_err-pairs_run-in-Characters-ShortWide.result ≡ Err r.field-0.0 = search rules in
+    let e = r.ensures in
+    rw (w.is, rw w.is at w.field-0-is, is)
+    (draws_run g.CB.Callbacks.scrolls _ _ _ e.grid e.sink e.begun e.limits e.keeps_none e.stays e.allocated)
+
+pub returns-in_ok-pairs_run-in-Characters-ShortWide-clause-drawn :
+    goal.returns-in_ok-pairs_run-in-Characters-ShortWide-clause-drawn
+returns-in_ok-pairs_run-in-Characters-ShortWide-clause-drawn g c =
+    let w = c.in-Characters-ShortWide in
+    let e = c.in_ok-pairs_run-in-Characters-ShortWide.ensures in
+    rw (w.is, rw w.is at w.field-0-is)
+    (draws_run g.CB.Callbacks.scrolls _ _ _ e.grid e.sink e.begun e.limits e.keeps_none e.stays e.allocated)
+
 pub returns-in_err-row_inc_scroll-in-LineFeed-clause-drawn : goal.returns-in_err-row_inc_scroll-in-LineFeed-clause-drawn
 returns-in_err-row_inc_scroll-in-LineFeed-clause-drawn g c =
     let is : c.from_residual-in_err-row_inc_scroll-in-LineFeed.result ≡ Err c.in_err-row_inc_scroll-in-LineFeed.field-0.0 = search rules in
