@@ -258,7 +258,8 @@ impl<CB: Callbacks> WrappedScreen<CB> {
         self.unhandled_groups(unhandled, params, &[], 'K');
     }
 
-    /// A control sequence without intermediates.
+    /// A control sequence without intermediates. The most frequent ones are told apart by comparisons, three at a time: a
+    /// jump by a table costs more where its target changes.
     #[inline(never)]
     fn plain_csi(&mut self, params: &Params, action: char)
         requires { self.old.screen.failed ≡ false }
@@ -266,14 +267,48 @@ impl<CB: Callbacks> WrappedScreen<CB> {
             (plain_may_allocate params.now action self.old.screen.state) self.old self.new }
     {
         match action {
+            'C' => self.cuf(canonicalize_params_1(params, 1)),
+            'H' => self.cup(canonicalize_params_2(params, 1, 1)),
+            'K' => self.el_csi(params),
+            _ => self.move_csi(params, action),
+        }
+    }
+
+    /// One of the others: CUU, CUD and CUB are told apart first.
+    #[inline(never)]
+    fn move_csi(&mut self, params: &Params, action: char)
+        requires live { self.old.screen.failed ≡ false }
+        requires not_cuf { action ≢ 0x43 }
+        requires not_cup { action ≢ 0x48 }
+        requires not_el { action ≢ 0x4B }
+        ensures { Handles CB.step CB.scrolls (plain_effect (lookup action plain_rows) params.now action)
+            (plain_may_allocate params.now action self.old.screen.state) self.old self.new }
+    {
+        match action {
             'A' => self.cuu(canonicalize_params_1(params, 1)),
             'B' => self.cud(canonicalize_params_1(params, 1)),
-            'C' => self.cuf(canonicalize_params_1(params, 1)),
             'D' => self.cub(canonicalize_params_1(params, 1)),
+            _ => self.place_csi(params, action),
+        }
+    }
+
+    /// One of the others: CHA, VPA and HVP are told apart first.
+    #[inline(never)]
+    fn place_csi(&mut self, params: &Params, action: char)
+        requires live { self.old.screen.failed ≡ false }
+        requires not_cuu { action ≢ 0x41 }
+        requires not_cud { action ≢ 0x42 }
+        requires not_cuf { action ≢ 0x43 }
+        requires not_cub { action ≢ 0x44 }
+        requires not_cup { action ≢ 0x48 }
+        requires not_el { action ≢ 0x4B }
+        ensures { Handles CB.step CB.scrolls (plain_effect (lookup action plain_rows) params.now action)
+            (plain_may_allocate params.now action self.old.screen.state) self.old self.new }
+    {
+        match action {
             'G' => self.cha(canonicalize_params_1(params, 1)),
-            'H' | 'f' => self.cup(canonicalize_params_2(params, 1, 1)),
-            'K' => self.el_csi(params),
             'd' => self.vpa(canonicalize_params_1(params, 1)),
+            'f' => self.cup(canonicalize_params_2(params, 1, 1)),
             _ => self.rare_csi(params, action),
         }
     }

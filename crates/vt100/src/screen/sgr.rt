@@ -1,5 +1,6 @@
 //! SGR: the drawing attributes (ECMA-48 8.3.117; colours by ITU-T T.416).
-ghost use Rattle.std.specs.Prelude.{◌≡◌, ◌≤◌, ◌∷◌, [], Bool, length, drop, ok_or, is_some, IfOk};
+ghost use Rattle.std.specs.Prelude.{◌≡◌, ◌≢◌, ◌≤◌, ◌∷◌, [], Bool, false, length, drop, ok_or, is_some, IfOk};
+ghost use Rattle.std.specs.Int.{is_in_range};
 ghost use Rattle.vt100_forms.specs.declared.attrs.Attrs.{Attrs};
 ghost use Rattle.screen_model.specs.Sgr.{value, value_at, rgb, separate_color, code_row, read_on, read_groups, sgr_read};
 ghost use Rattle.screen_model.specs.Effect.{attributes_read};
@@ -173,8 +174,9 @@ fn color_in_numbers(numbers: &[u16]) -> Result<(Color, usize), End>
     }
 }
 
-/// What a group of one number does, but for 38 and 48. Answers whether it does something.
-#[inline(always)]
+/// What a group of one number does, but for 38 and 48. Answers whether it does something. The most frequent numbers are
+/// told apart by comparisons: a jump by a table costs more where its target changes.
+#[inline(never)]
 fn read_code(attrs: &mut PackedAttrs, code: u16) -> bool
     ensures handled { result ≡ is_some (code_row code) }
     ensures attrs { attrs.new ≡ code_applied (code_row code) attrs.old }
@@ -182,6 +184,22 @@ fn read_code(attrs: &mut PackedAttrs, code: u16) -> bool
     match code {
         0 => *attrs = PackedAttrs::new(),
         1 => attrs.set_bold(),
+        30..=37 => attrs.set_fgcolor(Color::Idx((code - 30) as u8)),
+        _ => return read_rare_code(attrs, code),
+    }
+    true
+}
+
+/// What any other number does.
+#[inline(never)]
+fn read_rare_code(attrs: &mut PackedAttrs, code: u16) -> bool
+    requires not_reset { code ≢ 0 }
+    requires not_bold { code ≢ 1 }
+    requires not_color { is_in_range 30 37 code ≡ false }
+    ensures handled { result ≡ is_some (code_row code) }
+    ensures attrs { attrs.new ≡ code_applied (code_row code) attrs.old }
+{
+    match code {
         2 => attrs.set_dim(),
         3 => attrs.set_italic(true),
         4 => attrs.set_underline(true),
@@ -190,7 +208,6 @@ fn read_code(attrs: &mut PackedAttrs, code: u16) -> bool
         23 => attrs.set_italic(false),
         24 => attrs.set_underline(false),
         27 => attrs.set_inverse(false),
-        30..=37 => attrs.set_fgcolor(Color::Idx((code - 30) as u8)),
         39 => attrs.set_fgcolor(Color::Default),
         40..=47 => attrs.set_bgcolor(Color::Idx((code - 40) as u8)),
         49 => attrs.set_bgcolor(Color::Default),
