@@ -1,7 +1,8 @@
 -- What an SGR sequence sets, group by group.
-use Rattle.std.specs.Prelude.{ℕ, Bool, true, false, List, [], ◌∷◌, map, drop, Option, Some, None, Result, Ok, Err}
+use Rattle.std.specs.Prelude.{ℕ, Bool, true, false, List, drop, Option, Some, None, Result, Ok, Err}
 use Rattle.vt100_forms.specs.declared.attrs.Attrs.{Attrs}
 use Rattle.vt100_forms.specs.declared.attrs.Color.{Color}
+use Rattle.vte_core.specs.Store.{each_alone}
 use Rattle.screen_model.specs.Sgr.{Read, Asks, change, ends, ends_unhandled, read_groups, one_more, colored}
 use Rattle.vt100.specs.declared.screen.sgr.End.{End}
 use Rattle.vt100.specs.declared.screen.sgr.End.TheVariants.{Value, Kind}
@@ -29,10 +30,6 @@ color_led t (Err e) a gs = ended e a
 abbrev pub code_applied : Option (Attrs → Attrs) → Attrs → Attrs
 code_applied None a = a
 code_applied (Some f) a = f a
-
--- each number in a group of its own
-abbrev pub each_alone : List ℕ → List (List ℕ)
-each_alone ns = map (λ n. n ∷ []) ns
 
 -- a number is read, with these attributes afterwards; so many of the numbers that follow belong to it
 abbrev pub number_led : Result (Bool × ℕ) End → Attrs → List ℕ → Read

@@ -1,5 +1,5 @@
 -- How an SGR sequence is read, group by group.
-use Rattle.std.specs.Prelude.{ℕ, List, [], ◌∷◌, map}
+use Rattle.std.specs.Prelude.{ℕ, List, ◌∷◌, map}
 use Rattle.vte_types.specs.Call.{Call, Calls, terminal_attribute}
 use Rattle.vte.specs.Sgr.{attributes, nothing}
 
@@ -9,7 +9,3 @@ abbrev pub SetsFirst : {H : Type 0} → (H → Call → H → Type 0) → List �
 SetsFirst {H} step g h gs h' gs' =
     (end : H) → Calls step h' (map terminal_attribute (attributes nothing gs')) end
     → Calls step h (map terminal_attribute (attributes nothing (g ∷ gs))) end
-
--- each number in a group of its own
-abbrev pub each_alone : List ℕ → List (List ℕ)
-each_alone ns = map (λ n. n ∷ []) ns

@@ -8,7 +8,8 @@ ghost use Rattle.vte_types.specs.declared.attr.Attr.TheVariants as said;
 ghost use Rattle.vte_types.specs.declared.color.Color.TheVariants.{Named};
 ghost use Rattle.vte.specs.Sgr.{singles, rgb_color, indexed_color, group_color, colored, target_of};
 ghost use Rattle.vte.specs.Sgr.{first, attributes, nothing, selector, underline_of, group_attr, awaited};
-ghost use Rattle.vte.specs.SgrSteps.{SetsFirst, each_alone};
+ghost use Rattle.vte.specs.SgrSteps.{SetsFirst};
+ghost use Rattle.vte_core.specs.Store.{each_alone};
 
 use vte_core::{Params, ParamsIter};
 use vte_types::attr::Attr;

@@ -1,13 +1,9 @@
 -- Groups of one number each, in one store.
-use Rattle.std.proofs.Common.{◌≡◌, ℕ, ◌+◌, ◌<◌, ◌≤◌, List, [], ◌∷◌, length, take, drop, map, slice_range, sym, ◌∙◌, ap}
+use Rattle.std.proofs.Common.{◌≡◌, ℕ, ◌+◌, ◌<◌, ◌≤◌, List, [], ◌∷◌, length, take, drop, slice_range, sym, ◌∙◌, ap}
 use Rattle.std.proofs.Common.{arith, get_or, length-take-le}
 use Rattle.std.proofs.lemmas.Grind.{common_steps}
-use Rattle.vte_core.specs.Store.{total, cut_at, EndsFit, IsStore}
+use Rattle.vte_core.specs.Store.{total, each_alone, cut_at, EndsFit, IsStore}
 use Rattle.vte_core.proofs.Stores.{ends_below, total-store, length-cut}
-
--- each number in a group of its own
-abbrev pub each_alone : List ℕ → List (List ℕ)
-each_alone = map (λ n. n ∷ [])
 
 drop-none : (xs : List ℕ) (k : ℕ) → length xs ≤ k → drop k xs ≡ []
 drop-none xs k h = grind (arith, common_steps)

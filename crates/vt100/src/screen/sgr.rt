@@ -1,11 +1,11 @@
 //! SGR: the drawing attributes (ECMA-48 8.3.117; colours by ITU-T T.416).
 ghost use Rattle.std.specs.Prelude.{◌≡◌, ◌≢◌, ◌≤◌, ◌∷◌, [], Bool, false, length, drop, ok_or, is_some, IfOk};
 ghost use Rattle.std.specs.Int.{is_in_range};
+ghost use Rattle.vte_core.specs.Store.{each_alone};
 ghost use Rattle.vt100_forms.specs.declared.attrs.Attrs.{Attrs};
 ghost use Rattle.screen_model.specs.Sgr.{value, value_at, rgb, separate_color, code_row, read_on, read_groups, sgr_read};
 ghost use Rattle.screen_model.specs.Effect.{attributes_read};
-ghost use Rattle.vt100.specs.SgrReading.{read_of, group_led, color_led, code_applied, each_alone, number_led};
-ghost use Rattle.vt100.specs.SgrReading.{color_asked};
+ghost use Rattle.vt100.specs.SgrReading.{read_of, group_led, color_led, code_applied, number_led, color_asked};
 ghost use Rattle.vt100.specs.Tries.{Counts};
 ghost use Rattle.vt100.specs.declared.screen.sgr.End.TheVariants.{Value};
 

@@ -1,6 +1,6 @@
 use Rattle.std.proofs.Common.{rules, ◌≡◌, None}
 use Rattle.vte.specs.Sgr.{target_of}
-use Rattle.vte.specs.SgrSteps.{each_alone}
+use Rattle.vte_core.specs.Store.{each_alone}
 use Rattle.vte.proofs.SgrLemmas.{sets-single}
 use Rattle.vte.proofs.sgr.set_high_number.Goals as goal
 

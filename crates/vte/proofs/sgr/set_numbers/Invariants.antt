@@ -1,7 +1,7 @@
 use Rattle.std.proofs.Common.{◌≤◌, length, map}
 use Rattle.vte_types.specs.Call.{Calls, terminal_attribute}
 use Rattle.vte.specs.Sgr.{attributes, nothing}
-use Rattle.vte.specs.SgrSteps.{each_alone}
+use Rattle.vte_core.specs.Store.{each_alone}
 use Rattle.vte.proofs.sgr.set_numbers.Given as goal
 
 -- the calls so far, and those of the numbers that are left, are all calls

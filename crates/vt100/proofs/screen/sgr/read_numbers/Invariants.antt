@@ -1,6 +1,6 @@
 use Rattle.std.proofs.Common.{◌≡◌, ◌+◌, ◌≤◌, length}
 use Rattle.screen_model.specs.Sgr.{read_groups}
-use Rattle.vt100.specs.SgrReading.{each_alone}
+use Rattle.vte_core.specs.Store.{each_alone}
 use Rattle.vt100.proofs.screen.sgr.read_numbers.Given as goal
 
 -- what the numbers that are left lead to, all lead to from the start
