@@ -1,8 +1,8 @@
 -- Characters that are printed at once, as event by event.
 use Rattle.std.proofs.Common.{◌≡◌, ◌∙◌, ◌^◌, ◌<◌, ◌==◌, ℕ, zero, suc, Bool, true, false, cond, List, [], ◌∷◌, ◌++◌, ap, sym}
-use Rattle.std.proofs.Common.{Option, Some, Result, Ok, Err, OnOk, OnErr, length, map, refl, subst, inl, inr, arith}
+use Rattle.std.proofs.Common.{Option, Some, None, Result, Ok, Err, OnOk, OnErr, length, map, refl, subst, inl, inr, arith}
 use Rattle.std.proofs.Common.{nat_lt, get_or, take, drop, ◌⊎◌, ◌&&◌, ◌||◌, ◌≤◌, not, append_assoc, append-nil}
-use Rattle.std.specs.Prelude.{All, IsOk}
+use Rattle.std.specs.Prelude.{All, IsOk, IfSome}
 use Rattle.std.specs.Char.{encode_utf8}
 use Rattle.std.specs.Str.{IsUtf8, chars}
 use Rattle.std.proofs.lemmas.Grind.{common_steps}
@@ -136,6 +136,16 @@ sunk-append g (x ∷ xs) ys a =
 
 printable-handled : (c : ℕ) → IsPrintable c → IsHandled c
 printable-handled c p = grind (arith, nat_tests)
+
+handled-apart : (c : ℕ) → (c < 0x80) ⊎ (0xA0 ≤ c) → c < 0xFFFD → IsHandled c
+handled-apart c (inl h) below = grind (arith, nat_tests)
+handled-apart c (inr h) below = grind (arith, nat_tests)
+
+-- a character that is found at the start of a text
+pub narrow-handled : {B : Type 0} (r : Option (ℕ × B)) → IfSome r (λ p. (p.0 < 0x80) ⊎ (0xA0 ≤ p.0))
+    → IfSome r (λ p. p.0 < 0xFFFD) → IfSome r (λ p. IsHandled p.0)
+narrow-handled None apart below = tt
+narrow-handled (Some p) apart below = handled-apart p.0 apart below
 
 pub printables : (xs : List ℕ) → each is_printable xs ≡ true → All IsPrintable xs
 printables [] h k d l = absurd (omega (arith, l))

@@ -92,29 +92,21 @@ impl<CB: Callbacks> Perform for WrappedScreen<CB> {
         let _ = self.run(CharRun::Ascii(text.as_bytes()));
     }
 
+    // The frequent controls are compared first: a jump by a table costs more where its target changes.
     #[inline(always)]
     fn execute(&mut self, byte: u8) {
         if self.screen.failed() {
             return;
         }
         match byte {
-            7 => self.callbacks.audible_bell(&mut self.screen),
             8 => self.bs(),
-            9 => self.tab(),
             10 => {
                 // A refusal is kept in the screen, which has failed then.
                 let _ = self.lf();
             }
-            11 => {
-                let _ = self.vt();
-            }
-            12 => {
-                let _ = self.ff();
-            }
             13 => self.cr(),
-            // Shift out and in: there are no other character sets, but it isn't an error to ask for them.
-            14 | 15 => {}
-            _ => self.callbacks.unhandled_control(&mut self.screen, byte),
+            16.. => self.callbacks.unhandled_control(&mut self.screen, byte),
+            _ => self.rare_control(byte),
         }
     }
 
@@ -195,6 +187,32 @@ impl<CB: Callbacks> WrappedScreen<CB> {
         } else {
             // A refusal is kept in the screen, which has failed then.
             let _ = self.text(c);
+        }
+    }
+
+    /// One of the controls that most streams have few of.
+    #[inline(never)]
+    fn rare_control(&mut self, byte: u8)
+        requires live { self.old.screen.failed ≡ false }
+        requires not_bs { byte ≢ 8 }
+        requires not_lf { byte ≢ 10 }
+        requires not_cr { byte ≢ 13 }
+        ensures { Handles CB.step CB.scrolls (effect (e.Execute byte)) (may_allocate (e.Execute byte) self.old.screen.state)
+            self.old self.new }
+    {
+        match byte {
+            7 => self.callbacks.audible_bell(&mut self.screen),
+            9 => self.tab(),
+            11 => {
+                // A refusal is kept in the screen, which has failed then.
+                let _ = self.vt();
+            }
+            12 => {
+                let _ = self.ff();
+            }
+            // Shift out and in: there are no other character sets, but it isn't an error to ask for them.
+            14 | 15 => {}
+            _ => self.callbacks.unhandled_control(&mut self.screen, byte),
         }
     }
 
