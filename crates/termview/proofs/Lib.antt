@@ -12,3 +12,4 @@ pub mod WrittenForms
 pub mod FramedForms
 pub mod RunSteps
 pub mod WideSteps
+pub mod ShortSteps

@@ -121,12 +121,31 @@ IsPicture-run p xs i s h =
 
 -- ---- one run after another
 
-pub runs-on : (p q r : PictureView) (xs : List ℕ) (n : ℕ) → Calls Does p (map input (take n xs)) q
+runs-on : (p q r : PictureView) (xs : List ℕ) (n : ℕ) → Calls Does p (map input (take n xs)) q
     → Calls Does q (map input (drop n xs)) r → Calls Does p (map input xs) r
 runs-on p q r xs n first more =
     subst (λ (cs : List Call). Calls Does p cs r)
     (sym (map-append input (take n xs) (drop n xs)) ∙ ap (map input) (take-append-drop n xs))
     (Calls-append Does p q r (map input (take n xs)) (map input (drop n xs)) first more)
+
+-- a picture q on the way from p: where the characters that are left lead, all lead from p
+pub record IsOnTheWay (IsOne : ℕ → Type 0) (text : List ℕ) (p : PictureView) (rest : List ℕ)
+    (q : PictureView) : Type 0 where
+  pub each : All IsOne rest
+  pub shown : (r : PictureView) → Calls Does q (map input rest) r → Calls Does p (map input text) r
+
+pub on-the-way-next : {IsOne : ℕ → Type 0} {text : List ℕ} {p : PictureView} {rest : List ℕ} {q r : PictureView}
+    {left : List ℕ} (n : ℕ) → IsOnTheWay IsOne text p rest q → Calls Does q (map input (take n rest)) r
+    → left ≡ drop n rest → IsOnTheWay IsOne text p left r
+on-the-way-next {IsOne} {text} {p} {rest} {q} {r} {left} n w first e = record {
+  each = rw e (All-drop IsOne n rest w.each);
+  shown = rw e (λ o more. w.shown o (runs-on q r o rest n first more));
+}
+
+pub on-the-way-end : {IsOne : ℕ → Type 0} {text : List ℕ} {p : PictureView} {rest : List ℕ} {q : PictureView}
+    → IsOnTheWay IsOne text p rest q → length rest ≡ 0 → Calls Does p (map input text) q
+on-the-way-end {rest = rest} {q} w none =
+    w.shown q (subst (λ (xs : List ℕ). Calls Does q (map input xs) q) (sym (nil_from_length rest none)) refl)
 
 -- ---- the start of a text, and what is left of it
 

@@ -13,6 +13,7 @@ pub mod laws;
 mod modes;
 mod picture;
 mod runs;
+mod short_runs;
 mod text;
 mod until_cleared;
 mod view;

@@ -10,16 +10,31 @@ ghost use Rattle.termview.specs.Picture.{Does, ShowsPrefix, Takes};
 
 use crate::picture::Picture;
 use arrayvec::ArrayVec;
-use vt100_cells::columns;
+use vt100_cells::{columns, split_narrow, split_wide};
 
 /// How many characters are printed at once.
 const RUN_LEN: usize = 32;
 
 impl Picture {
-    /// Prints the characters at the start of a text that take one column each, or two each, up to `RUN_LEN` of them.
+    /// Prints the characters at the start of a text that take one column each, or two each, as many as make a run.
     /// Returns the rest, or `None` if there is none or no room for one in a row. The effect is that of
     /// [`input`](Self::input) for each character.
     pub(crate) fn input_chars<'a>(&mut self, text: &'a str) -> Option<&'a str>
+        ensures shorter { IfSome result (λ rest. length rest.now < length text.now) }
+        ensures shown { IfSome result (λ rest. ShowsPrefix text.now rest.now self.old self.new) }
+        ensures none { IfNone result (self.new ≡ self.old) }
+    {
+        if split_wide(text).is_some() {
+            self.input_short_wide(text)
+        } else if split_narrow(text).is_some() {
+            self.input_short_narrow(text)
+        } else {
+            self.input_other(text)
+        }
+    }
+
+    /// The same for any characters of one column each, or of two each, up to `RUN_LEN` of them.
+    fn input_other<'a>(&mut self, text: &'a str) -> Option<&'a str>
         ensures shorter { IfSome result (λ rest. length rest.now < length text.now) }
         ensures shown { IfSome result (λ rest. ShowsPrefix text.now rest.now self.old self.new) }
         ensures none { IfNone result (self.new ≡ self.old) }

@@ -1,15 +1,10 @@
-use Rattle.std.proofs.Common.{map, length}
-use Rattle.std.specs.Prelude.{All}
-use Rattle.vte_types.specs.Call.{Calls, input}
-use Rattle.termview.specs.Picture.{Does, Takes}
+use Rattle.std.proofs.Common.{length}
+use Rattle.termview.specs.Picture.{Takes}
+use Rattle.termview.proofs.RunSteps.{IsOnTheWay}
 use Rattle.termview.proofs.picture.Picture.narrow_run.Given as goal
 
--- where the characters that are left lead, all lead from the start
 abbrev pub invariant-loop-rest : goal.invariant-loop-rest
-invariant-loop-rest l = record {
-  narrow : All (Takes 1) l.rest;
-  shown : (q : _) → Calls Does l.self (map input l.rest) q → Calls Does l.initial.self (map input l.text) q;
-}
+invariant-loop-rest l = IsOnTheWay (Takes 1) l.text l.initial.self l.rest l.self
 
 abbrev pub decreases-loop-rest : goal.decreases-loop-rest
 decreases-loop-rest l = length l.rest
