@@ -1,4 +1,4 @@
-use Rattle.std.proofs.Common.{◌≡◌, ◌∙◌, [], ◌∷◌, Bool, false, cond, not, ◌&&◌, ap, sym, arith}
+use Rattle.std.proofs.Common.{◌≡◌, [], ◌∷◌, Bool, false, cond, not, ◌&&◌, ap, sym, arith}
 use Rattle.std.proofs.lemmas.Grind.{common_steps}
 use Rattle.screen_model.specs.Call as said
 use Rattle.screen_model.specs.Effect.{is_unhandled, calling, steps}

@@ -1,4 +1,4 @@
-use Rattle.std.proofs.Common.{◌≡◌, ◌⊎◌, ◌-◌, inl, inr, arith}
+use Rattle.std.proofs.Common.{◌≡◌, ◌-◌, arith}
 use Rattle.screen_model.specs.Effect.{changes, later, number_or}
 use Rattle.screen_model.specs.Step.{in_region}
 use Rattle.vt100.proofs.EventLemmas.{does_as, does_change, does_scroll, plain_does}
