@@ -92,20 +92,20 @@ impl<CB: Callbacks> Perform for WrappedScreen<CB> {
         let _ = self.run(CharRun::Ascii(text.as_bytes()));
     }
 
-    // The frequent controls are compared first: a jump by a table costs more where its target changes.
+    // Comparisons tell the frequent bytes apart: a jump by a table costs more where its target changes.
     #[inline(always)]
     fn execute(&mut self, byte: u8) {
         if self.screen.failed() {
             return;
         }
         match byte {
+            16.. => self.callbacks.unhandled_control(&mut self.screen, byte),
             8 => self.bs(),
             10 => {
                 // A refusal is kept in the screen, which has failed then.
                 let _ = self.lf();
             }
             13 => self.cr(),
-            16.. => self.callbacks.unhandled_control(&mut self.screen, byte),
             _ => self.rare_control(byte),
         }
     }
