@@ -9,6 +9,7 @@ ghost use Rattle.vt100_rows.specs.Sheet.{row_at};
 ghost use Rattle.termview.specs.Picture.{Does, ShowsPrefix, Takes};
 
 use crate::picture::Picture;
+use crate::short_runs::begins_ascii_pair;
 use arrayvec::ArrayVec;
 use vt100_cells::{columns, split_narrow, split_wide};
 
@@ -202,9 +203,7 @@ fn next_of(text: &str, columns: u16) -> Option<(char, &str)>
 {
     let mut chars = text.chars();
     match chars.next() {
-        Some(c) if takes(c, columns) && !is_ascii_pair(c, chars.as_str()) => {
-            Some((c, chars.as_str()))
-        }
+        Some(c) if takes(c, columns) && !begins_ascii_pair(text) => Some((c, chars.as_str())),
         _ => None,
     }
 }
@@ -215,10 +214,4 @@ fn takes(c: char, count: u16) -> bool
     ensures { IsTrue result → Takes count c }
 {
     c != char::REPLACEMENT_CHARACTER && columns(c) == Some(count)
-}
-
-/// Whether a character and the first one of what follows it are both ASCII, which is printed faster without a run.
-#[inline(always)]
-fn is_ascii_pair(c: char, rest: &str) -> bool {
-    c.is_ascii() && matches!(rest.as_bytes(), [byte, ..] if byte.is_ascii())
 }

@@ -187,6 +187,6 @@ fn next_short(text: &str, columns: u16) -> Option<(ShortChar, &str)>
 
 /// Whether a text begins with two characters of ASCII, which are printed faster without a run.
 #[inline(always)]
-fn begins_ascii_pair(text: &str) -> bool {
+pub(crate) fn begins_ascii_pair(text: &str) -> bool {
     matches!(text.as_bytes(), [first, second, ..] if first.is_ascii() && second.is_ascii())
 }

@@ -1,18 +1,16 @@
 -- Rows that are kept.
 use Rattle.std.proofs.Common.{◌≡◌, ℕ, ◌+◌, ◌-◌, ◌^◌, ◌<◌, ◌≤◌, List, ◌++◌, slice_range, length, map, take, drop, min}
-use Rattle.std.proofs.Common.{sym, ap, ◌∙◌, arith, length-take-le, ⊎_elim, subst}
-use Rattle.std.proofs.lemmas.Bool.{cases_lt}
+use Rattle.std.proofs.Common.{sym, ap, ◌∙◌, arith, length-take-le}
 use Rattle.std.proofs.lemmas.Bool.Decides.{nat_tests}
 use Rattle.std.proofs.lemmas.List.{take-take}
 use Rattle.std.proofs.lemmas.Slice.{between_is}
 use Rattle.vt100_cells.specs.Cell.{default_cell}
-use Rattle.vt100_rows.specs.Row.{RowView, blank_row, grown, trimmed}
-use Rattle.vt100_rows.specs.Sheet.{row_at, rows_by_position, IsRowOf, IsSheet, moved_up, changed_between}
+use Rattle.vt100_rows.specs.Row.{RowView, grown, trimmed}
+use Rattle.vt100_rows.specs.Sheet.{row_at, rows_by_position, IsSheet, moved_up, changed_between}
 use Rattle.vt100_rows.proofs.KeptLemmas.{wide_along, grown-wide}
 use Rattle.vt100_core.specs.Grid.{KeptPart, IsShownWide}
 use Rattle.vt100_core.specs.Scroll.{widened, overflow, kept_after, pushed_out}
 use Rattle.vt100_rows.proofs.SheetLemmas.{row_at-by_position, rows_by_position_is, length-rows_by_position}
-use Rattle.vt100_rows.proofs.SheetLemmas.{IsSheet-blanks, rows_equal}
 use Rattle.vt100_rows.proofs.MoveLemmas.{IsSheet-moved_up}
 
 shown-read : (f : RowView → RowView) (rows : List RowView) (offset height first end k : ℕ) → k < length rows
@@ -66,11 +64,6 @@ pushes k rows one two n over off h l eo e1 e2 ef =
     ef ∙ ap (λ m. min (k.scrolled_off + m) (2 ^ 64 - 1)) n-is in
     λ i. record k { rows = all i; offset = 0; scrolled_off = count i }
 
-blanks-read : (rows ys : List RowView) (width m n r : ℕ) → m ≤ n → length (row_at rows r).cells ≡ width
-    → row_at ys r ≡ changed_between (λ v. blank_row width) rows m n r
-    → changed_between (λ v. blank_row (length v.cells)) ys 0 m r ≡ changed_between (λ v. blank_row width) rows 0 n r
-blanks-read rows ys width m n r p w e = grind (arith, nat_tests)
-
 -- what the sink is given
 pub pushed : (k : KeptPart) (rows : List RowView) (n over : ℕ) → n ≤ length rows → length k.rows ≤ k.capacity
     → over ≡ min n k.capacity - (k.capacity - length k.rows)
@@ -82,34 +75,6 @@ pushed k rows n over h l eo =
     ∙ ap (λ (xs : List RowView). take (overflow k (length (take n rows))) k.rows ++ xs)
     (sym (take-take (n - min n k.capacity) n rows (omega arith))
     ∙ ap (λ m. take (m - min m k.capacity) (take n rows)) n-is)
-
--- the rows that were kept are blank already, and the others are made so
-pub blanks : (rows ys ws : List RowView) (width m n : ℕ) → m ≤ n → n ≤ length rows
-    → ((r : ℕ) → r < length rows → IsRowOf width (row_at rows r))
-    → ys ≡ rows_by_position (length rows) (changed_between (λ v. blank_row width) rows m n)
-    → ws ≡ rows_by_position (length ys) (changed_between (λ v. blank_row (length v.cells)) ys 0 m)
-    → ws ≡ rows_by_position (length rows) (changed_between (λ v. blank_row width) rows 0 n)
-blanks rows ys ws width m n p h each ey ew =
-    let f : RowView → RowView = λ v. blank_row width in
-    let g : RowView → RowView = λ v. blank_row (length v.cells) in
-    let ly : length ys ≡ length rows = ap length ey
-    ∙ length-rows_by_position (length rows) (changed_between f rows m n) in
-    rows_by_position_is (length rows) (changed_between f rows 0 n) ws (ap length ew
-    ∙ length-rows_by_position (length ys) (changed_between g ys 0 m) ∙ ly)
-    (λ r l. ap (λ vs. row_at vs r) ew ∙ row_at-by_position (length ys) (changed_between g ys 0 m) r (omega arith)
-    ∙ blanks-read rows ys width m n r p (each r l).wide (ap (λ vs. row_at vs r) ey
-    ∙ row_at-by_position (length rows) (changed_between f rows m n) r l))
-
-pub IsSheet-pushed : (rows ws : List RowView) (width n : ℕ) → IsSheet (length rows) width rows → n ≤ length rows
-    → width < 2 ^ 16
-    → ws ≡ rows_by_position (length rows) (changed_between (λ v. blank_row width) rows 0 n)
-    → IsSheet (length rows) width ws
-IsSheet-pushed rows ws width n i h small e =
-    ⊎_elim (λ (some : 0 < length rows). rw e (IsSheet-blanks (length rows) width rows 0 n i some small))
-    (λ (none : length rows ≤ 0). subst (λ (xs : List RowView). IsSheet (length rows) width xs)
-    (rows_equal rows ws (sym (ap length e ∙ length-rows_by_position (length rows)
-    (changed_between (λ v. blank_row width) rows 0 n))) (λ k l. absurd (omega arith))) i)
-    (cases_lt 0 (length rows))
 
 pub IsSheet-scrolled : (rows ws : List RowView) (width end n : ℕ) → IsSheet (length rows) width rows → 0 < end
     → end ≤ length rows → width < 2 ^ 16

@@ -1,5 +1,5 @@
 //! The rows that left the screen at its top.
-ghost use Rattle.std.specs.Prelude.{◌≡◌, ◌-◌, ◌<◌, ◌≤◌, ◌==◌, length, take, IsOk, OnOk, OnErr, true};
+ghost use Rattle.std.specs.Prelude.{◌≡◌, ◌-◌, ◌<◌, ◌≤◌, ◌==◌, length, min, take, IsOk, OnOk, OnErr, true};
 ghost use Rattle.vt100_rows.specs.Row.{blank_row};
 ghost use Rattle.vt100_rows.specs.Sheet.{rows_by_position, IsSheet, changed_between};
 ghost use Rattle.vt100_rows.specs.Sink.{TakesAll};
@@ -9,7 +9,7 @@ use vt100_forms::GridError;
 use vt100_rows::Row;
 use vt100_rows::kept_rows::{drop_oldest, keep_rows, widen};
 use vt100_rows::row_sink::{RowSink, give_rows};
-use vt100_rows::rows_edit::{reset_between, turn_up};
+use vt100_rows::rows_edit::move_up;
 
 /// Whether a grid keeps rows that scroll off at its top, and how many at most.
 #[derive(Clone, Copy, Debug)]
@@ -38,8 +38,8 @@ impl ScrollbackState {
     ghost use Rattle.vt100_core.specs.Scroll.{kept_after, pushed_out, widened};
     ghost use Rattle.vt100_rows.specs.Sheet.{moved_up};
 
-    /// Takes the first `n` rows in, and leaves blank rows in their place. What this pushes out goes to the sink. None
-    /// of the kept rows is shown then.
+    /// Takes the first `n` rows in, and leaves blank rows in place of those that it keeps. What this pushes out goes to
+    /// the sink. None of the kept rows is shown then.
     pub(crate) fn push_off<S: RowSink>(
         &mut self,
         rows: &mut [Row],
@@ -54,7 +54,7 @@ impl ScrollbackState {
         ensures kept { OnOk result (kept_of self.new
             ≡ record (kept_after (kept_of self.old) (take n rows.old)) { offset = 0 }) }
         ensures rows { OnOk result (rows.new ≡ rows_by_position (length rows.old)
-            (changed_between (λ v. blank_row width) rows.old 0 n)) }
+            (changed_between (λ v. blank_row width) rows.old (n - min n self.old.capacity) n)) }
 
         // Also where memory ran out, which it does only where rows are kept.
         ensures sink { TakesAll S.takes sink.old (pushed_out (kept_of self.old) (take n rows.old)) sink.new }
@@ -71,7 +71,6 @@ impl ScrollbackState {
         let spare = drop_oldest(&mut self.rows, fits.saturating_sub(room), sink);
         give_rows(&rows[..n - fits], sink);
         keep_rows(&mut self.rows, rows, n - fits, n, width, spare)?;
-        reset_between(rows, 0, n - fits);
         Ok(())
     }
 
@@ -131,7 +130,7 @@ impl ScrollbackState {
     {
         let shown = self.offset;
         self.push_off(rows, n, width, sink)?;
-        turn_up(rows, 0, end, n);
+        move_up(rows, 0, end, n);
         let offset = if shown == 0 {
             0
         } else {

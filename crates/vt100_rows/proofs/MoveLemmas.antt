@@ -1,6 +1,6 @@
 -- Rows that move.
 use Rattle.std.proofs.Common.{◌≡◌, ℕ, ◌+◌, ◌-◌, ◌^◌, ◌<◌, ◌≤◌, ◌==◌, cond, ◌||◌, List, ◌++◌, length, set, take, drop}
-use Rattle.std.proofs.Common.{sym, refl, ap, ◌∙◌, arith, length-set, length-take, length-drop, length-append, zero-add}
+use Rattle.std.proofs.Common.{refl, ap, ◌∙◌, arith, length-set, length-take, length-drop, length-append}
 use Rattle.std.proofs.Common.{nat_lt, nat_le}
 use borrow.Rule.Slice.PartMut.{put_mid}
 use Rattle.std.proofs.lemmas.Bool.Decides.{nat_tests}
@@ -26,25 +26,35 @@ turns_up rows ys mid ws first end n h l em ey ew =
     rows_by_position_is (length rows) (turned_up rows first end n) ws (ap length ew ∙ lp)
     (λ r k. ap (λ vs. row_at vs r) ew ∙ grind (arith, places, nat_tests))
 
--- the rows that leave have been made blank before
+moves_up-read : (rows zs : List RowView) (first end n width r : ℕ) → first + n ≤ end → end ≤ length rows
+    → r < length rows → ((k : ℕ) → k < length rows → length (row_at rows k).cells ≡ width)
+    → row_at zs r ≡ turned_up rows first end n r
+    → changed_between (λ v. blank_row (length v.cells)) zs (end - n) end r ≡ moved_up rows first end n width r
+moves_up-read rows zs first end n width r h l k w e = grind (arith, nat_tests, w (r + n - (end - first)))
+
+-- the rows that come in are made blank after
 pub moves_up : (rows zs ws : List RowView) (first end n width : ℕ) → first + n ≤ end → end ≤ length rows
-    → zs ≡ rows_by_position (length rows) (changed_between (λ v. blank_row width) rows first (first + n))
-    → ws ≡ rows_by_position (length zs) (turned_up zs first end n)
+    → ((k : ℕ) → k < length rows → IsRowOf width (row_at rows k))
+    → zs ≡ rows_by_position (length rows) (turned_up rows first end n)
+    → ws ≡ rows_by_position (length zs) (changed_between (λ v. blank_row (length v.cells)) zs (end - n) end)
     → ws ≡ rows_by_position (length rows) (moved_up rows first end n width)
-moves_up rows zs ws first end n width h l ez ew =
-    let f = changed_between (λ v. blank_row width) rows first (first + n) in
-    read_again (length rows) (length zs) (turned_up zs first end n) (moved_up rows first end n width) ws ew
+moves_up rows zs ws first end n width h l w ez ew =
+    read_again (length rows) (length zs) (changed_between (λ v. blank_row (length v.cells)) zs (end - n) end)
+    (moved_up rows first end n width) ws ew (length-read (length rows) (turned_up rows first end n) zs ez)
+    (λ r k. moves_up-read rows zs first end n width r h l k (λ j m. (w j m).wide)
+    (row_at-read (length rows) (turned_up rows first end n) zs r ez k))
+
+-- what stands in the rows that go doesn't matter
+pub moves_up_alike : (rows zs ws : List RowView) (m end n width : ℕ) → n ≤ end → end ≤ length rows
+    → zs ≡ rows_by_position (length rows) (changed_between (λ v. blank_row width) rows m n)
+    → ws ≡ rows_by_position (length zs) (moved_up zs 0 end n width)
+    → ws ≡ rows_by_position (length rows) (moved_up rows 0 end n width)
+moves_up_alike rows zs ws m end n width h l ez ew =
+    let f = changed_between (λ v. blank_row width) rows m n in
+    read_again (length rows) (length zs) (moved_up zs 0 end n width) (moved_up rows 0 end n width) ws ew
     (length-read (length rows) f zs ez)
     (λ r k. let read = λ (j : ℕ). row_at-read (length rows) f zs j ez in
-    grind (arith, nat_tests, read r, read (r + n), read (r + n - (end - first))))
-
-pub moves_up_top : (rows zs ws : List RowView) (end n width : ℕ) → n ≤ end → end ≤ length rows
-    → zs ≡ rows_by_position (length rows) (changed_between (λ v. blank_row width) rows 0 n)
-    → ws ≡ rows_by_position (length zs) (turned_up zs 0 end n)
-    → ws ≡ rows_by_position (length rows) (moved_up rows 0 end n width)
-moves_up_top rows zs ws end n width h l ez ew = moves_up rows zs ws 0 end n width (omega arith) l
-    (ez ∙ ap (λ m. rows_by_position (length rows) (changed_between (λ v. blank_row width) rows 0 m)) (sym (zero-add n)))
-    ew
+    grind (arith, nat_tests, read r, read (r + n)))
 
 -- ---- down
 

@@ -140,7 +140,7 @@ IsSheet-blank height width n count small =
     }
 
 -- rows of one width that are made blank
-pub resets-part : (rows ws : List RowView) (width first end : ℕ)
+resets-part : (rows ws : List RowView) (width first end : ℕ)
     → ((r : ℕ) → r < length rows → IsRowOf width (row_at rows r))
     → ws ≡ rows_by_position (length rows) (changed_between (λ v. blank_row (length v.cells)) rows first end)
     → ws ≡ rows_by_position (length rows) (changed_between (λ v. blank_row width) rows first end)
@@ -167,14 +167,3 @@ pub IsSheet-with_blank : (height width : ℕ) (rows : List RowView) (r : ℕ) (v
 IsSheet-with_blank height width rows r v i h small e =
     IsSheet-with_row height width rows r v i h (rw e (IsRowOf-blank width small))
     (λ _. ap (λ (x : RowView). x.wrapped) e)
-
--- rows of which some have been made blank
-pub IsSheet-blanks : (height width : ℕ) (rows : List RowView) (first end : ℕ) → IsSheet height width rows → 0 < height
-    → width < 2 ^ 16
-    → IsSheet height width (rows_by_position (length rows) (changed_between (λ v. blank_row width) rows first end))
-IsSheet-blanks height width rows first end i some small =
-    IsSheet-by_position height width (length rows) (changed_between (λ v. blank_row width) rows first end) some i.count
-    (λ r l. IsRowOf-cond (nat_le first r && nat_lt r end) width (blank_row width) (row_at rows r)
-    (λ _. IsRowOf-blank width small) (λ _. i.each r l))
-    (λ l. wrapped-cond (nat_le first (height - 1)
-    && nat_lt (height - 1) end) (blank_row width) (row_at rows (height - 1)) (λ _. refl) (λ _. i.last))

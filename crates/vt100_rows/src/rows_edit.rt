@@ -100,15 +100,16 @@ pub fn turn_up(rows: &mut [Row], first: usize, end: usize, n: usize)
     rows[first..end].rotate_left(n);
 }
 
-/// Moves the rows from `first` up to `end` up by `n`, after the first `n` of them, which go, have been made blank.
+/// Moves the rows from `first` up to `end` up by `n`, and makes those that come in blank.
+// They are made blank last: a row that has just been written holds up its own move.
 pub fn move_up(rows: &mut [Row], first: usize, end: usize, n: usize)
     requires in_part { first + n ≤ end }
     requires in_rows { end ≤ length rows.old }
     ensures { (width : ℕ) → AreRowsOf width rows.old
         → rows.new ≡ rows_by_position (length rows.old) (moved_up rows.old first end n width) }
 {
-    reset_between(rows, first, first + n);
     turn_up(rows, first, end, n);
+    reset_between(rows, end - n, end);
 }
 
 /// Moves the rows from `first` up to `end` down by `n`, and makes those that come in blank.

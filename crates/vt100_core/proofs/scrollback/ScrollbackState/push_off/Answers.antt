@@ -1,9 +1,10 @@
 use Rattle.std.proofs.Common.{arith, ◌≡◌, ◌-◌, ◌∙◌, ◌++◌, ap, min, take, map, slice_range, length}
-use Rattle.vt100_rows.specs.Row.{trimmed}
+use Rattle.vt100_rows.specs.Row.{trimmed, blank_row}
+use Rattle.vt100_rows.specs.Sheet.{rows_by_position, changed_between}
 use Rattle.vt100_rows.specs.Sink.{TakesAll}
 use Rattle.vt100_core.specs.KeptFields.{kept_of}
 use Rattle.vt100_core.specs.Scroll.{pushed_out}
-use Rattle.vt100_core.proofs.KeepLemmas.{pushes, pushed, blanks, IsSheet-pushed}
+use Rattle.vt100_core.proofs.KeepLemmas.{pushes, pushed}
 use Rattle.vt100_rows.proofs.SinkLemmas.{TakesAll-append, TakesAll-list}
 use Rattle.vt100_core.proofs.scrollback.ScrollbackState.push_off.Given.{Over}
 use Rattle.vt100_core.proofs.scrollback.ScrollbackState.push_off.Goals.{After-give_rows}
@@ -44,13 +45,7 @@ returns-in_err-keep_rows-clause-sink g c = given g (goal.at.returns-in_err-keep_
 
 pub returns-clause-rows : goal.returns-clause-rows
 returns-clause-rows g c =
-    blanks c.args.rows.now c.keep_rows.new.rows c.reset_between.new.rows c.args.width (c.args.n - c.min-fits.result)
-    c.args.n (omega arith) c.requires.in_rows c.requires.sheet.each
-    c.in_ok-keep_rows.ensures.rows c.reset_between.ensures
-
-pub returns-clause-sheet : goal.returns-clause-sheet
-returns-clause-sheet g c =
-    IsSheet-pushed c.args.rows.now c.reset_between.new.rows c.args.width c.args.n c.requires.sheet c.requires.in_rows
-    (omega arith) (blanks c.args.rows.now c.keep_rows.new.rows c.reset_between.new.rows c.args.width
-    (c.args.n - c.min-fits.result) c.args.n (omega arith) c.requires.in_rows c.requires.sheet.each
-    c.in_ok-keep_rows.ensures.rows c.reset_between.ensures)
+    let first : c.args.n - c.min-fits.result ≡ c.args.n - min c.args.n c.args.self.now.capacity = omega arith in
+    c.in_ok-keep_rows.ensures.rows
+    ∙ ap (λ m. rows_by_position (length c.args.rows.now)
+    (changed_between (λ v. blank_row c.args.width) c.args.rows.now m c.args.n)) first
