@@ -98,8 +98,12 @@ impl<CB: Callbacks> Perform for WrappedScreen<CB> {
         if self.screen.failed() {
             return;
         }
+        // No control stands above shift in.
+        if byte > 15 {
+            self.callbacks.unhandled_control(&mut self.screen, byte);
+            return;
+        }
         match byte {
-            16.. => self.callbacks.unhandled_control(&mut self.screen, byte),
             8 => self.bs(),
             10 => {
                 // A refusal is kept in the screen, which has failed then.

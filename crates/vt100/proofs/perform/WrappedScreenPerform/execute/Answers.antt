@@ -15,8 +15,8 @@ returns-in-10 g c = rw c.in-10.is (does_scroll c.lf.ensures)
 pub returns-in-13 : goal.returns-in-13
 returns-in-13 g c = rw c.in-13.is (does_change c.cr.ensures)
 
-pub returns-in-16-to-255 : goal.returns-in-16-to-255
-returns-in-16-to-255 g c =
+pub returns-then-byte-gt15 : goal.returns-then-byte-gt15
+returns-then-byte-gt15 g c =
     let none : lookup c.args.byte control_rows ≡ None = grind (arith, nat_tests) in
     does_as (calling (said.unhandled_control c.args.byte ∷ []))
     (ap (λ o. effect_or o (said.unhandled_control c.args.byte) c.args.self.now.screen.state) (sym none))
