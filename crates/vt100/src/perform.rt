@@ -98,7 +98,7 @@ impl<CB: Callbacks> Perform for WrappedScreen<CB> {
         if self.screen.failed() {
             return;
         }
-        // No control stands above shift in.
+        // No control above shift in changes the screen.
         if byte > 15 {
             self.callbacks.unhandled_control(&mut self.screen, byte);
             return;
