@@ -9,8 +9,7 @@ from typing import Iterator, NamedTuple
 from ._library import RawRequest
 from ._object import Object, checked_count, checked_size
 
-# The most bytes that a request's text may have.
-_MOST_REQUEST_BYTES = 65536
+_FIRST_ROOM = 256
 
 
 class RequestKind(enum.IntEnum):
@@ -42,8 +41,12 @@ class Screen(Object):
 
     _kind = "screen"
 
+    dropped_requests: int
+    """How many requests had been dropped when `requests` last looked."""
+
     def __init__(self, rows: int, cols: int, scrollback: int = 0) -> None:
         """A blank screen of this size that keeps up to `scrollback` rows that scroll off."""
+        self.dropped_requests = 0
         super().__init__(checked_size(rows), checked_size(cols), checked_count(scrollback))
 
     def process(self, data: bytes) -> None:
@@ -87,8 +90,16 @@ class Screen(Object):
         return self._text("difference")
 
     def requests(self) -> Iterator[Request]:
-        """Takes what the program has asked for out of the screen's queue, oldest first."""
-        raw, room = RawRequest(), ctypes.create_string_buffer(_MOST_REQUEST_BYTES)
+        """Takes what the program has asked for out of the screen's queue, oldest first.
+
+        The queue holds up to 256 requests, each with a text of up to 1,024 bytes. Others are dropped.
+        """
+        raw, room = RawRequest(), ctypes.create_string_buffer(_FIRST_ROOM)
         while kind := self._call("request", room, len(room), raw):
+            self.dropped_requests = raw.dropped
+            if raw.length > len(room):
+                room = ctypes.create_string_buffer(raw.length)  # it is still the oldest
+                continue
             text = ctypes.string_at(room, raw.length)
             yield Request(RequestKind(kind), text[raw.letters :], text[: raw.letters], raw.rows, raw.cols)
+        self.dropped_requests = raw.dropped

@@ -128,6 +128,15 @@ class Screens(unittest.TestCase):
             self.assertEqual((title.kind, title.text), (RequestKind.TITLE, b"title"))
             self.assertEqual((copied.kind, copied.clipboards, copied.text), (RequestKind.COPY, b"cp", b"aGk="))
             self.assertEqual(list(screen.requests()), [])
+            self.assertEqual(screen.dropped_requests, 0)
+
+    def test_a_queue_is_bounded(self):
+        with Screen(2, 5) as screen:
+            name = b"x" * 1023  # with the number before it as many bytes as are kept
+            screen.process(b"\x1b]2;" + name + b"\a" * 258)
+            self.assertEqual(next(screen.requests()).text, name)
+            self.assertEqual(screen.dropped_requests, 2)
+            self.assertEqual(len(list(screen.requests())), 255)
 
 
 class Refusals(unittest.TestCase):

@@ -12,9 +12,6 @@ static FUNCTIONS: Functions = Functions {
     row_text: raw::jeihpal_screen_row_text,
 };
 
-/// The most bytes that a request's text has.
-const MOST_REQUEST_BYTES: usize = 65536;
-
 /// A terminal's screen from bytes, with the rows that scroll off, and what redraws it.
 ///
 /// What is written to it as [`io::Write`] it processes. It stays on the thread that made it.
@@ -33,6 +30,7 @@ const MOST_REQUEST_BYTES: usize = 65536;
 /// ```
 pub struct Screen {
     object: Object,
+    dropped: usize,
 }
 
 impl Screen {
@@ -43,6 +41,7 @@ impl Screen {
             |word| unsafe { raw::jeihpal_screen_new(word, rows.get(), cols.get(), scrollback) };
         Ok(Screen {
             object: Object::new(&FUNCTIONS, fill)?,
+            dropped: 0,
         })
     }
 
@@ -106,7 +105,7 @@ impl Screen {
     }
 
     /// Takes what the program has asked of its terminal out of the screen's queue, oldest first. The queue holds up to
-    /// 256 requests; those that come while it is full are dropped.
+    /// 256 requests, each with a text of up to 1,024 bytes; others are dropped.
     ///
     /// ```
     /// # let size = std::num::NonZeroU16::new(9).unwrap();
@@ -121,6 +120,11 @@ impl Screen {
         std::iter::from_fn(move || self.next_request(&mut room))
     }
 
+    /// How many requests had been dropped when [`requests`](Screen::requests) last looked.
+    pub fn dropped_requests(&self) -> usize {
+        self.dropped
+    }
+
     fn next_request(&mut self, room: &mut Vec<u8>) -> Option<Request> {
         let mut raw = RawRequest::default();
         loop {
@@ -129,11 +133,12 @@ impl Screen {
                     raw::jeihpal_screen_request(word, room.as_mut_ptr(), room.len(), &mut raw)
                 })
                 .expect("it is never refused");
+            self.dropped = raw.dropped;
             // One whose text is longer than the room stays in the queue.
             if raw.length <= room.len() {
                 return Request::of(&raw, &room[..raw.length]);
             }
-            room.resize(MOST_REQUEST_BYTES, 0);
+            room.resize(raw.length, 0);
         }
     }
 }

@@ -189,6 +189,24 @@ fn screens() {
 }
 
 #[test]
+fn a_queue_is_bounded() {
+    let mut screen = Screen::new(size(2), size(5), 0).unwrap();
+    let name = [b'x'; 1023]; // with the number before it as many bytes as are kept
+    screen.process(b"\x1b]2;").unwrap();
+    screen.process(&name).unwrap();
+    screen.process(&[7; 257]).unwrap(); // the first ends the title
+    assert_eq!(
+        screen.requests().next(),
+        Some(Request::Title(name.to_vec()))
+    );
+    assert_eq!(screen.dropped_requests(), 1);
+    assert_eq!(screen.requests().count(), 255);
+    screen.process(b"\x07").unwrap();
+    assert_eq!(screen.requests().count(), 1);
+    assert_eq!(screen.dropped_requests(), 1);
+}
+
+#[test]
 fn threads_with_an_object_each() {
     let threads = ["a", "b"].map(|letter| {
         thread::spawn(move || {
