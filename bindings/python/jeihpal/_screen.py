@@ -9,8 +9,6 @@ from typing import Iterator, NamedTuple
 from ._library import RawRequest
 from ._object import Object, checked_count, checked_size
 
-_FIRST_ROOM = 256
-
 
 class RequestKind(enum.IntEnum):
     """What a program asks of its terminal beyond drawing."""
@@ -94,12 +92,12 @@ class Screen(Object):
 
         The queue holds up to 256 requests, each with a text of up to 1,024 bytes. Others are dropped.
         """
-        raw, room = RawRequest(), ctypes.create_string_buffer(_FIRST_ROOM)
-        while kind := self._call("request", room, len(room), raw):
+        raw = RawRequest()
+        while kind := self._call("request", self._room, len(self._room), raw):
             self.dropped_requests = raw.dropped
-            if raw.length > len(room):
-                room = ctypes.create_string_buffer(raw.length)  # it is still the oldest
+            if raw.length > len(self._room):
+                self._room = ctypes.create_string_buffer(raw.length)  # it is still the oldest
                 continue
-            text = ctypes.string_at(room, raw.length)
+            text = ctypes.string_at(self._room, raw.length)
             yield Request(RequestKind(kind), text[raw.letters :], text[: raw.letters], raw.rows, raw.cols)
         self.dropped_requests = raw.dropped
