@@ -1,10 +1,10 @@
 -- Bytes between whose steps the performer is asked.
-use Rattle.std.proofs.Common.{◌≡◌, ℕ, zero, suc, ◌+◌, ◌-◌, ◌<◌, Bool, true, false, List, [], ◌++◌, length, take, drop}
-use Rattle.std.proofs.Common.{arith, length-take, subst}
+use Rattle.std.proofs.Common.{◌≡◌, ◌==◌, ℕ, zero, suc, ◌+◌, ◌-◌, ◌<◌, Bool, true, false, not, List, [], ◌++◌, length, take, drop}
+use Rattle.std.proofs.Common.{arith, length-take, refl, subst}
 use Rattle.std.proofs.lemmas.List.{take-append-drop}
 use Rattle.vte_core.specs.Event.{Event}
 use Rattle.vte_core.specs.Pending.{Pending, InText, after_bytes, events_from}
-use Rattle.vte_core.specs.Reads.{Reads, ReadsAsked, ReadsStep}
+use Rattle.vte_core.specs.Reads.{Reads, ReadsAsked, ReadsOn, ReadsStep}
 use Rattle.vte_core.specs.Runs.{is_one_step}
 use Rattle.vte_core.specs.Standing.{IsAt}
 use Rattle.vte_core.specs.Stopping.{StopsAt}
@@ -12,10 +12,14 @@ use Rattle.vte_core.specs.declared.parser.Parser.{Parser}
 use Rattle.vte_core.specs.declared.parser.State.TheVariants.{Ground}
 use Rattle.vte_core.proofs.Machine.{after_bytes-append}
 use Rattle.vte_core.proofs.Quiet.{one-step, step_stops}
-use Rattle.vte_core.proofs.ReadsLemmas.{reads_on}
+use Rattle.vte_core.proofs.ReadsLemmas.{reads_none, reads_on}
 use Rattle.vte_core.proofs.Runs.{piece_and_rest, read_more}
 use Rattle.vte_core.proofs.StopLemmas.{whole_rest}
 use Rattle.vte_core.proofs.Telling.{same_events}
+
+-- where a reader doesn't ask
+pub never-asked : (a : ℕ) → a ≡ 0 → not (a == 0) ≡ true → ⊥
+never-asked a none asks = let no = rw none at asks in cc
 
 module _ {S : Type 0} {step : S → Event → S → Type 0} {terminated : S → Bool} {n : ℕ} {p r : Parser n} {old new : S} where
   pub asked_step : (bs : List ℕ) (k : ℕ) → terminated old ≡ false → ReadsStep step n p old bs k r new
@@ -39,11 +43,6 @@ module _ {S : Type 0} {step : S → Event → S → Type 0} {n : ℕ} {p r : Par
   unmoved q bs at read =
       same_events step old new read.reported.reported [] (read.reported.added q at) read.reported.performed
 
-  pub short_unmoved : (bs : List ℕ) (k : ℕ) → k ≡ 0 → p.state ≡ Ground → p.unfinished ≡ [] → Reads step n p old bs k r new
-      → new ≡ old
-  short_unmoved bs k none ground whole read =
-      unmoved (InText []) bs (ground, whole) (subst (λ (j : ℕ). Reads step n p old bs j r new) none read)
-
 module _ {S : Type 0} {step : S → Event → S → Type 0} {terminated : S → Bool} {n : ℕ} {p r : Parser n} {old new : S} where
   -- one run of ground text, or none
   pub asked_run : (bs : List ℕ) (k : ℕ) → terminated old ≡ false → Reads step n p old bs k r new
@@ -60,6 +59,10 @@ module _ {S : Type 0} {step : S → Event → S → Type 0} {terminated : S → 
     reads = read;
     is_step = λ q at. one-step n q (take (suc k) bs) (drop (suc k) bs) (one (omega arith) q at);
   }
+
+abbrev pub asked_none : {S : Type 0} {step : S → Event → S → Type 0} {terminated : S → Bool} {n : ℕ} {p : Parser n} {old : S}
+    (bs : List ℕ) → terminated old ≡ false → ReadsAsked step terminated n p old bs 0 p old
+asked_none bs goes_on = asked_run bs 0 goes_on (reads_none bs) (λ some q at. absurd (omega (arith, some)))
 
 module _ {S : Type 0} {step : S → Event → S → Type 0} {terminated : S → Bool} {n : ℕ} {p mid r : Parser n} {old between new : S} where
   -- bytes after others
@@ -81,3 +84,42 @@ module _ {S : Type 0} {step : S → Event → S → Type 0} {terminated : S → 
         let all : i + k + j ≡ i + (k + j) = omega arith in
         rw all (a.stops q at (k + j) end rest);
   }
+
+module _ {S : Type 0} {step : S → Event → S → Type 0} {terminated : S → Bool} {asks : Bool} {n : ℕ} {p r : Parser n} {old new : S} where
+  pub on_step : (bs : List ℕ) (k : ℕ) → ReadsStep step n p old bs k r new → ReadsOn step terminated asks n p old bs k r new
+  on_step bs k one = record { some = one.some; reads = one.reads; asked = λ a goes_on. asked_step bs k goes_on one }
+
+  -- one run of ground text
+  pub on_run : (bs : List ℕ) (k : ℕ) → 0 < k → Reads step n p old bs k r new
+      → (0 < k → (q : Pending) → IsAt n p q → is_one_step q (take k bs) (drop k bs) ≡ true)
+      → ReadsOn step terminated asks n p old bs k r new
+  on_run bs k some reads one = record {
+    some = some;
+    reads = reads;
+    asked = λ a goes_on. asked_run bs k goes_on reads one;
+  }
+
+module _ {S : Type 0} {step : S → Event → S → Type 0} {terminated : S → Bool} {asks : Bool} {n : ℕ} {p mid r : Parser n} {old between new : S} where
+  pub on_more : (bs : List ℕ) (i k : ℕ) → Reads step n p old bs i mid between
+      → (asks ≡ true → terminated old ≡ false → ReadsAsked step terminated n p old bs i mid between)
+      → (asks ≡ true → terminated old ≡ false → terminated between ≡ false)
+      → ReadsOn step terminated asks n mid between (take (length bs - i) (drop i bs)) k r new
+      → ReadsOn step terminated asks n p old bs (i + k) r new
+  on_more bs i k reads asked still more = record {
+    some = omega (arith, more.some);
+    reads = reads_on bs i k reads more.reads;
+    asked = λ a goes_on. asked_more bs i k (asked a goes_on) (more.asked a (still a goes_on));
+  }
+
+  -- a run of ground text, or none, after which the performer goes on, and then others
+  pub on_text : (bs : List ℕ) (i k : ℕ) → p.state ≡ Ground → Reads step n p old bs i mid between
+      → (0 < i → (q : Pending) → IsAt n p q → is_one_step q (take i bs) (drop i bs) ≡ true)
+      → (asks ≡ true → 0 < i → terminated between ≡ false)
+      → ReadsOn step terminated asks n mid between (take (length bs - i) (drop i bs)) k r new
+      → ReadsOn step terminated asks n p old bs (i + k) r new
+  on_text bs zero k ground text one still more =
+      on_more bs 0 k text (λ a goes_on. asked_run bs 0 goes_on text one)
+      (λ a goes_on. rw (unmoved (InText p.unfinished) bs (ground, refl) text) goes_on) more
+  on_text bs (suc i) k ground text one still more =
+      on_more bs (suc i) k text (λ a goes_on. asked_run bs (suc i) goes_on text one)
+      (λ a goes_on. still a (omega arith)) more

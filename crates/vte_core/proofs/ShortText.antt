@@ -1,10 +1,10 @@
 -- Short ground text, after whole characters.
-use Rattle.std.proofs.Common.{◌≡◌, ◌∙◌, ℕ, zero, suc, ◌+◌, ◌-◌, ◌<◌, ◌≤◌, true, false, List, [], ◌∷◌, length, take, drop, get_or}
-use Rattle.std.proofs.Common.{ap, arith, inl, inr, refl, subst, sym}
+use Rattle.std.proofs.Common.{◌≡◌, ◌∙◌, ℕ, zero, suc, ◌<◌, ◌≤◌, true, false, List, [], ◌∷◌, length, take, drop, get_or}
+use Rattle.std.proofs.Common.{ap, arith, inl, inr, refl, sym}
 use Rattle.vte_core.specs.Bytes.{is_esc}
 use Rattle.vte_core.specs.Event.{Event, Performs}
 use Rattle.vte_core.specs.Pending.{Pending, InText}
-use Rattle.vte_core.specs.Reads.{Reads, ReadsStep}
+use Rattle.vte_core.specs.Reads.{Reads}
 use Rattle.vte_core.specs.Runs.{has_no_esc, run_reported, run_rest, is_one_step}
 use Rattle.vte_core.specs.Shapes.{before}
 use Rattle.vte_core.specs.Standing.{IsAt, state_is_text}
@@ -12,9 +12,8 @@ use Rattle.vte_core.specs.declared.parser.Parser.{Parser}
 use Rattle.vte_core.specs.declared.parser.State.TheVariants.{Ground}
 use Rattle.vte_core.proofs.Characters.{bool_cases}
 use Rattle.vte_core.proofs.GroundTextLemmas.{text_is}
-use Rattle.vte_core.proofs.ReadsLemmas.{reads_on}
 use Rattle.vte_core.proofs.Runs.{no_esc-before, run-at, run-events, take-before}
-use Rattle.vte_core.proofs.StopLemmas.{is_text-at, whole_rest}
+use Rattle.vte_core.proofs.StopLemmas.{is_text-at}
 
 pub short-no_esc : (bs : List ℕ) (k : ℕ) → (0 < k → k ≡ length (before is_esc bs)) → has_no_esc (take k bs) ≡ true
 short-no_esc bs zero h = refl
@@ -47,22 +46,6 @@ module _ {S : Type 0} {step : S → Event → S → Type 0} {n : ℕ} {p r : Par
           performed = performed;
           added = λ q at. rw (whole_text n p q ground whole at) (sym run.0);
         };
-      }
-
-module _ {S : Type 0} {step : S → Event → S → Type 0} {n : ℕ} {p mid r : Parser n} {old between new : S} where
-  -- a step behind no bytes
-  pub after_none : (bs : List ℕ) (i k : ℕ) → i ≡ 0 → Reads step n p old bs i mid between
-      → ReadsStep step n mid between bs k r new → ReadsStep step n p old bs k r new
-  after_none bs i k none before_it after =
-      let nothing : Reads step n p old bs 0 mid between =
-      subst (λ (j : ℕ). Reads step n p old bs j mid between) none before_it in
-      let rest : Reads step n mid between (take (length bs - 0) (drop 0 bs)) k r new =
-      subst (λ (xs : List ℕ). Reads step n mid between xs k r new) (sym (whole_rest bs 0)) after.reads in
-      let all : 0 + k ≡ k = omega arith in
-      record {
-        some = after.some;
-        reads = subst (λ (j : ℕ). Reads step n p old bs j r new) all (reads_on bs 0 k nothing rest);
-        is_step = λ q at. after.is_step q (nothing.state_after q at);
       }
 
 pub short_step : (n : ℕ) (p : Parser n) (bs : List ℕ) (k : ℕ) (q : Pending) → p.state ≡ Ground → 0 < length bs → 0 < k

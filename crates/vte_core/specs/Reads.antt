@@ -23,21 +23,15 @@ pub record Reads {S : Type 0} (step : S → Event → S
   pub state_after : (q : Pending) → IsAt n p q → IsAt n r (after_bytes q (take k bs))
   pub reported : PerformsEvents step n p old (take k bs) new
 
--- the same, and there are some
-pub record ReadsSome {S : Type 0} (step : S → Event → S
-    → Type 0) (n : ℕ) (p : Parser n) (old : S) (bs : List ℕ) (k : ℕ) (r : Parser n) (new : S) : Type 0 where
-  pub some : 0 < k
-  pub reads : Reads step n p old bs k r new
-
--- the same, and the performer has to be asked after them, and not between those that have events
+-- some bytes are read, and the performer has to be asked after them, and not between those that have events
 pub record ReadsStep {S : Type 0} (step : S → Event → S
     → Type 0) (n : ℕ) (p : Parser n) (old : S) (bs : List ℕ) (k : ℕ) (r : Parser n) (new : S) : Type 0 where
   pub some : 0 < k
   pub reads : Reads step n p old bs k r new
   pub is_step : (q : Pending) → IsAt n p q → IsStep n q (take k bs) (drop k bs)
 
--- the same, and the performer is asked before them and after them, and wherever else it has to be: what stops as it
--- should on the bytes that are left does so on all of them
+-- bytes are read, and the performer is asked before them and after them, and wherever else it has to be: what stops as
+-- it should on the bytes that are left does so on all of them
 pub record ReadsAsked {S : Type 0} (step : S → Event → S → Type 0) (terminated : S
     → Bool) (n : ℕ) (p : Parser n) (old : S) (bs : List ℕ) (k : ℕ) (r : Parser n) (new : S) : Type 0 where
   pub reads : Reads step n p old bs k r new
@@ -45,7 +39,14 @@ pub record ReadsAsked {S : Type 0} (step : S → Event → S → Type 0) (termin
       → StopsAt step terminated n (after_bytes q (take k bs)) true (drop k bs) new j end
       → StopsAt step terminated n q true bs old (k + j) end
 
--- they have no events
+-- some bytes are read, and where the parser asks a performer that goes on, it asks wherever it has to
+pub record ReadsOn {S : Type 0} (step : S → Event → S → Type 0) (terminated : S → Bool) (asks : Bool) (n : ℕ) (p
+    : Parser n) (old : S) (bs : List ℕ) (k : ℕ) (r : Parser n) (new : S) : Type 0 where
+  pub some : 0 < k
+  pub reads : Reads step n p old bs k r new
+  pub asked : asks ≡ true → terminated old ≡ false → ReadsAsked step terminated n p old bs k r new
+
+-- bytes without events are read
 pub record ReadsQuietly (n : ℕ) (p : Parser n) (bs : List ℕ) (k : ℕ) (r : Parser n) : Type 0 where
   pub within : k ≤ length bs
   pub state_after : (q : Pending) → IsAt n p q → IsAt n r (after_bytes q (take k bs))

@@ -10,7 +10,7 @@ ghost use Rattle.vte_core.specs.Event.{Performs};
 ghost use Rattle.vte_core.specs.StepEvents.{final_events};
 ghost use Rattle.vte_core.specs.Pending.{Pending, InEscape, final_rest, final_reported};
 ghost use Rattle.vte_core.specs.Reads.{BeginsCommand, BeginsMarked, BeginsPlain, BeginsPrivate, BeginsUnmarked};
-ghost use Rattle.vte_core.specs.Reads.{BeginsWithEsc, Reads, ReadsAsked, ReadsSome, ReadsStep, ReadsQuietly};
+ghost use Rattle.vte_core.specs.Reads.{BeginsWithEsc, Reads, ReadsOn, ReadsStep, ReadsQuietly};
 ghost use Rattle.vte_core.specs.Runs.{TellsEach, is_one_step};
 ghost use Rattle.vte_core.specs.Standing.{IsAt, IsAfter, state_is_text};
 ghost use Rattle.vte_core.specs.Stopping.{Stops};
@@ -604,19 +604,6 @@ impl<const N: usize> Parser<N> {
         self.unfinished.read_short(performer, bytes)
     }
 
-    /// Reads ground text up to the next ESC, or a control sequence after it, or ESC. Returns how many bytes it read.
-    #[inline(never)]
-    fn read_ground<P: Perform>(&mut self, performer: &mut P, bytes: &[u8]) -> usize
-        requires some { 0 < length bytes.now }
-        requires ground { self.old.state ≡ State.Ground }
-        ensures { ReadsStep P.step N self.old performer.old bytes.now result self.new performer.new }
-    {
-        if bytes[0] == 0x1B {
-            return self.read_any_escape(performer, bytes);
-        }
-        self.unfinished.read(performer, bytes)
-    }
-
     /// Reads the ground text before the next ESC, if there is some. Returns how many bytes it read.
     #[inline(always)]
     fn read_text<P: Perform>(&mut self, performer: &mut P, bytes: &[u8]) -> usize
@@ -625,6 +612,8 @@ impl<const N: usize> Parser<N> {
         ensures reads { Reads P.step N self.old performer.old bytes.now result self.new performer.new }
         ensures state { self.new.state ≡ State.Ground }
         ensures ended { result < length bytes.now → slice_index bytes.now result ≡ 0x1B }
+        ensures is_step { 0 < result → (q : Pending) → IsAt N self.old q
+            → is_one_step q (take result bytes.now) (drop result bytes.now) ≡ true }
     {
         if bytes[0] == 0x1B {
             return 0;
@@ -632,54 +621,46 @@ impl<const N: usize> Parser<N> {
         self.unfinished.read(performer, bytes)
     }
 
-    /// Reads ground text up to the next ESC, and then as `read_escape` does, if there is one. Returns how many bytes it
-    /// read.
+    /// Reads ground text up to the next ESC, and the sequence that ESC begins, if the performer goes on after the text.
+    /// Returns how many bytes it read.
     #[inline(never)]
-    fn read_through<P: Perform>(&mut self, performer: &mut P, bytes: &[u8]) -> usize
+    fn read_through<P: Perform, const ASKED: bool>(
+        &mut self,
+        performer: &mut P,
+        bytes: &[u8],
+    ) -> usize
         requires some { 0 < length bytes.now }
         requires ground { self.old.state ≡ State.Ground }
-        ensures { ReadsSome P.step N self.old performer.old bytes.now result self.new performer.new }
+        ensures { ReadsOn P.step P.is_terminated ASKED N self.old performer.old bytes.now result
+            self.new performer.new }
     {
         let text = self.read_text(performer, bytes);
         if text == bytes.len() {
             return text;
         }
+        if ASKED && text > 0 && performer.terminated() {
+            return text;
+        }
         text + self.read_any_escape(performer, &bytes[text..])
     }
 
-    /// Reads as `read_ground` does, but short text and, where the performer goes on, a sequence after it without a call.
+    /// Reads as `read_through` does, but short text and a sequence after it without a call.
     #[inline(always)]
-    fn read_near<P: Perform>(&mut self, performer: &mut P, bytes: &[u8]) -> usize
+    fn read_turn<P: Perform, const ASKED: bool>(&mut self, performer: &mut P, bytes: &[u8]) -> usize
         requires room { 8 < length bytes.now }
         requires whole { self.old.unfinished ≡ [] }
         requires ground { self.old.state ≡ State.Ground }
-        requires goes_on { P.is_terminated performer.old ≡ false }
-        ensures some { 0 < result }
-        ensures asked { ReadsAsked P.step P.is_terminated N self.old performer.old bytes.now result self.new performer.new }
+        ensures { ReadsOn P.step P.is_terminated ASKED N self.old performer.old bytes.now result
+            self.new performer.new }
     {
         let text = self.read_short(performer, bytes);
-        if text > 0 && performer.terminated() {
+        if ASKED && text > 0 && performer.terminated() {
             return text;
         }
         if bytes[text] == 0x1B {
             return text + self.read_escape(performer, &bytes[text..]);
         }
-        text + self.read_ground(performer, &bytes[text..])
-    }
-
-    /// Reads as `read_through` does, but short text and a sequence after it without a call.
-    #[inline(always)]
-    fn read_turn<P: Perform>(&mut self, performer: &mut P, bytes: &[u8]) -> usize
-        requires room { 8 < length bytes.now }
-        requires whole { self.old.unfinished ≡ [] }
-        requires ground { self.old.state ≡ State.Ground }
-        ensures { ReadsSome P.step N self.old performer.old bytes.now result self.new performer.new }
-    {
-        let text = self.read_short(performer, bytes);
-        if bytes[text] == 0x1B {
-            return text + self.read_escape(performer, &bytes[text..]);
-        }
-        text + self.read_through(performer, &bytes[text..])
+        text + self.read_through::<P, ASKED>(performer, &bytes[text..])
     }
 
     /// Reads what has no event, and the byte after it, if there is one. Returns how many bytes it read.
@@ -748,42 +729,13 @@ impl<const N: usize> Parser<N> {
         quiet
     }
 
-    /// Reads bytes of a sequence up to the first that has an event, and with it. Returns how many bytes it read.
-    #[inline(never)]
-    fn read_sequence<P: Perform>(&mut self, performer: &mut P, bytes: &[u8]) -> usize
-        requires some { 0 < length bytes.now }
-        requires inside { state_is_text self.old.state ≡ false }
-        ensures { ReadsStep P.step N self.old performer.old bytes.now result self.new performer.new }
-    {
-        match self.state {
-            State::Escape => self.read_escaped(performer, bytes),
-            _ => self.read_inside(performer, bytes),
-        }
-    }
-
-    /// Reads bytes up to the first that has an event, and with it, or ground text up to the next ESC, and after short text
-    /// a sequence too, where the performer goes on. Returns how many bytes it read.
-    #[inline(always)]
-    fn read_step<P: Perform>(&mut self, performer: &mut P, bytes: &[u8]) -> usize
-        requires some { 0 < length bytes.now }
-        requires goes_on { P.is_terminated performer.old ≡ false }
-        ensures some { 0 < result }
-        ensures asked { ReadsAsked P.step P.is_terminated N self.old performer.old bytes.now result self.new performer.new }
-    {
-        match self.state {
-            State::Ground if bytes.len() >= TURN_LEN && self.unfinished.is_empty() =>
-                self.read_near(performer, bytes),
-            State::Ground => self.read_ground(performer, bytes),
-            _ => self.read_sequence(performer, bytes),
-        }
-    }
-
     /// Reads a device control string's data, of which each byte has an event, and the byte after it, if there is one.
     /// Returns how many bytes it read.
     fn read_data<P: Perform>(&mut self, performer: &mut P, bytes: &[u8]) -> usize
         requires some { 0 < length bytes.now }
         requires data { self.old.state ≡ State.DcsPassthrough }
-        ensures { ReadsSome P.step N self.old performer.old bytes.now result self.new performer.new }
+        ensures some { 0 < result }
+        ensures reads { Reads P.step N self.old performer.old bytes.now result self.new performer.new }
     {
         let data = put_prefix(performer, bytes);
         if data == bytes.len() {
@@ -793,16 +745,21 @@ impl<const N: usize> Parser<N> {
         data + 1
     }
 
-    /// Reads some bytes of a sequence: as `read_sequence` does, but a device control string's data at once. Returns how
-    /// many bytes it read.
+    /// Reads some bytes of a sequence up to the first that has an event, and with it; or a device control string's data at
+    /// once, where the performer isn't asked. Returns how many bytes it read.
     #[inline(always)]
-    fn read_apart<P: Perform>(&mut self, performer: &mut P, bytes: &[u8]) -> usize
+    fn read_apart<P: Perform, const ASKED: bool>(
+        &mut self,
+        performer: &mut P,
+        bytes: &[u8],
+    ) -> usize
         requires some { 0 < length bytes.now }
         requires inside { state_is_text self.old.state ≡ false }
-        ensures { ReadsSome P.step N self.old performer.old bytes.now result self.new performer.new }
+        ensures { ReadsOn P.step P.is_terminated ASKED N self.old performer.old bytes.now result
+            self.new performer.new }
     {
         match self.state {
-            State::DcsPassthrough => self.read_data(performer, bytes),
+            State::DcsPassthrough if !ASKED => self.read_data(performer, bytes),
             State::Escape => self.read_escaped(performer, bytes),
             _ => self.read_inside(performer, bytes),
         }
@@ -816,34 +773,43 @@ impl<const N: usize> Parser<N> {
         matches!(self.state, State::Ground)
     }
 
-    /// Reads sequences up to the next ground text. Returns how many bytes it read.
+    /// Reads sequences up to the next ground text, or as far as the performer goes on. Returns how many bytes it read.
     #[inline(never)]
-    fn read_outside<P: Perform>(&mut self, performer: &mut P, bytes: &[u8]) -> usize
+    fn read_outside<P: Perform, const ASKED: bool>(
+        &mut self,
+        performer: &mut P,
+        bytes: &[u8],
+    ) -> usize
         requires some { 0 < length bytes.now }
         requires inside { state_is_text self.old.state ≡ false }
-        ensures { ReadsSome P.step N self.old performer.old bytes.now result self.new performer.new }
+        ensures { ReadsOn P.step P.is_terminated ASKED N self.old performer.old bytes.now result
+            self.new performer.new }
     {
         let mut read = 0;
         loop {
-            read += self.read_apart(performer, &bytes[read..]);
+            read += self.read_apart::<P, ASKED>(performer, &bytes[read..]);
             if read == bytes.len() || self.is_ground() {
+                return read;
+            }
+            if ASKED && performer.terminated() {
                 return read;
             }
         }
     }
 
-    /// Reads some bytes: ground text and what ESC begins after it, or sequences up to the next ground text. Returns how
-    /// many bytes it read.
+    /// Reads some bytes: ground text and what ESC begins after it, or sequences up to the next ground text. Where the
+    /// performer is asked, it reads no further than the performer goes on. Returns how many bytes it read.
     #[inline(always)]
-    fn read_on<P: Perform>(&mut self, performer: &mut P, bytes: &[u8]) -> usize
+    fn read_on<P: Perform, const ASKED: bool>(&mut self, performer: &mut P, bytes: &[u8]) -> usize
         requires { 0 < length bytes.now }
-        ensures { ReadsSome P.step N self.old performer.old bytes.now result self.new performer.new }
+        ensures { ReadsOn P.step P.is_terminated ASKED N self.old performer.old bytes.now result
+            self.new performer.new }
     {
         match self.state {
             State::Ground if bytes.len() >= TURN_LEN && self.unfinished.is_empty() =>
-                self.read_turn(performer, bytes),
-            State::Ground => self.read_through(performer, bytes),
-            _ => self.read_outside(performer, bytes),
+                self.read_turn::<P, ASKED>(performer, bytes),
+            State::Ground => self.read_through::<P, ASKED>(performer, bytes),
+            _ => self.read_outside::<P, ASKED>(performer, bytes),
         }
     }
 
@@ -855,7 +821,7 @@ impl<const N: usize> Parser<N> {
     {
         let mut read = 0;
         while read < bytes.len() {
-            read += self.read_on(performer, &bytes[read..]);
+            read += self.read_on::<P, false>(performer, &bytes[read..]);
         }
     }
 
@@ -878,7 +844,7 @@ impl<const N: usize> Parser<N> {
             if performer.terminated() {
                 return read;
             }
-            read += self.read_step(performer, &bytes[read..]);
+            read += self.read_on::<P, true>(performer, &bytes[read..]);
         }
         bytes.len()
     }

@@ -21,23 +21,23 @@ pub loop-read-preserved : goal.loop-read-preserved
 loop-read-preserved g c =
     let bs = c.args.bytes.now in
     let i = c.loop-read.read in
-    let k = c.read_step-read.result in
+    let k = c.read_on-read.result in
     let inv = c.loop-read.invariant in
-    let read = c.read_step-read.ensures in
+    let read = c.read_on-read.ensures in
     let quiet : g.P.Perform.is_terminated c.loop-read.performer ≡ false =
     sym c.terminated.ensures ∙ c.if-terminated.false in
     record {
-      reads = reads_on bs i k inv.reads read.asked.reads;
+      reads = reads_on bs i k inv.reads read.reads;
       none = λ h. absurd (omega (arith, h, read.some));
       stops = λ q h j new r.
           let now = after_bytes q (take i bs) in
-          let parts = piece_and_rest bs i k read.asked.reads.within in
+          let parts = piece_and_rest bs i k read.reads.within in
           let left = rw (
             parts.2,
             read_more bs i k,
             after_bytes-append q (take i bs) (take k (take (length bs - i) (drop i bs))),
           ) at r in
-          let on = read.asked.stops now (inv.reads.state_after q h) j new left in
+          let on = (read.asked refl quiet).stops now (inv.reads.state_after q h) j new left in
           let rest = rw (whole_rest bs i) at on in
           let m : i + k + j ≡ i + (k + j) = omega arith in
           rw m (inv.stops q h (k + j) new rest);

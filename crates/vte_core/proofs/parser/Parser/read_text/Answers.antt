@@ -31,3 +31,11 @@ returns-clause-ended g c less =
     let k = c.read.result in
     let ends : is_esc (get_or bs k 0) ≡ true = rw c.read.ensures.len (before-ends bs (rw (← c.read.ensures.len) less)) in
     grind (arith, nat_tests, ends)
+
+pub returns-clause-is_step : goal.returns-clause-is_step
+returns-clause-is_step g c = λ some q at.
+    let bs = c.args.bytes.now in
+    let no = c.if-bytes-eq27.false in
+    let esc : is_esc (get_or bs 0 0) ≡ false = grind (arith, nat_tests) in
+    (run-at g.row.N c.args.self.now bs c.read.result q c.requires.some (rw (c.requires.ground, esc) refl)
+    c.read.ensures.len at).2

@@ -1,21 +1,33 @@
-use Rattle.std.proofs.Common.{arith}
-use Rattle.vte_core.proofs.ReadsLemmas.{reads_on}
+use Rattle.std.proofs.Common.{◌∙◌, arith, sym}
+use Rattle.vte_core.proofs.AskedLemmas.{never-asked, on_run, on_step, on_text}
 use Rattle.vte_core.proofs.parser.Parser.read_turn.Goals as goal
+use Rattle.vte_core.proofs.parser.Parser.read_turn.Goals.{else-this-ne0-via-then-this-ne0+then-text-gt0+else-terminated}
+use Rattle.vte_core.proofs.parser.Parser.read_turn.Goals.{else-this-ne0-via-then-this-ne0+else-text-gt0}
+use Rattle.vte_core.proofs.parser.Parser.read_turn.Goals.{else-this-ne0-via-else-this-ne0}
+
+pub returns-then-terminated : goal.returns-then-terminated
+returns-then-terminated g c =
+    let short = c.read_short-text.ensures in
+    on_run c.args.bytes.now c.read_short-text.result c.if-text-gt0.true short.reads short.is_step
 
 pub returns-then-bytes-text-eq27 : goal.returns-then-bytes-text-eq27
 returns-then-bytes-text-eq27 g c =
-    let one = c.read_escape.ensures in
-    record {
-      some = omega (arith, one.some);
-      reads = reads_on c.args.bytes.now c.read_short-text.result c.read_escape.result c.read_short-text.ensures.reads
-          one.reads;
-    }
+    let short = c.read_short-text.ensures in
+    on_text c.args.bytes.now c.read_short-text.result c.read_escape.result c.requires.ground short.reads short.is_step
+    (λ asks some. elim c.else-this-ne0.branch [
+      | else-this-ne0-via-then-this-ne0+then-text-gt0+else-terminated w ↦ sym w.terminated.ensures ∙ w.if-terminated.false
+      | else-this-ne0-via-then-this-ne0+else-text-gt0 w ↦ absurd (omega (arith, some, w.if-text-gt0.false))
+      | else-this-ne0-via-else-this-ne0 w ↦ absurd (never-asked _ w.if-this-ne0.false asks)
+    ])
+    (on_step _ c.read_escape.result c.read_escape.ensures)
 
 pub returns : goal.returns
 returns g c =
-    let rest = c.read_through.ensures in
-    record {
-      some = omega (arith, rest.some);
-      reads = reads_on c.args.bytes.now c.read_short-text.result c.read_through.result c.read_short-text.ensures.reads
-          rest.reads;
-    }
+    let short = c.read_short-text.ensures in
+    on_text c.args.bytes.now c.read_short-text.result c.read_through.result c.requires.ground short.reads short.is_step
+    (λ asks some. elim c.else-this-ne0.branch [
+      | else-this-ne0-via-then-this-ne0+then-text-gt0+else-terminated w ↦ sym w.terminated.ensures ∙ w.if-terminated.false
+      | else-this-ne0-via-then-this-ne0+else-text-gt0 w ↦ absurd (omega (arith, some, w.if-text-gt0.false))
+      | else-this-ne0-via-else-this-ne0 w ↦ absurd (never-asked _ w.if-this-ne0.false asks)
+    ])
+    c.read_through.ensures
