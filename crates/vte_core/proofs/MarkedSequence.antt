@@ -6,7 +6,7 @@ use Rattle.std.specs.Int.{is_in_range}
 use Rattle.vte_core.specs.Bytes.{is_abort, is_control, is_esc, is_intermediate, ends_escape, opens_sequence}
 use Rattle.vte_core.specs.Event.{Event, Esc}
 use Rattle.vte_core.specs.Pending.{InText, InEscape, events_of_byte, events_from, after_byte, after_bytes}
-use Rattle.vte_core.specs.Reads.{BeginsMarked, BeginsUnmarked, ReadsStep}
+use Rattle.vte_core.specs.Reads.{BeginsWithEsc, ReadsStep}
 use Rattle.vte_core.specs.Runs.{is_one_step}
 use Rattle.vte_core.specs.declared.parser.Parser.{Parser}
 use Rattle.vte_core.specs.declared.parser.State.TheVariants.{Ground}
@@ -98,16 +98,19 @@ module _ {S : Type 0} {step : S → Event → S → Type 0} {n : ℕ} {p : Parse
         (rw begun.1 (one-step n (InEscape is) (f ∷ []) _ (asked is f _))));
   }
 
-  pub marked_step : (bs : List ℕ) (m f : ℕ) → p.state ≡ Ground → BeginsMarked n p bs m f
-      → step old (Esc (m ∷ []) false f) new → ReadsStep step n p old bs 3 p new
-  marked_step bs m f ground begins told =
-      escape_step bs (0x1B ∷ m ∷ []) 3 f (m ∷ []) (Esc (m ∷ []) false f) (omega arith) begins.some ground begins.whole
-      (first_three bs m f begins.some begins.esc begins.at_mark begins.at_final) (marked n m begins.mark)
-      (final-marked n m f begins.final) told
+  pub marked_step : (bs : List ℕ) → BeginsWithEsc bs → p.state ≡ Ground → p.unfinished ≡ [] → 3 ≤ length bs
+      → is_intermediate (get_or bs 1 0) ≡ true → is_in_range 0x30 0x7E (get_or bs 2 0) ≡ true
+      → step old (Esc (get_or bs 1 0 ∷ []) false (get_or bs 2 0)) new → ReadsStep step n p old bs 3 p new
+  marked_step bs begins ground whole some mark final told =
+      let m = get_or bs 1 0 in
+      let f = get_or bs 2 0 in
+      escape_step bs (0x1B ∷ m ∷ []) 3 f (m ∷ []) (Esc (m ∷ []) false f) (omega arith) some ground whole
+      (first_three bs m f some begins.esc refl refl) (marked n m mark) (final-marked n m f final) told
 
-  pub unmarked_step : (bs : List ℕ) (f : ℕ) → p.state ≡ Ground → BeginsUnmarked n p bs f
-      → step old (Esc [] false f) new → ReadsStep step n p old bs 2 p new
-  unmarked_step bs f ground begins told =
-      escape_step bs (0x1B ∷ []) 2 f [] (Esc [] false f) (omega arith) begins.some ground begins.whole
-      (first_two bs f begins.some begins.esc begins.at_final) (refl, refl)
-      (final-unmarked n f begins.final begins.short) told
+  pub unmarked_step : (bs : List ℕ) → BeginsWithEsc bs → p.state ≡ Ground → p.unfinished ≡ [] → 2 ≤ length bs
+      → is_in_range 0x30 0x7E (get_or bs 1 0) ≡ true → opens_sequence (get_or bs 1 0) ≡ false
+      → step old (Esc [] false (get_or bs 1 0)) new → ReadsStep step n p old bs 2 p new
+  unmarked_step bs begins ground whole some final short told =
+      let f = get_or bs 1 0 in
+      escape_step bs (0x1B ∷ []) 2 f [] (Esc [] false f) (omega arith) some ground whole
+      (first_two bs f some begins.esc refl) (refl, refl) (final-unmarked n f final short) told

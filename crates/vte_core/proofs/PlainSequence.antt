@@ -1,6 +1,6 @@
 -- Control sequences of plain numbers, read at once.
 use Rattle.std.proofs.Common.{◌≡◌, ◌∙◌, ℕ, ◌+◌, ◌-◌, ◌<◌, ◌≤◌, true, false, List, [], ◌∷◌, ◌++◌, length, take}
-use Rattle.std.proofs.Common.{drop, get_or, nat_lt, refl, suc, ap, arith, length-drop}
+use Rattle.std.proofs.Common.{drop, get_or, nat_lt, refl, suc, ap, arith, length-drop, length-take, subst, sym}
 use Rattle.std.proofs.lemmas.Bool.Decides.{nat_tests}
 use Rattle.std.proofs.lemmas.List.{take_more, get_or-drop}
 use Rattle.std.specs.Int.{is_in_range}
@@ -11,7 +11,7 @@ use Rattle.vte_core.specs.Header.{first_numbers, groups_of, intermediates, is_we
 use Rattle.vte_core.specs.Header.{kept_groups, kept_intermediates, overflows}
 use Rattle.vte_core.specs.Pending.{Pending, InText, InCsi, events_of_byte, events_from, after_byte, after_bytes}
 use Rattle.vte_core.specs.Plain.{ArePlain}
-use Rattle.vte_core.specs.Reads.{BeginsPlain, BeginsPrivate, ReadsStep}
+use Rattle.vte_core.specs.Reads.{BeginsWithEsc, ReadsStep, ReadsWhole}
 use Rattle.vte_core.specs.Runs.{is_one_step}
 use Rattle.vte_core.specs.Standing.{IsAt}
 use Rattle.vte_core.specs.Store.{total}
@@ -21,7 +21,7 @@ use Rattle.vte_core.proofs.HeaderBytes.{final-ends}
 use Rattle.vte_core.proofs.Machine.{events_from-append, after_bytes-append}
 use Rattle.vte_core.proofs.PhaseLemmas.{each-more, marked-well, numbers-well, numeric-header, numeric-no, numerics-kept}
 use Rattle.vte_core.proofs.PhaseLemmas.{private-well}
-use Rattle.vte_core.proofs.Quiet.{begun-csi, one-step, quiet-step}
+use Rattle.vte_core.proofs.Quiet.{begun-csi, by_state, one-step, quiet-step}
 use Rattle.vte_core.proofs.StopLemmas.{whole_rest}
 
 -- the header h is reported with these numbers and these other bytes
@@ -103,6 +103,13 @@ from_third (x ∷ []) k some = absurd (omega (arith, some))
 from_third (x ∷ y ∷ []) k some = absurd (omega (arith, some))
 from_third (x ∷ y ∷ z ∷ bs) k some = let next : 1 + k ≡ suc k = omega arith in rw next refl
 
+-- the bytes after the first j, as a slice has them
+abbrev rest_of : ℕ → List ℕ → List ℕ
+rest_of j bs = take (length bs - j) (drop j bs)
+
+rest_at : (j : ℕ) (bs : List ℕ) (k : ℕ) → get_or (take (length bs - j) (drop j bs)) k 0 ≡ get_or bs (j + k) 0
+rest_at j bs k = ap (λ (xs : List ℕ). get_or xs k 0) (whole_rest bs j) ∙ get_or-drop j bs k 0
+
 module _ {S : Type 0} {step : S → Event → S → Type 0} {n : ℕ} {p r : Parser n} {old new : S} where
   -- `ESC [`, i bytes of a header, and a final byte
   header_step : (bs : List ℕ) (i : ℕ) (numbers : List (List ℕ)) (is : List ℕ) → p.state ≡ Ground → p.unfinished ≡ []
@@ -143,70 +150,106 @@ module _ {S : Type 0} {step : S → Event → S → Type 0} {n : ℕ} {p r : Par
             (rw (begun q at).1 (one-step n (InCsi h) (f ∷ []) _ (asked h f _))));
       }
 
-  pub plain_step : (bs : List ℕ) (k : ℕ) → p.state ≡ Ground → BeginsPlain n p bs k r
-      → is_in_range 0x40 0x7E (get_or bs (k + 2) 0) ≡ true
+  pub plain_step : (bs : List ℕ) (k : ℕ) → BeginsWithEsc bs → p.state ≡ Ground → p.unfinished ≡ [] → 2 ≤ length bs
+      → get_or bs 1 0 ≡ 0x5B → ArePlain (rest_of 2 bs) k r.header.numbers.params
+      → is_in_range 0x40 0x7E (get_or (rest_of 2 bs) k 0) ≡ true
       → ((q : Pending) → IsAt n p q → IsAt n r q)
-      → step old (Csi r.header.numbers.params [] false (get_or bs (k + 2) 0)) new
+      → step old (Csi r.header.numbers.params [] false (get_or (rest_of 2 bs) k 0)) new
       → ReadsStep step n p old bs (k + 3) r new
-  plain_step bs k ground begins final state_after reported =
+  plain_step bs k begins ground whole some bracket plain final state_after reported =
       let numbers = r.header.numbers.params in
-      let less : 2 + k < length bs = omega (arith, begins.plain.within, length-drop 2 bs) in
-      let place : k + 2 ≡ 2 + k = omega arith in
+      let kept : ArePlain (drop 2 bs) k numbers = subst (λ xs. ArePlain xs k numbers) (whole_rest bs 2) plain in
+      let less : 2 + k < length bs = omega (arith, kept.within, length-drop 2 bs) in
       let end : k + 3 ≡ 2 + k + 1 = omega arith in
-      rw end (header_step bs k numbers [] ground begins.whole less begins.esc begins.bracket
-      (numbers_reported (drop 2 bs) k numbers begins.plain) (rw place at final) state_after (rw place at reported))
+      rw end (header_step bs k numbers [] ground whole less begins.esc bracket (numbers_reported (drop 2 bs) k numbers kept)
+      (rw (← rest_at 2 bs k) final) state_after (rw (← rest_at 2 bs k) reported))
 
-  pub marked_csi_step : (bs : List ℕ) (k : ℕ) → p.state ≡ Ground → BeginsPlain n p bs k r
-      → is_in_range 0x20 0x2F (get_or bs (k + 2) 0) ≡ true → k + 3 < length bs
-      → is_in_range 0x40 0x7E (get_or bs (k + 3) 0) ≡ true
+  pub marked_csi_step : (bs : List ℕ) (k : ℕ) → BeginsWithEsc bs → p.state ≡ Ground → p.unfinished ≡ [] → 2 ≤ length bs
+      → get_or bs 1 0 ≡ 0x5B → ArePlain (rest_of 2 bs) k r.header.numbers.params
+      → is_in_range 0x20 0x2F (get_or (rest_of 2 bs) k 0) ≡ true → k + 1 < length (rest_of 2 bs)
+      → is_in_range 0x40 0x7E (get_or (rest_of 2 bs) (k + 1) 0) ≡ true
       → ((q : Pending) → IsAt n p q → IsAt n r q)
-      → step old (Csi r.header.numbers.params (get_or bs (k + 2) 0 ∷ []) false (get_or bs (k + 3) 0)) new
+      → step old (Csi r.header.numbers.params (get_or (rest_of 2 bs) k 0 ∷ []) false (get_or (rest_of 2 bs) (k + 1) 0)) new
       → ReadsStep step n p old bs (k + 4) r new
-  marked_csi_step bs k ground begins mark less final state_after reported =
+  marked_csi_step bs k begins ground whole some bracket plain mark less final state_after reported =
       let numbers = r.header.numbers.params in
-      let m = get_or bs (k + 2) 0 in
-      let within : k < length (drop 2 bs) = begins.plain.within in
-      let at_mark : get_or (drop 2 bs) k 0 ≡ m =
-      get_or-drop 2 bs k 0 ∙ (let same : 2 + k ≡ k + 2 = omega arith in rw same refl) in
+      let kept : ArePlain (drop 2 bs) k numbers = subst (λ xs. ArePlain xs k numbers) (whole_rest bs 2) plain in
+      let m = get_or (rest_of 2 bs) k 0 in
+      let at_mark : get_or (drop 2 bs) k 0 ≡ m = ap (λ (xs : List ℕ). get_or xs k 0) (sym (whole_rest bs 2)) in
       let cut : take (k + 1) (drop 2 bs) ≡ take k (drop 2 bs) ++ m ∷ [] =
-      take_more (drop 2 bs) k 0 within ∙ rw at_mark refl in
-      let place : k + 3 ≡ 2 + (k + 1) = omega arith in
+      take_more (drop 2 bs) k 0 kept.within ∙ rw at_mark refl in
       let end : k + 4 ≡ 2 + (k + 1) + 1 = omega arith in
-      let less_than : 2 + (k + 1) < length bs = omega (arith, less) in
-      rw end (header_step bs (k + 1) numbers (m ∷ []) ground begins.whole less_than begins.esc begins.bracket
-      (rw cut (marked_reported m (drop 2 bs) k numbers mark begins.plain)) (rw place at final) state_after
-      (rw place at reported))
+      let less_than : 2 + (k + 1) < length bs =
+      omega (arith, less, length-take (length bs - 2) (drop 2 bs), length-drop 2 bs) in
+      rw end (header_step bs (k + 1) numbers (m ∷ []) ground whole less_than begins.esc bracket
+      (rw cut (marked_reported m (drop 2 bs) k numbers mark kept)) (rw (← rest_at 2 bs (k + 1)) final) state_after
+      (rw (← rest_at 2 bs (k + 1)) reported))
 
-  pub private_step : (bs : List ℕ) (k : ℕ) → p.state ≡ Ground → BeginsPrivate n p bs k r
-      → is_in_range 0x40 0x7E (get_or bs (k + 3) 0) ≡ true
+  pub private_step : (bs : List ℕ) (k : ℕ) → BeginsWithEsc bs → p.state ≡ Ground → p.unfinished ≡ [] → 3 ≤ length bs
+      → get_or bs 1 0 ≡ 0x5B → is_private (get_or bs 2 0) ≡ true → ArePlain (rest_of 3 bs) k r.header.numbers.params
+      → is_in_range 0x40 0x7E (get_or (rest_of 3 bs) k 0) ≡ true
       → ((q : Pending) → IsAt n p q → IsAt n r q)
-      → step old (Csi r.header.numbers.params (get_or bs 2 0 ∷ []) false (get_or bs (k + 3) 0)) new
+      → step old (Csi r.header.numbers.params (get_or bs 2 0 ∷ []) false (get_or (rest_of 3 bs) k 0)) new
       → ReadsStep step n p old bs (k + 4) r new
-  private_step bs k ground begins final state_after reported =
+  private_step bs k begins ground whole some bracket private plain final state_after reported =
       let numbers = r.header.numbers.params in
+      let kept : ArePlain (drop 3 bs) k numbers = subst (λ xs. ArePlain xs k numbers) (whole_rest bs 3) plain in
       let m = get_or bs 2 0 in
-      let cut : take (1 + k) (drop 2 bs) ≡ m ∷ take k (drop 3 bs) = from_third bs k begins.some in
-      let place : k + 3 ≡ 2 + (1 + k) = omega arith in
+      let cut : take (1 + k) (drop 2 bs) ≡ m ∷ take k (drop 3 bs) = from_third bs k some in
       let end : k + 4 ≡ 2 + (1 + k) + 1 = omega arith in
-      let less : 2 + (1 + k) < length bs = omega (arith, begins.plain.within, length-drop 3 bs) in
-      rw end (header_step bs (1 + k) numbers (m ∷ []) ground begins.whole less begins.esc begins.bracket
-      (rw cut (private_reported m (drop 3 bs) k numbers begins.private begins.plain)) (rw place at final) state_after
-      (rw place at reported))
+      let place : 3 + k ≡ 2 + (1 + k) = omega arith in
+      let less : 2 + (1 + k) < length bs = omega (arith, kept.within, length-drop 3 bs) in
+      let at_final : get_or (rest_of 3 bs) k 0 ≡ get_or bs (2 + (1 + k)) 0 =
+      rest_at 3 bs k ∙ ap (λ (i : ℕ). get_or bs i 0) place in
+      rw end (header_step bs (1 + k) numbers (m ∷ []) ground whole less begins.esc bracket
+      (rw cut (private_reported m (drop 3 bs) k numbers private kept)) (rw (← at_final) final) state_after
+      (rw (← at_final) reported))
 
--- a step from a parser in whatever state this one is
-pub from_same : {S : Type 0} {step : S → Event → S → Type 0} {n : ℕ} {p mid r : Parser n} {old new : S} (bs : List ℕ)
-    (k : ℕ) → ((q : Pending) → IsAt n p q → IsAt n mid q) → ReadsStep step n mid old bs k r new
-    → ReadsStep step n p old bs k r new
-from_same bs k same s = record {
-  some = s.some;
-  reads = record {
-    within = s.reads.within;
-    state_after = λ q at. s.reads.state_after q (same q at);
-    reported = record {
-      reported = s.reads.reported.reported;
-      performed = s.reads.reported.performed;
-      added = λ q at. s.reads.reported.added q (same q at);
+-- ground text stays as it is, whatever is kept of a header
+pub still_text : (n : ℕ) (p r : Parser n) → p.state ≡ Ground → r.state ≡ Ground → r.unfinished ≡ p.unfinished
+    → (q : Pending) → IsAt n p q → IsAt n r q
+still_text n p r ground grounds same q at =
+    let (u, q_is) = by_state n p Ground q ground at in
+    let here = rw q_is at at in
+    rw q_is (grounds, same ∙ here.1)
+
+module _ {S : Type 0} {step : S → Event → S → Type 0} {n : ℕ} {p r : Parser n} {old : S} where
+  pub nothing_read : (bs : List ℕ) → ((q : Pending) → IsAt n p q → IsAt n r q) → ReadsWhole step n p old bs 0 r old
+  nothing_read bs same = record { sequence = λ some. absurd (omega (arith, some)); nothing = λ none. (refl, same) }
+
+module _ {S : Type 0} {step : S → Event → S → Type 0} {n : ℕ} {p r : Parser n} {old new : S} where
+  pub sequence_read : (bs : List ℕ) (k : ℕ) → ReadsStep step n p old bs k r new → ReadsWhole step n p old bs k r new
+  sequence_read bs k one = record { sequence = λ some. one; nothing = λ none. absurd (omega (arith, one.some, none)) }
+
+module _ {S : Type 0} {step : S → Event → S → Type 0} {n : ℕ} {p mid r : Parser n} {old new : S} where
+  -- a step from a parser in whatever state this one is
+  from_same : (bs : List ℕ) (k : ℕ) → ((q : Pending) → IsAt n p q → IsAt n mid q)
+      → ReadsStep step n mid old bs k r new → ReadsStep step n p old bs k r new
+  from_same bs k same one = record {
+    some = one.some;
+    reads = record {
+      within = one.reads.within;
+      state_after = λ q at. one.reads.state_after q (same q at);
+      reported = record {
+        reported = one.reads.reported.reported;
+        performed = one.reads.reported.performed;
+        added = λ q at. one.reads.reported.added q (same q at);
+      };
     };
-  };
-  is_step = λ q at. s.is_step q (same q at);
-}
+    is_step = λ q at. one.is_step q (same q at);
+  }
+
+  pub whole_from : (bs : List ℕ) (k : ℕ) → ((q : Pending) → IsAt n p q → IsAt n mid q)
+      → ReadsWhole step n mid old bs k r new → ReadsWhole step n p old bs k r new
+  whole_from bs k same whole = record {
+    sequence = λ some. from_same bs k same (whole.sequence some);
+    nothing = λ none. ((whole.nothing none).0, λ q at. (whole.nothing none).1 q (same q at));
+  }
+
+-- a step after nothing
+pub after_nothing : {S : Type 0} {step : S → Event → S → Type 0} {n : ℕ} {p mid r : Parser n} {old between new : S}
+    (bs : List ℕ) (i k : ℕ) → i ≡ 0 → ReadsWhole step n p old bs i mid between
+    → ReadsStep step n mid between bs k r new → ReadsStep step n p old bs k r new
+after_nothing {S} {step} {n} {p} {mid} {r} {old} {between} {new} bs i k none before_it one =
+    let (told, same) = before_it.nothing none in
+    from_same bs k same (subst (λ (s : S). ReadsStep step n mid s bs k r new) told one)

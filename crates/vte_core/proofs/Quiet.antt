@@ -13,7 +13,8 @@ use Rattle.vte_core.specs.Phases.{ReadsHeader}
 use Rattle.vte_core.specs.Store.{ReadsOsc}
 use Rattle.vte_core.specs.Standing.{IsAt, state_is_text}
 use Rattle.vte_core.specs.Stopping.{StopsAt, runs_on}
-use Rattle.vte_core.specs.Reads.{ReadsQuietly}
+use Rattle.vte_core.specs.Reads.{BeginsWithEsc, ReadsQuietly, ReadsStep}
+use Rattle.vte_core.specs.Reading.{KeepsTwo}
 use Rattle.vte_core.specs.Runs.{is_one_step, IsStep}
 use Rattle.vte_core.specs.declared.header.Header.{Header}
 use Rattle.vte_core.specs.declared.parser.Parser.{Parser}
@@ -23,8 +24,8 @@ use Rattle.vte_core.specs.declared.parser.State.{State}
 use Rattle.vte_core.proofs.Characters.{bool_cases}
 use Rattle.vte_core.proofs.PhaseLemmas.{each-first}
 use Rattle.vte_core.proofs.Machine.{events_from-append, after_bytes-append}
-use Rattle.vte_core.proofs.ReadsLemmas.{quiet_by}
-use Rattle.vte_core.proofs.Runs.{stop_steps, byte-at, read_more, nil_of_len}
+use Rattle.vte_core.proofs.ReadsLemmas.{quiet_by, reads_on, reads_quiet}
+use Rattle.vte_core.proofs.Runs.{stop_steps, byte-at, piece_and_rest, read_more, nil_of_len}
 use Rattle.std.proofs.lemmas.List.{drop-drop, take_more}
 use lib.Seq.{take-add}
 
@@ -261,18 +262,7 @@ begun-csi n p q bs k some e f s none header at =
     (begun-kept n (InText []) InCsi is_header bs (0x1B ∷ 0x5B ∷ []) 2 k (header-csi n) (first_two bs _ _ some e f) refl
     refl header)
 
--- the same for the data of an operating system command
-pub begun-osc : (n : ℕ) (p : Parser n) (q : Pending) (bs : List ℕ) (k : ℕ) → 2 ≤ length bs → get_or bs 0 0 ≡ 0x1B
-    → get_or bs 1 0 ≡ 0x5D → p.state ≡ Ground → p.unfinished ≡ []
-    → each is_data (take k (take (length bs - 2) (drop 2 bs))) ≡ true → IsAt n p q
-    → (events_from n q (take (2 + k) bs) ≡ [])
-    × (after_bytes q (take (2 + k) bs) ≡ InOsc (take k (take (length bs - 2) (drop 2 bs))))
-begun-osc n p q bs k some e f s none kept at =
-    rw (begun-text n p q s none at)
-    (begun-kept n (InText []) InOsc is_data bs (0x1B ∷ 0x5D ∷ []) 2 k (data-osc n) (first_two bs _ _ some e f) refl refl
-    kept)
-
--- a byte that begins a header, and some of it, after ESC alone
+-- `[` and some of a header, or `]` and some of a command's data, after ESC alone
 
 none_kept : (is : List ℕ) → take 2 is ≡ [] → is ≡ []
 none_kept [] e = refl
@@ -296,6 +286,17 @@ escape-csi n p q bs k some e s none header at =
     let m = begun-kept n (InEscape []) InCsi is_header bs (0x5B ∷ []) 1 k (header-csi n) first refl refl header in
     rw u.0 (m.0, m.1, u.1)
 
+pub escape-osc : (n : ℕ) (p : Parser n) (q : Pending) (bs : List ℕ) (k : ℕ) → 0 < length bs → get_or bs 0 0 ≡ 0x5D
+    → p.state ≡ Escape → (length p.intermediates.kept.items == 0) ≡ true
+    → each is_data (take k (take (length bs - 1) (drop 1 bs))) ≡ true → IsAt n p q
+    → (events_from n q (take (1 + k) bs) ≡ [])
+    × (after_bytes q (take (1 + k) bs) ≡ InOsc (take k (take (length bs - 1) (drop 1 bs)))) × (p.unfinished ≡ [])
+escape-osc n p q bs k some e s none kept at =
+    let u = begun-escape n p q s (nil_of_len p.intermediates.kept.items none) at in
+    let first : take 1 bs ≡ 0x5D ∷ [] = take_more bs 0 0 some ∙ ap (λ (c : ℕ). c ∷ []) e in
+    let m = begun-kept n (InEscape []) InOsc is_data bs (0x5D ∷ []) 1 k (data-osc n) first refl refl kept in
+    rw u.0 (m.0, m.1, u.1)
+
 -- ESC after ESC
 pub escs-quiet : (n : ℕ) (is xs : List ℕ) → each is_esc xs ≡ true → 0 < length xs
     → (events_from n (InEscape is) xs ≡ []) × (after_bytes (InEscape is) xs ≡ InEscape [])
@@ -307,3 +308,39 @@ escs-quiet n is (b ∷ c ∷ xs) all some =
     let g = each-first is_esc b (c ∷ xs) all in
     let more = escs-quiet n [] (c ∷ xs) g.1 (omega arith) in
     (rw g.0 more.0, rw g.0 more.1)
+
+-- ESC after whole ground text
+pub esc-quiet : {n : ℕ} {p r : Parser n} (bs : List ℕ) → BeginsWithEsc bs → p.state ≡ Ground → p.unfinished ≡ []
+    → r.state ≡ Escape → r.unfinished ≡ [] → KeepsTwo r.intermediates [] → ReadsQuietly n p bs 1 r
+esc-quiet {n} {p} {r} bs begins ground whole escape none kept =
+    let first : take 1 bs ≡ 0x1B ∷ [] = take_more bs 0 0 begins.some ∙ ap (λ (c : ℕ). c ∷ []) begins.esc in
+    quiet_by (omega (arith, begins.some)) (λ q at. rw (begun-text n p q ground whole at, first) (refl, (escape, none, kept)))
+
+-- bytes without events are a step
+pub quiet-alone : {S : Type 0} {step : S → Event → S → Type 0} {n : ℕ} {p r : Parser n} {old : S} (bs : List ℕ) (k : ℕ)
+    → 0 < k → ReadsQuietly n p bs k r → ReadsStep step n p old bs k r old
+quiet-alone bs k some quiet = record {
+  some = some;
+  reads = reads_quiet bs k quiet;
+  is_step = λ q at. record {
+    quiet = take k bs;
+    last = [];
+    parts = sym (append-nil (take k bs));
+    nothing = quiet.quiet q at;
+    one = inl refl;
+  };
+}
+
+-- and so are they with a step after them
+pub quiet-and-step : {S : Type 0} {step : S → Event → S → Type 0} {n : ℕ} {p mid r : Parser n} {old new : S} (bs : List ℕ)
+    (i k : ℕ) → ReadsQuietly n p bs i mid → ReadsStep step n mid old (take (length bs - i) (drop i bs)) k r new
+    → ReadsStep step n p old bs (i + k) r new
+quiet-and-step {S} {step} {n} {p} {mid} bs i k quiet after = record {
+  some = omega (arith, after.some);
+  reads = reads_on bs i k (reads_quiet bs i quiet) after.reads;
+  is_step = λ q at.
+      let rest : List ℕ = take (length bs - i) (drop i bs) in
+      let parts = piece_and_rest bs i k after.reads.within in
+      rw (read_more bs i k, parts.2) (quiet-step n q (take i bs) (take k rest) (drop k rest) (quiet.quiet q at)
+      (after.is_step (after_bytes q (take i bs)) (quiet.state_after q at)));
+}

@@ -1,20 +1,24 @@
 -- What the parser's functions do with the first k of some bytes: the parser (p) and the performer (old) before them,
 -- and after them (r, new).
 use Rattle.std.specs.Prelude.{◌≡◌, ◌+◌, ◌<◌, ◌≤◌, ℕ, Bool, true, false, List, [], take, drop, length, slice_index}
-use Rattle.std.specs.Int.{is_in_range}
-use Rattle.vte_core.specs.Bytes.{is_intermediate, is_private, opens_sequence}
 use Rattle.vte_core.specs.Event.{Event}
 use Rattle.vte_core.specs.Pending.{Pending, events_from, after_bytes}
-use Rattle.vte_core.specs.Plain.{ArePlain}
 use Rattle.vte_core.specs.Runs.{PerformsEvents, IsStep}
 use Rattle.vte_core.specs.Standing.{IsAt}
 use Rattle.vte_core.specs.Stopping.{StopsAt}
 use Rattle.vte_core.specs.declared.parser.Parser.{Parser}
+use Rattle.vte_core.specs.declared.parser.State.TheVariants.{Ground}
 
 -- ESC comes first
 pub record BeginsWithEsc (bs : List ℕ) : Type 0 where
   pub some : 0 < length bs
   pub esc : slice_index bs 0 ≡ 0x1B
+
+-- and the parser has nothing unfinished
+pub record IsAtEsc (n : ℕ) (p : Parser n) (bs : List ℕ) : Type 0 where
+  pub begins : BeginsWithEsc bs
+  pub ground : p.state ≡ Ground
+  pub whole : p.unfinished ≡ []
 
 -- from any state that the parser was in, it is in the one after them, and the performer has gone through their events
 pub record Reads {S : Type 0} (step : S → Event → S
@@ -52,46 +56,8 @@ pub record ReadsQuietly (n : ℕ) (p : Parser n) (bs : List ℕ) (k : ℕ) (r : 
   pub state_after : (q : Pending) → IsAt n p q → IsAt n r (after_bytes q (take k bs))
   pub quiet : (q : Pending) → IsAt n p q → events_from n q (take k bs) ≡ []
 
--- A control sequence comes first, after whole ground text: `ESC [`, then these numbers in k bytes, and another byte.
--- The numbers are kept.
-pub record BeginsPlain (n : ℕ) (p : Parser n) (bs : List ℕ) (k : ℕ) (r : Parser n) : Type 0 where
-  pub whole : p.unfinished ≡ []
-  pub some : 2 ≤ length bs
-  pub esc : slice_index bs 0 ≡ 0x1B
-  pub bracket : slice_index bs 1 ≡ 0x5B
-  pub plain : ArePlain (drop 2 bs) k r.header.numbers.params
-
--- the same with a private byte before the numbers
-pub record BeginsPrivate (n : ℕ) (p : Parser n) (bs : List ℕ) (k : ℕ) (r : Parser n) : Type 0 where
-  pub whole : p.unfinished ≡ []
-  pub some : 3 ≤ length bs
-  pub esc : slice_index bs 0 ≡ 0x1B
-  pub bracket : slice_index bs 1 ≡ 0x5B
-  pub private : is_private (slice_index bs 2) ≡ true
-  pub plain : ArePlain (drop 3 bs) k r.header.numbers.params
-
--- An escape sequence with the one intermediate m and the final byte f comes first, after whole ground text.
-pub record BeginsMarked (n : ℕ) (p : Parser n) (bs : List ℕ) (m f : ℕ) : Type 0 where
-  pub whole : p.unfinished ≡ []
-  pub some : 3 ≤ length bs
-  pub esc : slice_index bs 0 ≡ 0x1B
-  pub at_mark : slice_index bs 1 ≡ m
-  pub mark : is_intermediate m ≡ true
-  pub at_final : slice_index bs 2 ≡ f
-  pub final : is_in_range 0x30 0x7E f ≡ true
-
--- the same without an intermediate, where the final byte opens no longer sequence
-pub record BeginsUnmarked (n : ℕ) (p : Parser n) (bs : List ℕ) (f : ℕ) : Type 0 where
-  pub whole : p.unfinished ≡ []
-  pub some : 2 ≤ length bs
-  pub esc : slice_index bs 0 ≡ 0x1B
-  pub at_final : slice_index bs 1 ≡ f
-  pub final : is_in_range 0x30 0x7E f ≡ true
-  pub short : opens_sequence f ≡ false
-
--- An operating system command comes first, after whole ground text.
-pub record BeginsCommand (n : ℕ) (p : Parser n) (bs : List ℕ) : Type 0 where
-  pub whole : p.unfinished ≡ []
-  pub some : 2 ≤ length bs
-  pub esc : slice_index bs 0 ≡ 0x1B
-  pub bracket : slice_index bs 1 ≡ 0x5D
+-- a sequence is read whole, in one step; or nothing is read (k is 0), and the performer and what is pending stay
+pub record ReadsWhole {S : Type 0} (step : S → Event → S
+    → Type 0) (n : ℕ) (p : Parser n) (old : S) (bs : List ℕ) (k : ℕ) (r : Parser n) (new : S) : Type 0 where
+  pub sequence : 0 < k → ReadsStep step n p old bs k r new
+  pub nothing : k ≡ 0 → (new ≡ old) × ((q : Pending) → IsAt n p q → IsAt n r q)

@@ -24,6 +24,7 @@ mod parser;
 mod perform;
 mod table;
 mod text;
+mod thresholds;
 
 pub use event::Event;
 pub use params::{Params, ParamsIter};

@@ -129,8 +129,8 @@ impl Numbers {
         read
     }
 
-    /// Reads numbers that `;` alone separates, up to the first other byte. Returns how many bytes they are; nothing where
-    /// they are more than are kept, or one has more than four digits, or where few bytes are left.
+    /// Reads numbers that `;` alone separates, up to the first other byte. Returns how many bytes they are; nothing
+    /// where they are more than are kept, or one has more than four digits, or where few bytes are left.
     #[inline(always)]
     pub fn read_plain(&mut self, bytes: &[u8]) -> Option<usize>
         ensures { IfSome result (λ k. ArePlain bytes.now k self.new.params) }

@@ -143,8 +143,9 @@ impl Params {
         self.subparameters += 1;
     }
 
-    /// Reads numbers that `;` alone separates, up to the first other byte. Returns how many bytes they are; nothing where
-    /// they are more than are kept, or one has more than four digits, or where few bytes are left, or many are read.
+    /// Reads numbers that `;` alone separates, up to the first other byte. Returns how many bytes they are; nothing
+    /// where they are more than are kept, or one has more than four digits, or where few bytes are left, or many are
+    /// read.
     #[inline(always)]
     pub(crate) fn read_plain(&mut self, bytes: &[u8]) -> Option<usize>
         ensures { IfSome result (λ k. ArePlain bytes.now k self.new) }

@@ -9,8 +9,7 @@ ghost use Rattle.vte_core.specs.Event as e;
 ghost use Rattle.vte_core.specs.Event.{Performs};
 ghost use Rattle.vte_core.specs.StepEvents.{final_events};
 ghost use Rattle.vte_core.specs.Pending.{Pending, InEscape, final_rest, final_reported};
-ghost use Rattle.vte_core.specs.Reads.{BeginsCommand, BeginsMarked, BeginsPlain, BeginsPrivate, BeginsUnmarked};
-ghost use Rattle.vte_core.specs.Reads.{BeginsWithEsc, Reads, ReadsOn, ReadsStep, ReadsQuietly};
+ghost use Rattle.vte_core.specs.Reads.{BeginsWithEsc, IsAtEsc, Reads, ReadsOn, ReadsStep, ReadsQuietly, ReadsWhole};
 ghost use Rattle.vte_core.specs.Runs.{TellsEach, is_one_step};
 ghost use Rattle.vte_core.specs.Standing.{IsAt, IsAfter, state_is_text};
 ghost use Rattle.vte_core.specs.Stopping.{Stops};
@@ -22,9 +21,7 @@ use crate::osc_data::OscData;
 use crate::perform::Perform;
 use crate::table::{Action, step_of};
 use crate::text::Unfinished;
-
-/// Where so many bytes are left, short text and a sequence of 32 numbers after it are looked at without asking again.
-const TURN_LEN: usize = 64;
+use crate::thresholds::TURN_LEN;
 
 /// What the bytes so far have begun.
 #[derive(Clone, Copy)]
@@ -303,29 +300,55 @@ impl<const N: usize> Parser<N> {
         }
     }
 
-    /// The byte after ESC and its intermediates, which mostly is the final byte.
+    /// A byte that mostly is the final one of a sequence, since those before it had no event.
     #[inline(always)]
-    fn after_escape<P: Perform>(&mut self, performer: &mut P, byte: u8)
-        requires { self.old.state ≡ State.Escape }
+    fn likely_final<P: Perform>(&mut self, performer: &mut P, byte: u8)
         ensures { ReadsByte P.step N self.old performer.old byte self.new performer.new }
     {
-        if is_escape_final(byte) {
-            self.end_escape(performer, byte);
-        } else if byte == 0x1B {
-            self.begin_escape(performer);
-        } else {
-            self.escape(performer, byte);
+        match self.state {
+            State::Csi if is_final(byte) => self.dispatch_csi(performer, byte),
+            State::Escape if is_escape_final(byte) => self.end_escape(performer, byte),
+            _ => self.byte(performer, byte),
         }
     }
 
-    /// Reads the bytes at the start that have no event: a header, the data of a command, or what is swallowed. Returns
-    /// how many they are.
+    /// Reads what has no event after ESC: more of ESC, or `[` and a header, or `]` and a command's data. Returns how
+    /// many bytes they are.
+    #[inline(always)]
+    fn open_sequence(&mut self, bytes: &[u8]) -> usize
+        requires { self.old.state ≡ State.Escape }
+        ensures reads { ReadsQuietly N self.old bytes.now result self.new }
+        ensures inside { state_is_text self.new.state ≡ false }
+    {
+        match bytes {
+            [0x1B, ..] => {
+                self.intermediates.clear();
+                esc_len(bytes)
+            }
+            [b'[', rest @ ..] if self.intermediates.kept.is_empty() => {
+                self.state = State::Csi;
+                self.header.clear();
+                1 + self.header.read(rest)
+            }
+            [b']', rest @ ..] if self.intermediates.kept.is_empty() => {
+                self.state = State::OscString;
+                self.osc.clear();
+                1 + self.osc.read(rest)
+            }
+            _ => 0,
+        }
+    }
+
+    /// Reads the bytes of a sequence at the start that have no event: what follows ESC, a header, the data of a
+    /// command, or what is swallowed. Returns how many they are.
     #[inline(always)]
     fn read_quiet(&mut self, bytes: &[u8]) -> usize
+        requires { state_is_text self.old.state ≡ false }
         ensures reads { ReadsQuietly N self.old bytes.now result self.new }
-        ensures state { self.new.state ≡ self.old.state }
+        ensures inside { state_is_text self.new.state ≡ false }
     {
         match self.state {
+            State::Escape => self.open_sequence(bytes),
             State::Csi | State::DcsHeader => self.header.read(bytes),
             State::OscString => self.osc.read(bytes),
             State::SosPmApcString => swallowed_len(bytes),
@@ -333,76 +356,25 @@ impl<const N: usize> Parser<N> {
         }
     }
 
-    /// Reads `ESC [` after whole ground text, and the header that follows, if they stand at the start. Returns how many
-    /// bytes they are.
+    /// Reads bytes of a sequence that have no event, and the byte after them, if there is one. Returns how many bytes
+    /// it read.
     #[inline(always)]
-    fn begin_csi(&mut self, bytes: &[u8]) -> usize
-        requires { self.old.state ≡ State.Ground }
-        ensures reads { ReadsQuietly N self.old bytes.now result self.new }
-        ensures begun { 0 < result → self.new.state ≡ State.Csi }
-        ensures not_begun { result ≡ 0 → self.new.state ≡ State.Ground }
+    fn read_inside<P: Perform>(&mut self, performer: &mut P, bytes: &[u8]) -> usize
+        requires some { 0 < length bytes.now }
+        requires inside { state_is_text self.old.state ≡ false }
+        ensures { ReadsStep P.step N self.old performer.old bytes.now result self.new performer.new }
     {
-        match bytes {
-            [0x1B, b'[', rest @ ..] if self.unfinished.is_empty() => {
-                self.state = State::Csi;
-                self.header.clear();
-                2 + self.header.read(rest)
-            }
-            _ => 0,
+        let quiet = self.read_quiet(bytes);
+        if quiet == bytes.len() {
+            return quiet;
         }
-    }
-
-    /// The byte after a control sequence's header.
-    #[inline(always)]
-    fn end_csi<P: Perform>(&mut self, performer: &mut P, byte: u8)
-        requires { self.old.state ≡ State.Csi }
-        ensures { ReadsByte P.step N self.old performer.old byte self.new performer.new }
-    {
-        if is_final(byte) {
-            self.dispatch_csi(performer, byte);
-        } else if byte == 0x1B {
-            self.begin_escape(performer);
-        } else {
-            self.csi(performer, byte);
-        }
-    }
-
-    /// Reads `ESC [` after whole ground text, and the numbers that follow, which `;` alone separates, if they and
-    /// another byte stand at the start. Returns how many bytes the numbers are.
-    #[inline(always)]
-    fn read_plain(&mut self, bytes: &[u8]) -> Option<usize>
-        requires begins { BeginsWithEsc bytes.now }
-        requires ground { self.old.state ≡ State.Ground }
-        requires whole { self.old.unfinished ≡ [] }
-        ensures state_after { (q : Pending) → IsAt N self.old q → IsAt N self.new q }
-        ensures ground { self.new.state ≡ State.Ground }
-        ensures begins { IfSome result (λ k. BeginsPlain N self.old bytes.now k self.new) }
-    {
-        match bytes {
-            [_, b'[', rest @ ..] => self.header.numbers.read_plain(rest),
-            _ => None,
-        }
-    }
-
-    /// The same with a private byte before the numbers.
-    #[inline(always)]
-    fn read_private(&mut self, bytes: &[u8]) -> Option<usize>
-        requires { self.old.state ≡ State.Ground }
-        ensures state_after { (q : Pending) → IsAt N self.old q → IsAt N self.new q }
-        ensures ground { self.new.state ≡ State.Ground }
-        ensures begins { IfSome result (λ k. BeginsPrivate N self.old bytes.now k self.new) }
-    {
-        match bytes {
-            [0x1B, b'[', mark, rest @ ..] if is_private(*mark) && self.unfinished.is_empty() => self
-                .header
-                .numbers
-                .read_plain(rest),
-            _ => None,
-        }
+        self.likely_final(performer, bytes[quiet]);
+        quiet + 1
     }
 
     /// The final byte of a control sequence whose numbers are read, and of which one other byte is kept: a private byte
     /// or an intermediate.
+    // Never inlined: the performer's `csi_dispatch` would stand in each of its two rare callers.
     #[inline(never)]
     fn dispatch_marked<P: Perform>(&self, performer: &mut P, mark: u8, byte: u8)
         ensures { P.step performer.old (e.Csi self.now.header.numbers.params (mark ∷ []) false byte) performer.new }
@@ -410,182 +382,127 @@ impl<const N: usize> Parser<N> {
         performer.csi_dispatch(&self.header.numbers.params, &[mark], false, byte as char);
     }
 
-    /// The intermediate and the final byte of an escape sequence with one intermediate after whole ground text, such as
-    /// the designation of a character set, if one stands whole at the start.
-    #[inline(always)]
-    fn marked(&self, bytes: &[u8]) -> Option<(u8, u8)>
-        ensures { IfSome result (λ x. BeginsMarked N self.now bytes.now x.0 x.1) }
+    /// Reads a control sequence of a private byte and plain numbers, if it stands whole at the start. Returns how many
+    /// bytes it is, or else 0.
+    // Never inlined, so that the more frequent plain sequences keep the registers.
+    #[inline(never)]
+    fn read_private<P: Perform>(&mut self, performer: &mut P, bytes: &[u8]) -> usize
+        requires { IsAtEsc N self.old bytes.now }
+        ensures ground { self.new.state ≡ State.Ground }
+        ensures whole { self.new.unfinished ≡ [] }
+        ensures reads { ReadsWhole P.step N self.old performer.old bytes.now result self.new performer.new }
     {
-        match bytes {
-            [0x1B, mark, byte, ..]
-                if is_intermediate(*mark) && is_escape_final(*byte) && self.unfinished.is_empty() =>
-                Some((*mark, *byte)),
-            _ => None,
+        let [_, b'[', mark, rest @ ..] = bytes else {
+            return 0;
+        };
+        if !is_private(*mark) {
+            return 0;
         }
+        let Some(len) = self.header.numbers.read_plain(rest) else {
+            return 0;
+        };
+        if !is_final(rest[len]) {
+            return 0;
+        }
+        self.dispatch_marked(performer, *mark, rest[len]);
+        len + 4
     }
 
-    /// The final byte of an escape sequence without intermediates after whole ground text, if one stands whole at the
-    /// start.
+    /// Reads a control sequence of plain numbers, if it stands whole at the start. It may have one intermediate after
+    /// them, or a private byte before them. Returns how many bytes it is, or else 0.
     #[inline(always)]
-    fn unmarked(&self, bytes: &[u8]) -> Option<u8>
-        ensures { IfSome result (λ f. BeginsUnmarked N self.now bytes.now f) }
+    fn read_csi<P: Perform>(&mut self, performer: &mut P, bytes: &[u8]) -> usize
+        requires { IsAtEsc N self.old bytes.now }
+        ensures ground { self.new.state ≡ State.Ground }
+        ensures whole { self.new.unfinished ≡ [] }
+        ensures reads { ReadsWhole P.step N self.old performer.old bytes.now result self.new performer.new }
     {
-        match bytes {
-            [0x1B, byte, ..]
-                if is_escape_final(*byte) && !opens_sequence(*byte) && self.unfinished.is_empty() =>
-                Some(*byte),
-            _ => None,
+        let [_, b'[', rest @ ..] = bytes else {
+            return 0;
+        };
+        let Some(len) = self.header.numbers.read_plain(rest) else {
+            return 0;
+        };
+        let byte = rest[len];
+        if is_final(byte) {
+            performer.csi_dispatch(&self.header.numbers.params, &[], false, byte as char);
+            return len + 3;
         }
+        if is_intermediate(byte) && len + 1 < rest.len() && is_final(rest[len + 1]) {
+            self.dispatch_marked(performer, byte, rest[len + 1]);
+            return len + 4;
+        }
+        self.read_private(performer, bytes)
     }
 
-    /// Reads ESC, and after whole ground text the byte after it, if there is one. Returns how many bytes it read.
+    /// Reads an escape sequence with one intermediate or none, if it stands whole at the start and opens no longer one.
+    /// Returns how many bytes it is, or else 0.
+    #[inline(always)]
+    fn read_short_escape<P: Perform>(&self, performer: &mut P, bytes: &[u8]) -> usize
+        requires { IsAtEsc N self.now bytes.now }
+        ensures { ReadsWhole P.step N self.now performer.old bytes.now result self.now performer.new }
+    {
+        let [_, byte, ..] = bytes else {
+            return 0;
+        };
+        if is_intermediate(*byte) && bytes.len() > 2 && is_escape_final(bytes[2]) {
+            performer.esc_dispatch(&[*byte], false, bytes[2]);
+            return 3;
+        }
+        if is_escape_final(*byte) && !opens_sequence(*byte) {
+            performer.esc_dispatch(&[], false, *byte);
+            return 2;
+        }
+        0
+    }
+
+    /// Reads ESC after whole ground text, and what follows up to the first byte that has an event, and with it. Returns
+    /// how many bytes it read. It is called for a sequence that isn't read at once.
+    // Never inlined, since it is rare beside the sequences that are read at once.
+    #[inline(never)]
+    fn read_begun<P: Perform>(&mut self, performer: &mut P, bytes: &[u8]) -> usize
+        requires { IsAtEsc N self.old bytes.now }
+        ensures { ReadsStep P.step N self.old performer.old bytes.now result self.new performer.new }
+    {
+        self.state = State::Escape;
+        self.intermediates.clear();
+        if bytes.len() == 1 {
+            return 1;
+        }
+        1 + self.read_inside(performer, &bytes[1..])
+    }
+
+    /// Reads what ESC begins after whole ground text. A short sequence that stands whole in the bytes is read at once,
+    /// and any other by `read_begun`, which comes to the same. Returns how many bytes it read.
+    #[inline(always)]
+    fn read_sequence<P: Perform>(&mut self, performer: &mut P, bytes: &[u8]) -> usize
+        requires { IsAtEsc N self.old bytes.now }
+        ensures { ReadsStep P.step N self.old performer.old bytes.now result self.new performer.new }
+    {
+        let len = self.read_csi(performer, bytes);
+        if len > 0 {
+            return len;
+        }
+        let len = self.read_short_escape(performer, bytes);
+        if len > 0 {
+            return len;
+        }
+        self.read_begun(performer, bytes)
+    }
+
+    /// Reads ESC after any ground text. An unfinished character ends with it, and then ESC is read alone. After whole
+    /// text `read_sequence` reads what it begins. Returns how many bytes it read.
     #[inline(always)]
     fn read_esc<P: Perform>(&mut self, performer: &mut P, bytes: &[u8]) -> usize
         requires begins { BeginsWithEsc bytes.now }
         requires ground { self.old.state ≡ State.Ground }
         ensures { ReadsStep P.step N self.old performer.old bytes.now result self.new performer.new }
     {
-        let is_whole = self.unfinished.is_empty();
-        self.begin_escape(performer);
-        if is_whole && bytes.len() > 1 {
-            self.after_escape(performer, bytes[1]);
-            return 2;
-        }
-        1
-    }
-
-    /// Reads a control sequence that ESC begins after ground text, up to the first byte that has an event, and with it, or
-    /// else ESC and the byte after it. Returns how many bytes it read.
-    #[inline(always)]
-    fn read_opened<P: Perform>(&mut self, performer: &mut P, bytes: &[u8]) -> usize
-        requires begins { BeginsWithEsc bytes.now }
-        requires ground { self.old.state ≡ State.Ground }
-        ensures { ReadsStep P.step N self.old performer.old bytes.now result self.new performer.new }
-    {
-        let quiet = self.begin_csi(bytes);
-        if quiet == 0 {
-            return self.read_esc(performer, bytes);
-        }
-        if quiet < bytes.len() {
-            self.end_csi(performer, bytes[quiet]);
-            return quiet + 1;
-        }
-        quiet
-    }
-
-    /// Whether an operating system command stands at the start, after whole ground text.
-    #[inline(always)]
-    fn begins_command(&self, bytes: &[u8]) -> bool
-        ensures { IsTrue result → BeginsCommand N self.now bytes.now }
-    {
-        matches!(bytes, [0x1B, b']', ..]) && self.unfinished.is_empty()
-    }
-
-    /// Reads `ESC ]` and the data that follows. Returns how many bytes they are.
-    #[inline(always)]
-    fn open_osc(&mut self, bytes: &[u8]) -> usize
-        requires begins { BeginsCommand N self.old bytes.now }
-        requires ground { self.old.state ≡ State.Ground }
-        ensures reads { ReadsQuietly N self.old bytes.now result self.new }
-        ensures some { 0 < result }
-        ensures opened { self.new.state ≡ State.OscString }
-    {
-        self.state = State::OscString;
-        self.osc.clear();
-        2 + self.osc.read(&bytes[2..])
-    }
-
-    /// Reads an operating system command up to the first byte that has an event, and with it. Returns how many bytes it
-    /// read.
-    #[inline(always)]
-    fn read_command<P: Perform>(&mut self, performer: &mut P, bytes: &[u8]) -> usize
-        requires begins { BeginsCommand N self.old bytes.now }
-        requires ground { self.old.state ≡ State.Ground }
-        ensures { ReadsStep P.step N self.old performer.old bytes.now result self.new performer.new }
-    {
-        let quiet = self.open_osc(bytes);
-        if quiet < bytes.len() {
-            self.byte(performer, bytes[quiet]);
-            return quiet + 1;
-        }
-        quiet
-    }
-
-    /// Reads a private control sequence of plain numbers or an operating system command at once, and any other sequence as
-    /// `read_opened` does, which comes to the same. Returns how many bytes it read.
-    #[inline(never)]
-    fn read_other<P: Perform>(&mut self, performer: &mut P, bytes: &[u8]) -> usize
-        requires begins { BeginsWithEsc bytes.now }
-        requires ground { self.old.state ≡ State.Ground }
-        ensures { ReadsStep P.step N self.old performer.old bytes.now result self.new performer.new }
-    {
-        if let Some(len) = self.read_private(bytes) {
-            let byte = bytes[len + 3];
-            if is_final(byte) {
-                self.dispatch_marked(performer, bytes[2], byte);
-                return len + 4;
-            }
-        }
-        if self.begins_command(bytes) {
-            return self.read_command(performer, bytes);
-        }
-        self.read_opened(performer, bytes)
-    }
-
-    /// Reads a short escape sequence that ESC begins after ground text at once, and any other sequence as `read_other` does,
-    /// which comes to the same. Returns how many bytes it read.
-    #[inline(always)]
-    fn read_begun<P: Perform>(&mut self, performer: &mut P, bytes: &[u8]) -> usize
-        requires begins { BeginsWithEsc bytes.now }
-        requires ground { self.old.state ≡ State.Ground }
-        ensures { ReadsStep P.step N self.old performer.old bytes.now result self.new performer.new }
-    {
-        if let Some((mark, byte)) = self.marked(bytes) {
-            performer.esc_dispatch(&[mark], false, byte);
-            return 3;
-        }
-        if let Some(byte) = self.unmarked(bytes) {
-            performer.esc_dispatch(&[], false, byte);
-            return 2;
-        }
-        self.read_other(performer, bytes)
-    }
-
-    /// Reads a control sequence of plain numbers at once, with one intermediate or none, and any other sequence as
-    /// `read_begun` does, which comes to the same. Returns how many bytes it read.
-    #[inline(always)]
-    fn read_escape<P: Perform>(&mut self, performer: &mut P, bytes: &[u8]) -> usize
-        requires begins { BeginsWithEsc bytes.now }
-        requires ground { self.old.state ≡ State.Ground }
-        requires whole { self.old.unfinished ≡ [] }
-        ensures { ReadsStep P.step N self.old performer.old bytes.now result self.new performer.new }
-    {
-        if let Some(len) = self.read_plain(bytes) {
-            let byte = bytes[len + 2];
-            if is_final(byte) {
-                performer.csi_dispatch(&self.header.numbers.params, &[], false, byte as char);
-                return len + 3;
-            }
-            if is_intermediate(byte) && len + 3 < bytes.len() && is_final(bytes[len + 3]) {
-                self.dispatch_marked(performer, byte, bytes[len + 3]);
-                return len + 4;
-            }
-        }
-        self.read_begun(performer, bytes)
-    }
-
-    /// Reads as `read_escape` does, where a character may be unfinished.
-    #[inline(always)]
-    fn read_any_escape<P: Perform>(&mut self, performer: &mut P, bytes: &[u8]) -> usize
-        requires begins { BeginsWithEsc bytes.now }
-        requires ground { self.old.state ≡ State.Ground }
-        ensures { ReadsStep P.step N self.old performer.old bytes.now result self.new performer.new }
-    {
         if self.unfinished.is_empty() {
-            self.read_escape(performer, bytes)
-        } else {
-            self.read_begun(performer, bytes)
+            return self.read_sequence(performer, bytes);
         }
+        self.begin_escape(performer);
+        1
     }
 
     /// Reads short ground text of ASCII up to the next ESC, if it stands at the start. Returns how many bytes it read.
@@ -623,6 +540,7 @@ impl<const N: usize> Parser<N> {
 
     /// Reads ground text up to the next ESC, and the sequence that ESC begins, if the performer goes on after the text.
     /// Returns how many bytes it read.
+    // Never inlined, so that the loop over a piece is short, and `read_turn` in it needs no stack.
     #[inline(never)]
     fn read_through<P: Perform, const ASKED: bool>(
         &mut self,
@@ -641,10 +559,11 @@ impl<const N: usize> Parser<N> {
         if ASKED && text > 0 && performer.terminated() {
             return text;
         }
-        text + self.read_any_escape(performer, &bytes[text..])
+        text + self.read_esc(performer, &bytes[text..])
     }
 
-    /// Reads as `read_through` does, but short text and a sequence after it without a call.
+    /// Reads as `read_through` does, but short text and a sequence after it without a call. It is called where no
+    /// character is unfinished and many bytes are left.
     #[inline(always)]
     fn read_turn<P: Perform, const ASKED: bool>(&mut self, performer: &mut P, bytes: &[u8]) -> usize
         requires room { 8 < length bytes.now }
@@ -658,75 +577,9 @@ impl<const N: usize> Parser<N> {
             return text;
         }
         if bytes[text] == 0x1B {
-            return text + self.read_escape(performer, &bytes[text..]);
+            return text + self.read_sequence(performer, &bytes[text..]);
         }
         text + self.read_through::<P, ASKED>(performer, &bytes[text..])
-    }
-
-    /// Reads what has no event, and the byte after it, if there is one. Returns how many bytes it read.
-    #[inline(always)]
-    fn read_inside<P: Perform>(&mut self, performer: &mut P, bytes: &[u8]) -> usize
-        requires some { 0 < length bytes.now }
-        requires inside { state_is_text self.old.state ≡ false }
-        ensures { ReadsStep P.step N self.old performer.old bytes.now result self.new performer.new }
-    {
-        let quiet = self.read_quiet(bytes);
-        if quiet == bytes.len() {
-            return quiet;
-        }
-        self.byte(performer, bytes[quiet]);
-        quiet + 1
-    }
-
-    /// Reads ESC after ESC, once or more often, which begins the escape sequence anew. Returns how many bytes they are.
-    #[inline(always)]
-    fn begin_anew(&mut self, bytes: &[u8]) -> usize
-        requires begins { BeginsWithEsc bytes.now }
-        requires escape { self.old.state ≡ State.Escape }
-        ensures reads { ReadsQuietly N self.old bytes.now result self.new }
-        ensures some { 0 < result }
-    {
-        self.intermediates.clear();
-        esc_len(bytes)
-    }
-
-    /// Reads the `[` after ESC, and the header that follows. Returns how many bytes they are.
-    #[inline(always)]
-    fn open_csi(&mut self, bytes: &[u8]) -> usize
-        requires some { 0 < length bytes.now }
-        requires bracket { slice_index bytes.now 0 ≡ 0x5B }
-        requires escape { self.old.state ≡ State.Escape }
-        requires alone { (length self.old.intermediates.kept.items == 0) ≡ true }
-        ensures reads { ReadsQuietly N self.old bytes.now result self.new }
-        ensures some { 0 < result }
-        ensures opened { self.new.state ≡ State.Csi }
-    {
-        self.state = State::Csi;
-        self.header.clear();
-        1 + self.header.read(&bytes[1..])
-    }
-
-    /// Reads the byte after ESC and its intermediates, and where that begins a control sequence its header and the byte
-    /// after it, or else where it is ESC all that follow. Returns how many bytes it read.
-    #[inline(always)]
-    fn read_escaped<P: Perform>(&mut self, performer: &mut P, bytes: &[u8]) -> usize
-        requires some { 0 < length bytes.now }
-        requires escape { self.old.state ≡ State.Escape }
-        ensures { ReadsStep P.step N self.old performer.old bytes.now result self.new performer.new }
-    {
-        if bytes[0] == 0x1B {
-            return self.begin_anew(bytes);
-        }
-        if bytes[0] != b'[' || !self.intermediates.kept.is_empty() {
-            self.after_escape(performer, bytes[0]);
-            return 1;
-        }
-        let quiet = self.open_csi(bytes);
-        if quiet < bytes.len() {
-            self.end_csi(performer, bytes[quiet]);
-            return quiet + 1;
-        }
-        quiet
     }
 
     /// Reads a device control string's data, of which each byte has an event, and the byte after it, if there is one.
@@ -745,8 +598,8 @@ impl<const N: usize> Parser<N> {
         data + 1
     }
 
-    /// Reads some bytes of a sequence up to the first that has an event, and with it; or a device control string's data at
-    /// once, where the performer isn't asked. Returns how many bytes it read.
+    /// Reads some bytes of a sequence as `read_inside` does. Where the performer isn't asked, a device control string's
+    /// data is read at once. Returns how many bytes it read.
     #[inline(always)]
     fn read_apart<P: Perform, const ASKED: bool>(
         &mut self,
@@ -760,7 +613,6 @@ impl<const N: usize> Parser<N> {
     {
         match self.state {
             State::DcsPassthrough if !ASKED => self.read_data(performer, bytes),
-            State::Escape => self.read_escaped(performer, bytes),
             _ => self.read_inside(performer, bytes),
         }
     }
@@ -774,6 +626,7 @@ impl<const N: usize> Parser<N> {
     }
 
     /// Reads sequences up to the next ground text, or as far as the performer goes on. Returns how many bytes it read.
+    // Never inlined, for the reason of `read_through`.
     #[inline(never)]
     fn read_outside<P: Perform, const ASKED: bool>(
         &mut self,

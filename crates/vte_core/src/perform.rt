@@ -9,9 +9,7 @@ ghost use Rattle.vte_core.specs.EventOf.{event_of};
 
 use crate::event::Event;
 use crate::params::Params;
-
-/// From how many bytes on it's worth while to ask whether a text is ASCII alone, which needs no decoding.
-const LONG_TEXT: usize = 8;
+use crate::thresholds::LONG_TEXT;
 
 /// Receives the events of a byte stream, in order, each once.
 ///

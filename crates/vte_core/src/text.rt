@@ -20,19 +20,11 @@ ghost use Rattle.std.specs.Char.{InScalarRange};
 ghost use Rattle.std.specs.Int.{is_in_range};
 
 use crate::Perform;
+use crate::thresholds::{BLOCK_LEN, LINE_LEN, SHORT_LEN};
 use arrayvec::ArrayVec;
 use simdutf8::compat::from_utf8;
 use std::marker::Model;
 use std::str;
-
-/// How many bytes are tested at once for controls.
-const BLOCK_LEN: usize = 16;
-
-/// How many bytes are tested at once where fewer are left.
-const SHORT_LEN: usize = 8;
-
-/// Where a control follows within so many bytes, it's cheap to look for it once more after a malformed sequence.
-const LINE_LEN: usize = 48;
 
 /// How many bytes a character with this first byte has, 0 where none has it.
 fn char_len(first: u8) -> usize
@@ -716,8 +708,8 @@ impl Unfinished {
         }
     }
 
-    /// Reads ground text of one to eight printable characters of ASCII up to the next ESC. Returns how many bytes it read:
-    /// none where other text stands at the start.
+    /// Reads ground text of one to eight printable characters of ASCII up to the next ESC. Returns how many bytes it
+    /// read: none where other text stands at the start.
     #[inline(always)]
     pub fn read_short<P: Perform>(&mut self, performer: &mut P, bytes: &[u8]) -> usize
         requires room { 8 < length bytes.now }
@@ -743,6 +735,7 @@ impl Unfinished {
     }
 
     /// Reads as [`read_some`](Self::read_some) does.
+    // Never inlined, so that `read_some` stands once in `read`, for the first piece, which mostly is the only one.
     #[inline(never)]
     fn read_more<P: Perform>(&mut self, performer: &mut P, bytes: &[u8]) -> usize
         requires some { 0 < length bytes.now }
@@ -752,7 +745,8 @@ impl Unfinished {
         self.read_some(performer, bytes)
     }
 
-    /// Reads ground text up to the next ESC, and returns how many bytes it read. The first piece is mostly the only one.
+    /// Reads ground text up to the next ESC, and returns how many bytes it read. The first piece is mostly the only
+    /// one.
     #[inline(always)]
     pub fn read<P: Perform>(&mut self, performer: &mut P, bytes: &[u8]) -> usize
         requires some { 0 < length bytes.now }

@@ -1,10 +1,15 @@
-use Rattle.vte_core.proofs.MarkedSequence.{marked_step, unmarked_step}
+use Rattle.std.proofs.Common.{refl, arith}
+use Rattle.vte_core.proofs.Quiet.{esc-quiet, quiet-alone, quiet-and-step}
 use Rattle.vte_core.proofs.parser.Parser.read_begun.Goals as goal
 
-pub returns-in-Some : goal.returns-in-Some
-returns-in-Some g c = marked_step c.args.bytes.now c.in-Some.mark c.in-Some.byte c.requires.ground c.in-Some.ensures
-    c.esc_dispatch.ensures
+pub returns-then-bytes-eq1 : goal.returns-then-bytes-eq1
+returns-then-bytes-eq1 g c =
+    let need = c.requires in
+    quiet-alone c.args.bytes.now 1 (omega arith) (esc-quiet c.args.bytes.now need.begins need.ground need.whole refl
+    need.whole c.clear.ensures)
 
-pub returns-in-Some-unmarked : goal.returns-in-Some-unmarked
-returns-in-Some-unmarked g c = unmarked_step c.args.bytes.now c.in-Some-unmarked.byte c.requires.ground c.in-Some-unmarked.ensures
-    c.esc_dispatch-in-Some-unmarked.ensures
+pub returns : goal.returns
+returns g c =
+    let need = c.requires in
+    quiet-and-step c.args.bytes.now 1 c.read_inside.result (esc-quiet c.args.bytes.now need.begins need.ground need.whole
+    refl need.whole c.clear.ensures) c.read_inside.ensures

@@ -19,10 +19,10 @@ returns-then-terminated g c =
 pub returns : goal.returns
 returns g c =
     let text = c.read_text-text.ensures in
-    on_text c.args.bytes.now c.read_text-text.result c.read_any_escape.result c.requires.ground text.reads text.is_step
+    on_text c.args.bytes.now c.read_text-text.result c.read_esc.result c.requires.ground text.reads text.is_step
     (λ asks some. elim c.else-this-ne0.branch [
       | else-this-ne0-via-then-this-ne0+then-text-gt0+else-terminated w ↦ sym w.terminated.ensures ∙ w.if-terminated.false
       | else-this-ne0-via-then-this-ne0+else-text-gt0 w ↦ absurd (omega (arith, some, w.if-text-gt0.false))
       | else-this-ne0-via-else-this-ne0 w ↦ absurd (never-asked _ w.if-this-ne0.false asks)
     ])
-    (on_step _ c.read_any_escape.result c.read_any_escape.ensures)
+    (on_step _ c.read_esc.result c.read_esc.ensures)

@@ -13,13 +13,13 @@ returns-then-terminated g c =
 pub returns-then-bytes-text-eq27 : goal.returns-then-bytes-text-eq27
 returns-then-bytes-text-eq27 g c =
     let short = c.read_short-text.ensures in
-    on_text c.args.bytes.now c.read_short-text.result c.read_escape.result c.requires.ground short.reads short.is_step
+    on_text c.args.bytes.now c.read_short-text.result c.read_sequence.result c.requires.ground short.reads short.is_step
     (λ asks some. elim c.else-this-ne0.branch [
       | else-this-ne0-via-then-this-ne0+then-text-gt0+else-terminated w ↦ sym w.terminated.ensures ∙ w.if-terminated.false
       | else-this-ne0-via-then-this-ne0+else-text-gt0 w ↦ absurd (omega (arith, some, w.if-text-gt0.false))
       | else-this-ne0-via-else-this-ne0 w ↦ absurd (never-asked _ w.if-this-ne0.false asks)
     ])
-    (on_step _ c.read_escape.result c.read_escape.ensures)
+    (on_step _ c.read_sequence.result c.read_sequence.ensures)
 
 pub returns : goal.returns
 returns g c =
