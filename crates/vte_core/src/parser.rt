@@ -300,7 +300,8 @@ impl<const N: usize> Parser<N> {
         }
     }
 
-    /// A byte that mostly is the final one of a sequence, since those before it had no event.
+    /// A byte that mostly is the final one of a sequence, since those before it had no event. What comes most often is
+    /// looked for first.
     #[inline(always)]
     fn likely_final<P: Perform>(&mut self, performer: &mut P, byte: u8)
         ensures { ReadsByte P.step N self.old performer.old byte self.new performer.new }
@@ -308,6 +309,7 @@ impl<const N: usize> Parser<N> {
         match self.state {
             State::Csi if is_final(byte) => self.dispatch_csi(performer, byte),
             State::Escape if is_escape_final(byte) => self.end_escape(performer, byte),
+            _ if byte == 0x1B => self.begin_escape(performer),
             _ => self.byte(performer, byte),
         }
     }
@@ -339,16 +341,29 @@ impl<const N: usize> Parser<N> {
         }
     }
 
-    /// Reads the bytes of a sequence at the start that have no event: what follows ESC, a header, the data of a
-    /// command, or what is swallowed. Returns how many they are.
+    /// Reads what follows ESC up to the first byte that has an event, and with it. Returns how many bytes it read.
+    #[inline(always)]
+    fn read_escape<P: Perform>(&mut self, performer: &mut P, bytes: &[u8]) -> usize
+        requires some { 0 < length bytes.now }
+        requires escape { self.old.state ≡ State.Escape }
+        ensures { ReadsStep P.step N self.old performer.old bytes.now result self.new performer.new }
+    {
+        let quiet = self.open_sequence(bytes);
+        if quiet == bytes.len() {
+            return quiet;
+        }
+        self.likely_final(performer, bytes[quiet]);
+        quiet + 1
+    }
+
+    /// Reads the bytes at the start that have no event: a header, the data of a command, or what is swallowed. Returns
+    /// how many they are.
     #[inline(always)]
     fn read_quiet(&mut self, bytes: &[u8]) -> usize
-        requires { state_is_text self.old.state ≡ false }
         ensures reads { ReadsQuietly N self.old bytes.now result self.new }
-        ensures inside { state_is_text self.new.state ≡ false }
+        ensures state { self.new.state ≡ self.old.state }
     {
         match self.state {
-            State::Escape => self.open_sequence(bytes),
             State::Csi | State::DcsHeader => self.header.read(bytes),
             State::OscString => self.osc.read(bytes),
             State::SosPmApcString => swallowed_len(bytes),
@@ -356,8 +371,8 @@ impl<const N: usize> Parser<N> {
         }
     }
 
-    /// Reads bytes of a sequence that have no event, and the byte after them, if there is one. Returns how many bytes
-    /// it read.
+    /// Reads what has no event, and the byte after it, if there is one. Returns how many bytes it read. It is called where
+    /// a sequence goes on behind ESC and the byte after it.
     #[inline(always)]
     fn read_inside<P: Perform>(&mut self, performer: &mut P, bytes: &[u8]) -> usize
         requires some { 0 < length bytes.now }
@@ -368,7 +383,7 @@ impl<const N: usize> Parser<N> {
         if quiet == bytes.len() {
             return quiet;
         }
-        self.likely_final(performer, bytes[quiet]);
+        self.byte(performer, bytes[quiet]);
         quiet + 1
     }
 
@@ -469,7 +484,21 @@ impl<const N: usize> Parser<N> {
         if bytes.len() == 1 {
             return 1;
         }
-        1 + self.read_inside(performer, &bytes[1..])
+        1 + self.read_escape(performer, &bytes[1..])
+    }
+
+    /// Reads a short sequence, if it stands whole at the start. Returns how many bytes it is, or else 0.
+    #[inline(always)]
+    fn read_whole<P: Perform>(&mut self, performer: &mut P, bytes: &[u8]) -> usize
+        requires { IsAtEsc N self.old bytes.now }
+        ensures ground { self.new.state ≡ State.Ground }
+        ensures whole { self.new.unfinished ≡ [] }
+        ensures reads { ReadsWhole P.step N self.old performer.old bytes.now result self.new performer.new }
+    {
+        match bytes {
+            [_, b'[', ..] => self.read_csi(performer, bytes),
+            _ => self.read_short_escape(performer, bytes),
+        }
     }
 
     /// Reads what ESC begins after whole ground text. A short sequence that stands whole in the bytes is read at once,
@@ -479,11 +508,7 @@ impl<const N: usize> Parser<N> {
         requires { IsAtEsc N self.old bytes.now }
         ensures { ReadsStep P.step N self.old performer.old bytes.now result self.new performer.new }
     {
-        let len = self.read_csi(performer, bytes);
-        if len > 0 {
-            return len;
-        }
-        let len = self.read_short_escape(performer, bytes);
+        let len = self.read_whole(performer, bytes);
         if len > 0 {
             return len;
         }
@@ -598,8 +623,8 @@ impl<const N: usize> Parser<N> {
         data + 1
     }
 
-    /// Reads some bytes of a sequence as `read_inside` does. Where the performer isn't asked, a device control string's
-    /// data is read at once. Returns how many bytes it read.
+    /// Reads some bytes of a sequence, up to the first that has an event, and with it. Where the performer isn't asked, a
+    /// device control string's data is read at once. Returns how many bytes it read.
     #[inline(always)]
     fn read_apart<P: Perform, const ASKED: bool>(
         &mut self,
@@ -613,6 +638,7 @@ impl<const N: usize> Parser<N> {
     {
         match self.state {
             State::DcsPassthrough if !ASKED => self.read_data(performer, bytes),
+            State::Escape => self.read_escape(performer, bytes),
             _ => self.read_inside(performer, bytes),
         }
     }
