@@ -213,10 +213,6 @@ still_text n p r ground grounds same q at =
     let here = rw q_is at at in
     rw q_is (grounds, same ∙ here.1)
 
-module _ {S : Type 0} {step : S → Event → S → Type 0} {n : ℕ} {p r : Parser n} {old : S} where
-  pub nothing_read : (bs : List ℕ) → ((q : Pending) → IsAt n p q → IsAt n r q) → ReadsWhole step n p old bs 0 r old
-  nothing_read bs same = record { sequence = λ some. absurd (omega (arith, some)); nothing = λ none. (refl, same) }
-
 module _ {S : Type 0} {step : S → Event → S → Type 0} {n : ℕ} {p r : Parser n} {old new : S} where
   pub sequence_read : (bs : List ℕ) (k : ℕ) → ReadsStep step n p old bs k r new → ReadsWhole step n p old bs k r new
   sequence_read bs k one = record { sequence = λ some. one; nothing = λ none. absurd (omega (arith, one.some, none)) }

@@ -14,7 +14,7 @@ pub record BeginsWithEsc (bs : List ℕ) : Type 0 where
   pub some : 0 < length bs
   pub esc : slice_index bs 0 ≡ 0x1B
 
--- and the parser has nothing unfinished
+-- ESC comes first, in ground text, and no character is unfinished
 pub record IsAtEsc (n : ℕ) (p : Parser n) (bs : List ℕ) : Type 0 where
   pub begins : BeginsWithEsc bs
   pub ground : p.state ≡ Ground
@@ -44,8 +44,8 @@ pub record ReadsAsked {S : Type 0} (step : S → Event → S → Type 0) (termin
       → StopsAt step terminated n q true bs old (k + j) end
 
 -- some bytes are read, and where the parser asks a performer that goes on, it asks wherever it has to
-pub record ReadsOn {S : Type 0} (step : S → Event → S → Type 0) (terminated : S → Bool) (asks : Bool) (n : ℕ) (p
-    : Parser n) (old : S) (bs : List ℕ) (k : ℕ) (r : Parser n) (new : S) : Type 0 where
+pub record ReadsOn {S : Type 0} (step : S → Event → S → Type 0) (terminated : S
+    → Bool) (asks : Bool) (n : ℕ) (p : Parser n) (old : S) (bs : List ℕ) (k : ℕ) (r : Parser n) (new : S) : Type 0 where
   pub some : 0 < k
   pub reads : Reads step n p old bs k r new
   pub asked : asks ≡ true → terminated old ≡ false → ReadsAsked step terminated n p old bs k r new
