@@ -6,4 +6,5 @@ pub mod Cells
 pub mod Line
 pub use Rattle.vt100_forms.specs.Attrs
 pub mod Narrow
+pub mod Ascii
 pub mod ShortFields

@@ -15,6 +15,6 @@ pub mod line;
 mod short_char;
 mod width;
 
-pub use cell::{Cell, PackedAttrs};
+pub use cell::{Cell, Glyph, PackedAttrs};
 pub use short_char::{ShortChar, split_narrow, split_wide};
 pub use width::columns;
