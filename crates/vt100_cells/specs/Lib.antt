@@ -8,3 +8,4 @@ pub use Rattle.vt100_forms.specs.Attrs
 pub mod Narrow
 pub mod Ascii
 pub mod ShortFields
+pub mod Runs

@@ -48,19 +48,6 @@ impl Default for ShortChar {
     }
 }
 
-impl ShortChar {
-    /// The character.
-    pub fn to_char(self) -> char
-        ensures { result ≡ self }
-    {
-        let text = unsafe { str::from_utf8_unchecked(&self.bytes[..usize::from(self.len)]) };
-        match text.chars().next() {
-            Some(c) => c,
-            None => ' ',
-        }
-    }
-}
-
 /// The wide character at the start of a text, and what follows it. Only characters of the common scripts are found.
 #[doc(hidden)]
 #[inline(always)]
