@@ -12,8 +12,8 @@ use arrayvec::ArrayVec;
 #[doc(hidden)]
 pub const RUN_LEN: usize = 64;
 
-/// So many characters of ASCII end a run, since they are printed faster in one of their own. `./speed --texts` decides
-/// it: fewer would split the lines of `russian` at each short word of ASCII.
+/// So many characters of ASCII end a run, since they are printed faster in one of their own. Fewer would cut the lines
+/// of `Cyrillic` and `tree`, by which `./speed --texts` measures it, at a comma and at spaces.
 const ASCII_LEN: usize = 8;
 
 /// A form of characters that can be taken from a text. For screens alone.
