@@ -3,8 +3,7 @@ use Rattle.std.proofs.Common.{◌≡◌, ◌∙◌, ◌==◌, ℕ, Bool, Option,
 use Rattle.std.proofs.Common.{Result, Ok, Err, OnOk, OnErr}
 use Rattle.std.specs.Prelude.{IfOk}
 use Rattle.std.proofs.lemmas.Bool.{both_ways, cond_both, false≢true}
-use Rattle.vt100_forms.specs.Attrs.{default_attrs, IsProper}
-use Rattle.vt100_forms.specs.declared.attrs.Attrs.{Attrs}
+use Rattle.vt100_forms.specs.Attrs.{default_attrs}
 use Rattle.vt100_rows.specs.Row.{blank_row}
 use Rattle.vt100_core.specs.Grid.{GridView, IsAllocated, SameLimits, new_grid, allocated}
 use Rattle.vt100_core.specs.declared.scrollback.Scrollback.TheVariants.{Disabled, Enabled}
