@@ -1,9 +1,10 @@
 -- The last of some characters.
 use Rattle.std.proofs.Common.{◌≡◌, ◌∙◌, ◌-◌, ◌<◌, ℕ, suc, List, [], ◌∷◌, ap, sym}
-use Rattle.std.proofs.Common.{refl, Option, Some, length, get_or, arith}
+use Rattle.std.proofs.Common.{refl, Option, Some, length, map, get_or, arith}
+use Rattle.std.proofs.lemmas.List.{get_or-map, length-map}
 use Rattle.vt100.specs.Runs.{last_of}
 
-pub last_of-at : (xs : List ℕ) (last : Option ℕ) (d : ℕ) → 0 < length xs
+last_of-at : (xs : List ℕ) (last : Option ℕ) (d : ℕ) → 0 < length xs
     → last_of xs last ≡ Some (get_or xs (length xs - 1) d)
 last_of-at [] last d some = absurd (omega arith)
 last_of-at (x ∷ []) last d some = refl
@@ -13,5 +14,10 @@ last_of-at (x ∷ y ∷ ys) last d some =
     last_of-at (y ∷ ys) (Some x) d (omega arith) ∙ ap (λ n. Some (get_or (y ∷ ys) n d)) e
     ∙ sym (ap (λ n. Some (get_or (x ∷ y ∷ ys) n d)) f)
 
-pub last_of-is : (xs : List ℕ) (last : Option ℕ) → 0 < length xs → last_of xs last ≡ Some (get_or xs (length xs - 1) 0)
-last_of-is xs last some = last_of-at xs last 0 some
+pub last_of-map : {X : Type 0} (code : X → ℕ) (xs : List X) (last : Option ℕ) (x : X) → 0 < length xs
+    → x ≡ get_or xs (length xs - 1) x → last_of (map code xs) last ≡ Some (code x)
+last_of-map code xs last x some e =
+    let many = length-map xs code in
+    last_of-at (map code xs) last (code x) (omega (arith, many, some))
+    ∙ ap (λ n. Some (get_or (map code xs) (n - 1) (code x))) many
+    ∙ ap Some (get_or-map code xs (length xs - 1) x (code x) (omega (arith, some)) ∙ ap code (sym e))

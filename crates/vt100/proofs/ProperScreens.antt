@@ -3,8 +3,7 @@ use Rattle.std.proofs.Common.{◌≡◌, ◌∙◌, ◌==◌, ℕ, Bool, Option,
 use Rattle.std.proofs.Common.{Result, Ok, Err, OnOk, OnErr}
 use Rattle.std.specs.Prelude.{IfOk}
 use Rattle.std.proofs.lemmas.Bool.{both_ways, cond_both, false≢true}
-use Rattle.vt100_forms.specs.Attrs.{default_attrs, IsProper}
-use Rattle.vt100_forms.specs.declared.attrs.Attrs.{Attrs}
+use Rattle.vt100_forms.specs.Attrs.{default_attrs}
 use Rattle.vt100_rows.specs.Row.{blank_row}
 use Rattle.vt100_core.specs.Grid.{GridView, IsAllocated, SameLimits, new_grid, allocated}
 use Rattle.vt100_core.specs.declared.scrollback.Scrollback.TheVariants.{Disabled, Enabled}
@@ -13,15 +12,10 @@ use Rattle.vt100_core.specs.Resize.{resized}
 use Rattle.screen_model.specs.State.{IsProperSheet}
 use Rattle.vt100_forms.proofs.AttrsLemmas.{default-proper}
 use Rattle.screen_model.proofs.ProperSheets.{proper_new, proper_resized, proper_allocated, proper_scrollback_shown}
-use Rattle.screen_model.proofs.ProperSheets.{proper_printed, proper_printed_all, proper_fed, proper_scrolled_up}
 use Rattle.screen_model.proofs.ProperSheets.{proper_cells_inserted, proper_cells_deleted, proper_columns_erased}
 use Rattle.screen_model.proofs.ProperSheets.{proper_row_erased, proper_all_erased, proper_all_erased_forward}
 use Rattle.screen_model.proofs.ProperSheets.{proper_all_erased_backward, proper_lines_inserted, proper_lines_deleted}
 use Rattle.screen_model.proofs.ProperSheets.{proper_scrolled_down}
-use Rattle.vt100.specs.declared.screen.reported.ScrollingEdit.{ScrollingEdit}
-use Rattle.vt100.specs.declared.screen.reported.ScrollingEdit.TheVariants.{Character, Characters, LineFeed, ScrollUp}
-use Rattle.vt100.specs.Runs.{characters}
-use Rattle.vt100.specs.Draws.{drawn}
 use Rattle.vt100.specs.ScreenFields.{IsInside}
 use Rattle.vt100.specs.declared.error.ScreenError.{ScreenError}
 use Rattle.vt100.specs.declared.screen.Screen.TheInside.{Inside}
@@ -53,13 +47,6 @@ pub drawn_screen : (s : Inside) (g : GridView) (last : Option ℕ) → IsInside 
 drawn_screen s g last i some limits proper =
     changed-screen s g s.other_grid last s.failed i some i.main (λ live. i.height live ∙ sym limits.height)
     (λ live. i.width live ∙ sym limits.width) limits.kept.keeps refl (λ live. proper (i.proper live)) i.other_proper
-
-pub proper_drawn : (d : ScrollingEdit) (g : GridView) (a : Attrs) → IsProper a → IsProperSheet g
-    → IsProperSheet (drawn d g a).grid
-proper_drawn (Character c) g a h p = proper_printed g c a h p
-proper_drawn (Characters run) g a h p = proper_printed_all g (characters run) a h p
-proper_drawn LineFeed g a h p = proper_fed g 1 p
-proper_drawn (ScrollUp n) g a h p = proper_scrolled_up g n p
 
 -- what the calls that draw on it keep
 pub ruleset drawn_rules = (

@@ -1,8 +1,8 @@
 -- Characters that are printed at once, as event by event.
 use Rattle.std.proofs.Common.{◌≡◌, ◌∙◌, ◌^◌, ◌<◌, ◌==◌, ℕ, zero, suc, Bool, true, false, cond, List, [], ◌∷◌, ◌++◌, ap, sym}
-use Rattle.std.proofs.Common.{Option, Some, None, Result, Ok, Err, OnOk, OnErr, length, map, refl, subst, inl, inr, arith}
+use Rattle.std.proofs.Common.{Option, Some, Result, Ok, Err, OnOk, OnErr, length, map, refl, subst, inl, inr, arith}
 use Rattle.std.proofs.Common.{nat_lt, get_or, take, drop, ◌⊎◌, ◌&&◌, ◌||◌, ◌≤◌, not, append_assoc, append-nil}
-use Rattle.std.specs.Prelude.{All, IsOk, IfSome}
+use Rattle.std.specs.Prelude.{All, IsOk}
 use Rattle.std.specs.Char.{encode_utf8}
 use Rattle.std.specs.Str.{IsUtf8, chars}
 use Rattle.std.proofs.lemmas.Grind.{common_steps}
@@ -13,10 +13,11 @@ use Rattle.vte_core.proofs.PhaseLemmas.{each-first}
 use Rattle.vte_core.proofs.Telling.{performs-append, same_events}
 use Rattle.std.proofs.lemmas.Bool.{cases_Bool, and_parts}
 use Rattle.std.proofs.lemmas.Bool.Decides.{nat_tests}
-use Rattle.std.proofs.lemmas.List.{map-append}
-use Rattle.std.proofs.lemmas.List.Elements.{All-drop}
-use Rattle.vt100_cells.specs.Cell.{IsPrintable, columns_of, is_undrawable}
-use Rattle.vt100_cells.proofs.WidthLemmas.{drawn-is, printable-is}
+use Rattle.std.proofs.lemmas.List.{map-append, map-id}
+use Rattle.std.proofs.lemmas.List.Elements.{All-drop, All-map}
+use Rattle.vt100_cells.specs.Cell.{IsPrintable, columns_of, drawn_columns, is_undrawable}
+use Rattle.vt100_cells.specs.Runs.{IsShown}
+use Rattle.vt100_cells.proofs.WidthLemmas.{drawn-is}
 use Rattle.vt100_forms.specs.declared.attrs.Attrs.{Attrs}
 use Rattle.vt100_rows.specs.Row.{RowView}
 use Rattle.vt100_rows.specs.Sink.{TakesAll}
@@ -24,6 +25,8 @@ use Rattle.vt100_core.specs.Grid.{IsKept, GridView, IsAllocated, SameLimits}
 use Rattle.vt100_core.specs.Scroll.{ScrollsNoneOff}
 use Rattle.vt100_core.specs.Text.{PrintedGrid, printed, spaced, printed_all, TakesPrefix}
 use Rattle.vt100_core.specs.declared.printed.Printed.{Printed}
+use Rattle.vt100_cells.proofs.GlyphLemmas.{some-column}
+use Rattle.vt100_core.proofs.RunLemmas.{columns-fit}
 use Rattle.vt100_core.proofs.TextLemmas.{IsMade-made, printed-spaced}
 use Rattle.vt100_core.proofs.CountLemmas.{Counts, Counts-map, Counts-trans, counts-same, counts-printed}
 use Rattle.screen_model.specs.State.{State, IsState}
@@ -38,11 +41,8 @@ use Rattle.vt100.specs.declared.screen.wrapped.WrappedScreen.{WrappedScreen}
 use Rattle.vt100.specs.Memory.{keeps_row}
 use Rattle.vt100.specs.Tries.{MayScroll, SameBounds, ReceivesPrefix, alive}
 use Rattle.vt100.specs.Goes.{Fails, Goes, GoesThrough}
-use Rattle.vt100.specs.Runs.{IsHandled, IsRun, characters, typed_all, last_of, PrintsPrefix}
-use Rattle.vt100.specs.Draws.{Draws, drawn_on}
-use Rattle.vt100.specs.declared.screen.reported.ScrollingEdit.TheVariants.{Characters}
-use Rattle.vt100.specs.declared.screen.reported.CharRun.{CharRun}
-use Rattle.vt100.specs.declared.screen.reported.CharRun.TheVariants.{Ascii, Narrow, Wide, ShortNarrow, ShortWide}
+use Rattle.vt100.specs.Runs.{IsHandled, typed_all, last_of, PrintsPrefix}
+use Rattle.vt100.specs.Draws.{Draws}
 use Rattle.vt100.specs.declared.screen.reported.Reporter.{Reporter}
 use Rattle.vt100.proofs.ReceiveLemmas.{Reports, receives_all, receives_whole, draws_all, scroll_as, refused_keeps}
 use Rattle.vt100.proofs.ReceiveLemmas.{not_grown}
@@ -62,12 +62,13 @@ pub record IsSpacing (w c : ℕ) : Type 0 where
 spacing : (w n c : ℕ) → 0 < n → n ≤ w → (is_undrawable c ≡ false) × (columns_of c ≡ n) → IsSpacing w c
 spacing w n c some fits h = record { drawn = h.0; some = omega (arith, h.1); fits = omega (arith, h.1) }
 
-run-spacing : (w : ℕ) → 0 < w → (run : CharRun) → IsRun w run → All (IsSpacing w) (characters run)
-run-spacing w some (Ascii text) p k d l = spacing w 1 _ (omega arith) some (printable-is _ (p k d l))
-run-spacing w some (Narrow text) p k d l = spacing w 1 _ (omega arith) some (drawn-is _ 1 (p k d l).1)
-run-spacing w some (Wide text) p k d l = spacing w 2 _ (omega arith) p.1 (drawn-is _ 2 (p.0 k d l))
-run-spacing w some (ShortNarrow text) p k d l = spacing w 1 _ (omega arith) some (drawn-is _ 1 (p k d l).1)
-run-spacing w some (ShortWide text) p k d l = spacing w 2 _ (omega arith) p.1 (drawn-is _ 2 (p.0 k d l))
+-- characters of n columns each, in some form
+pub run-spacing : {X : Type 0} (code : X → ℕ) (takes : X → Type 0) (n w : ℕ) → (n ≡ 1) ⊎ (n ≡ 2) → 0 < w
+    → (n ≡ 2 → 2 ≤ w) → ((x : X) → takes x → drawn_columns (code x) ≡ Some n) → (xs : List X) → All takes xs
+    → All (IsSpacing w) (map code xs)
+run-spacing code takes n w o some room drawn xs p =
+    All-map (IsSpacing w) code xs (λ k d l. spacing w n _ (some-column n o) (columns-fit n w o room some)
+    (drawn-is _ n (drawn _ (p k d l))))
 
 not-dropped : (u : Bool) (k w col : ℕ) → u ≡ false → 0 < k → k ≤ w
     → (u || (nat_lt w k || ((k == 0) && (col == 0)))) ≡ false
@@ -85,7 +86,7 @@ width-printed g c a s =
 -- ---- a run, as characters that are typed
 
 -- a state with another shown sheet and another last character, and the rows that left
-abbrev drawn_as : State → GridView → Option ℕ → List RowView → Stepped
+abbrev pub drawn_as : State → GridView → Option ℕ → List RowView → Stepped
 drawn_as s g last sunk = record {
   state = record s { shown = g; last = last };
   reports = reports_of s.alternate sunk;
@@ -103,12 +104,15 @@ reports-append b [] ys = refl
 reports-append b (x ∷ xs) ys =
     ap (λ (rs : List Report). record { row = x; alternate = b } ∷ rs) (reports-append b xs ys)
 
+-- a run on the shown sheet
+abbrev pub run_drawn : List ℕ → State → Stepped
+run_drawn xs s = let d = printed_all s.shown xs s.attrs in drawn_as s d.grid (last_of xs s.last) d.sunk
+
 abbrev then_typed : Stepped → List ℕ → Stepped
 then_typed t xs = record { state = (typed_all xs t.state).state; reports = t.reports ++ (typed_all xs t.state).reports }
 
 pub typed_all-is : (xs : List ℕ) (s : State) → All (IsSpacing s.shown.width) xs
-    → typed_all xs s ≡ drawn_as s (printed_all s.shown xs s.attrs).grid (last_of xs s.last)
-    (printed_all s.shown xs s.attrs).sunk
+    → typed_all xs s ≡ run_drawn xs s
 typed_all-is [] s p = refl
 typed_all-is (x ∷ xs) s p =
     let d = printed s.shown x s.attrs in
@@ -134,18 +138,15 @@ sunk-append g (x ∷ xs) ys a =
     ap (λ (rows : List RowView). first.sunk ++ rows) (sunk-append first.grid xs ys a)
     ∙ sym (append_assoc first.sunk others.sunk (printed_all others.grid ys a).sunk)
 
-printable-handled : (c : ℕ) → IsPrintable c → IsHandled c
+pub printable-handled : (c : ℕ) → IsPrintable c → IsHandled c
 printable-handled c p = grind (arith, nat_tests)
 
-handled-apart : (c : ℕ) → (c < 0x80) ⊎ (0xA0 ≤ c) → c < 0xFFFD → IsHandled c
-handled-apart c (inl h) below = grind (arith, nat_tests)
-handled-apart c (inr h) below = grind (arith, nat_tests)
+shown-handled : (c : ℕ) → IsShown c → IsHandled c
+shown-handled c (inl h, known) = grind (arith, nat_tests)
+shown-handled c (inr h, known) = grind (arith, nat_tests)
 
--- a character that is found at the start of a text
-pub narrow-handled : {B : Type 0} (r : Option (ℕ × B)) → IfSome r (λ p. (p.0 < 0x80) ⊎ (0xA0 ≤ p.0))
-    → IfSome r (λ p. p.0 < 0xFFFD) → IfSome r (λ p. IsHandled p.0)
-narrow-handled None apart below = tt
-narrow-handled (Some p) apart below = handled-apart p.0 apart below
+pub all-handled : (xs : List ℕ) → All IsShown xs → All IsHandled xs
+all-handled xs p k d l = shown-handled (get_or xs k d) (p k d l)
 
 pub printables : (xs : List ℕ) → each is_printable xs ≡ true → All IsPrintable xs
 printables [] h k d l = absurd (omega (arith, l))
@@ -159,13 +160,10 @@ printables (x ∷ xs) h (suc k) d l =
 
 module _ {C : Type 0} (scrolls : C → RowView → Bool → C → Type 0) where
   -- drawing a run is typing it
-  pub run_scrolls : {p q : WrappedScreen C} {result : Result (Unit {0}) ScreenError} (run : CharRun)
-      → IsRun p.screen.state.shown.width run → 0 < p.screen.state.shown.width
-      → MayScroll scrolls (drawn_on (Characters run)) p result q
-      → MayScroll scrolls (typed_all (characters run)) p result q
-  run_scrolls {p} run is some x =
-      scroll_as scrolls (typed_all (characters run)) (sym (typed_all-is (characters run) p.screen.state
-      (run-spacing p.screen.state.shown.width some run is))) x
+  pub run_scrolls : {p q : WrappedScreen C} {result : Result (Unit {0}) ScreenError} (xs : List ℕ)
+      → All (IsSpacing p.screen.state.shown.width) xs → MayScroll scrolls (run_drawn xs) p result q
+      → MayScroll scrolls (typed_all xs) p result q
+  run_scrolls {p} xs is x = scroll_as scrolls (typed_all xs) (sym (typed_all-is xs p.screen.state is)) x
 
   -- a run on a sheet; at a refusal the callbacks got the rows that left while a prefix was printed
   pub draws_run : {A E : Type 0} {g h : GridView} {s t : Reporter C} (xs : List ℕ) (a : Attrs)
@@ -407,29 +405,36 @@ module _ {C : Type 0} (step : C → ScreenView → Call → C → ScreenView →
       let m : WrappedScreen C = record { screen = h.1; callbacks = h.0 } in
       (m, h.2, performs-goes es m q h.3)
 
+  -- bytes, which are their own characters
+  bytes-typed : (bs : List ℕ) {p q : WrappedScreen C} {result : Result (Unit {0}) ScreenError}
+      → MayScroll scrolls (typed_all (map (λ (b : ℕ). b) bs)) p result q → MayScroll scrolls (typed_all bs) p result q
+  bytes-typed bs {p} {q} {result} x = subst (λ (ys : List ℕ). MayScroll scrolls (typed_all ys) p result q) (map-id bs) x
+
   -- a text of printable ASCII
   pub ascii-run : (bs : List ℕ) {p q : WrappedScreen C} (result : Result (Unit {0}) ScreenError) → 0 < length bs
       → each is_printable bs ≡ true → (p.screen.failed ≡ false → IsState p.screen.state)
-      → MayScroll scrolls (typed_all bs) p result q → Performs (Steps step scrolls) p (map Print (chars bs)) q
+      → MayScroll scrolls (typed_all (map (λ (b : ℕ). b) bs)) p result q
+      → Performs (Steps step scrolls) p (map Print (chars bs)) q
   ascii-run bs {p} {q} result some printable is x =
       let all = printables bs printable in
       same_events (Steps step scrolls) p q (map Print bs) (map Print (chars bs))
       (ap (map Print) (sym (chars-IsAscii bs (printable-ascii bs printable))))
       (performs-goes (map Print bs) p q
-      (goes-typed_all bs result some (λ i e l. printable-handled (get_or bs i e) (all i e l)) is x))
+      (goes-typed_all bs result some (λ i e l. printable-handled (get_or bs i e) (all i e l)) is (bytes-typed bs x)))
 
   -- ---- the start of a text
 
   -- printable ASCII
   pub prefix-run : (bs : List ℕ) (n : ℕ) {p q : WrappedScreen C} (result : Result (Unit {0}) ScreenError) → 0 < n
       → n ≤ length bs → All IsPrintable (take n bs) → (p.screen.failed ≡ false → IsState p.screen.state)
-      → MayScroll scrolls (typed_all (take n bs)) p result q
+      → MayScroll scrolls (typed_all (map (λ (b : ℕ). b) (take n bs))) p result q
       → PrintsPrefix step scrolls bs (drop n bs) p.callbacks p.screen q.callbacks q.screen
   prefix-run bs n result pos within h is x =
       let some : 0 < length (take n bs) = grind (arith, common_steps) in (
         take n bs,
         printable-chars bs n h,
-        goes-typed_all (take n bs) result some (λ i e l. printable-handled (get_or (take n bs) i e) (h i e l)) is x,
+        goes-typed_all (take n bs) result some (λ i e l. printable-handled (get_or (take n bs) i e) (h i e l)) is
+            (bytes-typed (take n bs) x),
       )
 
   -- a character

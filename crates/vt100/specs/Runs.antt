@@ -1,39 +1,13 @@
 -- Characters that are printed one after another.
-use Rattle.std.specs.Prelude.{◌≡◌, ◌≤◌, ℕ, Bool, false, List, [], ◌∷◌, ◌++◌, map, Option, Some, All}
+use Rattle.std.specs.Prelude.{◌≡◌, ℕ, Bool, false, List, [], ◌∷◌, ◌++◌, map, Option, Some}
 use Rattle.std.specs.Str.{chars}
-use Rattle.std.specs.Char.{IsScalar}
-use Rattle.vt100_cells.specs.Cell.{IsPrintable, drawn_columns}
-use Rattle.vt100_cells.specs.Narrow.{IsNarrow}
 use Rattle.vte_core.specs.Event.{Print}
 use Rattle.vt100_rows.specs.Row.{RowView}
-use Rattle.vt100_core.specs.Text.{IsWide}
 use Rattle.screen_model.specs.State.{State}
 use Rattle.screen_model.specs.Step.{Stepped, quietly, typed}
 use Rattle.screen_model.specs.Call.{Call, ScreenView}
 use Rattle.screen_model.specs.Effect.{is_unhandled}
-use Rattle.vt100.specs.declared.screen.reported.CharRun.{CharRun}
-use Rattle.vt100.specs.declared.screen.reported.CharRun.TheVariants.{Ascii, Narrow, Wide, ShortNarrow, ShortWide}
 use Rattle.vt100.specs.Goes.{GoesThrough}
-
--- the characters of a run
-abbrev pub characters : CharRun → List ℕ
-characters (Ascii text) = text.now
-characters (Narrow text) = text.now
-characters (Wide text) = text.now
-characters (ShortNarrow text) = text.now
-characters (ShortWide text) = text.now
-
--- printable ASCII, or characters of one column, or of two, for a sheet of w
-abbrev pub IsRun : ℕ → CharRun → Type 0
-IsRun w (Ascii text) = All IsPrintable text.now
-IsRun w (Narrow text) = All IsNarrow text.now
-IsRun w (Wide text) = All IsWide text.now × (2 ≤ w)
-IsRun w (ShortNarrow text) = All IsNarrow text.now
-IsRun w (ShortWide text) = All IsWide text.now × (2 ≤ w)
-
--- a character that takes n columns
-abbrev pub Takes : ℕ → ℕ → Type 0
-Takes n c = IsScalar c × (drawn_columns c ≡ Some n)
 
 -- characters, one after another
 abbrev pub typed_all : List ℕ → State → Stepped

@@ -10,7 +10,6 @@ ghost use Rattle.screen_model.specs.Effect.{is_selector, is_question, is_base64}
 ghost use Rattle.screen_model.specs.Lookup.{lookup};
 ghost use Rattle.screen_model.specs.Effect.{effect};
 ghost use Rattle.screen_model.specs.Call as said;
-ghost use Rattle.std.specs.Int.{is_in_range};
 ghost use Rattle.vte_core.specs.Event as e;
 ghost use Rattle.vt100.specs.Goes.{Handles, MakesCalls};
 ghost use Rattle.vt100.specs.Memory.{may_allocate, plain_may_allocate, private_may_allocate};
@@ -19,9 +18,9 @@ ghost use Rattle.vt100.specs.Finals.{IsRare};
 
 use crate::callbacks::Callbacks;
 use crate::screen::WrappedScreen;
-use crate::screen::reported::CharRun;
 use arrayvec::ArrayVec;
 use std::num::NonZeroU16;
+use vt100_cells::is_printable;
 use vt100_rows::printable::printable_len;
 use vte_core::{Event, Params, ParamsIter, Perform};
 
@@ -62,13 +61,14 @@ impl<CB: Callbacks> Perform for WrappedScreen<CB> {
         false
     }
 
+    // A function of its own, so that the parser's loop stays short.
     #[inline(never)]
     fn print(&mut self, c: char) {
         if self.screen.failed() {
             return;
         }
         // The short way, which needs no stack, for most characters.
-        if is_letter(c) && self.screen.has_room() {
+        if is_printable(c) && self.screen.has_room() {
             // Nothing scrolls, so nothing is refused.
             let _ = self.text(c);
             return;
@@ -89,7 +89,7 @@ impl<CB: Callbacks> Perform for WrappedScreen<CB> {
         }
         prove!(self.screen.is_live() || self.screen.failed());
         // A refusal is kept in the screen, which has failed then.
-        let _ = self.run(CharRun::Ascii(text.as_bytes()));
+        let _ = self.run::<u8, 1>(text.as_bytes());
     }
 
     // Comparisons tell the frequent bytes apart: a jump by a table costs more where its target changes.
@@ -170,7 +170,7 @@ impl<CB: Callbacks> WrappedScreen<CB> {
         if len > 0 {
             prove!(self.screen.is_live() || self.screen.failed());
             // A refusal is kept in the screen, which has failed then.
-            let _ = self.run(CharRun::Ascii(&text.as_bytes()[..len]));
+            let _ = self.run::<u8, 1>(&text.as_bytes()[..len]);
             return &text[len..];
         }
         match self.print_chars(text) {
@@ -180,6 +180,7 @@ impl<CB: Callbacks> WrappedScreen<CB> {
     }
 
     /// Prints a character, or reports it.
+    // Apart, so that `print` needs no stack.
     #[inline(never)]
     fn print_any(&mut self, c: char)
         requires { self.old.screen.failed ≡ false }
@@ -560,17 +561,9 @@ impl<CB: Callbacks> WrappedScreen<CB> {
     }
 }
 
-/// Whether a character is printable ASCII.
-#[inline(always)]
-fn is_letter(c: char) -> bool
-    ensures { result ≡ is_in_range 0x20 0x7E c }
-{
-    matches!(c, ' '..='~')
-}
-
 /// Whether a character isn't drawn, but reported: U+FFFD, and the controls from U+0080 to U+009F.
 #[inline]
-pub(crate) fn is_unhandled(c: char) -> bool
+fn is_unhandled(c: char) -> bool
     ensures { result ≡ is_unhandled c }
 {
     matches!(c, '\u{FFFD}' | '\u{80}'..='\u{9F}')

@@ -15,6 +15,7 @@ pub mod JoinedCells
 pub mod CellTexts
 pub mod RunLemmas
 pub mod PairLemmas
+pub mod GlyphLemmas
 pub mod WideScripts
 pub mod NarrowScripts
 pub mod JoiningMarks

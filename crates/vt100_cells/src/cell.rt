@@ -1,15 +1,15 @@
 //! One cell of a terminal.
 ghost use Rattle.std.specs.Prelude.{◌≡◌, ℕ, ◌+◌, ◌-◌, ◌<◌, ◌≤◌, ◌↔◌, ◌==◌, List, [], ◌∷◌, ◌++◌, length, IsTrue, true};
 ghost use Rattle.std.specs.Prelude.{false, not, nat_eq, nat_lt, encode_utf8_all, chars};
-ghost use Rattle.std.specs.Char.{IsScalar};
 ghost use Rattle.vt100_forms.specs.Attrs.{attrs_eq, is_bold, is_dim, is_italic, is_underlined, is_inverse};
 ghost use Rattle.vt100_cells.specs.Cell.{IsCell, cell_eq};
 
+mod glyph;
 mod packed;
 
 use crate::cell_color::CellColor;
 use crate::cell_text::CellText;
-use crate::short_char::ShortChar;
+pub use glyph::Glyph;
 pub use packed::PackedAttrs;
 use std::marker::Model;
 use std::mem::size_of;
@@ -92,7 +92,7 @@ impl Cell {
     ghost use Rattle.std.specs.Prelude.{Some};
     ghost use Rattle.vt100_cells.specs.Cell.{empty_cell, default_cell, continuation_cell, cell_of, appended};
     ghost use Rattle.vt100_cells.specs.Cell.{appended_plain, drawn_columns, has_room};
-    ghost use Rattle.vt100_cells.specs.Cell.{has_text, is_default, IsPrintable, IsWide};
+    ghost use Rattle.vt100_cells.specs.Cell.{has_text, is_default};
     ghost use Rattle.vt100_cells.specs.CellFields.{cell_start_eq, is_short};
 
     /// A cell that shows nothing, with default attributes.
@@ -149,58 +149,6 @@ impl Cell {
             bgcolor: CellColor::new(attrs.bgcolor),
             mode: attrs.mode,
         }
-    }
-
-    /// Puts the printable ASCII character `c` in place of a space.
-    #[inline]
-    pub(crate) fn replace_by_ascii(&mut self, c: u8)
-        requires space { self.old ≡ cell_of 32 self.old.attrs }
-        requires printable { IsPrintable c }
-        ensures { self.new ≡ cell_of c self.old.attrs }
-    {
-        self.text.replace_by_ascii(c);
-    }
-
-    /// Puts the wide character `c` in place of an ideographic space.
-    #[inline]
-    pub(crate) fn replace_by_wide(&mut self, c: char)
-        requires space { self.old ≡ cell_of 0x3000 self.old.attrs }
-        requires wide { IsWide c }
-        ensures value { self.new ≡ cell_of c self.old.attrs }
-        ensures character { IsScalar c }
-    {
-        self.text.replace_by_wide(c);
-    }
-
-    /// Puts the character `c`, which takes one column, in place of a space.
-    #[inline(always)]
-    pub(crate) fn replace_space(&mut self, c: char)
-        requires space { self.old ≡ cell_of 32 self.old.attrs }
-        requires narrow { drawn_columns c ≡ Some 1 }
-        ensures { self.new ≡ cell_of c self.old.attrs }
-    {
-        self.text.replace_space(c);
-    }
-
-    /// Puts the character `c`, which takes one column, in place of a space.
-    #[inline(always)]
-    pub(crate) fn replace_by_narrow(&mut self, c: ShortChar)
-        requires space { self.old ≡ cell_of 32 self.old.attrs }
-        requires narrow { drawn_columns c ≡ Some 1 }
-        ensures { self.new ≡ cell_of c self.old.attrs }
-    {
-        self.text.replace_by_short(c);
-    }
-
-    /// Puts the wide character `c` in place of an ideographic space.
-    #[inline(always)]
-    pub(crate) fn replace_by_short_wide(&mut self, c: ShortChar)
-        requires space { self.old ≡ cell_of 0x3000 self.old.attrs }
-        requires wide { IsWide c }
-        ensures value { self.new ≡ cell_of c self.old.attrs }
-        ensures character { IsScalar c }
-    {
-        self.text.replace_by_short(c);
     }
 
     /// Whether the text takes one more zero-width character. For rows alone.

@@ -7,14 +7,18 @@
 //! they edit a slice of cells, which by itself promises nothing. A row's own calls have no such conditions.
 #![tactic(auto)]
 
+mod ascii;
 mod cell;
 mod cell_color;
 mod cell_text;
 pub mod laws;
 pub mod line;
+mod runs;
 mod short_char;
 mod width;
 
-pub use cell::{Cell, PackedAttrs};
-pub use short_char::{ShortChar, split_narrow, split_wide};
+pub use ascii::is_printable;
+pub use cell::{Cell, Glyph, PackedAttrs};
+pub use runs::{RUN_LEN, TextGlyph, take_run};
+pub use short_char::ShortChar;
 pub use width::columns;

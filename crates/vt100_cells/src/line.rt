@@ -2,20 +2,17 @@
 ghost use Rattle.std.specs.Prelude.{◌≡◌, ℕ, ◌+◌, ◌-◌, ◌*◌, ◌<◌, ◌≤◌, ◌==◌, List, length, Some, true, false, not, ◌&&◌};
 ghost use Rattle.std.specs.Prelude.{slice_set, All, slice_index, IsTrue, replicate};
 ghost use Rattle.vt100_cells.specs.Cell.{CellView, IsCell, has_text, is_filled, drawn_columns, cell_of, empty_cell};
-ghost use Rattle.std.specs.Char.{IsScalar};
-ghost use Rattle.vt100_cells.specs.Cell.{IsPrintable, IsWide, cell_eq};
+ghost use Rattle.vt100_cells.specs.Cell.{cell_eq};
 ghost use Rattle.vt100_cells.specs.Line.{IsPaired, span_of, update, put, put_unflags, base_col, pair_wiped, wiped};
 ghost use Rattle.vt100_cells.specs.Line.{wipe_unflags, cut, opened, closed, left_cleared, right_cleared, shifted_right};
-ghost use Rattle.vt100_cells.specs.Line.{mended, shifted_left, printed_run, pairs_of, printed_pairs, pairs_unflag};
+ghost use Rattle.vt100_cells.specs.Line.{mended, shifted_left};
 ghost use Rattle.vt100_cells.specs.Cells.{AreSame, cell_at, by_position, last_cell, inserted_cells, trimmed_len};
 
 mod packed;
 
 use crate::cell::{Cell, is_same};
 use crate::cell_text::START_BYTES;
-pub use packed::{
-    print_letter, print_narrow, print_pairs, print_run, print_short, short_pairs_end,
-};
+pub use packed::{print_letter, print_run, run_end};
 use vt100_forms::attrs::Attrs;
 
 /// The cell at column `i`.
@@ -376,86 +373,4 @@ pub fn trimmed_len(cells: &[Cell]) -> usize
         n -= 1;
     }
     n
-}
-
-/// Puts the printable ASCII characters of `text` at column `start` and after it, over what stands there.
-pub fn put_run(cells: &mut [Cell], start: usize, text: &[u8], attrs: Attrs)
-    requires some { 0 < length text.now }
-    requires in_row { start + length text.now ≤ length cells.old }
-    requires printable { All IsPrintable text.now }
-    requires paired { IsPaired (cell_at cells.old) }
-    ensures { cells.new ≡ by_position (length cells.old) (printed_run (cell_at cells.old) start text.now attrs) }
-{
-    let end = start + text.len();
-    clear_left(cells, start);
-    let space = Cell::of_char(' ', 1, attrs);
-    if is_continuation_at(cells, end) {
-        cells[end] = space;
-    }
-    write_run(&mut cells[start..end], text, space);
-}
-
-/// Writes each character of `text` into a cell that is like `space`.
-// A copy of the whole space and then its first byte are three stores; a cell that LLVM sees made of its parts is seven.
-#[inline(never)]
-fn write_run(cells: &mut [Cell], text: &[u8], space: Cell)
-    requires one_each { length cells.old ≡ length text.now }
-    requires printable { All IsPrintable text.now }
-    requires space { space ≡ cell_of 32 space.attrs }
-    ensures { cells.new ≡ by_position (length cells.old) (λ k. cell_of (slice_index text.now k) space.attrs) }
-{
-    for (i, cell) in cells.iter_mut().enumerate() {
-        *cell = space;
-        cell.replace_by_ascii(text[i]);
-    }
-}
-
-/// Puts the characters of `text`, each of which takes two columns, at column `start` and after it, over what stands
-/// there.
-pub fn put_pairs(cells: &mut [Cell], start: usize, text: &[char], attrs: Attrs)
-    requires some { 0 < length text.now }
-    requires in_row { start + 2 * length text.now ≤ length cells.old }
-    requires wide { All IsWide text.now }
-    requires paired { IsPaired (cell_at cells.old) }
-    ensures cells { cells.new ≡ by_position (length cells.old)
-        (printed_pairs (cell_at cells.old) start text.now attrs) }
-    ensures characters { All IsScalar text.now }
-{
-    let end = start + 2 * text.len();
-    clear_left(cells, start);
-    let blank = Cell::empty(attrs);
-    if is_continuation_at(cells, end) {
-        cells[end] = blank;
-    }
-    let space = Cell::of_char('\u{3000}', 2, attrs);
-    write_pairs(&mut cells[start..end], text, space);
-}
-
-/// Whether wide characters, put at column `start` and after it, empty the last one.
-pub fn pairs_end(cells: &[Cell], start: usize, text: &[char]) -> bool
-    requires { start + 2 * length text.now ≤ length cells.now }
-    ensures { result ≡ pairs_unflag (length cells.now) (cell_at cells.now) start text.now }
-{
-    let end = start + 2 * text.len();
-    !text.is_empty() && end + 1 == cells.len() && at(cells, end).is_wide_continuation()
-}
-
-/// Writes each character of `text` into a cell that is like the ideographic `space`, and a continuation after it.
-// As in `write_run`, whole cells are copied.
-#[inline(never)]
-fn write_pairs(cells: &mut [Cell], text: &[char], space: Cell)
-    requires two_each { length cells.old ≡ 2 * length text.now }
-    requires wide { All IsWide text.now }
-    requires space { space ≡ cell_of 0x3000 space.attrs }
-    ensures cells { cells.new ≡ pairs_of text.now space.attrs }
-    ensures characters { All IsScalar text.now }
-{
-    let rest = Cell::continuation();
-    let mut i = 0;
-    for c in text {
-        cells[i] = space;
-        cells[i].replace_by_wide(*c);
-        cells[i + 1] = rest;
-        i += 2;
-    }
 }

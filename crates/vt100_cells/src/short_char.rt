@@ -48,23 +48,9 @@ impl Default for ShortChar {
     }
 }
 
-impl ShortChar {
-    /// The character.
-    pub fn to_char(self) -> char
-        ensures { result ≡ self }
-    {
-        let text = unsafe { str::from_utf8_unchecked(&self.bytes[..usize::from(self.len)]) };
-        match text.chars().next() {
-            Some(c) => c,
-            None => ' ',
-        }
-    }
-}
-
 /// The wide character at the start of a text, and what follows it. Only characters of the common scripts are found.
-#[doc(hidden)]
 #[inline(always)]
-pub fn split_wide(text: &str) -> Option<(ShortChar, &str)>
+pub(crate) fn split_wide(text: &str) -> Option<(ShortChar, &str)>
     ensures parts { IfSome result (λ p. chars text.now ≡ p.0 ∷ chars p.1.now) }
     ensures shorter { IfSome result (λ p. length p.1.now < length text.now) }
     ensures wide { IfSome result (λ p. IsWide p.0) }
@@ -80,9 +66,8 @@ pub fn split_wide(text: &str) -> Option<(ShortChar, &str)>
 
 /// The character of one column at the start of a text, and what follows it. Only printable ASCII and characters of the
 /// common scripts are found.
-#[doc(hidden)]
 #[inline(always)]
-pub fn split_narrow(text: &str) -> Option<(ShortChar, &str)>
+pub(crate) fn split_narrow(text: &str) -> Option<(ShortChar, &str)>
     ensures parts { IfSome result (λ p. chars text.now ≡ p.0 ∷ chars p.1.now) }
     ensures shorter { IfSome result (λ p. length p.1.now < length text.now) }
     ensures narrow { IfSome result (λ p. IsNarrow p.0) }

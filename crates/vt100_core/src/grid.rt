@@ -14,7 +14,6 @@ mod resize;
 mod scroll;
 mod show;
 mod text;
-mod wide;
 mod writers;
 
 use crate::scrollback::{Scrollback, ScrollbackState};

@@ -3,7 +3,6 @@ pub mod RowLemmas
 pub mod JoinLemmas
 pub mod TextLemmas
 pub mod RowRuns
-pub mod RowPairs
 pub mod BasicLemmas
 pub mod DrawnRows
 pub mod Examples

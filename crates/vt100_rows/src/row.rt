@@ -8,8 +8,7 @@ ghost use Rattle.vt100_cells.specs.Cell.{cell_of, default_cell, has_text, drawn_
 ghost use Rattle.vt100_cells.specs.Line.{span_of};
 ghost use Rattle.vt100_rows.specs.Row.{IsBlankFrom, IsFilledAfter, blank_row, cleared_row, with_wrap, placed, wiped_row, pair_cleared};
 ghost use Rattle.vt100_rows.specs.Row.{join_row};
-ghost use Rattle.vt100_rows.specs.Row.{join_answer, inserted, removed, truncated, grown, resized_row, trimmed, run_row};
-ghost use Rattle.vt100_rows.specs.Row.{placed_each, pairs_row, placed_pairs, joined_plain};
+ghost use Rattle.vt100_rows.specs.Row.{join_answer, inserted, removed, truncated, grown, resized_row, trimmed, joined_plain};
 ghost use Rattle.vt100_rows.specs.Text.{written_text};
 ghost use Rattle.row_drawing.specs.Writes.{IsBegun};
 
@@ -25,8 +24,8 @@ use std::marker::Model;
 use std::ops::Range;
 use vt100_cells::Cell;
 use vt100_cells::line::{
-    at, base_col, clear, clear_cut_half, clear_pair, ends_filled, pairs_end, put, put_pairs,
-    put_run, puts_end, trimmed_len, wipe, wipes_end,
+    at, base_col, clear, clear_cut_half, clear_pair, ends_filled, put, puts_end, trimmed_len, wipe,
+    wipes_end,
 };
 use vt100_forms::GridError;
 use vt100_forms::attrs::Attrs;
@@ -294,43 +293,6 @@ impl Row {
         }
         put(&mut self.cells, col, cell, attrs);
         self.filled = filled;
-    }
-
-    /// Puts the characters of `text`, which are printable ASCII, at column `col` and after it, as [`put`](Self::put) of
-    /// each in turn does.
-    pub fn put_run(&mut self, col: u16, text: &[u8], attrs: Attrs)
-        requires printable { All IsPrintable text.now }
-        requires in_row { col + length text.now ≤ length self.old.cells }
-        ensures row { self.new ≡ run_row self.old col text.now attrs }
-        ensures each { self.new ≡ placed_each self.old col text.now attrs }
-    {
-        if !text.is_empty() {
-            self.filled = self.filled.max((col + text.len() as u16).saturating_add(1));
-            put_run(&mut self.cells, usize::from(col), text, attrs);
-        }
-    }
-
-    /// Puts the characters of `text`, each of which takes two columns, at column `col` and after it, as
-    /// [`put`](Self::put) of each in turn does.
-    #[doc(hidden)]
-    pub fn put_pairs(&mut self, col: u16, text: &[char], attrs: Attrs)
-        requires wide { All IsWide text.now }
-        requires in_row { col + 2 * length text.now ≤ length self.old.cells }
-        ensures row { self.new ≡ pairs_row self.old col text.now attrs }
-        ensures each { self.new ≡ placed_pairs self.old col text.now attrs }
-        ensures characters { All IsScalar text.now }
-    {
-        if !text.is_empty() {
-            let filled = self
-                .filled
-                .max((col + 2 * text.len() as u16).saturating_add(1));
-            let col = usize::from(col);
-            if pairs_end(&self.cells, col, text) {
-                self.wrapped = false;
-            }
-            put_pairs(&mut self.cells, col, text, attrs);
-            self.filled = filled;
-        }
     }
 
     /// Puts the zero-width character `c` on the cell left of column `col`, or on the wide character that ends there.

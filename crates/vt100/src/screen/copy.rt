@@ -9,7 +9,6 @@ ghost use Rattle.vt100.specs.declared.error.ScreenError.TheVariants.{Memory};
 
 use crate::error::ScreenError;
 use crate::screen::Screen;
-use vt100_cells::PackedAttrs;
 use vt100_core::{Grid, Scrollback};
 
 impl Screen {
@@ -56,7 +55,7 @@ impl Screen {
             grid,
             other_grid,
             alternate_screen: false,
-            attrs: copied(&self.attrs),
+            attrs: self.attrs,
             saved_attrs: self.saved_attrs,
             hide_cursor: self.hide_cursor,
             modes: self.modes,
@@ -103,11 +102,4 @@ impl Screen {
     {
         self.attrs.attrs() == other.attrs.attrs()
     }
-}
-
-/// The same attributes.
-fn copied(attrs: &PackedAttrs) -> PackedAttrs
-    ensures { result ≡ attrs.now }
-{
-    PackedAttrs::of(attrs.attrs())
 }

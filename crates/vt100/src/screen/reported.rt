@@ -1,15 +1,16 @@
 //! Calls on a sheet that report the rows that leave it to callbacks.
-ghost use Rattle.std.specs.Prelude.{◌≡◌, ◌⊎◌, ◌≤◌, ◌++◌, OnOk, OnErr, IfOk, IsOk, true, false};
+ghost use Rattle.std.specs.Prelude.{◌≡◌, ◌⊎◌, ◌≤◌, ◌++◌, OnOk, OnErr, IfOk, IsOk, All, map, true, false};
 ghost use Rattle.vt100_core.specs.Grid.{IsGrid, IsAllocated};
-ghost use Rattle.vt100_core.specs.Scroll.{scrollback_erased};
+ghost use Rattle.vt100_core.specs.Scroll.{fed, scrolled_up, scrollback_erased};
+ghost use Rattle.vt100_core.specs.Text.{printed, printed_all};
 ghost use Rattle.vt100_core.specs.Resize.{KeepsNoMore, resized};
 ghost use Rattle.screen_model.specs.Step.{reports_of};
 ghost use Rattle.screen_model.specs.Call.{Receives};
 ghost use Rattle.vt100.specs.Tries.{ReceivesPrefix};
-ghost use Rattle.vt100.specs.Draws.{IsDrawable, Draws, drawn, printed_by};
+ghost use Rattle.vt100.specs.Draws.{Draws, scrolled_of};
 
 use crate::callbacks::Callbacks;
-use vt100_cells::{PackedAttrs, ShortChar};
+use vt100_cells::{Glyph, PackedAttrs};
 use vt100_core::capture::RowContents;
 use vt100_core::{Grid, GridError, Printed, Row, RowSink, Size};
 
@@ -30,76 +31,64 @@ impl<'a, CB: Callbacks> RowSink for Reporter<'a, CB> {
     }
 }
 
-/// Characters, each in cells of its own, one after another.
-#[derive(Clone, Copy)]
-pub(crate) enum CharRun<'a> {
-    /// Printable ASCII.
-    Ascii(&'a [u8]),
-    /// Characters of one column.
-    Narrow(&'a [char]),
-    /// Characters of two columns, where a row has room for one.
-    Wide(&'a [char]),
-    /// Characters of one column, with their bytes.
-    ShortNarrow(&'a [ShortChar]),
-    /// Characters of two columns, where a row has room for one, with their bytes.
-    ShortWide(&'a [ShortChar]),
-}
-
-/// Operations that can scroll rows off a sheet.
-#[derive(Clone, Copy)]
-pub(super) enum ScrollingEdit<'a> {
-    Character(char),
-    Characters(CharRun<'a>),
-    LineFeed,
-    /// The scroll region moves up.
-    ScrollUp(u16),
-}
-
-/// Draws on a sheet, and gives the reporter the rows that leave it. Answers what became of the last character.
+/// Prints a character on a sheet, and gives the reporter the rows that leave it.
 #[inline(always)]
-pub(super) fn draw<CB: Callbacks>(
+pub(super) fn print<CB: Callbacks>(
     grid: &mut Grid,
     reporter: &mut Reporter<'_, CB>,
-    drawing: ScrollingEdit<'_>,
+    c: char,
     attrs: &PackedAttrs,
 ) -> Result<Printed, GridError>
-    requires allocated { IsAllocated grid.old }
-    requires drawable { IsDrawable grid.old.width drawing }
-    ensures drawn { Draws CB.scrolls (drawn drawing.entry grid.old attrs.now) grid.old reporter.old result grid.new
+    requires { IsAllocated grid.old }
+    ensures drawn { Draws CB.scrolls (scrolled_of (printed grid.old c attrs.now)) grid.old reporter.old result grid.new
         reporter.new }
-    ensures answer { IfOk result (λ p. p ≡ printed_by drawing.entry grid.old attrs.now) }
+    ensures answer { IfOk result (λ p. p ≡ (printed grid.old c attrs.now).printed) }
 {
-    match drawing {
-        ScrollingEdit::Character(c) => grid.print(c, attrs, reporter),
-        ScrollingEdit::Characters(CharRun::Ascii(text)) => {
-            grid.print_run(text, attrs, reporter)?;
-            Ok(Printed::Spacing)
-        }
-        ScrollingEdit::Characters(CharRun::Narrow(text)) => {
-            grid.narrow_run(text, attrs, reporter)?;
-            Ok(Printed::Spacing)
-        }
-        ScrollingEdit::Characters(CharRun::Wide(text)) => {
-            grid.wide_run(text, attrs.attrs(), reporter)?;
-            Ok(Printed::Spacing)
-        }
-        ScrollingEdit::Characters(CharRun::ShortNarrow(text)) => {
-            grid.short_run(text, attrs, reporter)?;
-            Ok(Printed::Spacing)
-        }
-        ScrollingEdit::Characters(CharRun::ShortWide(text)) => {
-            grid.pairs_run(text, attrs, reporter)?;
-            Ok(Printed::Spacing)
-        }
-        ScrollingEdit::LineFeed => {
-            grid.row_inc_scroll(1, reporter)?;
-            Ok(Printed::Nothing)
-        }
-        ScrollingEdit::ScrollUp(count) => {
-            grid.scroll_up(count, reporter)?;
-            Ok(Printed::Nothing)
-        }
-    }
+    grid.print(c, attrs, reporter)
+}
+
+/// Prints a run of characters on a sheet, and gives the reporter the rows that leave it.
+#[inline(always)]
+pub(super) fn print_run<G: Glyph, const COLUMNS: usize, CB: Callbacks>(
+    grid: &mut Grid,
+    reporter: &mut Reporter<'_, CB>,
+    text: &[G],
+    attrs: &PackedAttrs,
+) -> Result<(), GridError>
+    requires allocated { IsAllocated grid.old }
+    requires columns { (COLUMNS ≡ 1) ⊎ (COLUMNS ≡ 2) }
+    requires drawn { All (G.Takes COLUMNS) text.now }
+    requires room { COLUMNS ≡ 2 → 2 ≤ grid.old.width }
+    ensures { Draws CB.scrolls (printed_all grid.old (map G.code text.now) attrs.now) grid.old reporter.old result
+        grid.new reporter.new }
+{
+    grid.print_run::<G, COLUMNS, _>(text, attrs, reporter)
+}
+
+/// Moves the cursor of a sheet a row down, and gives the reporter the rows that leave it.
+#[inline(always)]
+pub(super) fn feed_line<CB: Callbacks>(
+    grid: &mut Grid,
+    reporter: &mut Reporter<'_, CB>,
+) -> Result<(), GridError>
+    requires { IsAllocated grid.old }
+    ensures { Draws CB.scrolls (fed grid.old 1) grid.old reporter.old result grid.new reporter.new }
+{
+    grid.row_inc_scroll(1, reporter)?;
+    Ok(())
+}
+
+/// Moves the scroll region of a sheet up, and gives the reporter the rows that leave it.
+#[inline(always)]
+pub(super) fn scroll_up<CB: Callbacks>(
+    grid: &mut Grid,
+    reporter: &mut Reporter<'_, CB>,
+    count: u16,
+) -> Result<(), GridError>
+    requires { IsAllocated grid.old }
+    ensures { Draws CB.scrolls (scrolled_up grid.old count) grid.old reporter.old result grid.new reporter.new }
+{
+    grid.scroll_up(count, reporter)
 }
 
 /// The kept rows go.

@@ -129,7 +129,7 @@ impl Screen {
             grid,
             other_grid,
             alternate_screen: self.alternate_screen,
-            attrs: PackedAttrs::of(self.attrs.attrs()),
+            attrs: self.attrs,
             saved_attrs: self.saved_attrs,
             hide_cursor: self.hide_cursor,
             modes: self.modes,

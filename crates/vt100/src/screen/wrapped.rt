@@ -1,16 +1,15 @@
 //! A screen with its callbacks.
-ghost use Rattle.std.specs.Prelude.{◌≡◌, OnOk, OnErr, IfOk, Err, true, false};
-ghost use Rattle.vt100.specs.Runs.{IsRun, characters, last_of, typed_all};
-ghost use Rattle.vt100.specs.Draws.{IsDrawable, drawn_on, last_drawn};
+ghost use Rattle.std.specs.Prelude.{◌≡◌, ◌⊎◌, ◌≤◌, All, map, OnOk, OnErr, IfOk, Err, true, false};
+ghost use Rattle.vt100.specs.Runs.{last_of, typed_all};
 ghost use Rattle.vt100.specs.Tries.{MayScroll};
 ghost use Rattle.screen_model.specs.Step.{typed, repeated, line_fed, region_up, last_after};
 ghost use Rattle.vt100.specs.declared.error.ScreenError.TheVariants.{Memory};
 
 use crate::callbacks::Callbacks;
 use crate::error::ScreenError;
-use crate::screen::reported::{CharRun, Reporter, ScrollingEdit, draw};
+use crate::screen::reported::{Reporter, feed_line, print, print_run, scroll_up};
 use crate::screen::{Screen, note_failure};
-use vt100_cells::ShortChar;
+use vt100_cells::Glyph;
 use vt100_core::Printed;
 
 /// A screen with the callbacks that get its events.
@@ -33,24 +32,53 @@ impl<CB: Callbacks> WrappedScreen<CB> {
     pub fn text(&mut self, c: char) -> Result<(), ScreenError>
         ensures { MayScroll CB.scrolls (typed c) self.old result self.new }
     {
-        self.draw(ScrollingEdit::Character(c))
+        if self.screen.failed {
+            return Err(ScreenError::Failed);
+        }
+        let mut reporter = Reporter {
+            callbacks: &mut self.callbacks,
+            alternate_screen: self.screen.alternate_screen,
+        };
+        let drawn = print(&mut self.screen.grid, &mut reporter, c, &self.screen.attrs);
+        let printed = note_failure(&mut self.screen.failed, drawn)?;
+        self.screen.last_char = last_after(printed, c, self.screen.last_char);
+        Ok(())
     }
 
-    /// Prints the characters of a run as [`text`](Self::text) of each in turn does.
+    /// Prints the characters of a run as [`text`](Self::text) of each in turn does. Where they take two columns each
+    /// the screen has two or more.
     #[inline(always)]
-    pub(crate) fn run(&mut self, run: CharRun<'_>) -> Result<(), ScreenError>
-        requires { IsRun self.old.screen.state.shown.width run }
-        ensures { MayScroll CB.scrolls (typed_all (characters run.entry)) self.old result self.new }
+    pub(crate) fn run<G: Glyph, const COLUMNS: usize>(
+        &mut self,
+        text: &[G],
+    ) -> Result<(), ScreenError>
+        requires columns { (COLUMNS ≡ 1) ⊎ (COLUMNS ≡ 2) }
+        requires drawn { All (G.Takes COLUMNS) text.now }
+        requires room { COLUMNS ≡ 2 → 2 ≤ self.old.screen.state.shown.width }
+        ensures { MayScroll CB.scrolls (typed_all (map G.code text.now)) self.old result self.new }
     {
         prove!(self.screen.size().1.get() > 0);
-        self.draw(ScrollingEdit::Characters(run))
+        if self.screen.failed {
+            return Err(ScreenError::Failed);
+        }
+        let mut reporter = Reporter {
+            callbacks: &mut self.callbacks,
+            alternate_screen: self.screen.alternate_screen,
+        };
+        let drawn = print_run::<G, COLUMNS, _>(
+            &mut self.screen.grid,
+            &mut reporter,
+            text,
+            &self.screen.attrs,
+        );
+        note_failure(&mut self.screen.failed, drawn)?;
+        self.screen.last_char = last_of(text, self.screen.last_char);
+        Ok(())
     }
 
-    /// Draws on the shown sheet, and reports the rows that leave it to the callbacks.
-    #[inline(always)]
-    fn draw(&mut self, drawing: ScrollingEdit<'_>) -> Result<(), ScreenError>
-        requires { IsDrawable self.old.screen.state.shown.width drawing }
-        ensures { MayScroll CB.scrolls (drawn_on drawing.entry) self.old result self.new }
+    /// Moves the cursor a row down, where the scroll region moves up at its last row (LF).
+    pub fn lf(&mut self) -> Result<(), ScreenError>
+        ensures { MayScroll CB.scrolls line_fed self.old result self.new }
     {
         if self.screen.failed {
             return Err(ScreenError::Failed);
@@ -59,22 +87,9 @@ impl<CB: Callbacks> WrappedScreen<CB> {
             callbacks: &mut self.callbacks,
             alternate_screen: self.screen.alternate_screen,
         };
-        let drawn = draw(
-            &mut self.screen.grid,
-            &mut reporter,
-            drawing,
-            &self.screen.attrs,
-        );
-        let printed = note_failure(&mut self.screen.failed, drawn)?;
-        self.screen.last_char = last_drawn(drawing, printed, self.screen.last_char);
+        let drawn = feed_line(&mut self.screen.grid, &mut reporter);
+        note_failure(&mut self.screen.failed, drawn)?;
         Ok(())
-    }
-
-    /// Moves the cursor a row down, where the scroll region moves up at its last row (LF).
-    pub fn lf(&mut self) -> Result<(), ScreenError>
-        ensures { MayScroll CB.scrolls line_fed self.old result self.new }
-    {
-        self.draw(ScrollingEdit::LineFeed)
     }
 
     /// Moves the cursor down one row, as [`lf`](Self::lf) does (VT).
@@ -95,7 +110,16 @@ impl<CB: Callbacks> WrappedScreen<CB> {
     pub fn su(&mut self, count: u16) -> Result<(), ScreenError>
         ensures { MayScroll CB.scrolls (region_up count) self.old result self.new }
     {
-        self.draw(ScrollingEdit::ScrollUp(count))
+        if self.screen.failed {
+            return Err(ScreenError::Failed);
+        }
+        let mut reporter = Reporter {
+            callbacks: &mut self.callbacks,
+            alternate_screen: self.screen.alternate_screen,
+        };
+        let drawn = scroll_up(&mut self.screen.grid, &mut reporter, count);
+        note_failure(&mut self.screen.failed, drawn)?;
+        Ok(())
     }
 
     /// Prints the last character that was drawn in a cell of its own, so many times more, if there is one (REP).
@@ -114,31 +138,14 @@ impl<CB: Callbacks> WrappedScreen<CB> {
     }
 }
 
-/// The last character of what is drawn, or where there is none the one before it.
+/// The last character of a run, or where it is empty the one before it.
 #[inline(always)]
-fn last_drawn(drawing: ScrollingEdit<'_>, printed: Printed, last: Option<char>) -> Option<char>
-    ensures { result ≡ last_drawn drawing.entry printed last }
+fn last_of<G: Glyph>(text: &[G], last: Option<char>) -> Option<char>
+    ensures { result ≡ last_of (map G.code text.now) last }
 {
-    match drawing {
-        ScrollingEdit::Character(c) => last_after(printed, c, last),
-        ScrollingEdit::Characters(CharRun::Ascii([.., byte])) => Some(*byte as char),
-        ScrollingEdit::Characters(CharRun::Narrow([.., narrow])) => Some(*narrow),
-        ScrollingEdit::Characters(CharRun::Wide([.., wide])) => Some(*wide),
-        ScrollingEdit::Characters(CharRun::ShortNarrow(text)) => last_short(text, last),
-        ScrollingEdit::Characters(CharRun::ShortWide(text)) => last_short(text, last),
-        _ => last,
-    }
-}
-
-/// The last of some characters, or where there is none the one before them.
-#[inline(always)]
-fn last_short(text: &[ShortChar], last: Option<char>) -> Option<char>
-    ensures { result ≡ last_of text.now last }
-{
-    if text.is_empty() {
-        last
-    } else {
-        Some(text[text.len() - 1].to_char())
+    match text {
+        [.., glyph] => Some(glyph.to_char()),
+        [] => last,
     }
 }
 

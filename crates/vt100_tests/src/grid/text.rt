@@ -104,19 +104,3 @@ fn keeps_rows(rt: HostRuntime) -> Result<(), Fail> {
     same(&rt, &(kept, first), &((1, 1, 1), Some("a")));
     Ok(())
 }
-
-#[test]
-fn prints_a_run(rt: HostRuntime) -> Result<(), Fail> {
-    let mut grid = grid(rt.alloc(), (2, 4, None))?;
-    grid.text_run(b"abcdxyz", Attrs::new(), &mut ())?;
-    check(&rt, &grid, "abcd>/xyz./ 1 3")
-}
-
-#[test]
-fn prints_a_run_over_halves_of_wide_characters(rt: HostRuntime) -> Result<(), Fail> {
-    let mut grid = grid(rt.alloc(), (1, 4, None))?;
-    print(&mut grid, "中文", &mut Counter::default())?;
-    grid.col_set(1);
-    grid.text_run(b"xy", Attrs::new(), &mut ())?;
-    check(&rt, &grid, ".xy / 0 3")
-}

@@ -22,5 +22,5 @@ pub loop-len-2-preserved : goal.loop-len-2-preserved
 loop-len-2-preserved c = record {
   within = omega (arith, c.loop-len-2-test.true);
   printable = All-more IsPrintable c.args.bytes.now c.loop-len-2.len 0 c.loop-len-2-test.true
-      c.loop-len-2.invariant.printable (c.is_printable.ensures.printable c.if-is_printable.true);
+      c.loop-len-2.invariant.printable (rw c.from.ensures at (c.is_printable.ensures.0 c.if-is_printable.true));
 }

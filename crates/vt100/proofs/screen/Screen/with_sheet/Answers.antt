@@ -1,5 +1,4 @@
-use Rattle.std.proofs.Common.{◌≡◌, ◌∙◌, false, ap, sym, refl}
-use Rattle.vt100_forms.specs.declared.attrs.Attrs.{Attrs}
+use Rattle.std.proofs.Common.{◌≡◌, ◌∙◌, ap, sym, refl}
 use Rattle.vt100_core.specs.Grid.{new_grid}
 use Rattle.vt100_core.specs.Copy.{without_kept}
 use Rattle.vt100_core.specs.declared.scrollback.Scrollback.TheVariants.{Disabled}
@@ -15,20 +14,12 @@ invariant_of-result c =
     c.requires ∙ ap (λ (v : ScreenView). without_kept v.state.shown) (sym c.self.view_is) in
     copied_screen c.self.inside _ c.self.invariant sheet
     (c.new-other_grid.ensures ∙ (λ j. new_grid (c.size.ensures.rows j) (c.size.ensures.cols j) Disabled)) refl
-    c.copied.ensures refl refl
+    refl refl refl
 
 pub returns : goal.returns
 returns c =
     let sheet : c.args.grid ≡ without_kept (screen_inside c.self.inside).state.shown =
     c.requires ∙ ap (λ (v : ScreenView). without_kept v.state.shown) (sym c.self.view_is) in
-    ap (λ (a : Attrs). record (screen_inside c.self.inside) {
-      state = record ((screen_inside c.self.inside).state) {
-        shown = c.args.grid;
-        other = c.new-other_grid.result;
-        alternate = false;
-        attrs = a;
-      };
-    }) c.copied.ensures
-    ∙ copied-parts (screen_inside c.self.inside) c.args.grid c.new-other_grid.result sheet
+    copied-parts (screen_inside c.self.inside) c.args.grid c.new-other_grid.result sheet
     (c.new-other_grid.ensures ∙ (λ j. new_grid (c.size.ensures.rows j) (c.size.ensures.cols j) Disabled))
     ∙ ap (λ (v : ScreenView). copy_of v) c.self.view_is

@@ -12,10 +12,10 @@ put_letter-requires-clause-fits g c =
     let m = IsMade-made c.args.self.now 1 true c.in_ok-make_room.ensures.wide in
     subst (λ (x : GridView). x.col + 1 ≤ x.width) (sym c.in_ok-make_room.ensures.scrolls.grid) m.fits
 
-pub returns-in-32-to-126 : goal.returns-in-32-to-126
-returns-in-32-to-126 g c =
+pub returns-then-is_printable : goal.returns-then-is_printable
+returns-then-is_printable g c =
     let a = c.args.attrs.now in
-    rw (printed-printable c.args.self.now c.args.c a (omega arith, omega arith)
+    rw (printed-printable c.args.self.now c.args.c a (c.is_printable.ensures.0 c.if-is_printable.true)
     c.in_ok-make_room.ensures.wide) (record {
       grid = c.put_letter.ensures.grid ∙ ap (λ (h : GridView). put_at h (cell_of c.args.c a) a 1)
           c.in_ok-make_room.ensures.scrolls.grid;

@@ -1,3 +1,4 @@
+use Rattle.std.proofs.Common.{refl}
 use Rattle.vt100_rows.proofs.PrintableLemmas.{printable-boundary}
 use Rattle.vt100.proofs.RunLemmas.{prefix-run}
 use Rattle.vt100.proofs.screen.wrapped.WrappedScreen.print_some.Goals as goal
@@ -16,3 +17,8 @@ returns-then-len-gt0-clause-printed g c =
     let printable = rw c.as_bytes.ensures.value at c.printable_len-len.ensures.printable in
     rw c.range_from.ensures.value (prefix-run g.CB.Callbacks.step g.CB.Callbacks.scrolls c.args.text.now n _
     c.if-len-gt0.true within printable c.is_live.ensures.live (rw c.as_bytes-then-len-gt0.ensures.value at c.run.ensures))
+
+pub run-requires-clause-drawn : goal.run-requires-clause-drawn
+run-requires-clause-drawn g c =
+    let printable = rw c.as_bytes.ensures.value at c.printable_len-len.ensures.printable in
+    rw c.as_bytes-then-len-gt0.ensures.value (λ k d l. (refl, printable k d l))

@@ -1,0 +1,103 @@
+//! Runs of characters at the start of a text, which are printed at once.
+ghost use Rattle.std.specs.Prelude.{◌≡◌, ◌⊎◌, ◌<◌, ◌≤◌, ◌+◌, ◌++◌, ◌∷◌, [], IfSome, IsTrue, All, length, map};
+ghost use Rattle.std.specs.Str.{chars};
+ghost use Rattle.vt100_cells.specs.Runs.{IsShown};
+
+use crate::cell::Glyph;
+use crate::short_char::{ShortChar, split_narrow, split_wide};
+use crate::width::columns;
+use arrayvec::ArrayVec;
+
+/// How many characters a run has at most. Most rows are one run.
+#[doc(hidden)]
+pub const RUN_LEN: usize = 64;
+
+/// So many characters of ASCII end a run, since they are printed faster in one of their own. Fewer would cut the lines
+/// of `Cyrillic` and `tree`, by which `./speed --texts` measures it, at a comma and at spaces.
+const ASCII_LEN: usize = 8;
+
+/// A form of characters that can be taken from a text. For screens alone.
+#[doc(hidden)]
+pub trait TextGlyph: Glyph + Default {
+    /// The character at the start of a text, where it is shown in so many columns, and what follows it.
+    fn split(text: &str, count: u16) -> Option<(Self, &str)>
+        ensures parts { IfSome result (λ p. chars text.now ≡ Self.code p.0 ∷ chars p.1.now) }
+        ensures shorter { IfSome result (λ p. length p.1.now < length text.now) }
+        ensures drawn { IfSome result (λ p. Self.Takes count p.0) }
+        ensures shown { IfSome result (λ p. IsShown (Self.code p.0)) };
+}
+
+/// Only printable ASCII and characters of the common scripts are found.
+impl TextGlyph for ShortChar {
+    #[inline(always)]
+    fn split(text: &str, count: u16) -> Option<(ShortChar, &str)> {
+        match count {
+            1 => split_narrow(text),
+            2 => split_wide(text),
+            _ => None,
+        }
+    }
+}
+
+/// Any character is found.
+impl TextGlyph for char {
+    #[inline(always)]
+    fn split(text: &str, count: u16) -> Option<(char, &str)> {
+        let mut chars = text.chars();
+        match chars.next() {
+            Some(c) if is_shown(c) && columns(c) == Some(count) => Some((c, chars.as_str())),
+            _ => None,
+        }
+    }
+}
+
+/// Takes the characters of so many columns each at the start of a text into an empty run, as many as it holds, and
+/// returns what is left. `ASCII_LEN` characters of ASCII are left.
+#[doc(hidden)]
+#[inline(always)]
+pub fn take_run<'a, G: TextGlyph, const COLUMNS: usize>(
+    text: &'a str,
+    run: &mut ArrayVec<G, RUN_LEN>,
+) -> &'a str
+    requires columns { (COLUMNS ≡ 1) ⊎ (COLUMNS ≡ 2) }
+    requires empty { run.old.items ≡ [] }
+    ensures parts { chars text.now ≡ map G.code run.new.items ++ chars result.now }
+    ensures shorter { length result.now + length run.new.items ≤ length text.now }
+    ensures drawn { All (G.Takes COLUMNS) run.new.items }
+    ensures shown { All IsShown (map G.code run.new.items) }
+{
+    let mut rest = text;
+    while !run.is_full() && !(COLUMNS == 1 && begins_ascii(rest)) {
+        match G::split(rest, COLUMNS as u16) {
+            Some((glyph, left)) => {
+                run.push(glyph);
+                rest = left;
+            }
+            None => break,
+        }
+    }
+    rest
+}
+
+/// Whether a text begins with `ASCII_LEN` characters of ASCII.
+#[inline(always)]
+fn begins_ascii(text: &str) -> bool {
+    let bytes = text.as_bytes();
+    // Nearly always the first byte tells.
+    if bytes.len() < ASCII_LEN || !bytes[0].is_ascii() {
+        return false;
+    }
+    let mut are_ascii = true;
+    for byte in &bytes[1..ASCII_LEN] {
+        are_ascii &= byte.is_ascii();
+    }
+    are_ascii
+}
+
+/// Whether a character is no control of C1, and not U+FFFD.
+#[inline(always)]
+fn is_shown(c: char) -> bool
+    ensures { IsTrue result → IsShown c }
+{
+    !matches!(c, '\u{FFFD}' | '\u{80}'..='\u{9F}')
+}
