@@ -11,5 +11,3 @@ pub mod ViewReads
 pub mod WrittenForms
 pub mod FramedForms
 pub mod RunSteps
-pub mod WideSteps
-pub mod ShortSteps

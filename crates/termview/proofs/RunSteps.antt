@@ -1,123 +1,137 @@
--- Characters of one column, as characters that are shown one after another.
-use Rattle.std.proofs.Common.{◌≡◌, ℕ, zero, ◌+◌, ◌<◌, ◌≤◌, List, [], ◌∷◌, ◌++◌, sym, refl, ap}
+-- Characters of one column each, or of two each, as characters that are shown one after another.
+use Rattle.std.proofs.Common.{◌≡◌, ℕ, zero, ◌+◌, ◌*◌, ◌<◌, ◌≤◌, ◌/◌, List, [], ◌∷◌, ◌++◌, sym, refl, ap, ⊎_elim, inl}
 use Rattle.std.proofs.Common.{◌∙◌, arith, length, length-drop, set, take, drop, map, subst, append-nil}
-use Rattle.std.specs.Prelude.{All}
+use Rattle.std.specs.Prelude.{All, Some}
 use Rattle.std.specs.Str.{IsUtf8, chars}
-use Rattle.std.specs.Char.{encode_utf8}
+use Rattle.std.specs.Char.{IsScalar, encode_utf8}
 use Rattle.std.proofs.lemmas.List.{get_or-set_same, set-get_or, set-set, map-append, take-append-drop, nil_from_length}
 use Rattle.std.proofs.lemmas.List.{take_all}
-use Rattle.std.proofs.lemmas.List.Elements.{All-drop}
+use Rattle.std.proofs.lemmas.List.Elements.{All-drop, All-map}
 use Rattle.std.proofs.lemmas.Str.{chars_past_char, chars-nil}
-use Rattle.vt100_cells.specs.Cell.{IsPrintable, cell_of}
-use Rattle.vt100_cells.specs.Cells.{cell_at}
-use Rattle.vt100_cells.specs.Line.{printed_run}
-use Rattle.vt100_cells.specs.Narrow.{IsNarrow}
-use Rattle.vt100_cells.proofs.NarrowLemmas.{IsCell-narrow, narrow-printable_is}
-use Rattle.vt100_cells.proofs.ListLemmas.{length-by_position}
+use Rattle.vt100_cells.specs.Cell.{IsPrintable, cell_of, drawn_columns}
+use Rattle.vt100_cells.specs.Ascii.{printable_takes}
+use Rattle.vt100_cells.specs.Runs.{IsShown}
+use Rattle.vt100_cells.proofs.CellLemmas.{IsCell-of}
+use Rattle.vt100_cells.proofs.GlyphLemmas.{OneOrTwo, by_columns, some-column, first-place, more-columns}
 use Rattle.vt100_cells.proofs.WidthLemmas.{drawn-is}
-use Rattle.vt100_rows.specs.Row.{RowView, IsRow, blank_row, placed, placed_each}
-use Rattle.vt100_rows.proofs.RowRuns.{narrow_row-each, IsRow-narrow}
+use Rattle.vt100_rows.specs.Row.{RowView, blank_row, placed, placed_each}
 use Rattle.vt100_rows.proofs.PrintableLemmas.{printable-chars}
 use Rattle.vte_types.specs.Call.{Call, Calls, input}
 use Rattle.vte_types.proofs.CallLemmas.{Calls-append}
 use Rattle.terminal_model.specs.Apply.{made_to_fit}
 use Rattle.termview.specs.Step.{view_step, printed}
-use Rattle.termview.specs.Picture.{PictureView, IsPicture, Becomes, Does, ShowsPrefix, Takes, term_of_picture}
-use Rattle.termview.proofs.RowTerms.{cursor_row, cursor_row-is, here, printed-is, span_of-cell}
-use Rattle.termview.proofs.KeptPictures.{IsPicture-row, IsPicture-put, put_at}
+use Rattle.termview.specs.Picture.{PictureView, IsPicture, Becomes, Does, ShowsPrefix, term_of_picture}
+use Rattle.termview.proofs.RowTerms.{cursor_row, here, printed-is, span_of-cell}
+use Rattle.termview.proofs.KeptPictures.{IsPicture-put, put_at}
 use Rattle.termview.proofs.PictureSteps.{prints, read, room-there}
 
--- the characters at the cursor, and the cursor behind them
-abbrev pub run_at : PictureView → List ℕ → PictureView
-run_at p xs = record p { rows = set p.rows p.row (placed_each (cursor_row p) p.col xs p.attrs); col = p.col + length xs }
+-- ---- room for characters of one column or two
 
-run_at-none : (p : PictureView) → p ≡ run_at p []
-run_at-none p =
-    let r = sym (set-get_or p.rows p.row (blank_row 0)) in
-    let count : p.col ≡ p.col + 0 = omega arith in
-    λ i. record p { rows = r i; col = count i }
+pub columns-fit : (w n : ℕ) → OneOrTwo w → (w ≡ 2 → 2 ≤ n) → 0 < n → w ≤ n
+columns-fit w n o room some =
+    ⊎_elim (λ (e : w ≡ 1). omega (arith, e, some)) (λ (e : w ≡ 2). let h = room e in omega (arith, e, h)) o
 
-run_at-more : (p : PictureView) (x : ℕ) (xs : List ℕ) → p.row < length p.rows
-    → run_at (put_at p (cell_of x p.attrs) 1) xs ≡ run_at p (x ∷ xs)
-run_at-more p x xs h =
-    let w = placed (cursor_row p) p.col (cell_of x p.attrs) p.attrs in
-    let r = ap (λ (u : RowView). set (set p.rows p.row w) p.row (placed_each u (p.col + 1) xs p.attrs))
-    (get_or-set_same p.rows p.row w (blank_row 0) h)
-    ∙ set-set p.rows p.row w (placed_each w (p.col + 1) xs p.attrs) in
-    let count : p.col + 1 + length xs ≡ p.col + length (x ∷ xs) = omega arith in
-    λ i. record p { rows = r i; col = count i }
+pub some-fit : (m w : ℕ) → OneOrTwo w → w ≤ m → 0 < m / w
+some-fit m w o h = by_columns (λ v. v ≤ m → 0 < m / v) (λ l. omega (arith, l)) (λ l. omega (arith, l)) w o h
 
--- a character of printable ASCII
-pub one-printable : (c : ℕ) → IsPrintable c → Takes 1 c
-one-printable c p = let narrow = narrow-printable_is c p in (narrow.0, narrow.1, λ e. absurd (omega (arith, e, p.1)))
+pub few-fit : (n m w : ℕ) → OneOrTwo w → n ≤ m / w → w * n ≤ m
+few-fit n m w o h = by_columns (λ v. n ≤ m / v → v * n ≤ m) (λ l. omega (arith, l)) (λ l. omega (arith, l)) w o h
 
-pub printable-takes : (xs : List ℕ) → All IsPrintable xs → All (Takes 1) xs
-printable-takes xs p k d l = one-printable _ (p k d l)
+-- ---- a run in one row
 
-pub takes-narrow : (xs : List ℕ) → All (Takes 1) xs → All IsNarrow xs
-takes-narrow xs s k d l = let c = s k d l in (c.0, c.1)
+module _ {w : ℕ} (o : OneOrTwo w) where
+  -- a character of w columns
+  abbrev pub IsOne : ℕ → Type 0
+  IsOne c = IsScalar c × (drawn_columns c ≡ Some w)
 
--- the first of them, from a picture p, where the cursor's row of q has room for it
-shows-one : (p q : PictureView) (x : ℕ) → IsPicture q → Takes 1 x
-    → Becomes p q (made_to_fit p.size 1 (term_of_picture p)) → q.col + 1 ≤ q.size.cols
-    → Does p (input x) (put_at q (cell_of x q.attrs) 1)
-unfolding view_step
-shows-one p q x j s room fits =
-    let enough : 1 ≤ p.size.cols = omega (arith, j.some_cols, ap (λ z. z.cols) room.size) in
-    read p (put_at q (cell_of x q.attrs) 1) x s.2
-    (prints p q (put_at q (cell_of x q.attrs) 1) x 1 s.1 (omega arith) enough room
-    (record {
-      size = refl;
-      shows = printed-is q (cell_of x q.attrs) 1 j (span_of-cell x 1 q.attrs (drawn-is x 1 s.1).1 (omega arith)) fits;
-    }))
+  -- the characters at the cursor, and the cursor behind them
+  abbrev pub run_at : PictureView → List ℕ → PictureView
+  run_at p xs = record p {
+    rows = set p.rows p.row (placed_each w (cursor_row p) p.col xs p.attrs);
+    col = p.col + w * length xs;
+  }
 
-pub IsPicture-one : (p : PictureView) (x : ℕ) → IsPicture p → Takes 1 x → p.col + 1 ≤ p.size.cols
-    → IsPicture (put_at p (cell_of x p.attrs) 1)
-IsPicture-one p x i s fits =
-    IsPicture-put p (cell_of x p.attrs) 1 i (IsCell-narrow x p.attrs s.0 s.1) refl
-    (span_of-cell x 1 p.attrs (drawn-is x 1 s.1).1 (omega arith)) fits
+  run_at-none : (p : PictureView) → p ≡ run_at p []
+  run_at-none p =
+      let r = sym (set-get_or p.rows p.row (blank_row 0)) in
+      let count : p.col ≡ p.col + w * 0 = omega (arith, first-place w o) in
+      λ i. record p { rows = r i; col = count i }
 
-shows-here : (xs : List ℕ) (p : PictureView) → IsPicture p → All (Takes 1) xs → p.col + length xs ≤ p.size.cols
-    → Calls Does p (map input xs) (run_at p xs)
-shows-here [] p i s fits = sym (run_at-none p)
-shows-here (x ∷ xs) p i s fits =
-    let first = s zero 0 (omega arith) in
-    let q = put_at p (cell_of x p.attrs) 1 in (
-      q,
-      shows-one p p x i first (room-there p 1 (omega arith)) (omega arith),
-      subst (Calls Does q (map input xs)) (run_at-more p x xs (here p i))
-          (shows-here xs q (IsPicture-one p x i first (omega arith)) (All-drop (Takes 1) 1 (x ∷ xs) s) (omega arith)),
-    )
+  run_at-more : (p : PictureView) (x : ℕ) (xs : List ℕ) → p.row < length p.rows
+      → run_at (put_at p (cell_of x p.attrs) w) xs ≡ run_at p (x ∷ xs)
+  run_at-more p x xs h =
+      let v = placed (cursor_row p) p.col (cell_of x p.attrs) p.attrs in
+      let r = ap (λ (u : RowView). set (set p.rows p.row v) p.row (placed_each w u (p.col + w) xs p.attrs))
+      (get_or-set_same p.rows p.row v (blank_row 0) h)
+      ∙ set-set p.rows p.row v (placed_each w v (p.col + w) xs p.attrs) in
+      let count : p.col + w + w * length xs ≡ p.col + w * length (x ∷ xs) = omega (arith, more-columns w x xs o) in
+      λ i. record p { rows = r i; col = count i }
 
--- those that go into a row, the first of which has the cursor stand at q
-pub shows-row : (xs : List ℕ) (p q : PictureView) → IsPicture q → 0 < length xs → All (Takes 1) xs
-    → Becomes p q (made_to_fit p.size 1 (term_of_picture p)) → q.col + length xs ≤ q.size.cols
-    → Calls Does p (map input xs) (run_at q xs)
-shows-row [] p q j some s room fits = absurd (omega arith)
-shows-row (x ∷ xs) p q j some s room fits =
-    let first = s zero 0 (omega arith) in
-    let r = put_at q (cell_of x q.attrs) 1 in (
-      r,
-      shows-one p q x j first room (omega arith),
-      subst (Calls Does r (map input xs)) (run_at-more q x xs (here q j))
-          (shows-here xs r (IsPicture-one q x j first (omega arith)) (All-drop (Takes 1) 1 (x ∷ xs) s) (omega arith)),
-    )
+  -- the first of them, from a picture p, where the cursor's row of q has room for it
+  shows-first : (p q : PictureView) (x : ℕ) → IsPicture q → IsOne x → IsShown x → w ≤ p.size.cols
+      → Becomes p q (made_to_fit p.size w (term_of_picture p)) → q.col + w ≤ q.size.cols
+      → Does p (input x) (put_at q (cell_of x q.attrs) w)
+  unfolding view_step
+  shows-first p q x j one shown enough room fits =
+      let r = put_at q (cell_of x q.attrs) w in
+      let some = some-column w o in
+      read p r x shown.1
+      (prints p q r x w one.1 some enough room
+      (record {
+        size = refl;
+        shows = printed-is q (cell_of x q.attrs) w j (span_of-cell x w q.attrs (drawn-is x w one.1).1 some) fits;
+      }))
 
-pub IsPicture-run : (p : PictureView) (xs : List ℕ) → IsPicture p → All (Takes 1) xs → p.col + length xs ≤ p.size.cols
-    → IsPicture (run_at p xs)
-IsPicture-run p xs i s h =
-    let v = cursor_row p in
-    let r = cursor_row-is p i in
-    let narrow = takes-narrow xs s in
-    let within : p.col + length xs ≤ length v.cells = omega (arith, r.wide) in
-    let e = narrow_row-each xs v p.col p.attrs r.row narrow within in
-    IsPicture-row p (placed_each v p.col xs p.attrs) (p.col + length xs) i
-    (record {
-      row = subst IsRow e (IsRow-narrow v p.col xs p.attrs r.row narrow within);
-      wide = sym (ap (λ (u : RowView). length u.cells) e)
-          ∙ length-by_position (length v.cells) (printed_run (cell_at v.cells) p.col xs p.attrs) ∙ r.wide;
-    })
-    (λ w. sym (ap (λ (u : RowView). u.wrapped) e) ∙ w) h
+  pub IsPicture-first : (p : PictureView) (x : ℕ) → IsPicture p → IsOne x → p.col + w ≤ p.size.cols
+      → IsPicture (put_at p (cell_of x p.attrs) w)
+  IsPicture-first p x i one fits =
+      let d = drawn-is x w one.1 in
+      let some = some-column w o in
+      IsPicture-put p (cell_of x p.attrs) w i (IsCell-of x p.attrs one.0 d.0 (omega (arith, d.1, some))) refl
+      (span_of-cell x w p.attrs d.1 some) fits
+
+  pub IsPicture-run : (xs : List ℕ) (p : PictureView) → IsPicture p → All IsOne xs
+      → p.col + w * length xs ≤ p.size.cols → IsPicture (run_at p xs)
+  IsPicture-run [] p i ones fits = subst IsPicture (run_at-none p) i
+  IsPicture-run (x ∷ xs) p i ones fits =
+      let more = more-columns w x xs o in
+      subst IsPicture (run_at-more p x xs (here p i))
+      (IsPicture-run xs (put_at p (cell_of x p.attrs) w)
+      (IsPicture-first p x i (ones zero 0 (omega arith)) (omega (arith, more, fits)))
+      (All-drop IsOne 1 (x ∷ xs) ones) (omega (arith, more, fits)))
+
+  shows-here : (xs : List ℕ) (p : PictureView) → IsPicture p → All IsOne xs → All IsShown xs → w ≤ p.size.cols
+      → p.col + w * length xs ≤ p.size.cols → Calls Does p (map input xs) (run_at p xs)
+  shows-here [] p i ones shown enough fits = sym (run_at-none p)
+  shows-here (x ∷ xs) p i ones shown enough fits =
+      let first = ones zero 0 (omega arith) in
+      let more = more-columns w x xs o in
+      let q = put_at p (cell_of x p.attrs) w in
+      let within : p.col + w ≤ p.size.cols = omega (arith, more, fits) in (
+        q,
+        shows-first p p x i first (shown zero 0 (omega arith)) enough (room-there p w within) within,
+        subst (Calls Does q (map input xs)) (run_at-more p x xs (here p i))
+            (shows-here xs q (IsPicture-first p x i first within) (All-drop IsOne 1 (x ∷ xs) ones)
+            (All-drop IsShown 1 (x ∷ xs) shown) enough (omega (arith, more, fits))),
+      )
+
+  -- those that go into a row, the first of which has the cursor stand at q
+  pub shows-row : (xs : List ℕ) (p q : PictureView) → IsPicture q → 0 < length xs → All IsOne xs → All IsShown xs
+      → w ≤ p.size.cols → Becomes p q (made_to_fit p.size w (term_of_picture p)) → q.col + w * length xs ≤ q.size.cols
+      → Calls Does p (map input xs) (run_at q xs)
+  shows-row [] p q j some ones shown enough room fits = absurd (omega arith)
+  shows-row (x ∷ xs) p q j some ones shown enough room fits =
+      let first = ones zero 0 (omega arith) in
+      let more = more-columns w x xs o in
+      let r = put_at q (cell_of x q.attrs) w in
+      let within : q.col + w ≤ q.size.cols = omega (arith, more, fits) in
+      let wide : w ≤ q.size.cols = omega (arith, enough, ap (λ z. z.cols) room.size) in (
+        r,
+        shows-first p q x j first (shown zero 0 (omega arith)) enough room within,
+        subst (Calls Does r (map input xs)) (run_at-more q x xs (here q j))
+            (shows-here xs r (IsPicture-first q x j first within) (All-drop IsOne 1 (x ∷ xs) ones)
+            (All-drop IsShown 1 (x ∷ xs) shown) wide (omega (arith, more, fits))),
+      )
 
 -- ---- one run after another
 
@@ -129,23 +143,34 @@ runs-on p q r xs n first more =
     (Calls-append Does p q r (map input (take n xs)) (map input (drop n xs)) first more)
 
 -- a picture q on the way from p: where the characters that are left lead, all lead from p
-pub record IsOnTheWay (IsOne : ℕ → Type 0) (text : List ℕ) (p : PictureView) (rest : List ℕ)
-    (q : PictureView) : Type 0 where
-  pub each : All IsOne rest
-  pub shown : (r : PictureView) → Calls Does q (map input rest) r → Calls Does p (map input text) r
+pub record IsOnTheWay (text : List ℕ) (p : PictureView) (rest : List ℕ) (q : PictureView) : Type 0 where
+  pub leads : (r : PictureView) → Calls Does q (map input rest) r → Calls Does p (map input text) r
 
-pub on-the-way-next : {IsOne : ℕ → Type 0} {text : List ℕ} {p : PictureView} {rest : List ℕ} {q r : PictureView}
-    {left : List ℕ} (n : ℕ) → IsOnTheWay IsOne text p rest q → Calls Does q (map input (take n rest)) r
-    → left ≡ drop n rest → IsOnTheWay IsOne text p left r
-on-the-way-next {IsOne} {text} {p} {rest} {q} {r} {left} n w first e = record {
-  each = rw e (All-drop IsOne n rest w.each);
-  shown = rw e (λ o more. w.shown o (runs-on q r o rest n first more));
+pub on-the-way-next : {text : List ℕ} {p : PictureView} {rest : List ℕ} {q r : PictureView} {left : List ℕ} (n : ℕ)
+    → IsOnTheWay text p rest q → Calls Does q (map input (take n rest)) r → left ≡ drop n rest
+    → IsOnTheWay text p left r
+on-the-way-next {text} {p} {rest} {q} {r} {left} n way first e = record {
+  leads = rw e (λ o more. way.leads o (runs-on q r o rest n first more));
 }
 
-pub on-the-way-end : {IsOne : ℕ → Type 0} {text : List ℕ} {p : PictureView} {rest : List ℕ} {q : PictureView}
-    → IsOnTheWay IsOne text p rest q → length rest ≡ 0 → Calls Does p (map input text) q
-on-the-way-end {rest = rest} {q} w none =
-    w.shown q (subst (λ (xs : List ℕ). Calls Does q (map input xs) q) (sym (nil_from_length rest none)) refl)
+pub on-the-way-end : {text : List ℕ} {p : PictureView} {rest : List ℕ} {q : PictureView} → IsOnTheWay text p rest q
+    → length rest ≡ 0 → Calls Does p (map input text) q
+on-the-way-end {rest = rest} {q} way none =
+    way.leads q (subst (λ (xs : List ℕ). Calls Does q (map input xs) q) (sym (nil_from_length rest none)) refl)
+
+-- ---- printable ASCII
+
+pub one_column : OneOrTwo 1
+one_column = inl refl
+
+pub printable-shown : (c : ℕ) → IsPrintable c → IsShown c
+printable-shown c p = (inl (omega (arith, p.1)), λ e. absurd (omega (arith, e, p.1)))
+
+pub all-drawn : (xs : List ℕ) → All IsPrintable xs → All (printable_takes 1) xs
+all-drawn xs p k d l = (refl, p k d l)
+
+pub all-shown : (xs : List ℕ) → All IsPrintable xs → All IsShown (map (λ c. c) xs)
+all-shown xs p = All-map IsShown (λ c. c) xs (λ k d l. printable-shown _ (p k d l))
 
 -- ---- the start of a text, and what is left of it
 

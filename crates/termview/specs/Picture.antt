@@ -1,11 +1,9 @@
 -- A picture's value in contracts, and its invariant.
-use Rattle.std.specs.Prelude.{ℕ, ◌<◌, ◌≤◌, ◌≡◌, ◌≢◌, ◌^◌, ◌++◌, Bool, List, Some, length, map}
+use Rattle.std.specs.Prelude.{ℕ, ◌<◌, ◌≤◌, ◌≡◌, ◌^◌, ◌++◌, Bool, List, length, map}
 use Rattle.std.specs.Str.{chars}
-use Rattle.std.specs.Char.{IsScalar}
 use Rattle.vte_types.specs.Call.{Call, Calls, input}
 use Rattle.vt100_forms.specs.declared.attrs.Attrs.{Attrs}
 use Rattle.vt100_forms.specs.declared.modes.CursorStyle.{CursorStyle}
-use Rattle.vt100_cells.specs.Cell.{drawn_columns}
 use Rattle.vt100_rows.specs.Row.{RowView}
 use Rattle.terminal_model.specs.Term.{Size, Modes, Term}
 use Rattle.vt100_rows.specs.Sheet.{IsSheet}
@@ -68,7 +66,3 @@ Does p c q = Becomes p q (view_step p.size c (term_of_picture p))
 -- a prefix of the text's characters has been printed, and `left` are the bytes of the others
 abbrev pub ShowsPrefix : List ℕ → List ℕ → PictureView → PictureView → Type 0
 ShowsPrefix text left p q = (prefix : List ℕ) × (chars text ≡ prefix ++ chars left) × Calls Does p (map input prefix) q
-
--- a character that is shown in n columns
-abbrev pub Takes : ℕ → ℕ → Type 0
-Takes n c = IsScalar c × (drawn_columns c ≡ Some n) × (c ≢ 0xFFFD)

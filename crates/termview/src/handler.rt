@@ -52,7 +52,7 @@ impl Handler for Picture {
     }
 
     fn input_ascii(&mut self, text: &str) {
-        self.input_run(text.as_bytes());
+        self.input_run::<u8, 1>(text.as_bytes());
     }
 
     #[tactic(auto, unfolding(crate::specs::Step::view_step))]

@@ -13,7 +13,6 @@ pub mod laws;
 mod modes;
 mod picture;
 mod runs;
-mod short_runs;
 mod text;
 mod until_cleared;
 mod view;

@@ -1,24 +1,19 @@
 //! The picture that a terminal shows.
 ghost use Rattle.std.specs.Prelude.{◌≡◌, ℕ, ◌+◌, ◌-◌, ◌<◌, ◌≤◌, ◌==◌, Some, true, false, min, length, IfOk};
-ghost use Rattle.std.specs.Prelude.{All, map, set, take};
-ghost use Rattle.vte_types.specs.Call as said;
-ghost use Rattle.vte_types.specs.Call.{Calls};
 ghost use Rattle.vt100_cells.specs.Cell.{cell_of, drawn_columns, IsPrintable};
 ghost use Rattle.std.specs.Option.{option_copied};
 ghost use Rattle.vt100_cells.specs.Cells.{cell_at};
-ghost use Rattle.vt100_rows.specs.Row.{placed_each};
-ghost use Rattle.vt100_rows.specs.Sheet.{row_at};
 ghost use Rattle.vt100_rows.specs.Text.{line_text};
 ghost use Rattle.terminal_model.specs.Term.{blank_term};
 ghost use Rattle.terminal_model.specs.Apply.{erase, input, print, join, down, wrap, made_to_fit};
 ghost use Rattle.termview.specs.Step.{printed, erase_below, cursor_saved, cursor_restored, flag_above};
-ghost use Rattle.termview.specs.Picture.{term_of_picture, Becomes, Does, ShowsPrefix};
+ghost use Rattle.termview.specs.Picture.{term_of_picture, Becomes, ShowsPrefix};
 ghost use Rattle.termview.specs.Seen.{cell_shown, text_shown};
 
 use crate::error::ViewError;
 use std::alloc::Global;
 use std::marker::Model;
-use vt100_cells::{Cell, PackedAttrs, columns};
+use vt100_cells::{Cell, PackedAttrs, columns, is_printable};
 use vt100_forms::attrs::Attrs;
 use vt100_forms::{CursorStyle, MouseProtocolEncoding, MouseProtocolMode, Pos};
 use vt100_rows::printable::printable_len;
@@ -90,7 +85,7 @@ impl Picture {
     pub(crate) fn input(&mut self, c: char)
         ensures { Becomes self.old self.new (printed self.old.size c (term_of_picture self.old)) }
     {
-        if let ' '..='~' = c {
+        if is_printable(c) {
             self.input_letter(c as u8);
         } else {
             self.input_any(c);
@@ -133,7 +128,7 @@ impl Picture {
     {
         let len = printable_len(text.as_bytes());
         if len > 0 {
-            self.input_run(&text.as_bytes()[..len]);
+            self.input_run::<u8, 1>(&text.as_bytes()[..len]);
             return &text[len..];
         }
         match self.input_chars(text) {
@@ -153,49 +148,6 @@ impl Picture {
             self.input(c);
         }
         chars.as_str()
-    }
-
-    /// Prints printable ASCII, row by row. The effect is that of [`input`](Self::input) for each character.
-    pub(crate) fn input_run(&mut self, text: &[u8])
-        requires { All IsPrintable text.now }
-        ensures { Calls Does self.old (map said.input text.now) self.new }
-    {
-        let mut rest = text;
-        while !rest.is_empty() {
-            let n = self.input_row(rest);
-            rest = &rest[n..];
-        }
-    }
-
-    /// Prints as many of the characters as fit into a row. Returns their number.
-    fn input_row(&mut self, text: &[u8]) -> usize
-        requires some { 0 < length text.now }
-        requires printable { All IsPrintable text.now }
-        ensures some { 0 < result }
-        ensures within { result ≤ length text.now }
-        ensures shown { Calls Does self.old (map said.input (take result text.now)) self.new }
-    {
-        let cols = self.size.cols();
-        self.make_room(1);
-        let room = cols - self.pos.col;
-        let n = text.len().min(usize::from(room));
-        self.put_run(&text[..n]);
-        n
-    }
-
-    /// Puts the characters at the cursor. Its row has enough columns left for them.
-    fn put_run(&mut self, text: &[u8])
-        requires printable { All IsPrintable text.now }
-        requires fits { self.old.col + length text.now ≤ self.old.size.cols }
-        ensures { self.new ≡ record self.old {
-          rows = set self.old.rows self.old.row (placed_each (row_at self.old.rows self.old.row) self.old.col text.now
-              self.old.attrs);
-          col = self.old.col + length text.now;
-        } }
-    {
-        let col = self.pos.col;
-        self.rows[usize::from(self.pos.row)].print_run(col, text, &self.attrs);
-        self.pos.col = col + text.len() as u16;
     }
 
     /// Adds a zero-width character to the cell on the cursor's left, if there is one.

@@ -1,10 +1,11 @@
-use Rattle.std.proofs.Common.{◌≤◌, ℕ, List, length, map, take, sym, subst}
+use Rattle.std.proofs.Common.{◌≤◌, ℕ, List, length, map, take, sym, subst, ap, ◌∙◌}
+use Rattle.std.proofs.lemmas.List.{map-id}
 use Rattle.std.specs.Prelude.{All}
 use Rattle.vt100_cells.specs.Cell.{IsPrintable}
 use Rattle.vt100_rows.proofs.PrintableLemmas.{printable-boundary}
 use Rattle.vte_types.specs.Call.{Calls, input}
 use Rattle.termview.specs.Picture.{PictureView, Does, ShowsPrefix}
-use Rattle.termview.proofs.RunSteps.{prefix-run}
+use Rattle.termview.proofs.RunSteps.{prefix-run, all-drawn, all-shown}
 use Rattle.termview.proofs.picture.Picture.input_some.Goals as goal
 
 pub range_from-requires : goal.range_from-requires
@@ -17,6 +18,18 @@ range_from-requires c =
     subst (λ (xs : List ℕ). All IsPrintable (take n xs)) same c.printable_len-len.ensures.printable in
     λ some. printable-boundary c.args.text.now n c.utf8.text within printable
 
+pub input_run-requires-clause-drawn : goal.input_run-requires-clause-drawn
+input_run-requires-clause-drawn c =
+    let same = c.as_bytes.ensures.value ∙ sym c.as_bytes-then-len-gt0.ensures.value in
+    all-drawn _ (subst (λ (xs : List ℕ). All IsPrintable (take c.printable_len-len.result xs)) same
+    c.printable_len-len.ensures.printable)
+
+pub input_run-requires-clause-shown : goal.input_run-requires-clause-shown
+input_run-requires-clause-shown c =
+    let same = c.as_bytes.ensures.value ∙ sym c.as_bytes-then-len-gt0.ensures.value in
+    all-shown _ (subst (λ (xs : List ℕ). All IsPrintable (take c.printable_len-len.result xs)) same
+    c.printable_len-len.ensures.printable)
+
 pub returns-then-len-gt0-clause-shown : goal.returns-then-len-gt0-clause-shown
 returns-then-len-gt0-clause-shown c =
     let n = c.printable_len-len.result in
@@ -24,8 +37,9 @@ returns-then-len-gt0-clause-shown c =
     let q = c.input_run.new.self in
     let printable : All IsPrintable (take n c.args.text.now) =
     subst (λ (xs : List ℕ). All IsPrintable (take n xs)) c.as_bytes.ensures.value c.printable_len-len.ensures.printable in
-    let shown = subst (λ (xs : List ℕ). Calls Does p (map input (take n xs)) q) c.as_bytes-then-len-gt0.ensures.value
-    c.input_run.ensures in
+    let bytes = c.as_bytes-then-len-gt0 in
+    let shown = subst (λ (xs : List ℕ). Calls Does p (map input xs) q)
+    (map-id (take n bytes.result.now) ∙ ap (take n) bytes.ensures.value) c.input_run.ensures in
     subst (λ (left : List ℕ). ShowsPrefix c.args.text.now left p q) (sym c.range_from.ensures.value)
     (prefix-run c.args.text.now n p q printable shown)
 

@@ -1,6 +1,7 @@
-use Rattle.std.proofs.Common.{arith, refl}
+use Rattle.std.proofs.Common.{arith, refl, subst, ◌+◌, ◌≤◌}
 use Rattle.std.proofs.lemmas.Grind.{common_steps}
-use Rattle.termview.proofs.RowTerms.{joined-is}
+use Rattle.termview.specs.Picture.{PictureView}
+use Rattle.termview.proofs.RowTerms.{joined-is, row-fits}
 use Rattle.termview.proofs.KeptPictures.{IsPicture-at, Becomes-at, joined_at, IsPicture-joined}
 use Rattle.termview.proofs.picture.Picture.join_left.Goals as goal
 
@@ -19,3 +20,9 @@ returns c =
       size = refl;
       shows = joined-is p c.args.c (rw (← c.self.view_is) c.self.invariant) c.requires.after_some;
     })
+
+pub join_plain-requires-clause-in_row : goal.join_plain-requires-clause-in_row
+join_plain-requires-clause-in_row c =
+    let here = subst (λ (p : PictureView). p.col + 0 ≤ p.size.cols) c.self.view_is
+    (omega (arith, c.self.invariant.in_cols)) in
+    omega (arith, row-fits 0 c.self.view_is c.self.invariant c.from.ensures c.index_mut.ensures.value here)

@@ -3,8 +3,8 @@ use Rattle.std.proofs.lemmas.Grind.{common_steps}
 use Rattle.vt100_cells.specs.Cell.{cell_of}
 use Rattle.vt100_cells.proofs.NarrowLemmas.{narrow-printable_is}
 use Rattle.vt100_cells.proofs.WidthLemmas.{drawn-is}
-use Rattle.termview.proofs.RowTerms.{printed-is, span_of-cell}
-use Rattle.termview.proofs.RunSteps.{IsPicture-one, one-printable}
+use Rattle.termview.proofs.RowTerms.{printed-is, row-fits, span_of-cell}
+use Rattle.termview.proofs.RunSteps.{IsPicture-first, one_column}
 use Rattle.termview.proofs.KeptPictures.{IsPicture-at, Becomes-at, put_at}
 use Rattle.termview.proofs.picture.Picture.put_letter.Goals as goal
 
@@ -12,8 +12,8 @@ pub invariant_of-self : goal.invariant_of-self
 invariant_of-self c =
     let p = c.args.self.now in
     IsPicture-at _ (put_at p (cell_of c.args.c p.attrs) 1) (grind (arith, common_steps))
-    (IsPicture-one p c.args.c (rw (← c.self.view_is) c.self.invariant) (one-printable c.args.c c.requires.printable)
-    c.requires.fits)
+    (IsPicture-first one_column p c.args.c (rw (← c.self.view_is) c.self.invariant)
+    (narrow-printable_is c.args.c c.requires.printable) c.requires.fits)
 
 pub returns : goal.returns
 returns c =
@@ -25,3 +25,8 @@ returns c =
       shows = printed-is p (cell_of c.args.c p.attrs) 1 (rw (← c.self.view_is) c.self.invariant)
           (span_of-cell c.args.c 1 p.attrs (drawn-is c.args.c 1 narrow.1).1 (omega arith)) c.requires.fits;
     })
+
+pub print_letter-requires-clause-in_row : goal.print_letter-requires-clause-in_row
+print_letter-requires-clause-in_row c =
+    let fits = row-fits 1 c.self.view_is c.self.invariant c.from.ensures c.index_mut.ensures.value c.requires.fits in
+    omega (arith, fits)
