@@ -1,7 +1,6 @@
 pub mod CallOf
 pub mod Copies
 pub mod Draws
-pub mod Finals
 pub mod Goes
 pub mod Laws
 pub mod Memory

@@ -14,7 +14,6 @@ ghost use Rattle.vte_core.specs.Event as e;
 ghost use Rattle.vt100.specs.Goes.{Handles, MakesCalls};
 ghost use Rattle.vt100.specs.Memory.{may_allocate, plain_may_allocate, private_may_allocate};
 ghost use Rattle.vt100.specs.Runs.{PrintsPrefix};
-ghost use Rattle.vt100.specs.Finals.{IsRare};
 
 use crate::callbacks::Callbacks;
 use crate::screen::WrappedScreen;
@@ -110,7 +109,7 @@ impl<CB: Callbacks> Perform for WrappedScreen<CB> {
                 let _ = self.lf();
             }
             13 => self.cr(),
-            _ => self.rare_control(byte),
+            _ => self.any_control(byte),
         }
     }
 
@@ -195,26 +194,29 @@ impl<CB: Callbacks> WrappedScreen<CB> {
         }
     }
 
-    /// One of the controls that most streams have few of.
+    /// Does what any control asks for, or reports it, by the whole table.
+    // It isn't inlined, so that the frequent controls need no stack for it.
     #[inline(never)]
-    fn rare_control(&mut self, byte: u8)
-        requires live { self.old.screen.failed ≡ false }
-        requires not_bs { byte ≢ 8 }
-        requires not_lf { byte ≢ 10 }
-        requires not_cr { byte ≢ 13 }
+    fn any_control(&mut self, byte: u8)
+        requires { self.old.screen.failed ≡ false }
         ensures { Handles CB.step CB.scrolls (effect (e.Execute byte)) (may_allocate (e.Execute byte) self.old.screen.state)
             self.old self.new }
     {
         match byte {
             7 => self.callbacks.audible_bell(&mut self.screen),
+            8 => self.bs(),
             9 => self.tab(),
-            11 => {
+            10 => {
                 // A refusal is kept in the screen, which has failed then.
+                let _ = self.lf();
+            }
+            11 => {
                 let _ = self.vt();
             }
             12 => {
                 let _ = self.ff();
             }
+            13 => self.cr(),
             // Shift out and in: there are no other character sets, but it isn't an error to ask for them.
             14 | 15 => {}
             _ => self.callbacks.unhandled_control(&mut self.screen, byte),
@@ -270,7 +272,7 @@ impl<CB: Callbacks> WrappedScreen<CB> {
         self.unhandled_groups(unhandled, params, &[], 'm');
     }
 
-    /// EL. `plain_csi` calls it apart, so that the sequences that move the cursor need no stack.
+    /// EL. It isn't inlined, so that the sequences that move the cursor need no stack.
     #[inline(never)]
     fn el_csi(&mut self, params: &Params)
         requires { self.old.screen.failed ≡ false }
@@ -281,8 +283,9 @@ impl<CB: Callbacks> WrappedScreen<CB> {
         self.unhandled_groups(unhandled, params, &[], 'K');
     }
 
-    /// A control sequence without intermediates. The most frequent ones are told apart by comparisons, three at a time: a
-    /// jump by a table costs more where its target changes.
+    /// A control sequence without intermediates: those that most streams have most of, and any other. They are told apart
+    /// by comparisons: a jump by a table costs more where its target changes.
+    // It isn't inlined, so that SGR, which is asked for before, needs no stack for the others.
     #[inline(never)]
     fn plain_csi(&mut self, params: &Params, action: char)
         requires { self.old.screen.failed ≡ false }
@@ -293,61 +296,28 @@ impl<CB: Callbacks> WrappedScreen<CB> {
             'C' => self.cuf(canonicalize_params_1(params, 1)),
             'H' => self.cup(canonicalize_params_2(params, 1, 1)),
             'K' => self.el_csi(params),
-            _ => self.move_csi(params, action),
+            _ => self.any_csi(params, action),
         }
     }
 
-    /// One of the others: CUU, CUD and CUB are told apart first.
+    /// Any control sequence without intermediates: those that take counts or positions, and all others.
+    // It isn't inlined, so that no jump by a table stands before the frequent sequences.
     #[inline(never)]
-    fn move_csi(&mut self, params: &Params, action: char)
-        requires live { self.old.screen.failed ≡ false }
-        requires not_cuf { action ≢ 0x43 }
-        requires not_cup { action ≢ 0x48 }
-        requires not_el { action ≢ 0x4B }
-        ensures { Handles CB.step CB.scrolls (plain_effect (lookup action plain_rows) params.now action)
-            (plain_may_allocate params.now action self.old.screen.state) self.old self.new }
-    {
-        match action {
-            'A' => self.cuu(canonicalize_params_1(params, 1)),
-            'B' => self.cud(canonicalize_params_1(params, 1)),
-            'D' => self.cub(canonicalize_params_1(params, 1)),
-            _ => self.place_csi(params, action),
-        }
-    }
-
-    /// One of the others: CHA, VPA and HVP are told apart first.
-    #[inline(never)]
-    fn place_csi(&mut self, params: &Params, action: char)
-        requires live { self.old.screen.failed ≡ false }
-        requires not_cuu { action ≢ 0x41 }
-        requires not_cud { action ≢ 0x42 }
-        requires not_cuf { action ≢ 0x43 }
-        requires not_cub { action ≢ 0x44 }
-        requires not_cup { action ≢ 0x48 }
-        requires not_el { action ≢ 0x4B }
-        ensures { Handles CB.step CB.scrolls (plain_effect (lookup action plain_rows) params.now action)
-            (plain_may_allocate params.now action self.old.screen.state) self.old self.new }
-    {
-        match action {
-            'G' => self.cha(canonicalize_params_1(params, 1)),
-            'd' => self.vpa(canonicalize_params_1(params, 1)),
-            'f' => self.cup(canonicalize_params_2(params, 1, 1)),
-            _ => self.rare_csi(params, action),
-        }
-    }
-
-    /// One of those that most streams have few of.
-    #[inline(never)]
-    fn rare_csi(&mut self, params: &Params, action: char)
-        requires live { self.old.screen.failed ≡ false }
-        requires rare { IsRare action }
+    fn any_csi(&mut self, params: &Params, action: char)
+        requires { self.old.screen.failed ≡ false }
         ensures { Handles CB.step CB.scrolls (plain_effect (lookup action plain_rows) params.now action)
             (plain_may_allocate params.now action self.old.screen.state) self.old self.new }
     {
         match action {
             '@' => self.ich(canonicalize_params_1(params, 1)),
+            'A' => self.cuu(canonicalize_params_1(params, 1)),
+            'B' => self.cud(canonicalize_params_1(params, 1)),
+            'C' => self.cuf(canonicalize_params_1(params, 1)),
+            'D' => self.cub(canonicalize_params_1(params, 1)),
             'E' => self.cnl(canonicalize_params_1(params, 1)),
             'F' => self.cpl(canonicalize_params_1(params, 1)),
+            'G' => self.cha(canonicalize_params_1(params, 1)),
+            'H' => self.cup(canonicalize_params_2(params, 1, 1)),
             'L' => self.il(canonicalize_params_1(params, 1)),
             'M' => self.dl(canonicalize_params_1(params, 1)),
             'P' => self.dch(canonicalize_params_1(params, 1)),
@@ -362,6 +332,8 @@ impl<CB: Callbacks> WrappedScreen<CB> {
                 // A refusal is kept in the screen, which has failed then.
                 let _ = self.rep(canonicalize_params_1(params, 1));
             }
+            'd' => self.vpa(canonicalize_params_1(params, 1)),
+            'f' => self.cup(canonicalize_params_2(params, 1, 1)),
             'r' => {
                 let (rows, _) = self.screen.size();
                 self.decstbm(canonicalize_params_2(params, 1, rows.get()));
@@ -370,7 +342,7 @@ impl<CB: Callbacks> WrappedScreen<CB> {
         }
     }
 
-    /// The finals that are unhandled at some numbers, and all others.
+    /// Those that are unhandled at some numbers, and all others.
     fn other_csi(&mut self, params: &Params, action: char)
         requires { self.old.screen.failed ≡ false }
         ensures { Handles CB.step CB.scrolls (row_effect (lookup action other_rows) params.now
@@ -381,10 +353,7 @@ impl<CB: Callbacks> WrappedScreen<CB> {
                 let unhandled = self.ed(canonicalize_params_1(params, 0));
                 self.unhandled_groups(unhandled, params, &[], action);
             }
-            'K' => {
-                let unhandled = self.el(canonicalize_params_1(params, 0));
-                self.unhandled_groups(unhandled, params, &[], action);
-            }
+            'K' => self.el_csi(params),
             'm' => self.sgr_csi(params),
             't' => self.window(params, action),
             _ => self.unhandled_csi(params, &[], action),
@@ -424,7 +393,7 @@ impl<CB: Callbacks> WrappedScreen<CB> {
         }
     }
 
-    /// One with `?`.
+    /// A control sequence with `?` as its first intermediate.
     fn private_csi(&mut self, params: &Params, intermediates: &[u8], action: char)
         requires { self.old.screen.failed ≡ false }
         ensures { Handles CB.step CB.scrolls (row_effect (lookup action private_rows) params.now
@@ -471,7 +440,8 @@ impl<CB: Callbacks> WrappedScreen<CB> {
         }
     }
 
-    /// The same where there are some.
+    /// Reports an unhandled sequence so many times, while the screen hasn't failed.
+    // It isn't inlined, since mostly there is nothing to report.
     #[inline(never)]
     fn report_groups(&mut self, count: usize, params: &Params, intermediates: &[u8], action: char)
         ensures { MakesCalls CB.step self.old.callbacks self.old.screen

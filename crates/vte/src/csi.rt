@@ -8,8 +8,8 @@ ghost use Rattle.vte_types.specs.Lookup.{lookup};
 ghost use Rattle.vte_types.specs.Mode.{mode_of, private_mode_of};
 ghost use Rattle.vte.specs.Escape.{calls_at};
 ghost use Rattle.vte.specs.Sgr.{first};
-ghost use Rattle.vte.specs.Csi.{number_or, rest, nonzero, identify_calls, plain_calls, uncounted_rows, uncounted_calls};
-ghost use Rattle.vte.specs.Csi.{placing_rows, placing_calls, clear_screen_rows, clear_line_rows, clear_tabs_rows};
+ghost use Rattle.vte.specs.Csi.{number_or, rest, nonzero, identify_calls, clear_screen_rows, clear_line_rows};
+ghost use Rattle.vte.specs.Csi.{clear_tabs_rows};
 ghost use Rattle.vte.specs.Csi.{repeat_calls, window_rows, keyboard_modes, behaviour_of, asks_four, calls_by};
 ghost use Rattle.vte.specs.Csi.{equals_rows, less_rows, space_rows, dollar_rows, question_dollar_rows, question_rows};
 ghost use Rattle.vte.specs.Csi.{char_path, update_mode, style_rows, csi_calls, opens_group};
@@ -59,7 +59,7 @@ fn first_or(params: &Params, default: u16) -> u16
     }
 }
 
-/// The same where a group has several numbers.
+/// The first number where a group has several numbers, or the default if it is 0. That is rare, so it isn't inlined.
 #[inline(never)]
 fn first_of_groups(params: &Params, default: u16) -> u16
     ensures number { result ≡ number_or default params.now }
@@ -142,7 +142,8 @@ fn identify_terminal<H: Handler>(handler: &mut H, params: &Params, intermediates
     }
 }
 
-/// Sequences without intermediates. The frequent ones are compared first, since a jump by a table is often mispredicted.
+/// Sequences without intermediates: those that most streams have most of, and any other. They are compared one by one,
+/// since a jump by a table is often mispredicted.
 #[inline(always)]
 fn plain<H: Handler>(handler: &mut H, last: Option<char>, params: &Params, action: char)
     ensures { Calls H.step handler.old (csi_calls last params.now [] action) handler.new }
@@ -151,90 +152,47 @@ fn plain<H: Handler>(handler: &mut H, last: Option<char>, params: &Params, actio
         'm' => sgr(handler, params),
         'H' => goto(handler, params),
         'K' => clear_line(handler, first_or(params, 0)),
-        _ => moving_plain(handler, last, params, action),
-    }
-}
-
-/// The same, with the moves by a count first.
-#[inline(never)]
-fn moving_plain<H: Handler>(handler: &mut H, last: Option<char>, params: &Params, action: char)
-    ensures { Calls H.step handler.old (csi_calls last params.now [] action) handler.new }
-{
-    match action {
-        'A' => handler.move_up(count_in(params)),
-        'C' => handler.move_forward(count_in(params)),
-        'D' => handler.move_backward(count_in(params)),
         _ => any_plain(handler, last, params, action),
     }
 }
 
-/// The same, by a table.
+/// Any sequence without intermediates, by the whole table.
+// It isn't inlined, so that the frequent sequences need no stack for its calls.
 #[inline(never)]
 fn any_plain<H: Handler>(handler: &mut H, last: Option<char>, params: &Params, action: char)
     ensures { Calls H.step handler.old (csi_calls last params.now [] action) handler.new }
 {
     match action {
-        'c' => identify_terminal(handler, params, &[]),
-        _ => counted_final(handler, last, params, action),
-    }
-}
-
-/// Sequences without intermediates: the final bytes that take a count, and all others.
-#[inline(always)]
-fn counted_final<H: Handler>(handler: &mut H, last: Option<char>, params: &Params, action: char)
-    ensures { Calls H.step handler.old (plain_calls last params.now action) handler.new }
-{
-    match action {
         '@' => handler.insert_blank(count_in(params)),
-        'P' => handler.delete_chars(count_in(params)),
-        'X' => handler.erase_chars(count_in(params)),
         'A' => handler.move_up(count_in(params)),
         'B' | 'e' => handler.move_down(count_in(params)),
         'C' | 'a' => handler.move_forward(count_in(params)),
         'D' => handler.move_backward(count_in(params)),
         'E' => handler.move_down_and_cr(count_in(params)),
         'F' => handler.move_up_and_cr(count_in(params)),
-        'L' => handler.insert_blank_lines(count_in(params)),
-        'M' => handler.delete_lines(count_in(params)),
-        'S' => handler.scroll_up(count_in(params)),
-        'T' => handler.scroll_down(count_in(params)),
+        'G' | '`' => handler.goto_col(usize::from(first_or(params, 1)) - 1),
+        'H' | 'f' => goto(handler, params),
         'I' => handler.move_forward_tabs(first_or(params, 1)),
-        'Z' => handler.move_backward_tabs(first_or(params, 1)),
-        _ => uncounted_final(handler, last, params, action),
-    }
-}
-
-/// The final bytes that read their parameters in ways of their own.
-#[inline(always)]
-fn uncounted_final<H: Handler>(handler: &mut H, last: Option<char>, params: &Params, action: char)
-    ensures { Calls H.step handler.old (uncounted_calls (lookup action uncounted_rows) last params.now action)
-        handler.new }
-{
-    match action {
         'J' => clear_screen(handler, first_or(params, 0)),
         'K' => clear_line(handler, first_or(params, 0)),
+        'L' => handler.insert_blank_lines(count_in(params)),
+        'M' => handler.delete_lines(count_in(params)),
+        'P' => handler.delete_chars(count_in(params)),
+        'S' => handler.scroll_up(count_in(params)),
+        'T' => handler.scroll_down(count_in(params)),
+        'X' => handler.erase_chars(count_in(params)),
+        'Z' => handler.move_backward_tabs(first_or(params, 1)),
+        'b' => repeat(handler, last, first_or(params, 1)),
+        'c' => identify_terminal(handler, params, &[]),
+        'd' => handler.goto_line(i32::from(first_or(params, 1) - 1)),
         'g' => clear_tabs(handler, first_or(params, 0)),
         'h' => set_modes(handler, params),
         'l' => unset_modes(handler, params),
         'm' => sgr(handler, params),
         'n' => handler.device_status(usize::from(first_or(params, 0))),
-        't' => window(handler, first_or(params, 1)),
-        'b' => repeat(handler, last, first_or(params, 1)),
-        _ => placing_final(handler, params, action),
-    }
-}
-
-/// The final bytes that set the cursor's place, the scroll region or the saved cursor.
-#[inline(always)]
-fn placing_final<H: Handler>(handler: &mut H, params: &Params, action: char)
-    ensures { Calls H.step handler.old (placing_calls (lookup action placing_rows) params.now) handler.new }
-{
-    match action {
-        'G' | '`' => handler.goto_col(usize::from(first_or(params, 1)) - 1),
-        'd' => handler.goto_line(i32::from(first_or(params, 1) - 1)),
-        'H' | 'f' => goto(handler, params),
         'r' => set_scrolling_region(handler, params),
         's' => handler.save_cursor_position(),
+        't' => window(handler, first_or(params, 1)),
         'u' => handler.restore_cursor_position(),
         _ => {}
     }
@@ -264,7 +222,8 @@ fn place_in(params: &Params) -> (u16, u16)
     place_in_groups(params)
 }
 
-/// The same where fewer numbers follow, or a group has several.
+/// The first two numbers where there are fewer, or a group has several, each 1 if there is none or it is 0. That is rare,
+/// so it isn't inlined.
 #[inline(never)]
 fn place_in_groups(params: &Params) -> (u16, u16)
     ensures first { result.0 ≡ number_or 1 params.now }

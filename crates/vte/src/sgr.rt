@@ -53,8 +53,8 @@ fn bright(number: u16) -> NamedColor
     }
 }
 
-/// Makes the call of a group of one number, if that sets an attribute by itself. The frequent ones are compared first,
-/// since a jump by a table is often mispredicted.
+/// Makes the call of a group of one number, if that sets an attribute by itself. The numbers that most streams have most of
+/// are compared first, since a jump by a table is often mispredicted.
 #[inline(always)]
 fn set_single<H: Handler>(handler: &mut H, code: u16)
     ensures { Calls H.step handler.old (map terminal_attribute (option_to_list (lookup code singles))) handler.new }
@@ -68,7 +68,8 @@ fn set_single<H: Handler>(handler: &mut H, code: u16)
     }
 }
 
-/// The same, by a table.
+/// Makes the call of any group of one number, if that sets an attribute by itself, by the whole table.
+// It isn't inlined, so that the frequent numbers need no stack for its calls.
 #[inline(never)]
 fn set_any_single<H: Handler>(handler: &mut H, code: u16)
     ensures { Calls H.step handler.old (map terminal_attribute (option_to_list (lookup code singles))) handler.new }
@@ -265,7 +266,7 @@ fn set_code<H: Handler>(handler: &mut H, code: u16, groups: &mut ParamsIter<'_>)
                 handler.terminal_attribute(Attr::UnderlineColor(Some(color)));
             }
         }
-        _ => set_any_single(handler, code),
+        _ => set_single(handler, code),
     }
 }
 
@@ -320,7 +321,7 @@ fn color_in_numbers(numbers: &[u16]) -> (Option<Color>, usize)
 }
 
 /// Makes the call of a number in a group of its own. A colour also takes the numbers after it. Returns how many of those
-/// it takes.
+/// it takes. The numbers that most streams have most of are told apart here, and any other by the table.
 #[inline(always)]
 fn set_number<H: Handler>(handler: &mut H, code: u16, others: &[u16]) -> usize
     ensures calls { SetsFirst H.step (code ∷ []) handler.old (each_alone others.now) handler.new
@@ -328,7 +329,6 @@ fn set_number<H: Handler>(handler: &mut H, code: u16, others: &[u16]) -> usize
     ensures within { result ≤ length others.now }
 {
     match code {
-        50.. => set_high_number(handler, code, others),
         38 => {
             let (color, len) = color_in_numbers(others);
             if let Some(color) = color {
@@ -343,22 +343,6 @@ fn set_number<H: Handler>(handler: &mut H, code: u16, others: &[u16]) -> usize
             }
             len
         }
-        _ => {
-            set_single(handler, code);
-            0
-        }
-    }
-}
-
-/// The same for the numbers from 50 on, which are rare.
-#[inline(never)]
-fn set_high_number<H: Handler>(handler: &mut H, code: u16, others: &[u16]) -> usize
-    requires { 50 ≤ code }
-    ensures calls { SetsFirst H.step (code ∷ []) handler.old (each_alone others.now) handler.new
-        (each_alone (drop result others.now)) }
-    ensures within { result ≤ length others.now }
-{
-    match code {
         58 => {
             let (color, len) = color_in_numbers(others);
             if let Some(color) = color {
@@ -367,7 +351,7 @@ fn set_high_number<H: Handler>(handler: &mut H, code: u16, others: &[u16]) -> us
             len
         }
         _ => {
-            set_any_single(handler, code);
+            set_single(handler, code);
             0
         }
     }

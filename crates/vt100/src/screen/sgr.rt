@@ -174,8 +174,9 @@ fn color_in_numbers(numbers: &[u16]) -> Result<(Color, usize), End>
     }
 }
 
-/// What a group of one number does, but for 38 and 48. Answers whether it does something. The most frequent numbers are
-/// told apart by comparisons: a jump by a table costs more where its target changes.
+/// What a group of one number does, but for 38 and 48. Answers whether it does something. The numbers that most streams
+/// have most of are told apart by comparisons: a jump by a table costs more where its target changes.
+// It isn't inlined, so that it stands once for the two that call it.
 #[inline(never)]
 fn read_code(attrs: &mut PackedAttrs, code: u16) -> bool
     ensures handled { result ≡ is_some (code_row code) }
@@ -185,21 +186,21 @@ fn read_code(attrs: &mut PackedAttrs, code: u16) -> bool
         0 => *attrs = PackedAttrs::new(),
         1 => attrs.set_bold(),
         30..=37 => attrs.set_fgcolor(Color::Idx((code - 30) as u8)),
-        _ => return read_rare_code(attrs, code),
+        _ => return read_any_code(attrs, code),
     }
     true
 }
 
-/// What any other number does.
+/// What any group of one number does, but for 38 and 48, by the whole table. Answers whether it does something.
+// It isn't inlined, so that no jump by a table stands before the frequent numbers.
 #[inline(never)]
-fn read_rare_code(attrs: &mut PackedAttrs, code: u16) -> bool
-    requires not_reset { code ≢ 0 }
-    requires not_bold { code ≢ 1 }
-    requires not_color { is_in_range 30 37 code ≡ false }
+fn read_any_code(attrs: &mut PackedAttrs, code: u16) -> bool
     ensures handled { result ≡ is_some (code_row code) }
     ensures attrs { attrs.new ≡ code_applied (code_row code) attrs.old }
 {
     match code {
+        0 => *attrs = PackedAttrs::new(),
+        1 => attrs.set_bold(),
         2 => attrs.set_dim(),
         3 => attrs.set_italic(true),
         4 => attrs.set_underline(true),
@@ -208,6 +209,7 @@ fn read_rare_code(attrs: &mut PackedAttrs, code: u16) -> bool
         23 => attrs.set_italic(false),
         24 => attrs.set_underline(false),
         27 => attrs.set_inverse(false),
+        30..=37 => attrs.set_fgcolor(Color::Idx((code - 30) as u8)),
         39 => attrs.set_fgcolor(Color::Default),
         40..=47 => attrs.set_bgcolor(Color::Idx((code - 40) as u8)),
         49 => attrs.set_bgcolor(Color::Default),

@@ -6,5 +6,5 @@ use Rattle.vte.proofs.sgr.set_code.Goals as goal
 pub returns-in_default-clause-calls : goal.returns-in_default-clause-calls
 returns-in_default-clause-calls g c =
     let none : target_of c.args.code ≡ None = search rules in
-    sets-single g.H.Handler.step c.args.code c.args.handler.now c.args.groups.now c.set_any_single.new.handler none
-    c.set_any_single.ensures
+    sets-single g.H.Handler.step c.args.code c.args.handler.now c.args.groups.now c.set_single.new.handler none
+    c.set_single.ensures

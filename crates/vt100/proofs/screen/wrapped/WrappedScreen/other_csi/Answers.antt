@@ -6,8 +6,7 @@ returns-in-J g c = other_does _ _ c.in-J.is (does_counts _ c.requires
     (rw c.canonicalize_params_1.ensures at c.ed-unhandled.ensures) c.unhandled_groups.ensures)
 
 pub returns-in-K : goal.returns-in-K
-returns-in-K g c = other_does _ _ c.in-K.is (does_counts _ c.requires
-    (rw c.canonicalize_params_1-in-K.ensures at c.el-unhandled.ensures) c.unhandled_groups-in-K.ensures)
+returns-in-K g c = rw c.in-K.is c.el_csi.ensures
 
 pub returns-in-m : goal.returns-in-m
 returns-in-m g c = rw c.in-m.is c.sgr_csi.ensures
