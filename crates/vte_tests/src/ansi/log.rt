@@ -2,11 +2,9 @@
 
 ghost use Rattle.std.specs.Prelude.{⊤};
 
-use std::alloc::Global;
 use std::cell::Cell;
-use std::test::Fail;
 use std::time::Duration;
-use vte::ansi::{self, Call, Clock, Handler, Timeout};
+use vte::ansi::{Call, Clock, Handler, Timeout};
 
 /// The calls so far. Where inputs are counted they aren't written down.
 #[derive(Drop)]
@@ -45,64 +43,6 @@ impl Handler for CallLog {
         }
         self.failed |= write!(self.text, "{call:?} ").is_err();
     }
-}
-
-/// A timeout that is pending from `set_timeout` to `clear_timeout`, and how often it was set.
-#[derive(Drop)]
-pub struct UntilCleared {
-    pub pending: bool,
-    pub sets: usize,
-}
-
-impl UntilCleared {
-    pub fn new() -> UntilCleared {
-        UntilCleared {
-            pending: false,
-            sets: 0,
-        }
-    }
-}
-
-impl Timeout for UntilCleared {
-    ghost ticking = { record { sets = λ _ _ _. ⊤; clears = λ _ _. ⊤; answers = λ _ _. ⊤ } };
-
-    fn set_timeout(&mut self, _duration: Duration) {
-        self.pending = true;
-        self.sets = self.sets.saturating_add(1);
-    }
-
-    fn clear_timeout(&mut self) {
-        self.pending = false;
-    }
-
-    fn pending_timeout(&self) -> bool {
-        self.pending
-    }
-}
-
-/// A processor with such a timeout.
-pub type Processor = ansi::Processor<UntilCleared, Global>;
-
-pub fn processor(alloc: Global) -> Result<Processor, Fail> {
-    Ok(ansi::Processor::new(alloc, UntilCleared::new())?)
-}
-
-/// Does this with a new processor and a log.
-pub fn with_processor<F: FnOnce(&mut Processor, &mut CallLog)>(
-    alloc: Global,
-    mut log: CallLog,
-    check: F,
-) -> Result<(), Fail>
-    requires { F.IsAlwaysCallable check }
-{
-    let mut processor = processor(alloc)?;
-    check(&mut processor, &mut log);
-    Ok(())
-}
-
-/// Hands a piece to a processor.
-pub fn feed(processor: &mut Processor, log: &mut CallLog, piece: &[u8]) {
-    processor.advance(log, piece);
 }
 
 /// A timeout that is pending while the flag beside it is up.
