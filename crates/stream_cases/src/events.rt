@@ -6,17 +6,31 @@ use crate::runs::Runs;
 use case_player::{Answer, StepError};
 use vte_core::Parser;
 
-/// A parser that keeps the first N bytes of a command.
+/// Parsers, each for one stream. They keep so much of an operating system command.
 #[derive(Clone, Copy)]
-pub struct Keeping<const N: usize>;
+pub enum Keeping {
+    /// As much as a new parser.
+    Usual,
+    /// 4 bytes.
+    Four,
+}
 
-impl<const N: usize> Reader for Keeping<N> {
+impl Reader for Keeping {
     fn read(&self, log: &mut Log, pieces: &[&[u8]]) -> Result<(), StepError> {
-        let mut parser: Parser<N> = Parser::new_with_size();
-        for piece in pieces {
-            parser.advance(log, piece);
+        match self {
+            Keeping::Usual => read_pieces(&mut Parser::new(), log, pieces),
+            Keeping::Four => {
+                let mut parser: Parser<4> = Parser::new_with_size();
+                read_pieces(&mut parser, log, pieces);
+            }
         }
         Ok(())
+    }
+}
+
+fn read_pieces<const N: usize>(parser: &mut Parser<N>, log: &mut Log, pieces: &[&[u8]]) {
+    for piece in pieces {
+        parser.advance(log, piece);
     }
 }
 

@@ -46,8 +46,8 @@ impl StreamPlayer {
                 tell_cut(&Processors(self.alloc), log, bytes, answer)?;
                 tell_byte_by_byte(self.alloc, log, bytes, answer)
             }
-            "events" => tell_cut(&Keeping::<1024>, log, bytes, answer),
-            "events_keeping_four" => tell_cut(&Keeping::<4>, log, bytes, answer),
+            "events" => tell_cut(&Keeping::Usual, log, bytes, answer),
+            "events_keeping_four" => tell_cut(&Keeping::Four, log, bytes, answer),
             "runs" => tell_whole(&InRuns, log, bytes, answer),
             "draws" => tell_drawn(self.alloc, bytes, answer),
             "text_after" => tell_after(self.alloc, bytes, answer),

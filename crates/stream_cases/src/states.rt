@@ -329,7 +329,7 @@ pub fn tell_states(
     let mut agreed: u64 = 0;
     for byte in 0..=255u8 {
         let pieces: [&[u8]; 3] = [prefix, &[byte], end];
-        read(&Keeping::<1024>, log, &pieces)?;
+        read(&Keeping::Usual, log, &pieces)?;
         read_by_table(&mut reading, &pieces)?;
         if log.told()? == reading.log.told()? {
             agreed = agreed.saturating_add(1);

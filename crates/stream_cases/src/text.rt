@@ -89,7 +89,7 @@ impl Comparison {
     fn compare(&mut self, answer: &mut Answer) -> Result<(), StepError> {
         for cut in 0..=self.bytes.len() {
             let (first, second) = self.bytes.split_at(cut);
-            read(&Keeping::<1024>, &mut self.log, &[first, second])?;
+            read(&Keeping::Usual, &mut self.log, &[first, second])?;
             if self.log.told()? != self.wanted.told()? {
                 return self.tell_difference(cut, answer);
             }

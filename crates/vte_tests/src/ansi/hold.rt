@@ -1,6 +1,6 @@
 //! Synchronized updates.
 
-use super::log::{CallLog, Flagged, Still, Watching};
+use super::log::{CallLog, Flagged, Still};
 use crate::same::same;
 use std::alloc::Global;
 use std::cell::Cell;
@@ -11,7 +11,7 @@ use vte::ansi::{self, Handler, StdSyncHandler};
 /// Hands a piece over. How many bytes are held then.
 fn held_after(
     processor: &mut ansi::Processor<Flagged<'_>, Global>,
-    log: &mut CallLog,
+    log: &mut CallLog<'_>,
     piece: &[u8],
 ) -> usize {
     processor.advance(log, piece);
@@ -64,25 +64,18 @@ const WATCHED: &str =
 #[test]
 fn sets_the_timeout_first_and_clears_it_last(rt: HostRuntime) -> Result<(), Fail> {
     let flag = Cell::new(false);
-    let mut watching = Watching {
-        log: CallLog::new(&rt),
-        flag: &flag,
-    };
+    let mut log = CallLog::watching(&rt, &flag);
     let mut processor = ansi::Processor::new(rt.alloc(), Flagged(&flag))?;
-    processor.advance(&mut watching, b"\x1b[?25;2026ha\x1b[?2026l");
-    processor.advance(&mut watching, b"b");
-    same(
-        &rt,
-        &(watching.log.failed, watching.log.text.as_str()),
-        &(false, WATCHED),
-    );
+    processor.advance(&mut log, b"\x1b[?25;2026ha\x1b[?2026l");
+    processor.advance(&mut log, b"b");
+    same(&rt, &(log.failed, log.text.as_str()), &(false, WATCHED));
     Ok(())
 }
 
 /// How many bytes are held after a piece, and when the update's time is over.
 fn time_after(
     processor: &mut ansi::Processor<StdSyncHandler<Still>, Global>,
-    log: &mut CallLog,
+    log: &mut CallLog<'_>,
     piece: &[u8],
 ) -> (usize, Option<Duration>) {
     processor.advance(log, piece);
@@ -110,7 +103,7 @@ fn keeps_the_time_of_an_update(rt: HostRuntime) -> Result<(), Fail> {
 }
 
 /// Fills the hold up to the end, where there was room for so many bytes.
-fn fill(processor: &mut ansi::Processor<Flagged<'_>, Global>, log: &mut CallLog) {
+fn fill(processor: &mut ansi::Processor<Flagged<'_>, Global>, log: &mut CallLog<'_>) {
     for _ in 0..1_048_573 {
         processor.advance(log, b"aa");
     }

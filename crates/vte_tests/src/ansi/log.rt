@@ -6,34 +6,45 @@ use std::cell::Cell;
 use std::time::Duration;
 use vte::ansi::{Call, Clock, Handler, Timeout};
 
-/// The calls so far. Where inputs are counted they aren't written down.
+/// The calls so far. Where inputs are counted they aren't written down. Behind each call stands whether the flag is up,
+/// if there is one.
 #[derive(Drop)]
-pub struct CallLog {
+pub struct CallLog<'a> {
     pub text: String,
     pub inputs: Option<usize>,
     pub failed: bool,
+    flag: Option<&'a Cell<bool>>,
 }
 
-impl CallLog {
-    pub fn new(rt: &impl AllocGlobal) -> CallLog {
+impl<'a> CallLog<'a> {
+    /// An empty log.
+    pub fn new(rt: &impl AllocGlobal) -> CallLog<'a> {
         CallLog {
             text: String::new(rt.alloc()),
             inputs: None,
             failed: false,
+            flag: None,
         }
     }
 
     /// Counts inputs.
-    pub fn with_count(rt: &impl AllocGlobal) -> CallLog {
+    pub fn with_count(rt: &impl AllocGlobal) -> CallLog<'a> {
         CallLog {
-            text: String::new(rt.alloc()),
             inputs: Some(0),
-            failed: false,
+            ..CallLog::new(rt)
+        }
+    }
+
+    /// Writes down whether the flag is up at each call.
+    pub fn watching(rt: &impl AllocGlobal, flag: &'a Cell<bool>) -> CallLog<'a> {
+        CallLog {
+            flag: Some(flag),
+            ..CallLog::new(rt)
         }
     }
 }
 
-impl Handler for CallLog {
+impl Handler for CallLog<'_> {
     ghost step = { λ _ _ _. ⊤ };
 
     fn call(&mut self, call: Call<'_>) {
@@ -42,6 +53,9 @@ impl Handler for CallLog {
             return;
         }
         self.failed |= write!(self.text, "{call:?} ").is_err();
+        if let Some(flag) = self.flag {
+            self.failed |= write!(self.text, "{} ", flag.get()).is_err();
+        }
     }
 }
 
@@ -62,22 +76,6 @@ impl<'a> Timeout for Flagged<'a> {
 
     fn pending_timeout(&self) -> bool {
         self.0.get()
-    }
-}
-
-/// Writes down each call, and whether the flag beside it is up then.
-#[derive(Drop)]
-pub struct Watching<'a> {
-    pub log: CallLog,
-    pub flag: &'a Cell<bool>,
-}
-
-impl<'a> Handler for Watching<'a> {
-    ghost step = { λ _ _ _. ⊤ };
-
-    fn call(&mut self, call: Call<'_>) {
-        self.log.call(call);
-        self.log.failed |= write!(self.log.text, "{} ", self.flag.get()).is_err();
     }
 }
 
