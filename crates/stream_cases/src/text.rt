@@ -87,9 +87,10 @@ impl Comparison {
 
     // The stream, cut once at each place, has the events that are wanted.
     fn compare(&mut self, answer: &mut Answer) -> Result<(), StepError> {
-        for cut in 0..=self.bytes.len() {
-            let (first, second) = self.bytes.split_at(cut);
-            read(&Keeping::Usual, &mut self.log, &[first, second])?;
+        let stream = self.bytes.as_slice();
+        for cut in 0..=stream.len() {
+            let pieces = [&stream[..cut], &stream[cut..]];
+            read(&Keeping::Usual, &mut self.log, &pieces)?;
             if self.log.told()? != self.wanted.told()? {
                 return self.tell_difference(cut, answer);
             }
