@@ -1,0 +1,123 @@
+//! Bytes as quoted words, and back.
+
+use crate::player::StepError;
+use std::alloc::AllocError;
+use unicode_width::UnicodeWidthChar;
+
+/// Appends bytes as people read them.
+///
+/// Printable ASCII and characters from U+00A0 on stand as they are. Characters of no width are `\u{..}`, the usual
+/// controls `\e \n \r \t`, and a backslash and a quote have a backslash before them. All other bytes are `\xHH`.
+pub(crate) fn push_escaped(text: &mut String, bytes: &[u8]) -> Result<(), AllocError> {
+    for chunk in bytes.utf8_chunks() {
+        for c in chunk.valid().chars() {
+            push_char(text, c)?;
+        }
+        push_hex(text, chunk.invalid())?;
+    }
+    Ok(())
+}
+
+fn push_char(text: &mut String, c: char) -> Result<(), AllocError> {
+    match c {
+        '\u{1B}' => text.push_str("\\e"),
+        '\n' => text.push_str("\\n"),
+        '\r' => text.push_str("\\r"),
+        '\t' => text.push_str("\\t"),
+        '\\' => text.push_str("\\\\"),
+        '"' => text.push_str("\\\""),
+        ' '..='~' => text.push(c),
+        '\0'..='\u{9F}' => push_hex(text, c.encode_utf8(&mut [0; 4]).as_bytes()),
+        _ if c.width() == Some(0) => push_code(text, u32::from(c)),
+        _ => text.push(c),
+    }
+}
+
+fn push_code(text: &mut String, code: u32) -> Result<(), AllocError> {
+    write!(text, "\\u{{{code:x}}}")
+}
+
+fn push_hex(text: &mut String, bytes: &[u8]) -> Result<(), AllocError> {
+    for byte in bytes {
+        write!(text, "\\x{byte:02X}")?;
+    }
+    Ok(())
+}
+
+const ESCAPES: StepError = StepError::Word(
+    "one of the escapes \\e \\n \\r \\t \\\\ \\\" \\xHH \\u{H..} behind a backslash",
+);
+
+/// Appends the bytes of a quoted word, which is given without its quotes.
+pub(crate) fn push_unescaped(bytes: &mut Vec<u8>, quoted: &[u8]) -> Result<(), StepError> {
+    let mut rest = quoted;
+    for _ in 0..quoted.len() {
+        let [first, after @ ..] = rest else {
+            break;
+        };
+        if *first == b'\\' {
+            rest = push_escape(bytes, after)?;
+        } else {
+            bytes.push(*first)?;
+            rest = after;
+        }
+    }
+    Ok(())
+}
+
+// Appends what an escape is, which is given without its backslash. Answers what follows it.
+fn push_escape<'a>(bytes: &mut Vec<u8>, escape: &'a [u8]) -> Result<&'a [u8], StepError> {
+    match escape {
+        [b'x', high, low, rest @ ..] => {
+            bytes.push(byte_of(&[*high, *low])?)?;
+            Ok(rest)
+        }
+        [b'u', b'{', rest @ ..] => push_character(bytes, rest),
+        [letter, rest @ ..] => {
+            bytes.push(control(*letter)?)?;
+            Ok(rest)
+        }
+        [] => Err(ESCAPES),
+    }
+}
+
+fn control(letter: u8) -> Result<u8, StepError> {
+    match letter {
+        b'e' => Ok(0x1B),
+        b'n' => Ok(b'\n'),
+        b'r' => Ok(b'\r'),
+        b't' => Ok(b'\t'),
+        b'\\' | b'"' => Ok(letter),
+        _ => Err(ESCAPES),
+    }
+}
+
+// Appends a character, given by its digits and a closing brace.
+fn push_character<'a>(bytes: &mut Vec<u8>, escape: &'a [u8]) -> Result<&'a [u8], StepError> {
+    let mut parts = escape.splitn(2, |b| *b == b'}');
+    let (Some(digits), Some(rest)) = (parts.next(), parts.next()) else {
+        return Err(ESCAPES);
+    };
+    let Some(c) = char::from_u32(number_of(digits)?) else {
+        return Err(ESCAPES);
+    };
+    bytes.extend_from_slice(c.encode_utf8(&mut [0; 4]).as_bytes())?;
+    Ok(rest)
+}
+
+// The byte of two hexadecimal digits.
+fn byte_of(digits: &[u8]) -> Result<u8, StepError> {
+    u8::from_str_radix(hexadecimal(digits)?, 16).map_err(|_| ESCAPES)
+}
+
+// The number of hexadecimal digits.
+fn number_of(digits: &[u8]) -> Result<u32, StepError> {
+    u32::from_str_radix(hexadecimal(digits)?, 16).map_err(|_| ESCAPES)
+}
+
+fn hexadecimal(digits: &[u8]) -> Result<&str, StepError> {
+    if !digits.iter().all(|digit| digit.is_ascii_hexdigit()) {
+        return Err(ESCAPES);
+    }
+    str::from_utf8(digits).map_err(|_| ESCAPES)
+}

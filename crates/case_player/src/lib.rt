@@ -1,0 +1,22 @@
+//! Plays files of cases: steps, each with the lines that it has to answer.
+//!
+//! A crate of tests has a [`Player`] that takes the steps, a program that calls [`run_cases`] with it, and the cases in
+//! files. What a file looks like is told in this crate's README.
+#![tactic(auto)]
+
+mod answer;
+mod escapes;
+mod files;
+mod invocation;
+mod lines;
+mod player;
+mod playing;
+mod report;
+mod running;
+mod words;
+
+pub use answer::Answer;
+pub use files::{Disk, Files};
+pub use player::{Player, StepError};
+pub use running::{NO_MEMORY, run_cases};
+pub use words::Words;

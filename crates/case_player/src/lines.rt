@@ -1,0 +1,28 @@
+//! The lines of a file of cases.
+
+/// A line of a file of cases.
+#[derive(Clone, Copy, Debug, PartialEq, Eq)]
+pub(crate) enum Line<'a> {
+    /// An empty line or a comment.
+    Nothing,
+    /// A case begins, with this title.
+    Case(&'a str),
+    /// A line that the step before it has to answer.
+    Wanted(&'a str),
+    /// A step: a name, and the words behind it.
+    Step(&'a str, &'a str),
+}
+
+/// Reads a line.
+pub(crate) fn parse_line(line: &str) -> Line<'_> {
+    if line.is_empty() || line.starts_with('#') {
+        return Line::Nothing;
+    }
+    match line.split_once(' ') {
+        Some(("case", title)) => Line::Case(title),
+        Some(("=", wanted)) => Line::Wanted(wanted),
+        Some((name, words)) => Line::Step(name, words),
+        None if line == "=" => Line::Wanted(""),
+        None => Line::Step(line, ""),
+    }
+}

@@ -1,0 +1,64 @@
+//! What plays the steps of a case.
+
+ghost use Rattle.std.specs.Prelude.{◌≡◌};
+ghost use Rattle.case_player.specs.declared.player.StepError.TheVariants.{Memory};
+
+use crate::answer::Answer;
+use crate::words::Words;
+use std::alloc::{AllocError, AllocFailed};
+use std::fmt;
+
+/// Plays the steps of cases.
+pub trait Player {
+    /// Begins a case: what earlier ones left is gone.
+    fn begin(&mut self) -> Result<(), StepError>;
+
+    /// Takes a step, and appends to the answer a line for each thing that it answers.
+    ///
+    /// The words are those behind the step's name. All of them have to be taken.
+    fn take(
+        &mut self,
+        name: &str,
+        words: &mut Words<'_>,
+        answer: &mut Answer,
+    ) -> Result<(), StepError>;
+}
+
+/// Why a step isn't done.
+#[derive(Clone, Copy, Debug, PartialEq, Eq)]
+pub enum StepError {
+    /// No step has this name.
+    Unknown,
+    /// Another word is wanted: this one.
+    Word(&'static str),
+    /// Memory was refused. Nothing has changed, and the step may be taken again.
+    Memory,
+    /// What the case works on has failed after memory was refused: the case ends.
+    Ended,
+    /// A check inside of the step doesn't hold, in words.
+    Wrong(&'static str),
+}
+
+impl From<AllocError> for StepError {
+    ghost from_gives = { λ _ e. e ≡ Memory };
+
+    fn from(_error: AllocError) -> Self {
+        StepError::Memory
+    }
+}
+
+impl<T: Drop> From<AllocFailed<T>> for StepError {
+    ghost from_gives = { λ _ e. e ≡ Memory };
+
+    fn from(_error: AllocFailed<T>) -> Self {
+        StepError::Memory
+    }
+}
+
+impl From<fmt::Error> for StepError {
+    ghost from_gives = { λ _ e. e ≡ Memory };
+
+    fn from(_error: fmt::Error) -> Self {
+        StepError::Memory
+    }
+}
