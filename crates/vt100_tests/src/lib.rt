@@ -1,5 +1,5 @@
-//! Tests of `vt100` and what it stands on: forms byte for byte, rows and grids at work, captures, callbacks, direct
-//! calls, refusals, and odd or large screens.
+//! Tests of `vt100` and what it stands on: forms byte for byte, captures, callbacks, direct calls, refusals, and odd or
+//! large screens.
 #![tactic(auto)]
 
 #[cfg(test)]
@@ -27,13 +27,9 @@ mod report;
 #[cfg(test)]
 mod reported;
 #[cfg(test)]
-mod rows;
-#[cfg(test)]
 mod same;
 #[cfg(test)]
 mod script;
-#[cfg(test)]
-mod shown;
 #[cfg(test)]
 mod start;
 #[cfg(test)]

@@ -1,0 +1,63 @@
+//! What a grid tells.
+use super::whole::check_whole;
+use crate::answers::{push_cell, push_row};
+use crate::words::pos;
+use case_player::{Answer, StepError, Words};
+use std::fmt::Write;
+use vt100_core::{Grid, Pos};
+
+/// Tells what a step asks of a grid, from which so many rows are gone for good.
+pub fn tell(
+    grid: &Grid,
+    gone: u64,
+    name: &str,
+    words: &mut Words<'_>,
+    answer: &mut Answer,
+) -> Result<(), StepError> {
+    match name {
+        "rows" => push_rows(grid, answer)?,
+        "cursor" => push_cursor(grid.pos(), answer)?,
+        "kept" => push_kept(grid, gone, answer)?,
+        "capacity" => write!(answer, "{}", grid.scrollback_capacity())?,
+        "visible_cell" => return tell_cell(grid, pos(words)?, answer),
+        "whole" => push_size(grid, answer)?,
+        _ => return Err(StepError::Unknown),
+    }
+    answer.end_line()?;
+    Ok(())
+}
+
+/// All rows that are drawn on, with a `/` after each.
+fn push_rows(grid: &Grid, answer: &mut Answer) -> Result<(), StepError> {
+    for row in grid.drawing_rows() {
+        push_row(answer, row)?;
+        answer.push("/")?;
+    }
+    Ok(())
+}
+
+fn push_cursor(pos: Pos, answer: &mut Answer) -> Result<(), StepError> {
+    write!(answer, "{} {}", pos.row, pos.col)?;
+    Ok(())
+}
+
+/// How many rows are kept, how many of these are shown, and how many are gone for good.
+fn push_kept(grid: &Grid, gone: u64, answer: &mut Answer) -> Result<(), StepError> {
+    let (kept, shown) = (grid.scrollback_len(), grid.scrollback());
+    write!(answer, "{kept} kept, {shown} shown, {gone} gone")?;
+    Ok(())
+}
+
+fn tell_cell(grid: &Grid, pos: Pos, answer: &mut Answer) -> Result<(), StepError> {
+    match grid.visible_cell(pos) {
+        Some(cell) => push_cell(answer, cell),
+        None => Err(StepError::Word("a row and a column of the screen")),
+    }
+}
+
+/// How many rows and columns a whole grid has.
+fn push_size(grid: &Grid, answer: &mut Answer) -> Result<(), StepError> {
+    check_whole(grid)?;
+    write!(answer, "{} {}", grid.size().rows(), grid.size().cols())?;
+    Ok(())
+}
