@@ -1,9 +1,7 @@
-//! Tests of `vt100` and what it stands on: forms byte for byte, rows and grids at work, captures, callbacks, direct
-//! calls, refusals, and odd or large screens.
+//! Tests of `vt100` and what it stands on that are written in code: rows and grids at work, values and their texts, and
+//! writers and parsers of one's own. The cases of a screen are played by `screen_cases`.
 #![tactic(auto)]
 
-#[cfg(test)]
-mod ample;
 #[cfg(test)]
 mod begun;
 #[cfg(test)]
@@ -11,30 +9,14 @@ mod calls;
 #[cfg(test)]
 mod captures;
 #[cfg(test)]
-mod cases;
-#[cfg(test)]
-mod copies;
-#[cfg(test)]
 mod forms;
 #[cfg(test)]
 mod grid;
 #[cfg(test)]
-mod log;
-#[cfg(test)]
 mod refusals;
-#[cfg(test)]
-mod report;
-#[cfg(test)]
-mod reported;
 #[cfg(test)]
 mod rows;
 #[cfg(test)]
 mod same;
 #[cfg(test)]
-mod script;
-#[cfg(test)]
 mod shown;
-#[cfg(test)]
-mod start;
-#[cfg(test)]
-mod updates;
