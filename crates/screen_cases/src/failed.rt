@@ -55,7 +55,7 @@ pub fn check_parser(alloc: Global, parser: &mut Parser<Log>) -> Result<(), StepE
     check_screen(alloc, parser.screen_mut())
 }
 
-/// A case has ended: what memory was refused to has failed, and this is what was found of it. No memory is left for more.
+/// A case has ended: what memory was refused to has failed, and this is what was found of it.
 pub fn ended(found: Result<(), StepError>) -> StepError {
     match found {
         Ok(()) | Err(StepError::Memory) => StepError::Ended,

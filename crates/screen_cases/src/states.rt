@@ -4,10 +4,10 @@ use case_player::{Answer, StepError};
 use std::fmt::Write;
 use vt100::{Color, CursorStyle, GridError, MouseProtocolEncoding, MouseProtocolMode, Screen};
 
-/// A screen's rows and columns, the cursor's row and column, how many rows are kept, how many at most, and how many of
-/// these are shown.
-pub type Places = ((u16, u16), (u16, u16), [usize; 3]);
+/// Rows and columns, the cursor's row and column, how many rows are kept, how many at most, and how many are shown.
+type Places = ((u16, u16), (u16, u16), [usize; 3]);
 
+/// A screen's places.
 pub fn places(screen: &Screen) -> Places {
     let (rows, cols) = screen.size();
     let kept = [
@@ -38,7 +38,7 @@ pub fn switches(screen: &Screen) -> [bool; 12] {
 }
 
 /// The mouse's mode and encoding, the cursor's style, and both colours.
-pub type Choices = (
+type Choices = (
     MouseProtocolMode,
     MouseProtocolEncoding,
     CursorStyle,
@@ -46,6 +46,7 @@ pub type Choices = (
     Color,
 );
 
+/// The choices of a screen.
 pub fn choices(screen: &Screen) -> Choices {
     (
         screen.mouse_protocol_mode(),
