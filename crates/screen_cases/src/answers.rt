@@ -26,10 +26,15 @@ pub fn refused(error: ScreenError) -> StepError {
     }
 }
 
-/// The step's error for that of a form.
-pub fn form_refused(error: GridError) -> StepError {
-    match error {
-        GridError::Memory => StepError::Memory,
+/// What a text holds before more is appended.
+pub const BEGUN: &str = "begun:";
+
+/// What was appended to a text that held [`BEGUN`]. A refusal has left the text as it was.
+pub fn appended<'a>(text: &'a str, answer: Result<(), GridError>) -> Result<&'a str, StepError> {
+    match (text.strip_prefix(BEGUN), answer) {
+        (Some(more), Ok(())) => Ok(more),
+        (Some(""), Err(GridError::Memory)) => Err(StepError::Memory),
+        _ => Err(StepError::Wrong("a text lost what it held, or a refusal changed it")),
     }
 }
 

@@ -1,6 +1,6 @@
 //! The words of attributes, and the changes from some to others.
-use crate::answers::{check, form_refused, tell_text};
-use crate::limited::Limited;
+use crate::answers::{BEGUN, appended, tell_text};
+use crate::limited::check_writes;
 use crate::modes::switch_of;
 use case_player::{Answer, StepError, Words};
 use std::alloc::Global;
@@ -49,21 +49,13 @@ pub fn tell_change(
     new: &Attrs,
     answer: &mut Answer,
 ) -> Result<(), StepError> {
-    let mut text = String::new(alloc);
-    new.write_escape_code_diff(&mut text, old)
-        .map_err(form_refused)?;
-    let mut writer = Limited::new(alloc, text.len())?;
-    let answers = [
-        new.write_escape_code_diff_fmt(&mut writer, old).is_ok(),
-        text.is_empty() || writer.has_taken_at_once(text.as_str()),
-        new.write_escape_code_diff_fmt(&mut writer, old).is_ok() == text.is_empty(),
-        !text.is_empty() || writer.is_untouched(),
-    ];
-    check(
-        answers == [true; 4],
-        "a writer doesn't get the change in one call, or its refusal is lost",
-    )?;
-    tell_text(answer, text.as_str())
+    let mut text = String::from_str(alloc, BEGUN)?;
+    let written = new.write_escape_code_diff(&mut text, old);
+    let change = appended(text.as_str(), written)?;
+    check_writes(alloc, change, |writer| {
+        new.write_escape_code_diff_fmt(writer, old)
+    })?;
+    tell_text(answer, change)
 }
 
 /// The attributes that are named, in the order of the words: both colours, the intensity, and whether text is in

@@ -1,7 +1,7 @@
 //! The forms that are sent to a terminal.
-use crate::answers::{check, form_refused, tell_text};
+use crate::answers::{BEGUN, appended, tell_text};
 use crate::attributes::named_attributes;
-use crate::limited::Limited;
+use crate::limited::check_writes;
 use crate::modes::{cursor_style, mouse_encoding, mouse_mode, switch};
 use case_player::{Answer, StepError, Words};
 use std::alloc::Global;
@@ -10,24 +10,11 @@ use vt100_forms::term::{self, BufWrite};
 
 /// Tells a form. A writer gets it in one call, or in no call if it is empty; where it lacks room that is told.
 fn tell<B: BufWrite>(alloc: Global, form: &B, answer: &mut Answer) -> Result<(), StepError> {
-    let mut text = String::new(alloc);
-    form.write_buf(&mut text).map_err(form_refused)?;
-    check_written(alloc, form, text.as_str())?;
-    tell_text(answer, text.as_str())
-}
-
-fn check_written<B: BufWrite>(alloc: Global, form: &B, text: &str) -> Result<(), StepError> {
-    let mut writer = Limited::new(alloc, text.len())?;
-    let answers = [
-        form.write_fmt(&mut writer).is_ok(),
-        text.is_empty() || writer.has_taken_at_once(text),
-        form.write_fmt(&mut writer).is_ok() == text.is_empty(),
-        !text.is_empty() || writer.is_untouched(),
-    ];
-    check(
-        answers == [true; 4],
-        "a writer doesn't get the form in one call, or its refusal is lost",
-    )
+    let mut text = String::from_str(alloc, BEGUN)?;
+    let written = form.write_buf(&mut text);
+    let form_text = appended(text.as_str(), written)?;
+    check_writes(alloc, form_text, |writer| form.write_fmt(writer))?;
+    tell_text(answer, form_text)
 }
 
 /// Tells the form that the words say. One without the words that it may have is the default one.

@@ -1,5 +1,7 @@
 //! A writer that has only so much room.
-use std::alloc::{AllocError, Global};
+use crate::answers::check;
+use case_player::StepError;
+use std::alloc::Global;
 use std::fmt;
 
 /// Takes whole texts while there is room for them.
@@ -8,27 +10,6 @@ pub struct Limited {
     taken: String,
     room: usize,
     calls: usize,
-}
-
-impl Limited {
-    /// A writer that has room for so many bytes.
-    pub fn new(alloc: Global, room: usize) -> Result<Limited, AllocError> {
-        Ok(Limited {
-            taken: String::with_capacity(alloc, room)?,
-            room,
-            calls: 0,
-        })
-    }
-
-    /// Whether it was called once, and has taken this text.
-    pub fn has_taken_at_once(&self, text: &str) -> bool {
-        self.calls == 1 && self.taken.as_str() == text
-    }
-
-    /// Whether it was never called.
-    pub fn is_untouched(&self) -> bool {
-        self.calls == 0
-    }
 }
 
 impl fmt::Write for Limited {
@@ -43,4 +24,28 @@ impl fmt::Write for Limited {
             Err(_) => Err(fmt::Error),
         }
     }
+}
+
+/// A writer with room for this text gets it in one call, or in no call if it is empty. A second time it refuses the
+/// text, and that is told.
+pub fn check_writes<F: Fn(&mut Limited) -> fmt::Result>(
+    alloc: Global,
+    text: &str,
+    write: F,
+) -> Result<(), StepError>
+    requires { F.IsAlwaysCallable write }
+{
+    let mut writer = Limited {
+        taken: String::with_capacity(alloc, text.len())?,
+        room: text.len(),
+        calls: 0,
+    };
+    let is_taken = write(&mut writer).is_ok() && writer.taken.as_str() == text;
+    let wanted_calls = if text.is_empty() { 0 } else { 1 };
+    let is_at_once = writer.calls == wanted_calls;
+    let is_refused = write(&mut writer).is_err();
+    check(
+        is_taken && is_at_once && is_refused != text.is_empty(),
+        "a writer doesn't get the text in one call, or its refusal isn't told",
+    )
 }

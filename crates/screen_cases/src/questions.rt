@@ -1,14 +1,11 @@
 //! What a screen is asked.
-use crate::answers::{check, refused, tell_lines, tell_text};
+use crate::answers::{BEGUN, check, refused, tell_lines, tell_text};
 use crate::stage::Stage;
 use crate::states::tell_state;
 use crate::texts::{Text, parse_text, text_of};
 use case_player::{Answer, StepError, Words};
 use std::alloc::Global;
 use vt100::Screen;
-
-/// What a text holds before more is appended.
-const BEGUN: &str = "begun:";
 
 /// Answers a question of the parser's screen, or one after the word `base` of the screen beside it.
 pub fn ask(
