@@ -7,13 +7,3 @@ use std::process::Abort;
 pub fn same<R: Abort, T: PartialEq + Debug>(rt: &R, reported: &T, wanted: &T) {
     assert_eq!(rt; reported, wanted);
 }
-
-/// The same, where a failure names what was asked.
-pub fn same_for<R: Abort, A: Debug, T: PartialEq + Debug>(
-    rt: &R,
-    asked: &A,
-    reported: &T,
-    wanted: &T,
-) {
-    assert_eq!(rt; reported, wanted, "{asked:?}");
-}

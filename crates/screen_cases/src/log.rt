@@ -2,37 +2,45 @@
 
 ghost use Rattle.std.specs.Prelude.{⊤};
 
-use crate::start::{Start, count};
-use std::alloc::Global;
+use std::alloc::{AllocError, Global};
+use std::num::NonZeroU16;
 use std::str;
 use vt100::capture::{BasicFormattedCaptureState, RowContents};
-use vt100::{Call, Callbacks, Parser, Screen, ScreenError};
+use vt100::{Call, Callbacks, Screen};
 
-/// The calls so far, each as a few words with the cursor's place at that time, and the capture of the rows that left.
-/// What asks for a size gets it.
+/// How many bytes the calls, and the capture, have room for from the start.
+const ROOM: usize = 1024;
+
+/// The calls so far, each a line with the cursor's place at that time, and the capture of the rows that left. What asks
+/// for a size gets it.
 #[derive(Drop)]
-pub struct CallLog {
-    pub text: String,
+pub struct Log {
+    /// The calls that aren't told yet.
+    pub calls: String,
+    /// The capture of the rows that left.
     pub capture: String,
+    /// Where that capture goes on.
     pub state: BasicFormattedCaptureState,
-    pub failed: bool,
-    /// Whether a size that was asked for was refused.
-    pub refused: bool,
+    /// Whether memory was refused to a line.
+    pub is_cut: bool,
+    /// Whether a size was asked for.
+    pub is_resized: bool,
 }
 
-impl CallLog {
-    fn new(alloc: Global) -> CallLog {
-        CallLog {
-            text: String::new(alloc),
-            capture: String::new(alloc),
+impl Log {
+    /// A log without calls.
+    pub fn new(alloc: Global) -> Result<Log, AllocError> {
+        Ok(Log {
+            calls: String::with_capacity(alloc, ROOM)?,
+            capture: String::with_capacity(alloc, ROOM)?,
             state: BasicFormattedCaptureState::default(),
-            failed: false,
-            refused: false,
-        }
+            is_cut: false,
+            is_resized: false,
+        })
     }
 
-    pub fn word(&mut self, word: &str) {
-        self.failed |= write!(self.text, "{word} ").is_err();
+    fn word(&mut self, word: &str) {
+        self.is_cut |= write!(self.calls, "{word} ").is_err();
     }
 
     /// A word, and then each of these pieces.
@@ -44,15 +52,15 @@ impl CallLog {
     }
 
     fn number(&mut self, word: &str, number: u32) {
-        self.failed |= write!(self.text, "{word} {number} ").is_err();
+        self.is_cut |= write!(self.calls, "{word} {number} ").is_err();
     }
 
     fn escape(&mut self, i1: Option<u8>, i2: Option<u8>, b: u8) {
-        self.failed |= write!(self.text, "escape {i1:?} {i2:?} {b} ").is_err();
+        self.is_cut |= write!(self.calls, "escape {i1:?} {i2:?} {b} ").is_err();
     }
 
     fn csi(&mut self, i1: Option<u8>, i2: Option<u8>, params: &[&[u16]], c: char) {
-        self.failed |= write!(self.text, "csi {i1:?} {i2:?} {params:?} {c} ").is_err();
+        self.is_cut |= write!(self.calls, "csi {i1:?} {i2:?} {params:?} {c} ").is_err();
     }
 
     /// A call that asks nothing of the screen.
@@ -77,23 +85,30 @@ impl CallLog {
     fn place(&mut self, screen: &Screen) {
         let (row, col) = screen.cursor_position();
         let bold = if screen.bold() { "b" } else { "" };
-        self.failed |= write!(self.text, "at {row} {col}{bold}; ").is_err();
+        self.is_cut |= writeln!(self.calls, "at {row} {col}{bold}").is_err();
     }
 
-    fn request(&mut self, screen: &mut Screen, rows: u16, cols: u16) {
-        self.failed |= write!(self.text, "resize {rows} {cols} ").is_err();
-        self.refused |= screen.set_size(count(rows), count(cols)).is_err();
+    /// Grants a size, of which 0 counts as 1. Where memory is refused the screen has failed.
+    fn grant(&mut self, screen: &mut Screen, rows: u16, cols: u16) {
+        self.is_cut |= write!(self.calls, "resize {rows} {cols} ").is_err();
+        self.is_resized = true;
+        let granted = screen.set_size(at_least_one(rows), at_least_one(cols));
+        self.is_cut |= granted.is_err();
     }
 }
 
-impl Callbacks for CallLog {
+fn at_least_one(number: u16) -> NonZeroU16 {
+    NonZeroU16::new(number).unwrap_or(NonZeroU16::MIN)
+}
+
+impl Callbacks for Log {
     ghost step = { λ _ _ _ _ _. ⊤ };
 
     ghost scrolls = { λ _ _ _ _. ⊤ };
 
     fn call(&mut self, screen: &mut Screen, call: Call<'_>) {
         match call {
-            Call::Resize(rows, cols) => self.request(screen, rows, cols),
+            Call::Resize(rows, cols) => self.grant(screen, rows, cols),
             call => self.reported(call),
         }
         self.place(screen);
@@ -106,11 +121,11 @@ impl Callbacks for CallLog {
             "row"
         });
         let mut alone = BasicFormattedCaptureState::new();
-        self.failed |= contents
-            .write_formatted_basic(&mut self.text, &mut alone)
+        self.is_cut |= contents
+            .write_formatted_basic(&mut self.calls, &mut alone)
             .is_err();
-        self.word(";");
-        self.failed |= contents
+        self.is_cut |= self.calls.push('\n').is_err();
+        self.is_cut |= contents
             .write_formatted_basic(&mut self.capture, &mut self.state)
             .is_err();
     }
@@ -119,16 +134,4 @@ impl Callbacks for CallLog {
         self.word("bell");
         self.place(screen);
     }
-}
-
-/// A parser of this size with a log.
-pub fn logging_parser(alloc: Global, start: Start) -> Result<Parser<CallLog>, ScreenError> {
-    let (rows, cols, capacity) = start;
-    Parser::new_with_callbacks(
-        alloc,
-        count(rows),
-        count(cols),
-        capacity,
-        CallLog::new(alloc),
-    )
 }

@@ -1,0 +1,48 @@
+//! Lines of answers, and the errors of steps.
+use case_player::{Answer, StepError};
+use vt100::{GridError, ScreenError};
+
+/// Appends a text as a line in quotes.
+pub fn tell_text(answer: &mut Answer, text: &str) -> Result<(), StepError> {
+    answer.quoted(text.as_bytes())?;
+    answer.end_line()?;
+    Ok(())
+}
+
+/// Appends the lines of a text, each with escapes.
+pub fn tell_lines(answer: &mut Answer, text: &str) -> Result<(), StepError> {
+    for line in text.lines() {
+        answer.escaped(line.as_bytes())?;
+        answer.end_line()?;
+    }
+    Ok(())
+}
+
+/// The step's error for a reading call's.
+pub fn refused(error: ScreenError) -> StepError {
+    match error {
+        ScreenError::Memory => StepError::Memory,
+        ScreenError::Failed => StepError::Wrong("the screen has failed"),
+    }
+}
+
+/// What a text holds before more is appended.
+pub const BEGUN: &str = "begun:";
+
+/// What was appended to a text that held [`BEGUN`]. A refusal has left the text as it was.
+pub fn appended<'a>(text: &'a str, answer: Result<(), GridError>) -> Result<&'a str, StepError> {
+    match (text.strip_prefix(BEGUN), answer) {
+        (Some(more), Ok(())) => Ok(more),
+        (Some(""), Err(GridError::Memory)) => Err(StepError::Memory),
+        _ => Err(StepError::Wrong("a text lost what it held, or a refusal changed it")),
+    }
+}
+
+/// A check inside of a step.
+pub fn check(holds: bool, fault: &'static str) -> Result<(), StepError> {
+    if holds {
+        Ok(())
+    } else {
+        Err(StepError::Wrong(fault))
+    }
+}
