@@ -1,12 +1,19 @@
 //! Bytes that are cut wherever they can be, and what views show of the pieces.
 
 use crate::drawn::{push_cell, push_cursor, push_shown};
-use crate::views::new_view;
 use case_player::{Answer, StepError, Words};
 use std::alloc::Global;
 use std::fmt::Write;
 use std::num::NonZeroU16;
 use termview::{UntilCleared, View};
+
+/// A view of this size that shows nothing.
+pub fn new_view(
+    alloc: Global,
+    (rows, cols): (NonZeroU16, NonZeroU16),
+) -> Result<View<UntilCleared>, StepError> {
+    View::new(alloc, rows, cols, UntilCleared::new()).map_err(|_| StepError::Memory)
+}
 
 /// What is told at each cut in turn. A line says from which cut on it is told.
 #[derive(Drop)]

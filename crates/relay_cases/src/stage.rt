@@ -1,9 +1,10 @@
 //! What the steps of a case work on.
 
+use crate::cuts::new_view;
 use crate::hubs::Hubs;
 use crate::readers::fill_piece;
 use crate::streams::Streams;
-use crate::views::{new_view, view_in_pieces};
+use crate::views::view_in_pieces;
 use crate::{cuts, views};
 use case_player::{Answer, Player, StepError, Words};
 use std::alloc::Global;

@@ -8,16 +8,7 @@ use relay_streams::{view_of, write_view};
 use std::alloc::Global;
 use std::fmt::Write;
 use std::io::ErrorKind;
-use std::num::NonZeroU16;
 use termview::{UntilCleared, View};
-
-/// A view of this size that shows nothing.
-pub fn new_view(
-    alloc: Global,
-    (rows, cols): (NonZeroU16, NonZeroU16),
-) -> Result<View<UntilCleared>, StepError> {
-    View::new(alloc, rows, cols, UntilCleared::new()).map_err(|_| StepError::Memory)
-}
 
 /// What a view shows of bytes. The words are its size, the bytes, and how long the pieces are before the last one.
 pub fn view_in_pieces(
