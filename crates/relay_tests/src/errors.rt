@@ -1,54 +1,58 @@
 //! The texts of refusals and of faults.
-use crate::owners::lend;
-use crate::same::same;
+
+use crate::same::same_for;
 use relay_streams::RelayError;
-use std::fmt::Display;
 use std::io;
 use std::io::ErrorKind;
-use std::process::Abort;
 use std::test::Fail;
 use termrelay::HubError;
 use termview::ViewError;
 
-/// This error has this text.
-fn check_text(
-    rt: &(impl Abort + AllocGlobal),
-    error: &impl Display,
-    wanted: &str,
-) -> Result<(), Fail> {
-    lend(String::new(rt.alloc()), |text| {
-        write!(text, "{error}")?;
-        same(rt, &text.as_str(), &wanted);
-        Ok(())
-    })
-}
-
-#[test]
-fn texts_of_refusals(rt: HostRuntime) -> Result<(), Fail> {
-    check_text(&rt, &HubError::Memory, "out of memory")?;
-    check_text(&rt, &HubError::Failed, "the hub has failed")?;
-    check_text(&rt, &HubError::UnknownClient, "unknown client")?;
+fn push_refusals(text: &mut String) -> Result<(), Fail> {
     let fault = HubError::Write(io::Error::from(ErrorKind::BrokenPipe));
-    check_text(&rt, &fault, "broken pipe")
+    for error in [
+        HubError::Memory,
+        HubError::Failed,
+        HubError::UnknownClient,
+        fault,
+    ] {
+        write!(text, "{error}; ")?;
+    }
+    write!(text, "{}", ViewError::Memory)?;
+    Ok(())
 }
 
+/// Of a hub and of a view.
 #[test]
-fn text_of_the_refusal(rt: HostRuntime) -> Result<(), Fail> {
-    check_text(&rt, &ViewError::Memory, "out of memory")
+fn refusals_have_texts(rt: HostRuntime) -> Result<(), Fail> {
+    let mut text = String::new(rt.alloc());
+    push_refusals(&mut text)?;
+    let wanted = "out of memory; the hub has failed; unknown client; broken pipe; out of memory";
+    same_for(&rt, &"refusals", &text.as_str(), &wanted);
+    Ok(())
 }
 
-const FAULTS: &[(RelayError, &str)] = &[
-    (RelayError::Read, "read"),
-    (RelayError::Write, "write"),
-    (RelayError::Memory, "memory"),
-    (RelayError::TooManyReads, "too many reads"),
-    (RelayError::FrameTooLong, "frame too long"),
+const FAULTS: &[RelayError] = &[
+    RelayError::Read,
+    RelayError::Write,
+    RelayError::Memory,
+    RelayError::TooManyReads,
+    RelayError::FrameTooLong,
 ];
 
-#[test]
-fn texts_of_faults(rt: HostRuntime) -> Result<(), Fail> {
-    for (error, wanted) in FAULTS {
-        check_text(&rt, error, wanted)?;
+fn push_faults(text: &mut String) -> Result<(), Fail> {
+    for error in FAULTS {
+        write!(text, "{error}; ")?;
     }
+    Ok(())
+}
+
+/// Of relays and shows.
+#[test]
+fn faults_have_texts(rt: HostRuntime) -> Result<(), Fail> {
+    let mut text = String::new(rt.alloc());
+    push_faults(&mut text)?;
+    let wanted = "read; write; memory; too many reads; frame too long; ";
+    same_for(&rt, &"faults", &text.as_str(), &wanted);
     Ok(())
 }

@@ -1,100 +1,11 @@
-//! Hubs and runs that find no memory.
-use crate::owners::{with, with_log};
-use crate::refusals::again::{new_hub, new_view};
-use crate::refusals::far::Far;
-use crate::refusals::owing::{HI, attach_and_frame, check_owed, owing};
+//! Runs that find no memory.
+
 use crate::same::same_for;
-use crate::seen::{cell_of, count};
+use std::alloc::Global;
+use std::num::NonZeroU16;
 use std::process::Abort;
 use std::test::Fail;
 use termrelay::{Answer, Call, Client, Hub, HubError, Log, Reply, Take, run};
-use termview::{UntilCleared, View};
-
-/// The hub has failed, says this answer.
-fn is_failed<T>(answer: &Result<T, HubError>) -> bool {
-    matches!(answer, Err(HubError::Failed))
-}
-
-/// What a failed hub answers.
-fn check_failed(rt: &impl Abort, hub: &mut Hub, client: Client) {
-    let unknown = Client::from_key(usize::MAX);
-    let answers = [
-        is_failed(&hub.feed(b"x")),
-        is_failed(&hub.attach()),
-        is_failed(&hub.resize(count(2), count(4))),
-        is_failed(&hub.frame(client)),
-        matches!(hub.frame(unknown), Err(HubError::UnknownClient)),
-    ];
-    same_for(rt, &client, &answers, &[true; 5]);
-}
-
-/// What the client is owed is pumped to a view, which shows it.
-fn check_pump(
-    rt: &impl Abort,
-    hub: &mut Hub,
-    client: Client,
-    view: &mut View<UntilCleared>,
-) -> Result<(), Fail> {
-    hub.pump(client, &mut Far { view })?;
-    let ((first, _, _), (second, _, _)) = (cell_of(view, 0, 0), cell_of(view, 0, 1));
-    same_for(rt, &client, &(first, second), &("h", "i"));
-    check_owed(rt, hub, client, Some(b""));
-    Ok(())
-}
-
-fn check_shown(rt: &(impl Abort + AllocGlobal), hub: &mut Hub, client: Client) -> Result<(), Fail> {
-    with(
-        new_view(rt.alloc(), (2, 4)),
-        |view| check_pump(rt, hub, client, view),
-    )
-}
-
-/// What is fed takes memory. Without it the hub has failed, and what was owed before can still be sent.
-fn check_feed(rt: &(impl Abort + AllocGlobal), hub: &mut Hub, bytes: &[u8]) -> Result<(), Fail> {
-    let client = owing(rt, hub)?;
-    let is_refused = matches!(hub.feed(bytes), Err(HubError::Memory));
-    same_for(rt, &bytes, &hub.screen().failed(), &is_refused);
-    if is_refused {
-        check_failed(rt, hub, client);
-    }
-    check_owed(rt, hub, client, Some(HI));
-    check_shown(rt, hub, client)?;
-    hub.detach(client)?;
-    Ok(())
-}
-
-#[test]
-fn an_alternate_sheet_without_memory_fails_the_hub(rt: HostRuntime) -> Result<(), Fail> {
-    with(
-        new_hub(rt.alloc(), (2, 4)),
-        |hub| check_feed(&rt, hub, b"\x1b[?1049hz"),
-    )
-}
-
-#[test]
-fn a_reset(rt: HostRuntime) -> Result<(), Fail> {
-    with(
-        new_hub(rt.alloc(), (2, 4)),
-        |hub| check_feed(&rt, hub, b"z\x1bcz"),
-    )
-}
-
-fn check_resize(rt: &impl Abort, hub: &mut Hub) -> Result<(), Fail> {
-    let client = owing(rt, hub)?;
-    if hub.resize(count(3), count(4)).is_err() {
-        check_owed(rt, hub, client, Some(HI));
-        hub.resize(count(3), count(4))?;
-    }
-    check_owed(rt, hub, client, None);
-    attach_and_frame(rt, hub)?;
-    Ok(())
-}
-
-/// Refused, it ends no client.
-#[test]
-fn a_refused_resize_ends_no_client(rt: HostRuntime) -> Result<(), Fail> {
-    with(new_hub(rt.alloc(), (2, 4)), |hub| check_resize(&rt, hub))
-}
 
 /// A reply in words.
 fn words_of(reply: &Reply) -> &'static str {
@@ -184,7 +95,8 @@ fn check_log(rt: &impl Abort, hub: &Hub, log: &Log, start: usize) {
     let (pumped, made) = check_replies(rt, log.replies().get(start..).unwrap_or(&[]));
     for session in log.sessions() {
         same_for(rt, &pumped, &Some(session.pumped()), &SENT.get(..pumped));
-        check_owed(rt, hub, session.client(), SENT.get(pumped..made));
+        let owed = hub.owed(session.client()).ok();
+        same_for(rt, &made, &owed, &SENT.get(pumped..made));
     }
 }
 
@@ -203,12 +115,22 @@ fn check_run(rt: &impl Abort, hub: &mut Hub, log: &mut Log) -> Result<(), Fail> 
     Ok(())
 }
 
+/// A hub of two rows of four columns, made at the second try if the first was refused.
+fn new_hub(alloc: Global) -> Result<Hub, HubError> {
+    let (rows, cols) = (
+        NonZeroU16::new(2).unwrap_or(NonZeroU16::MIN),
+        NonZeroU16::new(4).unwrap_or(NonZeroU16::MIN),
+    );
+    match Hub::new(alloc, rows, cols) {
+        Ok(hub) => Ok(hub),
+        Err(_) => Hub::new(alloc, rows, cols),
+    }
+}
+
 /// Where the log has no room the run ends before that call, and the rest can be made as if nothing had been.
 #[test]
 fn a_run_without_room_in_its_log_ends_before_the_call(rt: HostRuntime) -> Result<(), Fail> {
-    with_log(
-        rt.alloc(),
-        new_hub(rt.alloc(), (2, 4)),
-        |hub, log| check_run(&rt, hub, log),
-    )
+    let mut hub = new_hub(rt.alloc())?;
+    let mut log = Log::new(rt.alloc());
+    check_run(&rt, &mut hub, &mut log)
 }

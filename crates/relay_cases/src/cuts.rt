@@ -1,0 +1,173 @@
+//! Bytes that are cut wherever they can be, and what views show of the pieces.
+
+use crate::drawn::{push_cell, push_cursor, push_shown};
+use case_player::{Answer, StepError, Words};
+use std::alloc::Global;
+use std::fmt::Write;
+use std::num::NonZeroU16;
+use termview::{UntilCleared, View};
+
+/// A view of this size that shows nothing.
+pub fn new_view(
+    alloc: Global,
+    (rows, cols): (NonZeroU16, NonZeroU16),
+) -> Result<View<UntilCleared>, StepError> {
+    View::new(alloc, rows, cols, UntilCleared::new()).map_err(|_| StepError::Memory)
+}
+
+/// What is told at each cut in turn. A line says from which cut on it is told.
+#[derive(Drop)]
+pub struct Turns {
+    last: Answer,
+}
+
+impl Turns {
+    /// Nothing was told yet.
+    pub fn new(alloc: Global) -> Result<Turns, StepError> {
+        Ok(Turns {
+            last: Answer::new(alloc)?,
+        })
+    }
+
+    /// Appends what is told at a cut, unless the cut before told the same.
+    pub fn push(&mut self, cut: usize, told: Answer, answer: &mut Answer) -> Result<(), StepError> {
+        if told.as_str() != self.last.as_str() {
+            write!(answer, "{cut}: ")?;
+            answer.line(told.as_str())?;
+            self.last = told;
+        }
+        Ok(())
+    }
+}
+
+/// Takes a step that cuts bytes: `cuts`, `stops` or `two_cuts`.
+pub fn take(
+    alloc: Global,
+    name: &str,
+    words: &mut Words<'_>,
+    answer: &mut Answer,
+) -> Result<(), StepError> {
+    let size = (words.size()?, words.size()?);
+    match name {
+        "cuts" => each_cut(alloc, size, &words.bytes(alloc)?, answer),
+        "stops" => each_stop(alloc, size, &words.bytes(alloc)?, answer),
+        _ => {
+            let place = (words.place()?, words.place()?);
+            each_two_cuts(alloc, size, place, &words.bytes(alloc)?, answer)
+        }
+    }
+}
+
+type Size = (NonZeroU16, NonZeroU16);
+
+// What is shown before each cut, and after all bytes.
+fn each_cut(alloc: Global, size: Size, bytes: &[u8], answer: &mut Answer) -> Result<(), StepError> {
+    let mut turns = Turns::new(alloc)?;
+    for cut in 0..bytes.len() {
+        let mut told = Answer::new(alloc)?;
+        tell_cut(&mut new_view(alloc, size)?, bytes.split_at(cut), &mut told)?;
+        turns.push(cut, told, answer)?;
+    }
+    Ok(())
+}
+
+/// The mark that begins an update.
+const START_LEN: usize = 8;
+
+// The prefix is held but for the mark before it, and shows nothing yet.
+fn tell_cut(
+    view: &mut View<UntilCleared>,
+    (prefix, rest): (&[u8], &[u8]),
+    told: &mut Answer,
+) -> Result<(), StepError> {
+    view.advance(prefix);
+    if view.sync_bytes_count() != prefix.len().saturating_sub(START_LEN) {
+        return Err(StepError::Wrong("other bytes are held than those behind the mark"));
+    }
+    push_shown(told, view)?;
+    told.push(", then ")?;
+    view.advance(rest);
+    tell_end(view, told)
+}
+
+// What is shown in the end, when nothing is held any more.
+fn tell_end(view: &View<UntilCleared>, told: &mut Answer) -> Result<(), StepError> {
+    if view.sync_bytes_count() != 0 {
+        return Err(StepError::Wrong("bytes are held in the end"));
+    }
+    push_shown(told, view)
+}
+
+// What is shown in the end where updates are stopped after each byte.
+fn each_stop(
+    alloc: Global,
+    size: Size,
+    bytes: &[u8],
+    answer: &mut Answer,
+) -> Result<(), StepError> {
+    let mut turns = Turns::new(alloc)?;
+    for cut in 0..bytes.len() {
+        let mut told = Answer::new(alloc)?;
+        let (prefix, rest) = bytes.split_at(cut + 1);
+        tell_stop(&mut new_view(alloc, size)?, prefix, rest, &mut told)?;
+        turns.push(cut + 1, told, answer)?;
+    }
+    Ok(())
+}
+
+fn tell_stop(
+    view: &mut View<UntilCleared>,
+    prefix: &[u8],
+    rest: &[u8],
+    told: &mut Answer,
+) -> Result<(), StepError> {
+    view.advance(prefix);
+    view.stop_sync();
+    view.advance(rest);
+    tell_end(view, told)
+}
+
+/// Appends a cell, and the cursor's row and column.
+pub fn push_drawn(
+    told: &mut Answer,
+    view: &View<UntilCleared>,
+    (row, col): (u16, u16),
+) -> Result<(), StepError> {
+    push_cell(told, view, row, col)?;
+    told.push(" ")?;
+    push_cursor(told, view)
+}
+
+// A cell and the cursor, where the bytes come in three pieces.
+fn each_two_cuts(
+    alloc: Global,
+    size: Size,
+    place: (u16, u16),
+    bytes: &[u8],
+    answer: &mut Answer,
+) -> Result<(), StepError> {
+    let mut turns = Turns::new(alloc)?;
+    for cut in 0..bytes.len() + 1 {
+        let (prefix, rest) = bytes.split_at(cut);
+        for earlier in 0..cut + 1 {
+            let (first, second) = prefix.split_at(earlier);
+            let mut told = Answer::new(alloc)?;
+            let pieces = [first, second, rest];
+            tell_pieces(&mut new_view(alloc, size)?, pieces, place, &mut told)?;
+            turns.push(cut, told, answer)?;
+        }
+    }
+    Ok(())
+}
+
+fn tell_pieces(
+    view: &mut View<UntilCleared>,
+    pieces: [&[u8]; 3],
+    place: (u16, u16),
+    told: &mut Answer,
+) -> Result<(), StepError> {
+    for piece in pieces {
+        view.advance(piece);
+    }
+    push_drawn(told, view, place)
+}

@@ -1,0 +1,146 @@
+//! What a view shows, as lines.
+
+use case_player::{Answer, StepError};
+use std::alloc::Global;
+use std::fmt::Write;
+use termview::{UntilCleared, View, ViewCell};
+
+fn text_of(cell: Option<&ViewCell>) -> &str {
+    match cell {
+        Some(cell) if cell.has_contents() => cell.contents(),
+        Some(cell) if cell.is_wide_continuation() => "_",
+        _ => ".",
+    }
+}
+
+fn push_row(answer: &mut Answer, view: &View<UntilCleared>, row: u16) -> Result<(), StepError> {
+    let (_, cols) = view.size();
+    for col in 0..cols.get() {
+        answer.escaped(text_of(view.cell(row, col)).as_bytes())?;
+    }
+    answer.push(if view.row_wrapped(row) { ">/" } else { "/" })?;
+    Ok(())
+}
+
+/// Appends a view's rows, `.` for an empty cell, `_` for the second half of a wide one, `>` where the row is wrapped and
+/// `/` after each; then the cursor's row and column, as in `"ab>/c./" 1 1`.
+pub fn push_shown(answer: &mut Answer, view: &View<UntilCleared>) -> Result<(), StepError> {
+    answer.push("\"")?;
+    let (rows, _) = view.size();
+    for row in 0..rows.get() {
+        push_row(answer, view, row)?;
+    }
+    answer.push("\" ")?;
+    push_cursor(answer, view)
+}
+
+/// Appends the cursor's row and column.
+pub fn push_cursor(answer: &mut Answer, view: &View<UntilCleared>) -> Result<(), StepError> {
+    let (row, col) = view.cursor_position();
+    write!(answer, "{row} {col}")?;
+    Ok(())
+}
+
+/// Appends a cell's text and its two colours.
+pub fn push_cell(
+    answer: &mut Answer,
+    view: &View<UntilCleared>,
+    row: u16,
+    col: u16,
+) -> Result<(), StepError> {
+    let Some(cell) = view.cell(row, col) else {
+        answer.push("no cell")?;
+        return Ok(());
+    };
+    answer.quoted(cell.contents().as_bytes())?;
+    write!(answer, " {:?} {:?}", cell.fgcolor(), cell.bgcolor())?;
+    Ok(())
+}
+
+// Appends the letters that are set, or `-` where none is.
+fn push_set(answer: &mut Answer, letters: &[(bool, &str)]) -> Result<(), StepError> {
+    let mut is_empty = true;
+    for (is_set, letter) in letters {
+        if *is_set {
+            answer.push(letter)?;
+            is_empty = false;
+        }
+    }
+    if is_empty {
+        answer.push("-")?;
+    }
+    Ok(())
+}
+
+/// Appends a view's modes and drawing attributes: the letters of the modes that are set (keypad, cursor keys, hidden
+/// cursor, bracketed paste), the mouse's mode and encoding, the cursor's style, the two colours, and the letters of the
+/// attributes (bold, dim, italic, underlined, inverse).
+pub fn push_settings(answer: &mut Answer, view: &View<UntilCleared>) -> Result<(), StepError> {
+    let modes = [
+        (view.application_keypad(), "k"),
+        (view.application_cursor(), "c"),
+        (view.hide_cursor(), "h"),
+        (view.bracketed_paste(), "p"),
+    ];
+    push_set(answer, &modes)?;
+    push_mouse_and_colors(answer, view)?;
+    let attributes = [
+        (view.bold(), "b"),
+        (view.dim(), "d"),
+        (view.italic(), "i"),
+        (view.underline(), "u"),
+        (view.inverse(), "v"),
+    ];
+    push_set(answer, &attributes)
+}
+
+fn push_mouse_and_colors(answer: &mut Answer, view: &View<UntilCleared>) -> Result<(), StepError> {
+    let (mode, encoding) = (view.mouse_protocol_mode(), view.mouse_protocol_encoding());
+    write!(answer, " {mode:?} {encoding:?} {:?} ", view.cursor_style())?;
+    write!(answer, "{:?} {:?} ", view.fgcolor(), view.bgcolor())?;
+    Ok(())
+}
+
+// The text of a row.
+fn text_of_row(alloc: Global, view: &View<UntilCleared>, row: u16) -> Result<Vec<u8>, StepError> {
+    let mut text = Vec::new(alloc);
+    match view.row_text(row, &mut text) {
+        Ok(()) => Ok(text),
+        Err(_) => Err(StepError::Memory),
+    }
+}
+
+/// Appends a row's text.
+pub fn push_row_text(
+    alloc: Global,
+    answer: &mut Answer,
+    view: &View<UntilCleared>,
+    row: u16,
+) -> Result<(), StepError> {
+    answer.quoted(&text_of_row(alloc, view, row)?)?;
+    Ok(())
+}
+
+/// Appends a line for each row: how often each of its bytes stands there, as in `80 "a"`.
+pub fn push_runs(
+    alloc: Global,
+    answer: &mut Answer,
+    view: &View<UntilCleared>,
+) -> Result<(), StepError> {
+    let (rows, _) = view.size();
+    for row in 0..rows.get() {
+        push_row_runs(answer, &text_of_row(alloc, view, row)?)?;
+        answer.end_line()?;
+    }
+    Ok(())
+}
+
+fn push_row_runs(answer: &mut Answer, text: &[u8]) -> Result<(), StepError> {
+    let mut separator = "";
+    for run in text.chunk_by(|byte, next| byte == next) {
+        write!(answer, "{separator}{} ", run.len())?;
+        answer.quoted(run.get(..1).unwrap_or(run))?;
+        separator = " ";
+    }
+    Ok(())
+}

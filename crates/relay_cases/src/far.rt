@@ -1,0 +1,87 @@
+//! Far views: what the bytes show that a client was sent, wherever they are cut.
+
+use crate::cuts::{Turns, push_drawn};
+use crate::hubs::Hubs;
+use crate::seats::Side;
+use crate::wordings::{amount, counts};
+use case_player::{Answer, StepError, Words};
+use relay_streams::{RelayError, far_view};
+use std::alloc::Global;
+use termrelay::Call;
+use termview::{UntilCleared, View};
+
+impl Hubs {
+    // The calls so far, with the keys that the first hub's clients have.
+    fn all_calls(&self, alloc: Global) -> Result<Vec<Call<'_>>, StepError> {
+        let mut calls = Vec::new(alloc);
+        for deed in self.calls.deeds() {
+            let client = self.seat(deed.client()).client(Side::Called);
+            calls.push(self.calls.call_of(*deed, client))?;
+        }
+        Ok(calls)
+    }
+
+    // What a view shows of the first bytes of a session.
+    fn far(
+        &self,
+        alloc: Global,
+        calls: &[Call<'_>],
+        (session, take): (usize, usize),
+        cuts: &[usize],
+    ) -> Result<Option<View<UntilCleared>>, StepError> {
+        let (rows, cols) = self.size;
+        match far_view(alloc, rows, cols, calls, session, take, cuts) {
+            Ok(found) => Ok(found),
+            Err(RelayError::Memory) => Err(StepError::Memory),
+            Err(_) => Err(StepError::Wrong("the far view fails otherwise than for memory")),
+        }
+    }
+
+    /// What a view shows of all calls so far. The words are the session, how many of its bytes are taken or `all`, and
+    /// how long the pieces are before the last one.
+    pub fn find_far(
+        &self,
+        alloc: Global,
+        words: &mut Words<'_>,
+    ) -> Result<Option<View<UntilCleared>>, StepError> {
+        let part = (words.count()?, amount(words.word()?)?);
+        let cuts = counts(alloc, words)?;
+        self.far(alloc, &self.all_calls(alloc)?, part, &cuts)
+    }
+
+    /// What a cell of such views shows, and their cursor, where the bytes are cut once, at each place. The words are the
+    /// session, how many of its bytes are taken, and the cell's row and column.
+    pub fn cut_far(
+        &self,
+        alloc: Global,
+        words: &mut Words<'_>,
+        answer: &mut Answer,
+    ) -> Result<(), StepError> {
+        let part = (words.count()?, words.count()?);
+        let place = (words.place()?, words.place()?);
+        let calls = self.all_calls(alloc)?;
+        let mut turns = Turns::new(alloc)?;
+        for cut in 0..part.1 {
+            let told = self.told_far(alloc, &calls, part, cut, place)?;
+            turns.push(cut, told, answer)?;
+        }
+        let told = self.told_far(alloc, &calls, part, part.1, place)?;
+        turns.push(part.1, told, answer)
+    }
+
+    fn told_far(
+        &self,
+        alloc: Global,
+        calls: &[Call<'_>],
+        part: (usize, usize),
+        cut: usize,
+        place: (u16, u16),
+    ) -> Result<Answer, StepError> {
+        let mut told = Answer::new(alloc)?;
+        match self.far(alloc, calls, part, &[cut])? {
+            Some(view) => push_drawn(&mut told, &view, place)?,
+            None => told.push("no view")?,
+        }
+        Ok(told)
+    }
+}

@@ -1,0 +1,106 @@
+//! Writers that take little, or fail.
+
+use crate::sums::Sum;
+use std::io;
+use std::io::{ErrorKind, Write};
+use termrelay::Take;
+
+/// What a writer was given.
+#[derive(Clone, Copy)]
+pub struct Pumped {
+    /// How many writes there were.
+    pub writes: usize,
+    /// What they took.
+    pub taken: Sum,
+    /// What they and earlier ones took.
+    pub all: Sum,
+}
+
+/// A writer whose first writes are given, and whose later ones take some bytes each. It keeps the sum of what it takes.
+#[derive(Drop)]
+pub struct Writer<'a> {
+    /// What the next writes take.
+    pub takes: &'a [Take],
+    /// What a later write takes at most.
+    pub most: usize,
+    /// What a write is answered that fails.
+    pub fault: ErrorKind,
+    /// What was given.
+    pub pumped: Pumped,
+}
+
+impl Writer<'_> {
+    /// A writer that takes all. Earlier ones took this.
+    pub fn after(earlier: Sum) -> Self {
+        Writer {
+            takes: &[],
+            most: usize::MAX,
+            fault: ErrorKind::BrokenPipe,
+            pumped: Pumped {
+                writes: 0,
+                taken: Sum::NONE,
+                all: earlier,
+            },
+        }
+    }
+
+    // What the next write takes at most.
+    fn next_take(&mut self) -> Take {
+        match self.takes {
+            [] => Take::Bytes(self.most),
+            [take, rest @ ..] => {
+                self.takes = rest;
+                *take
+            }
+        }
+    }
+}
+
+impl Write for Writer<'_> {
+    fn write(&mut self, buf: &[u8]) -> io::Result<usize> {
+        self.pumped.writes = self.pumped.writes.saturating_add(1);
+        let Take::Bytes(most) = self.next_take() else {
+            return Err(io::Error::from(self.fault));
+        };
+        let (taken, _) = buf.split_at(most.min(buf.len()));
+        self.pumped.taken = self.pumped.taken.after(taken);
+        self.pumped.all = self.pumped.all.after(taken);
+        Ok(taken.len())
+    }
+
+    fn flush(&mut self) -> io::Result<()> {
+        Ok(())
+    }
+}
+
+/// A writer that keeps what it takes, up to its room. It takes no memory. Then it fails, or takes nothing where it has
+/// no fault.
+#[derive(Drop)]
+pub struct Narrow<'a> {
+    /// What was taken. It has room for all that will be.
+    pub kept: &'a mut Vec<u8>,
+    /// How many bytes are taken at most.
+    pub room: usize,
+    /// How many bytes a write takes at most.
+    pub most: usize,
+    /// What a write is answered then.
+    pub fault: Option<ErrorKind>,
+}
+
+impl Write for Narrow<'_> {
+    fn write(&mut self, buf: &[u8]) -> io::Result<usize> {
+        let left = self.room.saturating_sub(self.kept.len());
+        let (taken, _) = buf.split_at(buf.len().min(self.most).min(left));
+        match self.fault {
+            Some(kind) if taken.is_empty() => Err(io::Error::from(kind)),
+            _ => {
+                self.kept.extend_from_slice(taken)?;
+                Ok(taken.len())
+            }
+        }
+    }
+
+    fn flush(&mut self) -> io::Result<()> {
+        Ok(())
+    }
+}
