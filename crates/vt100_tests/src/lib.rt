@@ -11,8 +11,6 @@ mod captures;
 #[cfg(test)]
 mod forms;
 #[cfg(test)]
-mod grid;
-#[cfg(test)]
 mod refusals;
 #[cfg(test)]
 mod same;
