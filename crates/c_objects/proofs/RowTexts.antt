@@ -2,9 +2,9 @@
 use Rattle.std.proofs.Common.{◌≡◌, ◌≢◌, ◌∙◌, ℕ, List, [], ◌++◌, length, Option, Some, Ok, Err, refl, ap, arith}
 use Rattle.std.specs.Global.{Vec}
 use Rattle.std.specs.declared.io.Error.{Error}
-use Rattle.byte_sinks.specs.Pump.{Writes}
-use Rattle.byte_sinks.specs.Sent.{SendsText}
-use Rattle.byte_sinks.proofs.SendLemmas.{text-appends, text-part}
+use Rattle.byte_streams.specs.Pump.{Writes}
+use Rattle.byte_streams.specs.Sent.{SendsText}
+use Rattle.byte_streams.proofs.SendLemmas.{text-appends, text-part}
 
 abbrev held : Vec ℕ → Option (List ℕ)
 held v = Some v.items

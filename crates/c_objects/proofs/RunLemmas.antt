@@ -5,7 +5,7 @@ use Rattle.std.proofs.Common.{inl, inr, refl, sym, ap, subst, arith}
 use Rattle.std.proofs.lemmas.Bool.Decides.{nat_tests}
 use Rattle.std.specs.declared.io.Error.{Error}
 use Rattle.screen_model.specs.Holds.{IsSide}
-use Rattle.byte_sinks.specs.Pump.{Pumps}
+use Rattle.byte_streams.specs.Pump.{Pumps}
 use Rattle.termrelay.specs.Answers.{ClientState}
 use Rattle.termrelay.specs.Hub as hub
 use Rattle.termrelay.specs.Hub.{HubState, as_kept, clients_in, pump_answer, Puts}

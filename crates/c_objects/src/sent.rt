@@ -2,7 +2,7 @@
 ghost use Rattle.std.specs.Prelude.{◌≡◌, ◌≤◌, length};
 ghost use Rattle.c_objects.specs.Taken.{takes_so_many};
 
-use byte_sinks::ByteSink;
+use byte_streams::ByteSink;
 use std::io;
 
 /// A sink that takes `left` more bytes.

@@ -4,7 +4,7 @@ use crate::files::Files;
 use crate::invocation::{Invocation, parse};
 use crate::player::Player;
 use crate::playing::Play;
-use byte_sinks::ByteSink;
+use byte_streams::ByteSink;
 use command_line::{FAULT, SUCCESS, USAGE, report};
 use std::alloc::{AllocError, Global};
 use std::io;

@@ -7,3 +7,4 @@ pub mod LawLemmas
 pub mod PlainLemmas
 pub mod Telling
 pub mod AsciiLemmas
+mod LineLemmas

@@ -3,6 +3,7 @@ pub mod Given
 pub mod Filter
 pub mod Plain
 pub mod Laws
+pub mod Lines
 pub use Rattle.vte_core.specs.Event
 pub use Rattle.vte_core.specs.Shapes
 pub use Rattle.vte_types.specs.Charset

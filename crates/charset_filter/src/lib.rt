@@ -23,6 +23,9 @@
 //! them: what is given in place of a drawn character has no other meaning in the special graphics. So whatever a
 //! sequence breaks off, as a string that wasn't ended, is broken off behind the filter too.
 //!
+//! A [`PieceFilter`] stands in front of a screen that draws lines by choice: it gives each piece of an output as it is, or
+//! filtered.
+//!
 //! Not read are the 8-bit forms of the single shifts, sets of 96 characters (`ESC -`, `ESC .`, `ESC /`) and the codes
 //! from 0xA0 on (GR). Nor are `CSI s`, `CSI u` and `CSI ? 1048 s` and `r`, which in xterm save and restore the sets too.
 //! After `ESC c` xterm keeps what was saved while the alternate screen was shown; here nothing is kept.
@@ -30,8 +33,10 @@
 
 mod filter;
 pub mod laws;
+mod lines;
 mod listener;
 mod plain;
 mod sets;
 
 pub use filter::CharsetFilter;
+pub use lines::{LineDrawing, PieceFilter};

@@ -6,7 +6,7 @@ use Rattle.std.specs.Io.KnownBytes.{Consumes, IsAtEnd, Keeps}
 use Rattle.std.specs.IoError.{error_kind}
 use Rattle.std.specs.declared.io.Error.{Error}
 use Rattle.std.specs.declared.io.ErrorKind.TheVariants.{Interrupted}
-use Rattle.byte_sources.specs.Source.{IsReadBy}
+use Rattle.byte_streams.specs.Source.{IsReadBy}
 use Rattle.command_line.specs.declared.input.InputError.{InputError}
 use Rattle.command_line.specs.declared.input.InputError.TheVariants.{Memory, Read, TooManyReads}
 use Rattle.command_line.specs.Input.{Drains, ended, failed, refused, stopped, again, more}

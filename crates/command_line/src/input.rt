@@ -6,7 +6,7 @@ ghost use Rattle.std.specs.Vec.{vec_items};
 ghost use Rattle.command_line.specs.Input.{Drains};
 ghost use Rattle.command_line.specs.declared.input.InputError.TheVariants.{Memory};
 
-use byte_sources::Source;
+use byte_streams::Source;
 use std::alloc::{AllocError, Global};
 use std::io;
 use std::io::ErrorKind;

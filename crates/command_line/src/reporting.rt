@@ -1,8 +1,8 @@
 //! Exit statuses, and the lines on the error output.
 
-ghost use Rattle.byte_sinks.specs.Pump.{Tells};
+ghost use Rattle.byte_streams.specs.Pump.{Tells};
 
-use byte_sinks::{ByteSink, pump};
+use byte_streams::{ByteSink, pump};
 
 /// The exit status of a command that did its work.
 pub const SUCCESS: u8 = 0;

@@ -2,8 +2,8 @@
 use Rattle.std.proofs.Common.{◌≡◌, ℕ, false, List, [], ◌∷◌, ◌++◌, None, Ok, Result, OnOk, refl, sym, subst}
 use Rattle.std.specs.List.{list_any}
 use Rattle.std.specs.declared.io.Error.{Error}
-use Rattle.byte_sinks.specs.Sent as sends
-use Rattle.byte_sinks.specs.Sent.{Sends}
+use Rattle.byte_streams.specs.Sent as sends
+use Rattle.byte_streams.specs.Sent.{Sends}
 use Rattle.termview.specs.declared.view.View.{View}
 use Rattle.termview.specs.declared.until_cleared.UntilCleared.{UntilCleared}
 use Rattle.relay_streams.specs.declared.error.RelayError.{RelayError}

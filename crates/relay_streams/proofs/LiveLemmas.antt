@@ -12,24 +12,25 @@ use Rattle.std.specs.declared.io.Error.{Error}
 use Rattle.std.specs.declared.io.ErrorKind.TheVariants.{Interrupted}
 use Rattle.terminal_model.specs.Term.{Shown}
 use Rattle.screen_model.specs.Holds.{IsSide}
-use Rattle.byte_sinks.specs.Output.{TakesPrefix}
-use Rattle.byte_sinks.specs.Pump.{Writes}
-use Rattle.byte_sinks.proofs.AppendLemmas.{Appends-more, Appends-none, TakesPrefix-none, TakesPart-then}
-use Rattle.byte_sinks.proofs.SendLemmas.{text-pumped, text-failed, text-appends, text-part}
+use Rattle.byte_streams.specs.Output.{TakesPrefix}
+use Rattle.byte_streams.specs.Pump.{Writes}
+use Rattle.byte_streams.proofs.AppendLemmas.{Appends-more, Appends-none, TakesPrefix-none, TakesPart-then}
+use Rattle.byte_streams.proofs.SendLemmas.{text-pumped, text-failed, text-appends, text-part}
 use Rattle.termrelay.specs.Hub.{HubState, as_kept}
 use Rattle.relay_streams.specs.declared.error.RelayError.{RelayError}
 use Rattle.relay_streams.specs.declared.error.RelayError.TheVariants.{Read, Write, Memory, TooManyReads, FrameTooLong}
-use Rattle.line_drawing.specs.declared.lines.LineDrawing.{LineDrawing}
-use Rattle.relay_streams.specs.Fill.{IsReadBy, max_reads}
+use Rattle.charset_filter.specs.declared.lines.LineDrawing.{LineDrawing}
+use Rattle.byte_streams.specs.Source.{IsReadBy}
+use Rattle.relay_streams.specs.Fill.{max_reads}
 use Rattle.relay_streams.specs.Frames.{asked, is_overlong}
 use Rattle.relay_streams.specs.Live as live
-use Rattle.line_drawing.specs.Lines.{all_passed, passed}
+use Rattle.charset_filter.specs.Lines.{all_passed, passed}
 use Rattle.relay_streams.specs.Live.{live_len, Tries, Listens, SendsFlushed, StreamsThrough, RelaysThrough, IsLiveText}
 use Rattle.relay_streams.specs.Live.{TakesLive, TriesOnce, read_as}
 use Rattle.relay_streams.specs.Sessions.{AreRelayed, EndsOverlong}
 use Rattle.relay_streams.specs.Turns.{Relaying, Turned}
 use Rattle.relay_streams.proofs.FrameLists.{frames_of, answers_of, base_of, frames-more, fits-push, base-push}
-use Rattle.line_drawing.proofs.LineLemmas.{concat-passed, none-passed, passed-cut, passed-push}
+use Rattle.charset_filter.proofs.LineLemmas.{concat-passed, none-passed, passed-cut, passed-push}
 use Rattle.relay_streams.proofs.OutcomeLemmas.{if_known}
 use Rattle.relay_streams.proofs.OutputLemmas.{Appends-kept}
 use Rattle.relay_streams.proofs.PieceLemmas.{Consumes-more, Consumes-none, kept-Consumes, left-known, all-taken}

@@ -8,26 +8,27 @@ use Rattle.std.specs.declared.io.Error.{Error}
 use Rattle.terminal_model.specs.Term.{Size}
 use Rattle.relay_streams.specs.declared.error.RelayError.{RelayError}
 use Rattle.relay_streams.specs.declared.error.RelayError.TheVariants.{Read, TooManyReads, FrameTooLong}
-use Rattle.relay_streams.specs.Fill.{IsReadBy, FillEnd, Full, Ended, Failed, TooMany}
+use Rattle.byte_streams.specs.Source.{IsReadBy}
+use Rattle.relay_streams.specs.Fill.{FillEnd, Full, Ended, Failed, TooMany}
 use Rattle.relay_streams.specs.Frames.{is_overlong}
 use Rattle.termrelay.specs.declared.answer.Answer.{Answer}
 use Rattle.termrelay.specs.declared.answer.Answer.TheVariants.{TooLong}
 use Rattle.relay_theorem.specs.History.{Story}
-use Rattle.byte_sinks.specs.Output.{TakesPrefix}
+use Rattle.byte_streams.specs.Output.{TakesPrefix}
 use Rattle.relay_streams.specs.Pieces.{pieces_of, piece_len, outcome_of, Drained}
 use Rattle.relay_streams.specs.Relayed as relayed
 use Rattle.relay_streams.specs.Relayed.{Streams, Relays}
 use Rattle.relay_streams.specs.Sessions.{IsRelayed, has_overlong, AreRelayed, EndsOverlong, IsRelayText}
-use Rattle.byte_sinks.specs.Sent.{Sends}
-use Rattle.byte_sinks.specs.Pump.{Writes}
+use Rattle.byte_streams.specs.Sent.{Sends}
+use Rattle.byte_streams.specs.Pump.{Writes}
 use Rattle.relay_streams.specs.Shown as shown
 use Rattle.relay_streams.specs.Shown.{IsTextShown, Prints, Shows}
-use Rattle.byte_sinks.proofs.AppendLemmas.{TakesPrefix-none, TakesPrefix-longer}
+use Rattle.byte_streams.proofs.AppendLemmas.{TakesPrefix-none, TakesPrefix-longer}
 use Rattle.relay_streams.proofs.PieceLemmas.{drained-pieces, drained-prefix, begun-prefix, begun-well}
 use Rattle.relay_streams.proofs.FrameLists.{frames_of, frames_from, answers_of, answers_from, base_of, relay_text}
 use Rattle.relay_streams.proofs.FrameLists.{frames-more, answers-more, one-there}
 use Rattle.relay_streams.proofs.SessionLemmas.{relayed-answers, frames-of, pumped-of, overlong-of, relayed-as}
-use Rattle.byte_sinks.proofs.SendLemmas.{sends-appends, sends-prefix, text-prefix}
+use Rattle.byte_streams.proofs.SendLemmas.{sends-appends, sends-prefix, text-prefix}
 use Rattle.relay_streams.proofs.LawLemmas.{texts_are_one}
 use Rattle.relay_streams.proofs.OutputLemmas.{Appends-kept, prints-text}
 

@@ -2,9 +2,9 @@
 use Rattle.std.proofs.Common.{◌≡◌, ℕ, suc, List, ◌++◌, ◌+◌, ◌∙◌, ap, refl, Option, None, Some, Ok, Err, Result, OnOk}
 use Rattle.std.specs.Io.KnownBytes.{Appends, Keeps}
 use Rattle.std.specs.declared.io.Error.{Error}
-use Rattle.byte_sinks.specs.Pump.{Pumps, Writes}
-use Rattle.byte_sinks.specs.Sent.{SendsText}
-use Rattle.byte_sinks.proofs.SendLemmas.{text-appends, text-pumped, text-failed}
+use Rattle.byte_streams.specs.Pump.{Pumps, Writes}
+use Rattle.byte_streams.specs.Sent.{SendsText}
+use Rattle.byte_streams.proofs.SendLemmas.{text-appends, text-pumped, text-failed}
 use Rattle.vt100_cells.specs.Cell.{CellView}
 use Rattle.terminal_model.specs.Term.{Size}
 use Rattle.relay_streams.specs.declared.error.RelayError.{RelayError}

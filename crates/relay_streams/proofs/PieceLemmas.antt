@@ -10,7 +10,8 @@ use Rattle.std.specs.Io.KnownBytes.{Consumes, IsAtEnd, Keeps}
 use Rattle.std.specs.declared.io.Error.{Error}
 use Rattle.relay_streams.specs.declared.error.RelayError.{RelayError}
 use Rattle.relay_streams.specs.Fill.{FillEnd, Full, Ended, Failed, TooMany, Fills, full, stopped, ended, failed}
-use Rattle.relay_streams.specs.Fill.{again, more, IsReadBy, CountsTo, end_answer, max_reads, Filled}
+use Rattle.byte_streams.specs.Source.{IsReadBy}
+use Rattle.relay_streams.specs.Fill.{again, more, CountsTo, end_answer, max_reads, Filled}
 use Rattle.relay_streams.specs.Pieces.{cut_by, piece_len, pieces_of, Drains, last, next, outcome_of, Drained, Begun}
 use Rattle.std.proofs.Math.Nat.{add-div_left}
 

@@ -12,8 +12,8 @@ use Rattle.screen_model.specs.State.{State}
 use Rattle.screen_model.specs.Made.{Act, Fed, made}
 use Rattle.screen_model.specs.Holds.{IsSide, IsAct}
 use Rattle.screen_model.proofs.MadeLemmas.{makes-last_size}
-use Rattle.byte_sinks.specs.Pump.{Pumps, all, some}
-use Rattle.byte_sinks.proofs.PumpLaws.{takes-all}
+use Rattle.byte_streams.specs.Pump.{Pumps, all, some}
+use Rattle.byte_streams.proofs.PumpLaws.{takes-all}
 use Rattle.termrelay.specs.Frame.{frame_text}
 use Rattle.termrelay.specs.Answers.{ClientState, answer_for, after_answer, is_frame}
 use Rattle.termrelay.specs.Hub.{HubState, screen_in, size_in, shown_in, is_failed, with_client, new_client, Feeds}

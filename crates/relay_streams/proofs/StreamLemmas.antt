@@ -12,12 +12,12 @@ use Rattle.screen_model.specs.Holds.{IsSide}
 use Rattle.relay_streams.specs.Frames.{asked, answered, is_overlong}
 use Rattle.relay_streams.specs.Pieces.{piece_len, Begun}
 use Rattle.relay_streams.specs.Relayed.{Streams, unmade, overlong, stopped}
-use Rattle.byte_sinks.specs.Sent as sent
-use Rattle.byte_sinks.specs.Sent.{Sends}
+use Rattle.byte_streams.specs.Sent as sent
+use Rattle.byte_streams.specs.Sent.{Sends}
 use Rattle.relay_streams.specs.Turns.{Relaying, Turned, fault_of}
 use Rattle.relay_streams.proofs.FrameLists.{frames_of, answers_of, base_of, frames-more, fits-push, base-push}
 use Rattle.relay_streams.proofs.SessionLemmas.{frames-are-relayed, ends-overlong}
-use Rattle.byte_sinks.proofs.SendLemmas.{sends-more}
+use Rattle.byte_streams.proofs.SendLemmas.{sends-more}
 
 -- a hub has refused a client for want of memory
 pub attach-refused : (h g : HubState as_kept) (e : HubError) → Attaches h (Err e) g → fault_of e ≡ Memory

@@ -12,13 +12,13 @@ use Rattle.screen_model.specs.Made.{Act, Fed}
 use Rattle.screen_model.specs.Holds.{IsSide}
 use Rattle.vt100.specs.Parsing.{ParserIsAfter}
 use Rattle.termrelay.specs.Answers.{ClientState, after_answer}
-use Rattle.byte_sinks.specs.Pump.{Pumps}
+use Rattle.byte_streams.specs.Pump.{Pumps}
 use Rattle.termrelay.specs.Hub.{HubState, as_kept, clients_in, new_client, size_in, shown_in, Puts, IsNewHub}
 use Rattle.termrelay.specs.Hub.{Attaches, Feeds, CanFrame, Framed, Frames, pump_answer, PumpsFrom, PumpsClient}
 use Rattle.termrelay.specs.declared.answer.Answer.{Answer}
 use Rattle.termrelay.specs.declared.error.HubError.{HubError}
 use Rattle.termrelay.specs.declared.error.HubError.TheVariants as hub
-use Rattle.byte_sinks.proofs.PumpLaws.{takes-all}
+use Rattle.byte_streams.proofs.PumpLaws.{takes-all}
 use Rattle.relay_streams.specs.Frames.{idle, answered, answer_on, asked, asked_on, is_overlong, state_after}
 use Rattle.relay_streams.specs.Turns.{Relaying, fault_of, Turned}
 use Rattle.relay_streams.proofs.FrameLists.{pieces-make}

@@ -1,22 +1,11 @@
 -- Reads that fill a piece: what they make of a source, the bytes that they give, and how they end.
 use Rattle.std.specs.Prelude.{◌≡◌, ◌≢◌, ℕ, ◌+◌, ◌-◌, ◌^◌, ◌<◌, ◌≤◌, List, [], ◌++◌, length, take, Option, Ok, Err}
 use Rattle.std.specs.Prelude.{Result}
-use Rattle.std.specs.Io.KnownBytes.{Consumes, IsAtEnd, Keeps}
 use Rattle.std.specs.IoError.{error_kind}
 use Rattle.std.specs.declared.io.Error.{Error}
 use Rattle.std.specs.declared.io.ErrorKind.TheVariants.{Interrupted}
 use Rattle.relay_streams.specs.declared.error.RelayError.{RelayError}
 use Rattle.relay_streams.specs.declared.error.RelayError.TheVariants.{Read, TooManyReads}
-
--- the bytes that a read gave, where it answered so and left its room so
-abbrev pub given : Result ℕ Error → List ℕ → Result (List ℕ) Error
-given (Ok n) room = Ok (take n room)
-given (Err e) room = Err e
-
--- what std promises of one read with so much room, of a reader whose known bytes are these
-abbrev pub IsReadBy : {R : Type 0} → (R → Option (List ℕ)) → R → ℕ → Result (List ℕ) Error → R → Type 0
-IsReadBy left s room (Ok bytes) t = Consumes (left s) (left t) bytes × (bytes ≡ [] → 0 < room → IsAtEnd (left t))
-IsReadBy left s room (Err e) t = Keeps (left s) (left t)
 
 -- how the reads end: there is no room left, the input has ended, a read failed, or no more reads may be made
 pub data FillEnd : Type 0 where

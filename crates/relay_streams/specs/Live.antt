@@ -5,15 +5,15 @@ use Rattle.std.specs.List.{concat}
 use Rattle.std.specs.IoError.{error_kind}
 use Rattle.std.specs.declared.io.Error.{Error}
 use Rattle.std.specs.declared.io.ErrorKind.TheVariants.{Interrupted}
-use Rattle.byte_sinks.specs.Output.{TakesPrefix}
-use Rattle.byte_sinks.specs.Pump.{Pumps}
+use Rattle.byte_streams.specs.Output.{TakesPrefix}
+use Rattle.byte_streams.specs.Pump.{Pumps}
 use Rattle.relay_theorem.specs.History.{Story}
 use Rattle.relay_streams.specs.declared.error.RelayError.{RelayError}
 use Rattle.relay_streams.specs.declared.error.RelayError.TheVariants.{Read, Write, Memory, TooManyReads, FrameTooLong}
-use Rattle.line_drawing.specs.declared.lines.LineDrawing.{LineDrawing}
-use Rattle.line_drawing.specs.declared.lines.LineDrawing.TheVariants.{Kept}
+use Rattle.charset_filter.specs.declared.lines.LineDrawing.{LineDrawing}
+use Rattle.charset_filter.specs.declared.lines.LineDrawing.TheVariants.{Kept}
 use Rattle.relay_streams.specs.Fill.{max_reads}
-use Rattle.line_drawing.specs.Lines.{all_passed}
+use Rattle.charset_filter.specs.Lines.{all_passed}
 use Rattle.relay_streams.specs.Sessions.{IsRelayed, has_overlong, AreRelayed, EndsOverlong}
 
 -- bytes of the room that a live read is given

@@ -5,7 +5,7 @@ use Rattle.relay_streams.specs.declared.error.RelayError.{RelayError}
 use Rattle.relay_streams.specs.declared.error.RelayError.TheVariants.{Write, Memory, FrameTooLong}
 use Rattle.relay_streams.specs.Pieces.{piece_len, Begun, Drained}
 use Rattle.relay_streams.specs.Sessions.{AreRelayed, EndsOverlong}
-use Rattle.byte_sinks.specs.Sent.{Sends}
+use Rattle.byte_streams.specs.Sent.{Sends}
 
 -- From a source and a writer, pieces are read, and the frame that is due after each is sent before the next one is
 -- read: so it is answered, and so both are left.

@@ -10,7 +10,7 @@ use Rattle.terminal_model.specs.Term.{Size}
 use Rattle.termview.specs.Seen.{seen}
 use Rattle.relay_streams.specs.declared.error.RelayError.{RelayError}
 use Rattle.relay_streams.specs.declared.error.RelayError.TheVariants.{Write, Memory}
-use Rattle.byte_sinks.specs.Sent.{SendsText}
+use Rattle.byte_streams.specs.Sent.{SendsText}
 use Rattle.relay_streams.specs.Pieces.{piece_len, Drained}
 
 abbrev pub sized : ℕ → ℕ → Size

@@ -7,7 +7,7 @@ use Rattle.screen_model.specs.Holds.{IsSide}
 use Rattle.terminal_model.specs.Term.{Shown}
 use Rattle.vt100.specs.Parsing.{ParserIsAfter}
 use Rattle.termrelay.specs.Hub.{HubState, as_kept, clients_in}
-use Rattle.byte_sinks.specs.Pump.{Pumps}
+use Rattle.byte_streams.specs.Pump.{Pumps}
 use Rattle.termrelay.specs.declared.error.HubError.{HubError}
 use Rattle.termrelay.specs.declared.error.HubError.TheVariants as hub
 use Rattle.relay_streams.specs.declared.error.RelayError.{RelayError}

@@ -7,23 +7,23 @@
 
 mod error;
 mod far;
+mod filling;
 pub mod laws;
 mod live;
 mod pieces;
 mod printing;
 mod relaying;
 mod showing;
-mod source;
 
-pub use byte_sinks::{ByteSink, FlushSink};
+pub use byte_streams::{ByteSink, FlushSink, Source};
+pub use charset_filter::{LineDrawing, PieceFilter};
 pub use error::RelayError;
 pub use far::{far_view, view_of};
-pub use line_drawing::{LineDrawing, PieceFilter};
+pub use filling::{PIECE_LEN, fill};
 pub use live::{LIVE_LEN, relay_live, relay_live_with};
 pub use pieces::{TakesPieces, each_piece};
 pub use printing::print_text;
 pub use relaying::{is_overlong, relay};
 pub use showing::{print_view, show, write_view};
-pub use source::{PIECE_LEN, Source, fill};
 pub use termrelay::{Call, Client, Take};
 pub use termview::{UntilCleared, View};

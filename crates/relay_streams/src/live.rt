@@ -3,15 +3,15 @@
 ghost use Rattle.std.specs.Prelude.{◌≡◌, ◌≤◌, ℕ, List, [], None, Option, OnOk, IfSome, length};
 ghost use Rattle.std.specs.Io.KnownBytes.{Appends};
 ghost use Rattle.relay_streams.specs.Fill.{max_reads};
-ghost use Rattle.line_drawing.specs.Lines.{HasPassed, passed};
+ghost use Rattle.charset_filter.specs.Lines.{HasPassed, passed};
 ghost use Rattle.relay_streams.specs.Live.{IsLiveText, RelaysLive, RelaysThrough, StreamsThrough, TakesLive, TriesOnce};
 ghost use Rattle.relay_streams.specs.Turns.{Relaying};
 
 use crate::error::RelayError;
+use crate::filling::MAX_READS;
 use crate::relaying::turn;
-use crate::source::{MAX_READS, Source};
-use byte_sinks::FlushSink;
-use line_drawing::{LineDrawing, PieceFilter};
+use byte_streams::{FlushSink, Source};
+use charset_filter::{LineDrawing, PieceFilter};
 use std::alloc::Global;
 use std::io::ErrorKind;
 use std::num::NonZeroU16;

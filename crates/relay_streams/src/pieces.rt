@@ -4,7 +4,8 @@ ghost use Rattle.std.specs.Prelude.{ℕ, List, Result};
 ghost use Rattle.relay_streams.specs.Each.{GivesEach};
 
 use crate::error::RelayError;
-use crate::source::{PIECE_LEN, Source, fill};
+use crate::filling::{PIECE_LEN, fill};
+use byte_streams::Source;
 
 /// What takes the pieces of an input, one after another, and hands on what comes of them: to a writer, or to a view.
 pub trait TakesPieces<T> {

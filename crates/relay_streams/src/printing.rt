@@ -5,7 +5,7 @@ ghost use Rattle.std.specs.Io.KnownBytes.{Appends};
 ghost use Rattle.relay_streams.specs.Shown.{Prints};
 
 use crate::error::RelayError;
-use byte_sinks::{FlushSink, pump};
+use byte_streams::{FlushSink, pump};
 
 /// Writes a text, and flushes the output. A write that fails or takes nothing ends it, and what was taken by then stays
 /// written.

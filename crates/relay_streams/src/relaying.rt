@@ -3,7 +3,7 @@
 ghost use Rattle.std.specs.Prelude.{◌≡◌, ℕ, ◌++◌, ◌∷◌, [], List, true, Err, None, OnOk, Option, IfSome};
 ghost use Rattle.std.specs.Io.KnownBytes.{Appends};
 ghost use Rattle.terminal_model.specs.Term.{Shown};
-ghost use Rattle.byte_sinks.specs.Output.{TakesPrefix};
+ghost use Rattle.byte_streams.specs.Output.{TakesPrefix};
 ghost use Rattle.relay_theorem.specs.History.{Story};
 ghost use Rattle.relay_streams.specs.Frames.{is_overlong as overlong};
 ghost use Rattle.relay_streams.specs.Pieces.{pieces_of};
@@ -14,8 +14,7 @@ ghost use Rattle.relay_streams.specs.declared.error.RelayError.TheVariants.{Fram
 
 use crate::error::RelayError;
 use crate::pieces::{TakesPieces, each_piece};
-use crate::source::Source;
-use byte_sinks::FlushSink;
+use byte_streams::{FlushSink, Source};
 use std::alloc::Global;
 use std::num::NonZeroU16;
 use termrelay::{Answer, Client, Hub};

@@ -2,8 +2,8 @@
 
 ghost use Rattle.std.specs.Prelude.{◌≡◌, ℕ, List, OnOk, IfSome};
 ghost use Rattle.std.specs.Io.KnownBytes.{Appends};
-ghost use Rattle.byte_sinks.specs.Output.{TakesPrefix};
-ghost use Rattle.byte_sinks.specs.Sent.{SendsText};
+ghost use Rattle.byte_streams.specs.Output.{TakesPrefix};
+ghost use Rattle.byte_streams.specs.Sent.{SendsText};
 ghost use Rattle.termview.specs.Standing.{shown_by, view_size};
 ghost use Rattle.relay_streams.specs.Led.{Led};
 ghost use Rattle.relay_streams.specs.Pieces.{Drained, piece_len, pieces_of};
@@ -11,8 +11,7 @@ ghost use Rattle.relay_streams.specs.Shown.{IsTextShown, Prints, Shows, row_line
 
 use crate::error::RelayError;
 use crate::pieces::{TakesPieces, each_piece};
-use crate::source::Source;
-use byte_sinks::{ByteSink, FlushSink, pump};
+use byte_streams::{ByteSink, FlushSink, Source, pump};
 use std::alloc::Global;
 use std::io;
 use std::num::NonZeroU16;

@@ -3,7 +3,7 @@ use Rattle.std.proofs.Common.{◌≡◌, ◌∙◌, ℕ, true, List, [], ◌∷�
 use Rattle.std.proofs.Common.{Err, refl, sym, ap, subst}
 use Rattle.std.specs.declared.io.Error.{Error}
 use Rattle.screen_model.specs.Made.{Act, Fed, Resized}
-use Rattle.byte_sinks.specs.Pump.{Pumps}
+use Rattle.byte_streams.specs.Pump.{Pumps}
 use Rattle.termrelay.specs.Answers.{ClientState, answer_for, after_answer}
 use Rattle.termrelay.specs.Hub.{HubState, screen_in, size_in, shown_in, with_client, new_client, no_clients, Feeds}
 use Rattle.termrelay.specs.Hub.{Resizes, Attaches, DetachesFrom, CanFrame, Framed, PumpsFrom}

@@ -11,7 +11,7 @@ use Rattle.screen_model.specs.Shown.{shown_state}
 use Rattle.screen_model.specs.Made.{Fed, Resized, bytes_fed, events_added, made}
 use Rattle.vt100.specs.Memory.{some_may_allocate}
 use Rattle.vt100.specs.Parsing.{ParserView, HasRead, ParserIsAfter}
-use Rattle.byte_sinks.specs.Pump.{Pumps, all, nothing, fault, some}
+use Rattle.byte_streams.specs.Pump.{Pumps, all, nothing, fault, some}
 use Rattle.termrelay.specs.Answers.{ClientState, answer_for, after_answer, may_allocate}
 use Rattle.termrelay.specs.Hub.{Telling, HubState, as_kept, is_failed, screen_in, clients_in, with_client, new_client}
 use Rattle.termrelay.specs.Hub.{no_clients, Puts, IsNewHub, Feeds, Resizes, Attaches, DetachesFrom, CanFrame, Framed}

@@ -92,7 +92,7 @@ pub fn histories_are_one()
     ensures { EachHistoryIsOne }
 {}
 
-/// Each pump of a hub, to any [`ByteSink`](byte_sinks::ByteSink), has the same effect as a pump to some scripted writer. So it
+/// Each pump of a hub, to any [`ByteSink`](byte_streams::ByteSink), has the same effect as a pump to some scripted writer. So it
 /// can be a call of a history.
 pub fn pumps_are_served<T: ByteSink>()
     ensures { EachPumpIsServed T.takes }

@@ -1,14 +1,14 @@
 //! The command line.
 
 ghost use Rattle.std.specs.Prelude.{◌≡◌, ◌≤◌, map, true, false};
-ghost use Rattle.byte_sinks.specs.Pump.{Tells};
+ghost use Rattle.byte_streams.specs.Pump.{Tells};
 ghost use Rattle.screen_probe_command.specs.Words.{is_invocation, usage_line};
 
 use crate::dumping::dump_stream;
 use crate::error::DumpError;
 use crate::script::run_script;
 use crate::words::{Invocation, parse};
-use byte_sinks::{ByteSink, FlushSink};
+use byte_streams::{ByteSink, FlushSink};
 use command_line::{FAULT, SUCCESS, USAGE, report};
 use std::alloc::Global;
 use std::io::Read;

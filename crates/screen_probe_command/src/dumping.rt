@@ -3,7 +3,7 @@
 use crate::dump::push_screen;
 use crate::error::DumpError;
 use crate::stream::{flush, write_text};
-use byte_sinks::FlushSink;
+use byte_streams::FlushSink;
 use command_line::read_all;
 use std::alloc::Global;
 use std::io::Read;

@@ -5,7 +5,7 @@ use crate::error::DumpError;
 use crate::hex_digits::digit_value;
 use crate::stream::{flush, write_text};
 use crate::texts::{push_check, push_diffs, push_rows, push_text, push_texts};
-use byte_sinks::FlushSink;
+use byte_streams::FlushSink;
 use command_line::read_all;
 use std::alloc::Global;
 use std::io::Read;

@@ -4,7 +4,7 @@ ghost use Rattle.std.specs.Prelude.{◌≡◌, IfErr};
 ghost use Rattle.screen_probe_command.specs.declared.error.DumpError.TheVariants as error;
 
 use crate::error::DumpError;
-use byte_sinks::{FlushSink, pump};
+use byte_streams::{FlushSink, pump};
 
 /// Writes the whole text.
 pub(crate) fn write_text<W: FlushSink>(output: &mut W, text: &str) -> Result<(), DumpError>

@@ -2,8 +2,8 @@
 use Rattle.std.specs.Prelude.{ℕ, Bool, ◌||◌, List, [], ◌∷◌, Option, Some, None, codes, if◌then◌else◌}
 use Rattle.std.specs.Str.{bytes_eq}
 use Rattle.command_line.specs.Numbers.{size_in}
-use Rattle.line_drawing.specs.declared.lines.LineDrawing.{LineDrawing}
-use Rattle.line_drawing.specs.declared.lines.LineDrawing.TheVariants.{Kept, Drawn}
+use Rattle.charset_filter.specs.declared.lines.LineDrawing.{LineDrawing}
+use Rattle.charset_filter.specs.declared.lines.LineDrawing.TheVariants.{Kept, Drawn}
 use Rattle.screen_words.specs.declared.Invocation.{Invocation as ParsedInvocation}
 use Rattle.screen_words.specs.declared.Invocation.TheVariants.{Help, Show}
 

@@ -6,8 +6,8 @@ ghost use Rattle.std.specs.Option.{option_map};
 ghost use Rattle.command_line.specs.Numbers.{size_in};
 ghost use Rattle.screen_words.specs.Words.{invocation_of, is_help, is_no_line_drawing, sized, with_numbers};
 
+use charset_filter::LineDrawing;
 use command_line::parse_size;
-use line_drawing::LineDrawing;
 use std::num::NonZeroU16;
 
 /// What a program is asked to do.

@@ -10,22 +10,22 @@ use Rattle.screen_model.specs.Holds.{IsSide}
 use Rattle.termview.specs.declared.view.View.{View}
 use Rattle.termview.specs.declared.until_cleared.UntilCleared.{UntilCleared}
 use Rattle.termrelay.specs.Hub.{HubState, as_kept}
-use Rattle.byte_sinks.specs.Pump.{Pumps, Writes}
-use Rattle.byte_sinks.proofs.PumpLaws.{takes-all, appends-prefix}
+use Rattle.byte_streams.specs.Pump.{Pumps, Writes}
+use Rattle.byte_streams.proofs.PumpLaws.{takes-all, appends-prefix}
 use Rattle.relay_streams.specs.declared.error.RelayError.{RelayError}
 use Rattle.relay_streams.specs.declared.error.RelayError.TheVariants.{Read, Write, Memory, TooManyReads, FrameTooLong}
-use Rattle.line_drawing.specs.declared.lines.LineDrawing.{LineDrawing}
-use Rattle.line_drawing.specs.declared.lines.LineDrawing.TheVariants.{Kept, Drawn}
-use Rattle.relay_streams.specs.Fill.{IsReadBy}
+use Rattle.charset_filter.specs.declared.lines.LineDrawing.{LineDrawing}
+use Rattle.charset_filter.specs.declared.lines.LineDrawing.TheVariants.{Kept, Drawn}
+use Rattle.byte_streams.specs.Source.{IsReadBy}
 use Rattle.relay_streams.specs.Frames.{asked, is_overlong}
-use Rattle.line_drawing.specs.Lines.{HasPassed, all_passed, drawn_after, passed}
+use Rattle.charset_filter.specs.Lines.{HasPassed, all_passed, drawn_after, passed}
 use Rattle.relay_streams.specs.Each as each
 use Rattle.relay_streams.specs.Each.{GivesEach, TakesAll}
 use Rattle.relay_streams.specs.Pieces.{Begun, Drained, piece_len, pieces_of}
 use Rattle.relay_streams.specs.Sessions.{AreRelayed, EndsOverlong, IsRelayed}
 use Rattle.relay_streams.specs.Turns.{Relaying}
 use Rattle.relay_streams.proofs.FrameLists.{frames_of, answers_of, base_of, frames-more, base-push, fits-push}
-use Rattle.line_drawing.proofs.LineLemmas.{none-passed, passed-push}
+use Rattle.charset_filter.proofs.LineLemmas.{none-passed, passed-push}
 use Rattle.relay_streams.proofs.OutputLemmas.{prints-text}
 use Rattle.relay_streams.proofs.PieceLemmas.{concat-push, drained-pieces}
 use Rattle.relay_streams.proofs.SessionLemmas.{ends-overlong, frames-are-relayed, frames-of, relayed-as, relayed-by}

@@ -9,11 +9,11 @@ use Rattle.termrelay.specs.Hub.{HubState, as_kept}
 use Rattle.relay_theorem.specs.History.{Story}
 use Rattle.relay_streams.specs.declared.error.RelayError.{RelayError}
 use Rattle.relay_streams.specs.declared.error.RelayError.TheVariants.{Read, Write, Memory, TooManyReads, FrameTooLong}
-use Rattle.line_drawing.specs.declared.lines.LineDrawing.{LineDrawing}
-use Rattle.line_drawing.specs.declared.lines.LineDrawing.TheVariants.{Kept, Drawn}
+use Rattle.charset_filter.specs.declared.lines.LineDrawing.{LineDrawing}
+use Rattle.charset_filter.specs.declared.lines.LineDrawing.TheVariants.{Kept, Drawn}
 use Rattle.relay_streams.specs.Frames.{answered, asked, is_overlong}
 use Rattle.relay_streams.specs.Led.{Led}
-use Rattle.line_drawing.specs.Lines.{HasPassed, all_passed, drawn_after, passed}
+use Rattle.charset_filter.specs.Lines.{HasPassed, all_passed, drawn_after, passed}
 use Rattle.relay_streams.specs.Pieces.{Begun, Drained, piece_len, pieces_of}
 use Rattle.relay_streams.specs.Sessions.{AreRelayed, EndsOverlong, IsRelayed, IsRelayText, has_overlong}
 use Rattle.relay_streams.specs.Shown.{IsTextShown, Prints, sized}

@@ -1,13 +1,13 @@
 //! The command line.
 
 ghost use Rattle.std.specs.Prelude.{◌≡◌, map, None, IfSome, OnOk};
-ghost use Rattle.byte_sinks.specs.Pump.{Tells};
+ghost use Rattle.byte_streams.specs.Pump.{Tells};
 ghost use Rattle.screen_words.specs.Words.{invocation_of, with_numbers};
 ghost use Rattle.screencat_command.specs.Command.{CarriesOut, Does, HasWritten, fault_line, usage_line};
 
 use crate::far_screen::print_far_screen;
 use crate::help::HELP;
-use byte_sinks::{ByteSink, FlushSink};
+use byte_streams::{ByteSink, FlushSink};
 use command_line::{FAULT, SUCCESS, USAGE, report};
 use relay_streams::{RelayError, Source, print_text};
 use screen_words::{Invocation, parse};

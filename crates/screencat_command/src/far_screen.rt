@@ -4,7 +4,7 @@ ghost use Rattle.std.specs.Prelude.{ℕ, ◌++◌, ◌∷◌, [], List, Option, 
 ghost use Rattle.std.specs.List.{concat};
 ghost use Rattle.std.specs.Io.KnownBytes.{Appends};
 ghost use Rattle.terminal_model.specs.Term.{Shown};
-ghost use Rattle.line_drawing.specs.Lines.{HasPassed};
+ghost use Rattle.charset_filter.specs.Lines.{HasPassed};
 ghost use Rattle.relay_streams.specs.Turns.{Relaying};
 ghost use Rattle.screencat_command.specs.Carried.{Carried, Carries, Follows, IsFarText, PrintsFar};
 

@@ -2,8 +2,8 @@
 use Rattle.std.specs.Prelude.{◌≡◌, ℕ, List, [], ◌∷◌, ◌++◌, Option, Ok, Err, Result, IfSome, codes}
 use Rattle.std.specs.Io.KnownBytes.{Appends}
 use Rattle.std.specs.declared.io.Error.{Error}
-use Rattle.byte_sinks.specs.Pump.{Tells}
-use Rattle.line_drawing.specs.Lines.{passed}
+use Rattle.byte_streams.specs.Pump.{Tells}
+use Rattle.charset_filter.specs.Lines.{passed}
 use Rattle.relay_streams.specs.declared.error.RelayError.{RelayError}
 use Rattle.relay_streams.specs.declared.error.RelayError.TheVariants.{Read, Write, Memory, TooManyReads, FrameTooLong}
 use Rattle.relay_streams.specs.Live.{IsLiveText, RelaysThrough}

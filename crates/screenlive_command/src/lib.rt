@@ -4,11 +4,11 @@
 mod help;
 
 ghost use Rattle.std.specs.Prelude.{◌≡◌, map, None, IfSome, OnOk};
-ghost use Rattle.byte_sinks.specs.Pump.{Tells};
+ghost use Rattle.byte_streams.specs.Pump.{Tells};
 ghost use Rattle.screen_words.specs.Words.{invocation_of, with_numbers};
 ghost use Rattle.screenlive_command.specs.Command.{CarriesOut, Does, HasWritten, fault_line, usage_line};
 
-use byte_sinks::{ByteSink, FlushSink};
+use byte_streams::{ByteSink, FlushSink};
 use command_line::{FAULT, SUCCESS, USAGE, report};
 pub use help::HELP;
 use relay_streams::{RelayError, Source, print_text, relay_live_with};

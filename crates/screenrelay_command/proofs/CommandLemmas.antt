@@ -2,9 +2,9 @@
 use Rattle.std.proofs.Common.{ℕ, List, Option, Result, OnOk, IfSome}
 use Rattle.std.specs.declared.io.Error.{Error}
 use Rattle.std.specs.Io.KnownBytes.{Appends, Keeps}
-use Rattle.byte_sinks.specs.Pump.{Writes}
+use Rattle.byte_streams.specs.Pump.{Writes}
 use Rattle.relay_streams.specs.declared.error.RelayError.{RelayError}
-use Rattle.relay_streams.specs.Fill.{IsReadBy}
+use Rattle.byte_streams.specs.Source.{IsReadBy}
 use Rattle.relay_streams.specs.Shown.{sized}
 use Rattle.relay_streams.proofs.OutcomeLemmas.{relays-text, shows-text}
 use Rattle.screenrelay_command.specs.declared.words.Job.{Job}

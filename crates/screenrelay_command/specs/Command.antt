@@ -1,7 +1,7 @@
 -- What a command reads and writes, its exit status and its error messages.
 use Rattle.std.specs.Prelude.{◌≡◌, ℕ, List, [], ◌∷◌, ◌++◌, Ok, Err, Result, codes}
 use Rattle.std.specs.declared.io.Error.{Error}
-use Rattle.byte_sinks.specs.Pump.{Tells}
+use Rattle.byte_streams.specs.Pump.{Tells}
 use Rattle.relay_streams.specs.declared.error.RelayError.{RelayError}
 use Rattle.relay_streams.specs.declared.error.RelayError.TheVariants.{Read, Write, Memory, TooManyReads, FrameTooLong}
 use Rattle.screenrelay_command.specs.declared.words.Job.{Job}

@@ -2,12 +2,12 @@
 
 ghost use Rattle.std.specs.Prelude.{◌≡◌, ℕ, List, map, None, IfSome};
 ghost use Rattle.std.specs.Io.KnownBytes.{Appends};
-ghost use Rattle.byte_sinks.specs.Pump.{Tells};
+ghost use Rattle.byte_streams.specs.Pump.{Tells};
 ghost use Rattle.screenrelay_command.specs.Command.{CarriesOut, DoesBy, Wants, fault_line, usage_line};
 ghost use Rattle.screenrelay_command.specs.Words.{invocation_of};
 
 use crate::words::{Invocation, Job, parse};
-use byte_sinks::{ByteSink, FlushSink};
+use byte_streams::{ByteSink, FlushSink};
 use command_line::{FAULT, SUCCESS, USAGE, report};
 use relay_streams::{RelayError, Source, relay, show};
 use std::alloc::Global;

@@ -1,2 +1,3 @@
+mod DrawnLemmas
 mod KindLemmas
 mod WordsLemmas

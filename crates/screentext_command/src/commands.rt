@@ -1,7 +1,7 @@
 //! The command line.
 
 ghost use Rattle.std.specs.Prelude.{◌≡◌, ◌≤◌, ◌⊎◌, map, true, false};
-ghost use Rattle.byte_sinks.specs.Pump.{Tells};
+ghost use Rattle.byte_streams.specs.Pump.{Tells};
 ghost use Rattle.screentext_command.specs.Words.{is_invocation, memory_line, usage_line};
 ghost use Rattle.screentext_command.specs.declared.error.TextError.TheVariants.{Memory};
 
@@ -9,12 +9,12 @@ use crate::answer::answer_of;
 use crate::error::TextError;
 use crate::files::{Files, NoFiles};
 use crate::list::list_of;
+use crate::outputs::with_lines_drawn;
 use crate::source::{Source, with_markers};
 use crate::streams::write_all;
 use crate::words::{Invocation, parse};
-use byte_sinks::{ByteSink, FlushSink};
+use byte_streams::{ByteSink, FlushSink};
 use command_line::{FAULT, SUCCESS, USAGE, read_all, report};
-use recording_filter::with_lines_drawn;
 use recordings::{Recording, parse_recording};
 use std::alloc::Global;
 use std::fmt::Write;

@@ -10,6 +10,7 @@ mod error;
 mod files;
 mod known;
 mod list;
+mod outputs;
 mod pictures;
 mod sgr;
 mod source;

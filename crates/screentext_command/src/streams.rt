@@ -4,7 +4,7 @@ ghost use Rattle.std.specs.Prelude.{◌≡◌, IfErr};
 ghost use Rattle.screentext_command.specs.declared.error.TextError.TheVariants as error;
 
 use crate::error::TextError;
-use byte_sinks::{FlushSink, pump};
+use byte_streams::{FlushSink, pump};
 
 /// Writes all of these bytes, and flushes.
 pub(crate) fn write_all<W: FlushSink>(output: &mut W, bytes: &[u8]) -> Result<(), TextError>

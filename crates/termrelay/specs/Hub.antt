@@ -16,7 +16,7 @@ use Rattle.vt100.specs.Memory.{some_may_allocate}
 use Rattle.vt100.specs.Parsing.{ParserView, HasRead, ParserIsAfter}
 use Rattle.vt100.specs.declared.error.ScreenError.{ScreenError}
 use Rattle.vt100.specs.declared.error.ScreenError.TheVariants as screen
-use Rattle.byte_sinks.specs.Pump.{Pumps}
+use Rattle.byte_streams.specs.Pump.{Pumps}
 use Rattle.termrelay.specs.Answers.{ClientState, answer_for, after_answer, may_allocate}
 use Rattle.termrelay.specs.Frame.{IsShortFrame, IsLocalFrame}
 use Rattle.termrelay.specs.ClientRecord.{RecordView, client_of}

@@ -11,7 +11,7 @@ use crate::answer::Answer;
 use crate::client::Client;
 use crate::client_record::{Base, ClientRecord, is_too_long};
 use crate::error::HubError;
-use byte_sinks::ByteSink;
+use byte_streams::ByteSink;
 use slab::Slab;
 use std::alloc::Global;
 use std::marker::Model;

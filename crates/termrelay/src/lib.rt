@@ -16,7 +16,7 @@ pub mod session;
 mod shown;
 
 pub use answer::Answer;
-pub use byte_sinks::ByteSink;
+pub use byte_streams::ByteSink;
 pub use call::{Call, Reply, Take};
 pub use client::Client;
 pub use error::HubError;

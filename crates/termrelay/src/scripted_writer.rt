@@ -3,7 +3,7 @@ ghost use Rattle.std.specs.Prelude.{List};
 ghost use Rattle.termrelay.specs.Calls.{WritesAsReported};
 
 use crate::call::Take;
-use byte_sinks::ByteSink;
+use byte_streams::ByteSink;
 use std::io;
 use std::io::ErrorKind;
 use std::marker::Model;

@@ -17,7 +17,7 @@ mod text;
 mod until_cleared;
 mod view;
 
-pub use byte_sinks::ByteSink;
+pub use byte_streams::ByteSink;
 pub use error::ViewError;
 pub use until_cleared::UntilCleared;
 pub use view::View;

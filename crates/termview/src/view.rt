@@ -2,7 +2,7 @@
 ghost use Rattle.std.specs.Prelude.{◌≡◌, ℕ, List, [], Option, Some, None, false, length, IfOk, OnErr, Err};
 ghost use Rattle.std.specs.Prelude.{encode_utf8_all, ◌++◌, ◌≤◌};
 ghost use Rattle.std.specs.Option.{option_copied};
-ghost use Rattle.byte_sinks.specs.Sent.{SendsText};
+ghost use Rattle.byte_streams.specs.Sent.{SendsText};
 ghost use Rattle.vt100_forms.specs.Attrs.{is_bold, is_dim, is_italic, is_underlined, is_inverse};
 ghost use Rattle.termview.specs.Seen.{cell_shown, text_shown};
 ghost use Rattle.termview.specs.declared.error.ViewError.TheVariants.{Memory};
@@ -10,7 +10,7 @@ ghost use Rattle.termview.specs.declared.error.ViewError.TheVariants.{Memory};
 use crate::error::ViewError;
 use crate::picture::Picture;
 use crate::text::write_cells;
-use byte_sinks::ByteSink;
+use byte_streams::ByteSink;
 use std::alloc::Global;
 use std::io;
 use std::num::NonZeroU16;

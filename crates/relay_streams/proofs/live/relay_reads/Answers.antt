@@ -1,14 +1,14 @@
 use Rattle.std.proofs.Common.{◌≡◌, ◌∙◌, ℕ, List, [], ◌∷◌, ◌++◌, take, length, arith, ap, sym, subst, Ok, Err, None, refl, false}
 use Rattle.std.proofs.Common.{rules}
 use Rattle.std.specs.List.{concat, list_any}
-use Rattle.line_drawing.specs.declared.lines.LineDrawing.{LineDrawing}
+use Rattle.charset_filter.specs.declared.lines.LineDrawing.{LineDrawing}
 use Rattle.relay_streams.specs.Frames.{is_overlong}
-use Rattle.line_drawing.specs.Lines.{HasPassed, all_passed, passed}
+use Rattle.charset_filter.specs.Lines.{HasPassed, all_passed, passed}
 use Rattle.relay_streams.specs.declared.error.RelayError.TheVariants.{Memory}
 use Rattle.relay_streams.specs.Live.{live_len, Tries, begun, none, unread, stopped, ended, SendsFlushed}
 use Rattle.relay_streams.specs.Turns.{Relaying, Turned}
 use Rattle.relay_streams.proofs.FrameLists.{frames_of, answers_of, base_of}
-use Rattle.line_drawing.proofs.LineLemmas.{none-passed}
+use Rattle.charset_filter.proofs.LineLemmas.{none-passed}
 use Rattle.relay_streams.proofs.LiveLemmas.{tried-fault, tried-gave, tried-made, listens-on, live-faults, live-goes}
 use Rattle.relay_streams.proofs.LiveLemmas.{live-refused}
 use Rattle.relay_streams.proofs.PieceLemmas.{concat-push}

@@ -1,9 +1,9 @@
 use Rattle.std.proofs.Common.{◌≡◌, ◌≤◌, ◌-◌, List, [], ℕ, false, None, Ok}
 use Rattle.std.specs.List.{concat, list_any}
-use Rattle.line_drawing.specs.declared.lines.LineDrawing.{LineDrawing}
+use Rattle.charset_filter.specs.declared.lines.LineDrawing.{LineDrawing}
 use Rattle.relay_streams.specs.Fill.{max_reads}
 use Rattle.relay_streams.specs.Frames.{is_overlong}
-use Rattle.line_drawing.specs.Lines.{HasPassed, all_passed}
+use Rattle.charset_filter.specs.Lines.{HasPassed, all_passed}
 use Rattle.relay_streams.specs.Live.{live_len, Listens, SendsFlushed}
 use Rattle.relay_streams.specs.Turns.{Relaying}
 use Rattle.relay_streams.proofs.FrameLists.{frames_of, answers_of, base_of}

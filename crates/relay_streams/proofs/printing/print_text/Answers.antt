@@ -1,6 +1,6 @@
 use Rattle.std.proofs.Common.{Ok, Result, subst}
 use Rattle.std.specs.declared.io.Error.{Error}
-use Rattle.byte_sinks.specs.Sent.{SendsText}
+use Rattle.byte_streams.specs.Sent.{SendsText}
 use Rattle.relay_streams.specs.Shown.{Prints, stopped, unflushed, printed}
 use Rattle.relay_streams.proofs.OutputLemmas.{prints-text, text-one}
 use Rattle.relay_streams.proofs.printing.print_text.Goals as goal

@@ -1,5 +1,5 @@
 use Rattle.std.proofs.Common.{◌≡◌, [], ◌∷◌, Ok, Err, refl, rules}
-use Rattle.byte_sinks.proofs.SendLemmas.{text-more, text-broken}
+use Rattle.byte_streams.proofs.SendLemmas.{text-more, text-broken}
 use Rattle.relay_streams.proofs.OutputLemmas.{text-one}
 use Rattle.relay_streams.proofs.showing.write_row.Goals as goal
 

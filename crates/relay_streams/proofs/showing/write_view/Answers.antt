@@ -1,6 +1,6 @@
 use Rattle.std.proofs.Common.{ℕ, List, ap, subst, ◌≡◌, ◌++◌, ◌+◌, ◌-◌, ◌∙◌, [], Ok, Err, append_assoc, append-nil, arith, sym, refl, rules}
-use Rattle.byte_sinks.specs.Sent.{SendsText, done}
-use Rattle.byte_sinks.proofs.SendLemmas.{text-more, text-broken}
+use Rattle.byte_streams.specs.Sent.{SendsText, done}
+use Rattle.byte_streams.proofs.SendLemmas.{text-more, text-broken}
 use Rattle.termview.specs.Standing.{shown_by, view_size}
 use Rattle.relay_streams.specs.Shown.{row_line, rows_text, screen_text}
 use Rattle.relay_streams.proofs.OutputLemmas.{rows-next}

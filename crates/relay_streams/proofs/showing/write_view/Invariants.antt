@@ -1,5 +1,5 @@
 use Rattle.std.proofs.Common.{◌≡◌, ◌-◌, ◌++◌, List, ℕ, Ok}
-use Rattle.byte_sinks.specs.Sent.{SendsText}
+use Rattle.byte_streams.specs.Sent.{SendsText}
 use Rattle.termview.specs.Standing.{shown_by, view_size}
 use Rattle.relay_streams.specs.Shown.{rows_text, screen_text}
 use Rattle.relay_streams.proofs.showing.write_view.Given as goal

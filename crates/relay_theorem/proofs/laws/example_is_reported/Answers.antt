@@ -24,7 +24,7 @@ use Rattle.termrelay.specs.declared.answer.Answer.TheVariants.{Full, Unchanged, 
 use Rattle.termrelay.specs.declared.call.Take.TheVariants.{Bytes, Fault}
 use Rattle.termrelay.specs.declared.call.Reply.TheVariants.{Done, Attached, Answered, Refused}
 use Rattle.termrelay.specs.declared.error.HubError.TheVariants.{UnknownClient, Write}
-use Rattle.byte_sinks.specs.Pump.{some, all, fault}
+use Rattle.byte_streams.specs.Pump.{some, all, fault}
 use Rattle.screen_model.specs.Made.{Fed, Resized}
 use Rattle.relay_theorem.specs.History.{as_reported, Story, fresh, stories_after}
 use Rattle.relay_theorem.proofs.laws.example_is_reported.Goals as goal

@@ -1,6 +1,6 @@
 use Rattle.std.proofs.Common.{◌≡◌, ◌∙◌, ℕ, ◌+◌, ◌≤◌, List, ap, sym, arith, drop, length, length-drop}
 use Rattle.termrelay.specs.ClientRecord.{RecordView}
-use Rattle.byte_sinks.proofs.PumpLemmas.{pumps-within}
+use Rattle.byte_streams.proofs.PumpLemmas.{pumps-within}
 use Rattle.termrelay.proofs.client_record.ClientRecord.pump.Goals as goal
 
 -- what is taken of what is left is part of the text

@@ -4,7 +4,7 @@ use Rattle.std.specs.declared.io.Error.{Error}
 use Rattle.slab.specs.Slab.{Slab, get, with_value}
 use Rattle.vt100.specs.Parsing.{ParserView}
 use Rattle.termrelay.specs.declared.error.HubError.TheVariants.{UnknownClient}
-use Rattle.byte_sinks.specs.Pump.{Pumps}
+use Rattle.byte_streams.specs.Pump.{Pumps}
 use Rattle.termrelay.specs.ClientRecord.{RecordView, client_of}
 use Rattle.termrelay.specs.Hub.{PumpsClient, pump_answer}
 use Rattle.termrelay.specs.HubFields.{IsHub}

@@ -1,5 +1,0 @@
-use Rattle.byte_sinks.proofs.PumpLaws.{appends-prefix}
-use Rattle.byte_sinks.proofs.laws.pumps_append_the_prefix.Goals as goal
-
-pub returns : goal.returns
-returns g c = appends-prefix g.row.W.Denot g.W.Write.contents

@@ -1,4 +1,0 @@
-pub mod Laws
-pub mod Output
-pub mod Pump
-pub mod Sent

@@ -1,0 +1,39 @@
+//! A box, taken apart into the pointer to its value and its allocator.
+ghost use Rattle.std.specs.Prelude.{◌≡◌};
+ghost use Rattle.std.specs.Box.Ownership.{box_owns};
+
+use std::alloc::Allocator;
+use std::marker::Model;
+
+/// The parts of a box. They own what the box owned.
+pub struct Parts<T, A: Allocator> {
+    /// Points to the value.
+    pub ptr: *mut T,
+    /// Frees the value's memory.
+    pub alloc: A,
+    pub ghost value: { T },
+}
+
+impl<T, A: Allocator> Model for Parts<T, A> {
+    ghost also_owns = { λ p. box_owns (A.dealloc_token p.alloc) T.row p.ptr p.value };
+}
+
+impl<T, A: Allocator> Parts<T, A> {
+    /// Takes a box apart.
+    pub fn of(b: Box<T, A>) -> Parts<T, A>
+    where
+        T: Drop,
+        ensures { result.value ≡ b.value }
+    {
+        let (ptr, alloc) = Box::into_raw_with_allocator(b);
+        Parts { ptr, alloc }
+    }
+
+    /// Makes a box of the parts again.
+    pub fn into_box(self) -> Box<T, A>
+        ensures { result.value ≡ self.value }
+    {
+        let Parts { ptr, alloc } = self;
+        unsafe { Box::from_raw(alloc, ptr) }
+    }
+}
