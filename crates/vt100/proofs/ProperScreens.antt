@@ -1,11 +1,12 @@
 -- A screen of which a sheet, or both, have changed.
 use Rattle.std.proofs.Common.{◌≡◌, ◌∙◌, ◌==◌, ℕ, Bool, Option, true, false, not, length, replicate, refl, sym, ap}
-use Rattle.std.proofs.Common.{Result, Ok, Err, OnOk, OnErr}
+use Rattle.std.proofs.Common.{Result, Ok, Err, OnOk, OnErr, ◌<◌, subst}
+use Rattle.std.proofs.lemmas.List.{length-replicate}
 use Rattle.std.specs.Prelude.{IfOk}
 use Rattle.std.proofs.lemmas.Bool.{both_ways, cond_both, false≢true}
 use Rattle.vt100_forms.specs.Attrs.{default_attrs}
 use Rattle.vt100_rows.specs.Row.{blank_row}
-use Rattle.vt100_core.specs.Grid.{GridView, IsAllocated, SameLimits, new_grid, allocated}
+use Rattle.vt100_core.specs.Grid.{GridView, IsAllocated, SameLimits, new_grid, allocated, cleared}
 use Rattle.vt100_core.specs.declared.scrollback.Scrollback.TheVariants.{Disabled, Enabled}
 use Rattle.vt100_core.specs.Scroll.{scrollback_shown}
 use Rattle.vt100_core.specs.Resize.{resized}
@@ -47,6 +48,30 @@ pub drawn_screen : (s : Inside) (g : GridView) (last : Option ℕ) → IsInside 
 drawn_screen s g last i some limits proper =
     changed-screen s g s.other_grid last s.failed i some i.main (λ live. i.height live ∙ sym limits.height)
     (λ live. i.width live ∙ sym limits.width) limits.kept.keeps refl (λ live. proper (i.proper live)) i.other_proper
+
+-- a sheet is cleared
+allocated-cleared : (g : GridView) → IsAllocated g → IsAllocated (cleared g)
+allocated-cleared g some =
+    subst (λ n. 0 < n) (sym (length-replicate (length g.rows) (blank_row g.width))) some
+
+proper-cleared : (g : GridView) → IsProperSheet g → IsProperSheet (cleared g)
+proper-cleared g p = record {
+  drawn = (proper_allocated (new_grid (length g.rows) g.width Disabled) (proper_new (length g.rows) g.width Disabled)).drawn;
+  kept = p.kept;
+}
+
+pub cleared_shown : (s : Inside) (g : GridView) → IsInside s → g ≡ cleared s.grid → IsInside (record s { grid = g })
+cleared_shown s g i is =
+    changed-screen s g s.other_grid s.last_char s.failed i (rw is (allocated-cleared s.grid i.shown)) i.main
+    (λ live. rw is (i.height live)) (λ live. rw is (i.width live)) (rw is refl) refl
+    (λ live. rw is (proper-cleared s.grid (i.proper live))) i.other_proper
+
+pub cleared_other : (s : Inside) (h : GridView) → IsInside s → h ≡ cleared s.other_grid
+    → IsInside (record s { other_grid = h })
+cleared_other s h i is =
+    changed-screen s s.grid h s.last_char s.failed i i.shown (λ e. rw is (allocated-cleared s.other_grid (i.main e)))
+    (λ live. rw is (i.height live)) (λ live. rw is (i.width live)) refl (rw is refl) i.proper
+    (λ live. rw is (proper-cleared s.other_grid (i.other_proper live)))
 
 -- what the calls that draw on it keep
 pub ruleset drawn_rules = (
