@@ -11,8 +11,8 @@ use vt100_core::{Grid, Scrollback};
 
 /// What a grid keeps to that was refused memory in a call.
 ///
-/// It is whole, and the call leaves it whole the next time. Once it is cleared the call does to it what it does to a new
-/// grid.
+/// It is whole, and the call leaves it whole the next time. Once it is cleared the call does to it what it does to a
+/// new grid.
 pub fn check_recovery(alloc: Global, grid: &mut Grid, call: &Call) -> Result<(), StepError>
     requires { IsAllocated grid.old }
 {
