@@ -61,9 +61,7 @@ impl Change {
 /// Tells a change. A writer gets it in one call, or in no call if it is empty.
 pub fn tell_change(alloc: Global, change: &Change, answer: &mut Answer) -> Result<(), StepError> {
     let mut text = String::from_str(alloc, BEGUN)?;
-    let written = change
-        .new
-        .write_escape_code_diff(&mut text, &change.old);
+    let written = change.new.write_escape_code_diff(&mut text, &change.old);
     let form = appended(text.as_str(), written)?;
     check_writes(alloc, form, |writer| change.write(writer))?;
     tell_text(answer, form)
