@@ -1,5 +1,3 @@
-use Rattle.std.proofs.Common.{◌≡◌, ℕ, ◌+◌, ◌-◌, ◌*◌, ◌<◌, ◌≤◌, length}
-use Rattle.std.specs.Iterator.{IsFinite}
 use Rattle.screen_cases.proofs.rows.joined.Given as goal
 
 abbrev pub invariant-loop : goal.invariant-loop
