@@ -1,9 +1,10 @@
 //! The words of attributes, and the changes from some to others.
 use crate::answers::{BEGUN, appended, tell_text};
-use crate::limited::check_writes;
+use crate::limited::{Limited, check_writes};
 use crate::modes::switch_of;
 use case_player::{Answer, StepError, Words};
 use std::alloc::Global;
+use std::fmt;
 use vt100_forms::Color;
 use vt100_forms::attrs::Attrs;
 use vt100_forms::term::{self, Intensity};
@@ -42,20 +43,28 @@ pub fn attributes(words: &mut Words<'_>) -> Result<Attrs, StepError> {
     })
 }
 
-/// Tells the change from `old` to `new`. A writer gets it in one call, or in no call if it is empty.
-pub fn tell_change(
-    alloc: Global,
-    old: &Attrs,
-    new: &Attrs,
-    answer: &mut Answer,
-) -> Result<(), StepError> {
+/// A change of attributes.
+#[derive(Clone, Copy)]
+pub struct Change {
+    /// Those before.
+    pub old: Attrs,
+    /// Those after.
+    pub new: Attrs,
+}
+
+impl Change {
+    fn write(&self, writer: &mut Limited) -> fmt::Result {
+        self.new.write_escape_code_diff_fmt(writer, &self.old)
+    }
+}
+
+/// Tells a change. A writer gets it in one call, or in no call if it is empty.
+pub fn tell_change(alloc: Global, change: &Change, answer: &mut Answer) -> Result<(), StepError> {
     let mut text = String::from_str(alloc, BEGUN)?;
-    let written = new.write_escape_code_diff(&mut text, old);
-    let change = appended(text.as_str(), written)?;
-    check_writes(alloc, change, |writer| {
-        new.write_escape_code_diff_fmt(writer, old)
-    })?;
-    tell_text(answer, change)
+    let written = change.new.write_escape_code_diff(&mut text, &change.old);
+    let form = appended(text.as_str(), written)?;
+    check_writes(alloc, form, |writer| change.write(writer))?;
+    tell_text(answer, form)
 }
 
 /// The attributes that are named, in the order of the words: both colours, the intensity, and whether text is in

@@ -1,5 +1,5 @@
 //! What plays the steps of a case.
-use crate::attributes::{attributes, tell_change};
+use crate::attributes::{Change, attributes, tell_change};
 use crate::captures::{read_capture, tell_calls, tell_capture};
 use crate::forms::tell_form;
 use crate::questions::ask;
@@ -39,7 +39,10 @@ impl ScreenPlayer {
             "new" => self.stage = Some(Stage::new(self.alloc, words)?),
             "form" => tell_form(self.alloc, words, answer)?,
             "from" => self.old = attributes(words)?,
-            "to" => tell_change(self.alloc, &self.old, &attributes(words)?, answer)?,
+            "to" => {
+                let (old, new) = (self.old, attributes(words)?);
+                tell_change(self.alloc, &Change { old, new }, answer)?;
+            }
             _ => read_capture(self.alloc, name, words, answer)?,
         }
         Ok(())

@@ -1,6 +1,7 @@
 //! The texts of a screen's rows.
 ghost use Rattle.std.specs.Iterator.{IsFinite};
 
+use crate::answers::{check, refused};
 use case_player::StepError;
 use std::alloc::Global;
 use vt100::ScreenError;
@@ -11,11 +12,13 @@ fn text_of_both(
     second: Result<String, ScreenError>,
 ) -> Result<String, StepError> {
     match (first, second) {
-        (Ok(first), Ok(second)) if first == second => Ok(first),
+        (Ok(first), Ok(second)) => {
+            check(first == second, "a row is read otherwise the second time")?;
+            Ok(first)
+        }
         (Ok(text), Err(ScreenError::Memory)) => Ok(text),
-        (Err(ScreenError::Memory), Ok(text)) => Ok(text),
-        (Err(ScreenError::Memory), Err(ScreenError::Memory)) => Err(StepError::Memory),
-        _ => Err(StepError::Wrong("a row is read otherwise the second time")),
+        (Err(ScreenError::Memory), other) => other.map_err(refused),
+        _ => Err(StepError::Wrong("the screen has failed")),
     }
 }
 
