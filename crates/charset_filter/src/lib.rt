@@ -33,7 +33,5 @@ pub mod laws;
 mod listener;
 mod plain;
 mod sets;
-#[cfg(test)]
-mod tests;
 
 pub use filter::CharsetFilter;

@@ -1,6 +1,5 @@
-//! Worked streams and their calls.
+//! Processors with timeouts of one's own, and values.
 
 mod hold;
 mod log;
-mod table;
 mod values;

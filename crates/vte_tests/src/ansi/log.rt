@@ -2,40 +2,49 @@
 
 ghost use Rattle.std.specs.Prelude.{⊤};
 
-use std::alloc::Global;
 use std::cell::Cell;
-use std::test::Fail;
 use std::time::Duration;
-use vte::ansi::{self, Call, Clock, Handler, Timeout};
+use vte::ansi::{Call, Clock, Handler, Timeout};
 
-/// The calls so far. Where inputs are counted they aren't written down.
+/// The calls so far. Where inputs are counted they aren't written down. Behind each call stands whether the flag is up,
+/// if there is one.
 #[derive(Drop)]
-pub struct CallLog {
+pub struct CallLog<'a> {
     pub text: String,
     pub inputs: Option<usize>,
     pub failed: bool,
+    flag: Option<&'a Cell<bool>>,
 }
 
-impl CallLog {
-    pub fn new(rt: &impl AllocGlobal) -> CallLog {
+impl<'a> CallLog<'a> {
+    /// An empty log.
+    pub fn new(rt: &impl AllocGlobal) -> CallLog<'a> {
         CallLog {
             text: String::new(rt.alloc()),
             inputs: None,
             failed: false,
+            flag: None,
         }
     }
 
     /// Counts inputs.
-    pub fn with_count(rt: &impl AllocGlobal) -> CallLog {
+    pub fn with_count(rt: &impl AllocGlobal) -> CallLog<'a> {
         CallLog {
-            text: String::new(rt.alloc()),
             inputs: Some(0),
-            failed: false,
+            ..CallLog::new(rt)
+        }
+    }
+
+    /// Writes down whether the flag is up at each call.
+    pub fn watching(rt: &impl AllocGlobal, flag: &'a Cell<bool>) -> CallLog<'a> {
+        CallLog {
+            flag: Some(flag),
+            ..CallLog::new(rt)
         }
     }
 }
 
-impl Handler for CallLog {
+impl Handler for CallLog<'_> {
     ghost step = { λ _ _ _. ⊤ };
 
     fn call(&mut self, call: Call<'_>) {
@@ -44,65 +53,10 @@ impl Handler for CallLog {
             return;
         }
         self.failed |= write!(self.text, "{call:?} ").is_err();
-    }
-}
-
-/// A timeout that is pending from `set_timeout` to `clear_timeout`, and how often it was set.
-#[derive(Drop)]
-pub struct UntilCleared {
-    pub pending: bool,
-    pub sets: usize,
-}
-
-impl UntilCleared {
-    pub fn new() -> UntilCleared {
-        UntilCleared {
-            pending: false,
-            sets: 0,
+        if let Some(flag) = self.flag {
+            self.failed |= write!(self.text, "{} ", flag.get()).is_err();
         }
     }
-}
-
-impl Timeout for UntilCleared {
-    ghost ticking = { record { sets = λ _ _ _. ⊤; clears = λ _ _. ⊤; answers = λ _ _. ⊤ } };
-
-    fn set_timeout(&mut self, _duration: Duration) {
-        self.pending = true;
-        self.sets = self.sets.saturating_add(1);
-    }
-
-    fn clear_timeout(&mut self) {
-        self.pending = false;
-    }
-
-    fn pending_timeout(&self) -> bool {
-        self.pending
-    }
-}
-
-/// A processor with such a timeout.
-pub type Processor = ansi::Processor<UntilCleared, Global>;
-
-pub fn processor(alloc: Global) -> Result<Processor, Fail> {
-    Ok(ansi::Processor::new(alloc, UntilCleared::new())?)
-}
-
-/// Does this with a new processor and a log.
-pub fn with_processor<F: FnOnce(&mut Processor, &mut CallLog)>(
-    alloc: Global,
-    mut log: CallLog,
-    check: F,
-) -> Result<(), Fail>
-    requires { F.IsAlwaysCallable check }
-{
-    let mut processor = processor(alloc)?;
-    check(&mut processor, &mut log);
-    Ok(())
-}
-
-/// Hands a piece to a processor.
-pub fn feed(processor: &mut Processor, log: &mut CallLog, piece: &[u8]) {
-    processor.advance(log, piece);
 }
 
 /// A timeout that is pending while the flag beside it is up.
@@ -122,22 +76,6 @@ impl<'a> Timeout for Flagged<'a> {
 
     fn pending_timeout(&self) -> bool {
         self.0.get()
-    }
-}
-
-/// Writes down each call, and whether the flag beside it is up then.
-#[derive(Drop)]
-pub struct Watching<'a> {
-    pub log: CallLog,
-    pub flag: &'a Cell<bool>,
-}
-
-impl<'a> Handler for Watching<'a> {
-    ghost step = { λ _ _ _. ⊤ };
-
-    fn call(&mut self, call: Call<'_>) {
-        self.log.call(call);
-        self.log.failed |= write!(self.log.text, "{} ", self.flag.get()).is_err();
     }
 }
 

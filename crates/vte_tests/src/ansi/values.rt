@@ -2,12 +2,11 @@
 
 use super::log::Still;
 use crate::same::same;
-use std::str::FromStr;
 use std::test::Fail;
 use std::time::Duration;
 use vte::ansi::{
     C0, Flags, KeyboardModes, Mode, NamedColor, NamedMode, NamedPrivateMode, OutOfMemory,
-    PrivateMode, Rgb, StandardCharset, StdSyncHandler, Timeout,
+    PrivateMode, StdSyncHandler, Timeout,
 };
 
 #[test]
@@ -25,83 +24,19 @@ fn a_timeout_is_set_and_cleared(rt: HostRuntime) {
     same(&rt, &last.sync_timeout(), &Some(Duration::MAX));
 }
 
-const COLOR: Rgb = Rgb {
-    r: 10,
-    g: 11,
-    b: 12,
-};
-
 #[test]
-fn texts_of_colors(rt: HostRuntime) -> Result<(), Fail> {
-    let text = format!(in rt.alloc(); "{COLOR}, {OutOfMemory}")?;
-    same(&rt, &text.as_str(), &"#0a0b0c, out of memory");
-    Ok(())
-}
-
-/// Texts, and whether they are that colour.
-const READ: &[(&str, Result<Rgb, ()>)] = &[
-    ("#0a0b0c", Ok(COLOR)),
-    ("0x0A0b0c", Ok(COLOR)),
-    ("#0a0b", Err(())),
-    ("#+a0b0c", Err(())),
-];
-
-#[test]
-fn colors_of_texts(rt: HostRuntime) {
-    for (text, want) in READ {
-        same(&rt, &(*text, Rgb::from_str(text)), &(*text, *want));
-    }
-}
-
-#[test]
-fn sums_and_differences_of_colors(rt: HostRuntime) {
-    let other = Rgb { r: 250, g: 1, b: 0 };
-    let sum = Rgb {
-        r: 255,
-        g: 12,
-        b: 12,
-    };
-    let difference = Rgb { r: 0, g: 10, b: 12 };
-    same(&rt, &(COLOR + other, COLOR - other), &(sum, difference));
-}
-
-const PRIVATE_MODES: &[(NamedPrivateMode, u16)] = &[
-    (NamedPrivateMode::CursorKeys, 1),
-    (NamedPrivateMode::ColumnMode, 3),
-    (NamedPrivateMode::Origin, 6),
-    (NamedPrivateMode::LineWrap, 7),
-    (NamedPrivateMode::BlinkingCursor, 12),
-    (NamedPrivateMode::ShowCursor, 25),
-    (NamedPrivateMode::ReportMouseClicks, 1000),
-    (NamedPrivateMode::ReportCellMouseMotion, 1002),
-    (NamedPrivateMode::ReportAllMouseMotion, 1003),
-    (NamedPrivateMode::ReportFocusInOut, 1004),
-    (NamedPrivateMode::Utf8Mouse, 1005),
-    (NamedPrivateMode::SgrMouse, 1006),
-    (NamedPrivateMode::AlternateScroll, 1007),
-    (NamedPrivateMode::UrgencyHints, 1042),
-    (NamedPrivateMode::SwapScreenAndSetRestoreCursor, 1049),
-    (NamedPrivateMode::BracketedPaste, 2004),
-    (NamedPrivateMode::SyncUpdate, 2026),
-];
-
-#[test]
-fn private_modes_have_their_numbers(rt: HostRuntime) {
-    for (mode, raw) in PRIVATE_MODES {
-        same(&rt, &PrivateMode::from(*mode).raw(), raw);
-    }
-}
-
-#[test]
-fn modes_have_their_numbers(rt: HostRuntime) {
+fn named_modes_are_modes(rt: HostRuntime) {
     let insert = Mode::from(NamedMode::Insert).raw();
     let new_line = Mode::from(NamedMode::LineFeedNewLine).raw();
-    same(&rt, &(insert, new_line), &(4, 20));
-    same(
-        &rt,
-        &(Mode::Unknown(9).raw(), PrivateMode::Unknown(9).raw()),
-        &(9, 9),
-    );
+    let origin = PrivateMode::from(NamedPrivateMode::Origin).raw();
+    same(&rt, &(insert, new_line, origin), &(4, 20, 6));
+}
+
+#[test]
+fn a_refusal_has_a_text(rt: HostRuntime) -> Result<(), Fail> {
+    let text = format!(in rt.alloc(); "{OutOfMemory}")?;
+    same(&rt, &text.as_str(), &"out of memory");
+    Ok(())
 }
 
 /// The colours in the order of their numbers, from 0 and from 256.
@@ -277,23 +212,4 @@ fn numbers_of_keyboard_modes(rt: HostRuntime) {
     for (modes, bits) in KEYBOARD_MODES {
         same(&rt, &modes.bits(), bits);
     }
-}
-
-/// What is drawn for the characters from `_` to `~`.
-const DRAWN: &str = " ◆▒\u{2409}\u{240C}\u{240D}\u{240A}°±\u{2424}\u{240B}┘┐┌└┼⎺⎻─⎼⎽├┤┴┬│≤≥π≠£·";
-
-#[test]
-fn line_drawing_characters_are_mapped(rt: HostRuntime) {
-    let lines = StandardCharset::SpecialCharacterAndLineDrawing;
-    let mut c = b'_';
-    for drawn in DRAWN.chars() {
-        let plain = char::from(c);
-        same(
-            &rt,
-            &(lines.map(plain), StandardCharset::Ascii.map(plain)),
-            &(drawn, plain),
-        );
-        c = c.wrapping_add(1);
-    }
-    same(&rt, &(c, lines.map('A')), &(0x7f, 'A'));
 }

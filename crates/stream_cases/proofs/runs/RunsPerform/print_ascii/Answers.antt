@@ -5,7 +5,7 @@ use Rattle.std.proofs.lemmas.Iterator.Consumers.{YieldsList-end}
 use Rattle.std.specs.Str.{chars}
 use Rattle.vte_core.specs.Event.{Event, Print}
 use Rattle.vte_core.proofs.Telling.{performs-append, same_events}
-use Rattle.vte_tests.proofs.parser.rows.TextsPerform.print_str.Goals as goal
+use Rattle.stream_cases.proofs.runs.RunsPerform.print_ascii.Goals as goal
 
 map-last : (cs : List ℕ) (c : ℕ) → map Print cs ++ Print c ∷ [] ≡ map Print (cs ++ c ∷ [])
 map-last [] c = refl

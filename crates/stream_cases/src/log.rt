@@ -1,56 +1,102 @@
-//! A performer that writes down its events.
+//! What writes down the events of a stream, or the calls of a handler.
 
 ghost use Rattle.std.specs.Prelude.{⊤, ◌≡◌};
 
+use case_player::StepError;
+use std::alloc::{AllocError, Global};
+use vte::ansi::{Call, Handler};
 use vte_core::{Event, Params, Perform};
 
 /// When a log asks the parser to stop.
 #[derive(Clone, Copy)]
 pub enum Until {
+    /// Never.
     Never,
+    /// After any event.
     Event,
+    /// After a control sequence.
     ControlSequence,
 }
 
-/// The events so far, each as a few words.
+/// How many bytes a log has room for.
+const ROOM: usize = 65_536;
+
+/// The events or calls so far, each as a few words.
 #[derive(Drop)]
-pub struct EventLog {
-    pub text: String,
-    pub failed: bool,
+pub struct Log {
+    text: String,
+    failed: bool,
     until: Until,
     terminated: bool,
 }
 
-impl EventLog {
-    pub fn new(rt: &impl AllocGlobal, until: Until) -> EventLog {
-        EventLog {
-            text: String::new(rt.alloc()),
+impl Log {
+    /// An empty log.
+    pub fn new(alloc: Global) -> Log {
+        Log {
+            text: String::new(alloc),
             failed: false,
-            until,
+            until: Until::Never,
             terminated: false,
         }
     }
 
-    pub fn word(&mut self, word: &str) {
-        self.failed |= self.text.push_str(word).is_err();
-        self.failed |= self.text.push_str(" ").is_err();
+    /// Forgets everything, and makes room. Then the parser is asked to stop where it says.
+    pub fn restart(&mut self, until: Until) -> Result<(), AllocError> {
+        self.text.clear();
+        self.failed = false;
+        self.until = until;
+        self.terminated = false;
+        self.text.reserve(ROOM)
     }
 
+    /// Forgets the events so far.
+    pub fn clear(&mut self) {
+        self.text.clear();
+    }
+
+    /// The events or calls so far.
+    pub fn told(&self) -> Result<&str, StepError> {
+        if self.failed {
+            Err(StepError::Memory)
+        } else {
+            Ok(self.text.as_str().trim_end())
+        }
+    }
+
+    /// Writes down a text as it is.
+    pub fn push(&mut self, text: &str) {
+        self.failed |= self.text.push_str(text).is_err();
+    }
+
+    /// Writes down what another log has.
+    pub fn push_log(&mut self, other: &Log) {
+        self.push(other.text.as_str());
+        self.failed |= other.failed;
+    }
+
+    /// Writes down a word.
+    pub fn word(&mut self, word: &str) {
+        self.push(word);
+        self.push(" ");
+    }
+
+    /// Writes down a number.
     pub fn number(&mut self, number: u32) {
         self.failed |= write!(self.text, "{number} ").is_err();
     }
 
-    pub fn bytes(&mut self, bytes: &[u8]) {
-        for byte in bytes {
-            self.number(*byte as u32);
-        }
-        self.word("|");
-    }
-
-    /// A word and a number.
+    /// Writes down a word and a number.
     pub fn tell(&mut self, word: &str, number: u32) {
         self.word(word);
         self.number(number);
+    }
+
+    fn bytes(&mut self, bytes: &[u8]) {
+        for byte in bytes {
+            self.number(u32::from(*byte));
+        }
+        self.word("|");
     }
 
     fn ending(&mut self, intermediates: &[u8], ignore: bool, number: u32) {
@@ -78,7 +124,7 @@ impl EventLog {
     }
 }
 
-impl Perform for EventLog {
+impl Perform for Log {
     ghost step = { λ _ _ _. ⊤ };
 
     ghost is_terminated = { λ log. log.terminated };
@@ -125,5 +171,13 @@ impl Perform for EventLog {
 
     fn terminated(&self) -> bool {
         self.terminated
+    }
+}
+
+impl Handler for Log {
+    ghost step = { λ _ _ _. ⊤ };
+
+    fn call(&mut self, call: Call<'_>) {
+        self.failed |= write!(self.text, "{call:?} ").is_err();
     }
 }

@@ -1,11 +1,12 @@
 //! Each byte in each state, against the table of states written out.
 
-use super::log::{EventLog, Until};
-use crate::same::same;
-use std::process::Abort;
-use vte_core::Parser;
+use crate::cuts::read;
+use crate::events::Keeping;
+use crate::log::{Log, Until};
+use case_player::{Answer, StepError};
+use std::alloc::Global;
 
-/// How far a sequence has come.
+// How far a sequence has come.
 #[derive(Clone, Copy)]
 enum Place {
     Ground,
@@ -24,7 +25,7 @@ enum Place {
     Swallowed,
 }
 
-/// What a byte does.
+// What a byte does.
 #[derive(Clone, Copy)]
 enum Effect {
     Nothing,
@@ -42,7 +43,7 @@ enum Effect {
     OscBell,
 }
 
-/// The table: what a byte other than CAN, SUB and ESC does, and the next state.
+// The table: what a byte other than CAN, SUB and ESC does, and the next state.
 fn entry(place: Place, byte: u8) -> (Effect, Place) {
     match place {
         Place::Ground => (ground(byte), Place::Ground),
@@ -122,35 +123,47 @@ fn dcs(place: Place, byte: u8) -> (Effect, Place) {
     }
 }
 
-/// Reads bytes by the table.
+// Reads bytes by the table.
 #[derive(Drop)]
 struct Reading {
     place: Place,
-    /// The whole numbers of a header that are kept, with what stands between them.
+    // The whole numbers of a header that are kept, with what stands between them.
     numbers: String,
-    /// How many numbers are whole.
+    // How many numbers are whole.
     count: usize,
-    /// What stands before the last number.
+    // What stands before the last number.
     before: &'static str,
     number: u32,
-    /// The intermediates, or a command's data, as a log writes them, and how many intermediates or pieces there are.
-    content: EventLog,
+    // The intermediates, or a command's data, as a log writes them, and how many intermediates or pieces there are.
+    content: Log,
     parts: usize,
-    log: EventLog,
+    log: Log,
+    failed: bool,
 }
 
 impl Reading {
-    fn new(rt: &impl AllocGlobal) -> Reading {
-        Reading {
+    fn new(alloc: Global) -> Result<Reading, StepError> {
+        let mut reading = Reading {
             place: Place::Ground,
-            numbers: String::new(rt.alloc()),
+            numbers: String::with_capacity(alloc, 256)?,
             count: 0,
             before: "",
             number: 0,
-            content: EventLog::new(rt, Until::Never),
+            content: Log::new(alloc),
             parts: 0,
-            log: EventLog::new(rt, Until::Never),
-        }
+            log: Log::new(alloc),
+            failed: false,
+        };
+        reading.restart()?;
+        Ok(reading)
+    }
+
+    // Nothing is read yet.
+    fn restart(&mut self) -> Result<(), StepError> {
+        self.content.restart(Until::Never)?;
+        self.log.restart(Until::Never)?;
+        self.begin(Place::Ground);
+        Ok(())
     }
 
     fn begin(&mut self, place: Place) {
@@ -159,11 +172,11 @@ impl Reading {
         self.count = 0;
         self.before = "";
         self.number = 0;
-        self.content.text.clear();
+        self.content.clear();
         self.parts = 0;
     }
 
-    /// CAN, SUB or ESC ends what was begun.
+    // CAN, SUB or ESC ends what was begun.
     fn cut(&mut self) {
         match self.place {
             Place::Osc => self.log.word("osc"),
@@ -176,11 +189,11 @@ impl Reading {
     }
 
     fn data(&mut self) {
-        self.log.failed |= self.log.text.push_str(self.content.text.as_str()).is_err();
+        self.log.push_log(&self.content);
         self.log.word("|");
     }
 
-    /// A byte of a command: 16 pieces are kept.
+    // A byte of a command: 16 pieces are kept.
     fn piece(&mut self, byte: u8) {
         if byte == b';' {
             self.parts = self.parts.saturating_add(1);
@@ -192,7 +205,7 @@ impl Reading {
         }
     }
 
-    /// An intermediate: 2 are kept.
+    // An intermediate: 2 are kept.
     fn collect(&mut self, byte: u8) {
         if self.parts < 2 {
             self.content.number(byte as u32);
@@ -200,10 +213,10 @@ impl Reading {
         self.parts = self.parts.saturating_add(1);
     }
 
-    /// A number is whole: 32 are kept.
+    // A number is whole: 32 are kept.
     fn end_number(&mut self) {
         if self.count < 32 {
-            self.log.failed |= write!(self.numbers, "{}{}", self.before, self.number).is_err();
+            self.failed |= write!(self.numbers, "{}{}", self.before, self.number).is_err();
         }
         self.count = self.count.saturating_add(1);
         self.number = 0;
@@ -219,7 +232,7 @@ impl Reading {
         }
     }
 
-    /// A final byte, behind the intermediates.
+    // A final byte, behind the intermediates.
     fn end(&mut self, byte: u8) {
         self.data();
         let many = self.count > 32 || self.parts > 2;
@@ -230,7 +243,9 @@ impl Reading {
     fn dispatch(&mut self, word: &str, byte: u8) {
         self.end_number();
         self.log.word(word);
-        self.log.failed |= write!(self.log.text, "[{}] ", self.numbers).is_err();
+        self.log.push("[");
+        self.log.push(self.numbers.as_str());
+        self.log.push("] ");
         self.end(byte);
     }
 
@@ -289,74 +304,52 @@ impl Reading {
     }
 }
 
-/// The events that the parser gives.
-fn parsed(rt: &impl AllocGlobal, prefix: &[u8], byte: u8, end: &[u8]) -> EventLog {
-    let mut log = EventLog::new(rt, Until::Never);
-    let mut parser = Parser::new();
-    parser.advance(&mut log, prefix);
-    parser.advance(&mut log, &[byte]);
-    parser.advance(&mut log, end);
-    log
+// The events that the table gives of a stream.
+fn read_by_table(reading: &mut Reading, pieces: &[&[u8]]) -> Result<(), StepError> {
+    reading.restart()?;
+    for piece in pieces {
+        reading.bytes(piece);
+    }
+    if reading.failed {
+        Err(StepError::Memory)
+    } else {
+        Ok(())
+    }
 }
 
-/// The events that the table gives.
-fn read(rt: &impl AllocGlobal, prefix: &[u8], byte: u8, end: &[u8]) -> EventLog {
-    let mut reading = Reading::new(rt);
-    reading.bytes(prefix);
-    reading.byte(byte);
-    reading.bytes(end);
-    reading.log.failed |= reading.content.failed;
-    reading.log
-}
-
-/// The parser and the table give the same events.
-fn reads_alike(rt: &(impl Abort + AllocGlobal), prefix: &[u8], byte: u8, end: &[u8]) {
-    let log = parsed(rt, prefix, byte, end);
-    let wanted = read(rt, prefix, byte, end);
-    same(
-        rt,
-        &(byte, log.failed || wanted.failed, log.text.as_str()),
-        &(byte, false, wanted.text.as_str()),
-    );
-}
-
-/// Bytes that bring the parser to each state, also with all numbers, intermediates or pieces that are kept.
-const PREFIXES: &[&[u8]] = &[
-    b"",
-    b"\x1b",
-    b"\x1b(",
-    b"\x1b(!",
-    b"\x1b(!$",
-    b"\x1b[",
-    b"\x1b[?",
-    b"\x1b[?!",
-    b"\x1b[ !#",
-    b"\x1b[;;;;;;;;;;;;;;;;;;;;;;;;;;;;;;;",
-    b"\x1b[::::::::::::::::::::::::::::::;1",
-    b"\x1b[;;;;;;;;;;;;;;;;;;;;;;;;;;;;;;;;",
-    b"\x1b[1",
-    b"\x1b[1!",
-    b"\x1b[1!2",
-    b"\x1bP",
-    b"\x1bP1",
-    b"\x1bP1!",
-    b"\x1bP1!2",
-    b"\x1bP>",
-    b"\x1bP;;;;;;;;;;;;;;;;;;;;;;;;;;;;;;;1",
-    b"\x1bPq",
-    b"\x1b]",
-    b"\x1b]0;a",
-    b"\x1b];;;;;;;;;;;;;;;",
-    b"\x1b];;;;;;;;;;;;;;;a;",
-    b"\x1b_a",
-];
-
-#[test]
-fn every_byte_in_every_state(rt: HostRuntime) {
-    for prefix in PREFIXES {
-        for byte in 0..=255u8 {
-            reads_alike(&rt, prefix, byte, b"7mx\x18y");
-            reads_alike(&rt, prefix, byte, b"?mx\x1bc");
+/// Each byte between a prefix and an end. Answers how many of the streams have the events of the table, and which don't.
+pub fn tell_states(
+    alloc: Global,
+    log: &mut Log,
+    prefix: &[u8],
+    end: &[u8],
+    answer: &mut Answer,
+) -> Result<(), StepError> {
+    let mut reading = Reading::new(alloc)?;
+    let mut agreed: u64 = 0;
+    for byte in 0..=255u8 {
+        let pieces: [&[u8]; 3] = [prefix, &[byte], end];
+        read(&Keeping::Usual, log, &pieces)?;
+        read_by_table(&mut reading, &pieces)?;
+        if log.told()? == reading.log.told()? {
+            agreed = agreed.saturating_add(1);
+        } else {
+            tell_difference(byte, reading.log.told()?, log.told()?, answer)?;
         }
     }
+    answer.number(agreed)?;
+    Ok(answer.line(" by the table")?)
+}
+
+fn tell_difference(
+    byte: u8,
+    wanted: &str,
+    told: &str,
+    answer: &mut Answer,
+) -> Result<(), StepError> {
+    answer.quoted(&[byte])?;
+    answer.push(": wanted ")?;
+    answer.push(wanted)?;
+    answer.push(", read ")?;
+    Ok(answer.line(told)?)
 }
