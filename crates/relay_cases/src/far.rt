@@ -6,17 +6,18 @@ use crate::seats::Side;
 use crate::wordings::{amount, counts};
 use case_player::{Answer, StepError, Words};
 use relay_streams::{RelayError, far_view};
-use std::alloc::Global;
+use std::alloc::{AllocError, Global};
 use termrelay::Call;
 use termview::{UntilCleared, View};
 
 impl Hubs {
     // The calls so far, with the keys that the first hub's clients have.
-    fn all_calls(&self, alloc: Global) -> Result<Vec<Call<'_>>, StepError> {
+    fn all_calls(&self, alloc: Global) -> Result<Vec<Call<'_>>, AllocError> {
         let mut calls = Vec::new(alloc);
         for deed in self.calls.deeds() {
             let client = self.seat(deed.client()).client(Side::Called);
-            calls.push(self.calls.call_of(*deed, client))?;
+            let call = self.calls.call_of(*deed, client);
+            calls.push(call)?;
         }
         Ok(calls)
     }

@@ -23,8 +23,8 @@ pub enum Told {
 impl Told {
     /// Whether a call on one hub tells what it told on another. Clients have keys of their own there, and the fault of a
     /// run's writer is of kind `Other`.
-    pub fn is_like(self, other: Told) -> bool {
-        match (self, other) {
+    pub fn is_like(&self, other: &Told) -> bool {
+        match (*self, *other) {
             (Told::Attached(_), Told::Attached(_)) => true,
             (Told::Fault(kind), Told::Fault(other)) => other == ErrorKind::Other || kind == other,
             (told, other) => told == other,
@@ -32,7 +32,7 @@ impl Told {
     }
 
     /// Whether a frame is owed then.
-    pub fn is_frame(self) -> bool {
+    pub fn is_frame(&self) -> bool {
         match self {
             Told::Answered(answer) => answer.is_frame(),
             _ => false,
@@ -40,7 +40,7 @@ impl Told {
     }
 
     /// Appends it in words.
-    pub fn push(self, line: &mut Line) -> Result<(), StepError> {
+    pub fn push(&self, line: &mut Line) -> Result<(), StepError> {
         match self {
             Told::Done => line.push("done")?,
             Told::Attached(_) => line.push("attached")?,
