@@ -6,30 +6,31 @@ use crate::seats::Side;
 use crate::wordings::{amount, counts};
 use case_player::{Answer, StepError, Words};
 use relay_streams::{RelayError, far_view};
-use std::alloc::{AllocError, Global};
+use std::alloc::Global;
 use termrelay::Call;
 use termview::{UntilCleared, View};
 
-impl Hubs {
-    // The calls so far, with the keys that the first hub's clients have.
-    fn all_calls(&self, alloc: Global) -> Result<Vec<Call<'_>>, AllocError> {
-        let mut calls = Vec::new(alloc);
-        for deed in self.calls.deeds() {
-            let client = self.seat(deed.client()).client(Side::Called);
-            let call = self.calls.call_of(*deed, client);
-            calls.push(call)?;
-        }
-        Ok(calls)
-    }
+/// Of how many calls a far view is made at most.
+const MOST_CALLS: usize = 64;
 
-    // What a view shows of the first bytes of a session.
+impl Hubs {
+    // What a view shows of the first bytes of a session. The calls so far are made anew, with the keys that the first
+    // hub's clients have.
     fn far(
         &self,
         alloc: Global,
-        calls: &[Call<'_>],
         (session, take): (usize, usize),
         cuts: &[usize],
     ) -> Result<Option<View<UntilCleared>>, StepError> {
+        let deeds = self.calls.deeds();
+        let mut calls = [Call::Attach; MOST_CALLS];
+        for (call, deed) in calls.iter_mut().zip(deeds) {
+            let client = self.seat(deed.client()).client(Side::Called);
+            *call = self.calls.call_of(*deed, client);
+        }
+        let Some(calls) = calls.get(..deeds.len()) else {
+            return Err(StepError::Wrong("a far view is made of at most 64 calls"));
+        };
         let (rows, cols) = self.size;
         match far_view(alloc, rows, cols, calls, session, take, cuts) {
             Ok(found) => Ok(found),
@@ -47,7 +48,7 @@ impl Hubs {
     ) -> Result<Option<View<UntilCleared>>, StepError> {
         let part = (words.count()?, amount(words.word()?)?);
         let cuts = counts(alloc, words)?;
-        self.far(alloc, &self.all_calls(alloc)?, part, &cuts)
+        self.far(alloc, part, &cuts)
     }
 
     /// What a cell of such views shows, and their cursor, where the bytes are cut once, at each place. The words are the
@@ -60,26 +61,24 @@ impl Hubs {
     ) -> Result<(), StepError> {
         let part = (words.count()?, words.count()?);
         let place = (words.place()?, words.place()?);
-        let calls = self.all_calls(alloc)?;
         let mut turns = Turns::new(alloc)?;
         for cut in 0..part.1 {
-            let told = self.told_far(alloc, &calls, part, cut, place)?;
+            let told = self.told_far(alloc, part, cut, place)?;
             turns.push(cut, told, answer)?;
         }
-        let told = self.told_far(alloc, &calls, part, part.1, place)?;
+        let told = self.told_far(alloc, part, part.1, place)?;
         turns.push(part.1, told, answer)
     }
 
     fn told_far(
         &self,
         alloc: Global,
-        calls: &[Call<'_>],
         part: (usize, usize),
         cut: usize,
         place: (u16, u16),
     ) -> Result<Answer, StepError> {
         let mut told = Answer::new(alloc)?;
-        match self.far(alloc, calls, part, &[cut])? {
+        match self.far(alloc, part, &[cut])? {
             Some(view) => push_drawn(&mut told, &view, place)?,
             None => told.push("no view")?,
         }

@@ -11,7 +11,8 @@ use termrelay::{Answer, Call, Client, Hub, HubError, Log, Reply, run};
 #[derive(Clone, Copy, Debug, Eq, PartialEq)]
 pub enum Told {
     Done,
-    Attached(Client),
+    /// A client came, with this key.
+    Attached(usize),
     Answered(Answer),
     /// The writer failed.
     Fault(ErrorKind),
@@ -73,7 +74,7 @@ fn told_done(answer: Result<(), HubError>) -> Told {
 
 fn told_attached(answer: Result<Client, HubError>) -> Told {
     match answer {
-        Ok(client) => Told::Attached(client),
+        Ok(client) => Told::Attached(client.key()),
         Err(error) => told_of(&error),
     }
 }
@@ -101,7 +102,7 @@ pub fn told_by(hub: &mut Hub, call: &Call<'_>, writer: &mut Writer<'_>) -> Told 
 pub fn told_in(reply: &Reply) -> Told {
     match reply {
         Reply::Done => Told::Done,
-        Reply::Attached(client) => Told::Attached(*client),
+        Reply::Attached(client) => Told::Attached(client.key()),
         Reply::Answered(answer) => Told::Answered(*answer),
         Reply::Refused(error) => told_of(error),
     }
