@@ -7,6 +7,7 @@ use crate::wordings::{amount, counts};
 use case_player::{Answer, StepError, Words};
 use relay_streams::{RelayError, far_view};
 use std::alloc::Global;
+use std::array;
 use termrelay::Call;
 use termview::{UntilCleared, View};
 
@@ -14,6 +15,17 @@ use termview::{UntilCleared, View};
 const MOST_CALLS: usize = 64;
 
 impl Hubs {
+    // The call with this number. Behind the last one there are attaches.
+    fn call(&self, index: usize) -> Call<'_> {
+        match self.calls.deeds().get(index) {
+            Some(deed) => {
+                let client = self.seat(deed.client()).client(Side::Called);
+                self.calls.call_of(*deed, client)
+            }
+            None => Call::Attach,
+        }
+    }
+
     // What a view shows of the first bytes of a session. The calls so far are made anew, with the keys that the first
     // hub's clients have.
     fn far(
@@ -22,13 +34,8 @@ impl Hubs {
         (session, take): (usize, usize),
         cuts: &[usize],
     ) -> Result<Option<View<UntilCleared>>, StepError> {
-        let deeds = self.calls.deeds();
-        let mut calls = [Call::Attach; MOST_CALLS];
-        for (call, deed) in calls.iter_mut().zip(deeds) {
-            let client = self.seat(deed.client()).client(Side::Called);
-            *call = self.calls.call_of(*deed, client);
-        }
-        let Some(calls) = calls.get(..deeds.len()) else {
+        let calls: [Call<'_>; MOST_CALLS] = array::from_fn(|index| self.call(index));
+        let Some(calls) = calls.get(..self.calls.deeds().len()) else {
             return Err(StepError::Wrong("a far view is made of at most 64 calls"));
         };
         let (rows, cols) = self.size;
