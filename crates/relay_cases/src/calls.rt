@@ -45,6 +45,30 @@ impl Deed {
             Deed::Pump(pumping) => pumping.client,
         }
     }
+
+    // What the first writes of a pump take.
+    fn takes(self) -> Part {
+        match self {
+            Deed::Pump(pumping) => pumping.takes,
+            _ => Part { start: 0, end: 0 },
+        }
+    }
+
+    /// What a later write of a pump takes at most.
+    pub fn most(self) -> usize {
+        match self {
+            Deed::Pump(pumping) => pumping.most,
+            _ => usize::MAX,
+        }
+    }
+
+    /// What a write of a pump is answered that fails.
+    pub fn fault(self) -> ErrorKind {
+        match self {
+            Deed::Pump(pumping) => pumping.fault,
+            _ => ErrorKind::BrokenPipe,
+        }
+    }
 }
 
 /// Calls, with the bytes and the takes that they name.
@@ -101,8 +125,9 @@ impl Calls {
         &self.deeds
     }
 
-    /// The takes of a pump.
-    pub fn takes_of(&self, part: Part) -> &[Take] {
+    /// The takes of a pump. Another call has none.
+    pub fn takes_of(&self, deed: Deed) -> &[Take] {
+        let part = deed.takes();
         self.takes.get(part.start..part.end).unwrap_or(&[])
     }
 
@@ -114,7 +139,7 @@ impl Calls {
             Deed::Attach => Call::Attach,
             Deed::Detach(_) => Call::Detach(client),
             Deed::Frame(_) => Call::Frame(client),
-            Deed::Pump(pumping) => Call::Pump(client, self.takes_of(pumping.takes)),
+            Deed::Pump(_) => Call::Pump(client, self.takes_of(deed)),
         }
     }
 }

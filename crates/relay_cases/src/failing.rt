@@ -20,18 +20,20 @@ pub fn check_failed(hub: &mut Hub, side: Side, seats: &[Seat]) -> Result<(), Ste
 }
 
 // What the hub is asked tells this.
-fn is_told(hub: &mut Hub, call: Call<'_>, told: Told) -> bool {
-    told_by(hub, &call, &mut Writer::after(Sum::NONE)) == told
+fn is_told(hub: &mut Hub, call: &Call<'_>, wanted: Told) -> bool {
+    let mut writer = Writer::new();
+    let told = told_by(hub, call, &mut writer);
+    told == wanted
 }
 
 fn check_refusals(hub: &mut Hub) -> Result<(), StepError> {
     let one = NonZeroU16::MIN;
-    let holds = is_told(hub, Call::Feed(b"x"), Told::Failed)
-        && is_told(hub, Call::Attach, Told::Failed)
-        && is_told(hub, Call::Resize(one, one), Told::Failed)
+    let holds = is_told(hub, &Call::Feed(b"x"), Told::Failed)
+        && is_told(hub, &Call::Attach, Told::Failed)
+        && is_told(hub, &Call::Resize(one, one), Told::Failed)
         && is_told(
             hub,
-            Call::Frame(Client::from_key(usize::MAX)),
+            &Call::Frame(Client::from_key(usize::MAX)),
             Told::Unknown,
         );
     if holds {
@@ -43,11 +45,11 @@ fn check_refusals(hub: &mut Hub) -> Result<(), StepError> {
 
 // A client gets no frame, is sent what it was owed, and ends.
 fn check_served(hub: &mut Hub, client: Client, owed: Sum) -> Result<(), StepError> {
-    let mut writer = Writer::after(Sum::NONE);
-    let holds = is_told(hub, Call::Frame(client), Told::Failed)
+    let mut writer = Writer::new();
+    let holds = is_told(hub, &Call::Frame(client), Told::Failed)
         && told_by(hub, &Call::Pump(client, &[]), &mut writer) == Told::Done
         && writer.pumped.all == owed
-        && is_told(hub, Call::Detach(client), Told::Done);
+        && is_told(hub, &Call::Detach(client), Told::Done);
     if holds {
         Ok(())
     } else {
@@ -58,9 +60,9 @@ fn check_served(hub: &mut Hub, client: Client, owed: Sum) -> Result<(), StepErro
 /// No call of the hub knows the client.
 pub fn check_unknown(hub: &mut Hub, client: Client) -> Result<(), StepError> {
     let holds = hub.owed(client).is_err()
-        && is_told(hub, Call::Frame(client), Told::Unknown)
-        && is_told(hub, Call::Pump(client, &[]), Told::Unknown)
-        && is_told(hub, Call::Detach(client), Told::Unknown);
+        && is_told(hub, &Call::Frame(client), Told::Unknown)
+        && is_told(hub, &Call::Pump(client, &[]), Told::Unknown)
+        && is_told(hub, &Call::Detach(client), Told::Unknown);
     if holds {
         Ok(())
     } else {

@@ -7,28 +7,37 @@ use crate::wordings::{amount, counts};
 use case_player::{Answer, StepError, Words};
 use relay_streams::{RelayError, far_view};
 use std::alloc::Global;
+use std::array;
 use termrelay::Call;
 use termview::{UntilCleared, View};
 
+/// Of how many calls a far view is made at most.
+const MOST_CALLS: usize = 64;
+
 impl Hubs {
-    // The calls so far, with the keys that the first hub's clients have.
-    fn all_calls(&self, alloc: Global) -> Result<Vec<Call<'_>>, StepError> {
-        let mut calls = Vec::new(alloc);
-        for deed in self.calls.deeds() {
-            let client = self.seat(deed.client()).client(Side::Called);
-            calls.push(self.calls.call_of(*deed, client))?;
+    // The call with this number. Behind the last one there are attaches.
+    fn call(&self, index: usize) -> Call<'_> {
+        match self.calls.deeds().get(index) {
+            Some(deed) => {
+                let client = self.seat(deed.client()).client(Side::Called);
+                self.calls.call_of(*deed, client)
+            }
+            None => Call::Attach,
         }
-        Ok(calls)
     }
 
-    // What a view shows of the first bytes of a session.
+    // What a view shows of the first bytes of a session. The calls so far are made anew, with the keys that the first
+    // hub's clients have.
     fn far(
         &self,
         alloc: Global,
-        calls: &[Call<'_>],
         (session, take): (usize, usize),
         cuts: &[usize],
     ) -> Result<Option<View<UntilCleared>>, StepError> {
+        let calls: [Call<'_>; MOST_CALLS] = array::from_fn(|index| self.call(index));
+        let Some(calls) = calls.get(..self.calls.deeds().len()) else {
+            return Err(StepError::Wrong("a far view is made of at most 64 calls"));
+        };
         let (rows, cols) = self.size;
         match far_view(alloc, rows, cols, calls, session, take, cuts) {
             Ok(found) => Ok(found),
@@ -46,7 +55,7 @@ impl Hubs {
     ) -> Result<Option<View<UntilCleared>>, StepError> {
         let part = (words.count()?, amount(words.word()?)?);
         let cuts = counts(alloc, words)?;
-        self.far(alloc, &self.all_calls(alloc)?, part, &cuts)
+        self.far(alloc, part, &cuts)
     }
 
     /// What a cell of such views shows, and their cursor, where the bytes are cut once, at each place. The words are the
@@ -59,26 +68,24 @@ impl Hubs {
     ) -> Result<(), StepError> {
         let part = (words.count()?, words.count()?);
         let place = (words.place()?, words.place()?);
-        let calls = self.all_calls(alloc)?;
         let mut turns = Turns::new(alloc)?;
         for cut in 0..part.1 {
-            let told = self.told_far(alloc, &calls, part, cut, place)?;
+            let told = self.told_far(alloc, part, cut, place)?;
             turns.push(cut, told, answer)?;
         }
-        let told = self.told_far(alloc, &calls, part, part.1, place)?;
+        let told = self.told_far(alloc, part, part.1, place)?;
         turns.push(part.1, told, answer)
     }
 
     fn told_far(
         &self,
         alloc: Global,
-        calls: &[Call<'_>],
         part: (usize, usize),
         cut: usize,
         place: (u16, u16),
     ) -> Result<Answer, StepError> {
         let mut told = Answer::new(alloc)?;
-        match self.far(alloc, calls, part, &[cut])? {
+        match self.far(alloc, part, &[cut])? {
             Some(view) => push_drawn(&mut told, &view, place)?,
             None => told.push("no view")?,
         }

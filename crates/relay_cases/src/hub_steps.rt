@@ -11,7 +11,7 @@ use case_player::{Answer, StepError, Words};
 use std::alloc::Global;
 use std::fmt::Write;
 use std::io::ErrorKind;
-use termrelay::Take;
+use termrelay::{Client, Take};
 
 /// How many bytes a writer takes a write where a step doesn't say it.
 const MOST: usize = 7;
@@ -54,11 +54,11 @@ impl Hubs {
     /// A client comes.
     pub fn attach(&mut self) -> Result<(), StepError> {
         self.seats.reserve(1)?;
-        let Told::Attached(client) = self.make(Deed::Attach)? else {
+        let Told::Attached(key) = self.make(Deed::Attach)? else {
             return Err(StepError::Wrong("no client comes"));
         };
         let logged = logged_client(&self.log, self.seats.len());
-        self.seats.push(Seat::new(client, logged))?;
+        self.seats.push(Seat::new(Client::from_key(key), logged))?;
         Ok(())
     }
 

@@ -67,7 +67,7 @@ impl Hubs {
             size: (rows, cols),
             seats: Vec::new(alloc),
             calls: Calls::new(alloc),
-            pumped: Writer::after(Sum::NONE).pumped,
+            pumped: Pumped::after(Sum::NONE),
             told: None,
             made: 0,
             is_alone,
@@ -102,9 +102,9 @@ impl Hubs {
         };
         if other == Told::Memory {
             self.told = Some(told);
-            return Err(self.refusal(deed, Side::Logged));
+            return Err(refusal(&mut self.logged, Side::Logged, &self.seats, deed));
         }
-        if !told.is_like(other) {
+        if !told.is_like(&other) {
             return Err(StepError::Wrong("a logged run tells something else than the call"));
         }
         self.calls.push(deed)?;
@@ -124,17 +124,17 @@ impl Hubs {
     fn make_directly(&mut self, deed: Deed) -> Result<Told, StepError> {
         self.calls.reserve()?;
         let seat = self.seat(deed.client());
-        let mut writer = Writer::after(seat.pumped);
-        if let Deed::Pump(pumping) = deed {
-            writer.takes = self.calls.takes_of(pumping.takes);
-            writer.most = pumping.most;
-            writer.fault = pumping.fault;
-        }
         let call = self.calls.call_of(deed, seat.client(Side::Called));
+        let mut writer = Writer {
+            takes: self.calls.takes_of(deed),
+            most: deed.most(),
+            fault: deed.fault(),
+            pumped: Pumped::after(seat.pumped),
+        };
         let told = told_by(&mut self.hub, &call, &mut writer);
         self.pumped = writer.pumped;
         if told == Told::Memory {
-            return Err(self.refusal(deed, Side::Called));
+            return Err(refusal(&mut self.hub, Side::Called, &self.seats, deed));
         }
         Ok(told)
     }
@@ -143,26 +143,6 @@ impl Hubs {
         let client = logged_client(&self.log, deed.client());
         let call = self.calls.call_of(deed, client);
         told_by_run(&mut self.logged, &mut self.log, &call)
-    }
-
-    // What a step is whose call was refused memory. A feed may have failed its hub; any other one changed nothing.
-    fn refusal(&mut self, deed: Deed, side: Side) -> StepError {
-        let hub = match side {
-            Side::Called => &mut self.hub,
-            Side::Logged => &mut self.logged,
-        };
-        if !hub.screen().failed() {
-            return match deed {
-                Deed::Feed(_) if side == Side::Called => {
-                    StepError::Wrong("a feed was refused memory, and the hub goes on")
-                }
-                _ => StepError::Memory,
-            };
-        }
-        match check_failed(hub, side, &self.seats) {
-            Ok(()) => StepError::Ended,
-            Err(error) => error,
-        }
     }
 
     /// Each client is owed what it has to be, and the log has what was pumped to it.
@@ -183,5 +163,21 @@ impl Hubs {
             }
         }
         Ok(())
+    }
+}
+
+// What a step is whose call was refused memory. A feed may have failed its hub; any other one changed nothing.
+fn refusal(hub: &mut Hub, side: Side, seats: &[Seat], deed: Deed) -> StepError {
+    if hub.screen().failed() {
+        return match check_failed(hub, side, seats) {
+            Ok(()) => StepError::Ended,
+            Err(error) => error,
+        };
+    }
+    match deed {
+        Deed::Feed(_) if side == Side::Called => {
+            StepError::Wrong("a feed was refused memory, and the hub goes on")
+        }
+        _ => StepError::Memory,
     }
 }

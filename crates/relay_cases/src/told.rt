@@ -11,7 +11,8 @@ use termrelay::{Answer, Call, Client, Hub, HubError, Log, Reply, run};
 #[derive(Clone, Copy, Debug, Eq, PartialEq)]
 pub enum Told {
     Done,
-    Attached(Client),
+    /// A client came, with this key.
+    Attached(usize),
     Answered(Answer),
     /// The writer failed.
     Fault(ErrorKind),
@@ -23,8 +24,8 @@ pub enum Told {
 impl Told {
     /// Whether a call on one hub tells what it told on another. Clients have keys of their own there, and the fault of a
     /// run's writer is of kind `Other`.
-    pub fn is_like(self, other: Told) -> bool {
-        match (self, other) {
+    pub fn is_like(&self, other: &Told) -> bool {
+        match (*self, *other) {
             (Told::Attached(_), Told::Attached(_)) => true,
             (Told::Fault(kind), Told::Fault(other)) => other == ErrorKind::Other || kind == other,
             (told, other) => told == other,
@@ -32,7 +33,7 @@ impl Told {
     }
 
     /// Whether a frame is owed then.
-    pub fn is_frame(self) -> bool {
+    pub fn is_frame(&self) -> bool {
         match self {
             Told::Answered(answer) => answer.is_frame(),
             _ => false,
@@ -40,7 +41,7 @@ impl Told {
     }
 
     /// Appends it in words.
-    pub fn push(self, line: &mut Line) -> Result<(), StepError> {
+    pub fn push(&self, line: &mut Line) -> Result<(), StepError> {
         match self {
             Told::Done => line.push("done")?,
             Told::Attached(_) => line.push("attached")?,
@@ -73,7 +74,7 @@ fn told_done(answer: Result<(), HubError>) -> Told {
 
 fn told_attached(answer: Result<Client, HubError>) -> Told {
     match answer {
-        Ok(client) => Told::Attached(client),
+        Ok(client) => Told::Attached(client.key()),
         Err(error) => told_of(&error),
     }
 }
@@ -101,7 +102,7 @@ pub fn told_by(hub: &mut Hub, call: &Call<'_>, writer: &mut Writer<'_>) -> Told 
 pub fn told_in(reply: &Reply) -> Told {
     match reply {
         Reply::Done => Told::Done,
-        Reply::Attached(client) => Told::Attached(*client),
+        Reply::Attached(client) => Told::Attached(client.key()),
         Reply::Answered(answer) => Told::Answered(*answer),
         Reply::Refused(error) => told_of(error),
     }

@@ -29,18 +29,25 @@ pub struct Writer<'a> {
     pub pumped: Pumped,
 }
 
+impl Pumped {
+    /// Nothing was given, after this was taken earlier.
+    pub fn after(earlier: Sum) -> Pumped {
+        Pumped {
+            writes: 0,
+            taken: Sum::NONE,
+            all: earlier,
+        }
+    }
+}
+
 impl Writer<'_> {
-    /// A writer that takes all. Earlier ones took this.
-    pub fn after(earlier: Sum) -> Self {
+    /// A writer that takes all.
+    pub fn new() -> Self {
         Writer {
             takes: &[],
             most: usize::MAX,
             fault: ErrorKind::BrokenPipe,
-            pumped: Pumped {
-                writes: 0,
-                taken: Sum::NONE,
-                all: earlier,
-            },
+            pumped: Pumped::after(Sum::NONE),
         }
     }
 
