@@ -3,8 +3,6 @@
 #![tactic(auto)]
 
 #[cfg(test)]
-mod begun;
-#[cfg(test)]
 mod calls;
 #[cfg(test)]
 mod captures;
