@@ -18,17 +18,8 @@ fn main(rt: HostRuntime) -> ExitCode {
     run(
         rt.alloc(),
         env::args(&rt),
-        &mut rt.stdout(),
-        |output, words| {
-            let disk = Disk(&rt);
-            run_cases(
-                rt.alloc(),
-                words,
-                &disk,
-                &mut Stage::new(rt.alloc(), disk),
-                output,
-            )
-        },
+        &mut (rt.stdout(), Stage::new(rt.alloc(), Disk(&rt))),
+        |(output, stage), words| run_cases(rt.alloc(), words, &Disk(&rt), stage, output),
         |_| NO_MEMORY,
     )
 }
