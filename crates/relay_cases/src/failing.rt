@@ -2,11 +2,10 @@
 
 use crate::seats::{Seat, Side};
 use crate::sums::Sum;
-use crate::told::{Told, told_by};
 use crate::writers::Writer;
 use case_player::StepError;
 use std::num::NonZeroU16;
-use termrelay::{Call, Client, Hub};
+use termrelay::{Client, Hub, HubError};
 
 /// The hub has failed. It refuses what would change its screen or show it, and still knows and serves its clients.
 pub fn check_failed(hub: &mut Hub, side: Side, seats: &[Seat]) -> Result<(), StepError> {
@@ -19,24 +18,25 @@ pub fn check_failed(hub: &mut Hub, side: Side, seats: &[Seat]) -> Result<(), Ste
     Ok(())
 }
 
-// What the hub is asked tells this.
-fn is_told(hub: &mut Hub, call: &Call<'_>, wanted: Told) -> bool {
-    let mut writer = Writer::new();
-    let told = told_by(hub, call, &mut writer);
-    told == wanted
+// The hub has failed, says this answer.
+fn is_failed<T>(answer: &Result<T, HubError>) -> bool {
+    matches!(answer, Err(HubError::Failed))
+}
+
+// The client isn't known, says this answer.
+fn is_unknown<T>(answer: &Result<T, HubError>) -> bool {
+    matches!(answer, Err(HubError::UnknownClient))
 }
 
 fn check_refusals(hub: &mut Hub) -> Result<(), StepError> {
     let one = NonZeroU16::MIN;
-    let holds = is_told(hub, &Call::Feed(b"x"), Told::Failed)
-        && is_told(hub, &Call::Attach, Told::Failed)
-        && is_told(hub, &Call::Resize(one, one), Told::Failed)
-        && is_told(
-            hub,
-            &Call::Frame(Client::from_key(usize::MAX)),
-            Told::Unknown,
-        );
-    if holds {
+    let refused = [
+        is_failed(&hub.feed(b"x")),
+        is_failed(&hub.attach()),
+        is_failed(&hub.resize(one, one)),
+        is_unknown(&hub.frame(Client::from_key(usize::MAX))),
+    ];
+    if refused == [true; 4] {
         Ok(())
     } else {
         Err(StepError::Wrong("a failed hub does what it has to refuse"))
@@ -46,11 +46,10 @@ fn check_refusals(hub: &mut Hub) -> Result<(), StepError> {
 // A client gets no frame, is sent what it was owed, and ends.
 fn check_served(hub: &mut Hub, client: Client, owed: Sum) -> Result<(), StepError> {
     let mut writer = Writer::new();
-    let holds = is_told(hub, &Call::Frame(client), Told::Failed)
-        && told_by(hub, &Call::Pump(client, &[]), &mut writer) == Told::Done
-        && writer.pumped.all == owed
-        && is_told(hub, &Call::Detach(client), Told::Done);
-    if holds {
+    let is_refused = is_failed(&hub.frame(client));
+    let is_sent = hub.pump(client, &mut writer).is_ok();
+    let has_ended = hub.detach(client).is_ok();
+    if is_refused && is_sent && has_ended && writer.pumped.all == owed {
         Ok(())
     } else {
         Err(StepError::Wrong("a failed hub doesn't send what it owed"))
@@ -59,11 +58,14 @@ fn check_served(hub: &mut Hub, client: Client, owed: Sum) -> Result<(), StepErro
 
 /// No call of the hub knows the client.
 pub fn check_unknown(hub: &mut Hub, client: Client) -> Result<(), StepError> {
-    let holds = hub.owed(client).is_err()
-        && is_told(hub, &Call::Frame(client), Told::Unknown)
-        && is_told(hub, &Call::Pump(client, &[]), Told::Unknown)
-        && is_told(hub, &Call::Detach(client), Told::Unknown);
-    if holds {
+    let mut writer = Writer::new();
+    let unknown = [
+        is_unknown(&hub.owed(client)),
+        is_unknown(&hub.frame(client)),
+        is_unknown(&hub.pump(client, &mut writer)),
+        is_unknown(&hub.detach(client)),
+    ];
+    if unknown == [true; 4] {
         Ok(())
     } else {
         Err(StepError::Wrong("a call knows the client"))
