@@ -136,11 +136,14 @@ pub fn push_runs(
 }
 
 fn push_row_runs(answer: &mut Answer, text: &[u8]) -> Result<(), StepError> {
-    let mut separator = "";
+    let mut is_first = true;
     for run in text.chunk_by(|byte, next| byte == next) {
-        write!(answer, "{separator}{} ", run.len())?;
+        if !is_first {
+            answer.push(" ")?;
+        }
+        is_first = false;
+        write!(answer, "{} ", run.len())?;
         answer.quoted(run.get(..1).unwrap_or(run))?;
-        separator = " ";
     }
     Ok(())
 }

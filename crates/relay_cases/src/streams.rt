@@ -10,6 +10,7 @@ use scripted_io::SmallReader;
 use std::alloc::Global;
 use std::fmt::Write;
 use std::mem;
+use std::num::NonZeroU16;
 use termview::{UntilCleared, View};
 
 /// What is read, and what was written last.
@@ -30,6 +31,22 @@ enum Work {
     Relay,
     RelayLive,
     Show,
+}
+
+impl Work {
+    fn run(
+        self,
+        alloc: Global,
+        (rows, cols): (NonZeroU16, NonZeroU16),
+        input: &mut SmallReader<'_>,
+        output: &mut Narrow,
+    ) -> Result<(), RelayError> {
+        match self {
+            Work::Relay => relay(alloc, rows, cols, input, output),
+            Work::RelayLive => relay_live(alloc, rows, cols, input, output),
+            Work::Show => show(alloc, rows, cols, input, output),
+        }
+    }
 }
 
 impl Streams {
@@ -121,21 +138,19 @@ impl Streams {
     ) -> Result<(), StepError> {
         let size = (words.size()?, words.size()?);
         let room = words.count()?;
-        let mut reader = SmallReader::new(&self.input, count_or(words, usize::MAX)?);
+        let most = count_or(words, usize::MAX)?;
         self.output.clear();
         self.output.reserve(room)?;
         let mut writer = Narrow {
-            kept: &mut self.output,
+            kept: mem::replace(&mut self.output, Vec::new(alloc)),
             room,
             most: usize::MAX,
             fault: None,
         };
-        let (rows, cols) = size;
-        let outcome = match work {
-            Work::Relay => relay(alloc, rows, cols, &mut reader, &mut writer),
-            Work::RelayLive => relay_live(alloc, rows, cols, &mut reader, &mut writer),
-            Work::Show => show(alloc, rows, cols, &mut reader, &mut writer),
-        };
+        let mut reader = SmallReader::new(&self.input, most);
+        let outcome = work.run(alloc, size, &mut reader, &mut writer);
+        let Narrow { kept, .. } = writer;
+        self.output = kept;
         self.tell(outcome, answer)
     }
 

@@ -120,15 +120,14 @@ fn row_to(
 ) -> Result<(), StepError> {
     let (row, room) = (words.place()?, words.count()?);
     let fault = parse_fault(words.word()?)?;
-    let mut kept = Vec::with_capacity(alloc, room)?;
     let mut writer = Narrow {
-        kept: &mut kept,
+        kept: Vec::with_capacity(alloc, room)?,
         room,
         most: 1,
         fault,
     };
     let written = view.row_text(row, &mut writer);
-    answer.quoted(&kept)?;
+    answer.quoted(&writer.kept)?;
     if let Err(error) = written {
         write!(answer, " {:?}", error.kind())?;
     }

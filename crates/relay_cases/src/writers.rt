@@ -83,9 +83,9 @@ impl Write for Writer<'_> {
 /// A writer that keeps what it takes, up to its room. It takes no memory. Then it fails, or takes nothing where it has
 /// no fault.
 #[derive(Drop)]
-pub struct Narrow<'a> {
+pub struct Narrow {
     /// What was taken. It has room for all that will be.
-    pub kept: &'a mut Vec<u8>,
+    pub kept: Vec<u8>,
     /// How many bytes are taken at most.
     pub room: usize,
     /// How many bytes a write takes at most.
@@ -94,7 +94,7 @@ pub struct Narrow<'a> {
     pub fault: Option<ErrorKind>,
 }
 
-impl Write for Narrow<'_> {
+impl Write for Narrow {
     fn write(&mut self, buf: &[u8]) -> io::Result<usize> {
         let left = self.room.saturating_sub(self.kept.len());
         let (taken, _) = buf.split_at(buf.len().min(self.most).min(left));
