@@ -7,4 +7,4 @@ pub mod LawLemmas
 pub mod PlainLemmas
 pub mod Telling
 pub mod AsciiLemmas
-mod LineLemmas
+pub mod LineLemmas

@@ -1,10 +1,11 @@
-use Rattle.std.proofs.Common.{◌≡◌, ◌∙◌, List, false, None, Some, map, ap, sym, subst, arith}
+use Rattle.std.proofs.Common.{rules, ◌≡◌, ◌∙◌, refl, Err, List, false, None, Some, map, ap, sym, subst, arith}
 use Rattle.std.specs.List.{list_any, slice_get}
 use Rattle.std.proofs.lemmas.Option.{slice_get_past, slice_get-get_or}
 use Rattle.termrelay.specs.Calls.{call_of}
 use Rattle.termrelay.specs.Log.{LogView, SessionView, MadeAll, empty_log}
 use Rattle.termrelay.specs.declared.call.Reply.{Reply}
 use Rattle.relay_theorem.specs.Isolation.{is_out_of_memory}
+use Rattle.relay_streams.specs.declared.error.RelayError.TheVariants.{Memory}
 use Rattle.relay_streams.proofs.FarLemmas.{none-found, one-found, shows-judged}
 use Rattle.relay_streams.proofs.far.far_view.Goals as goal
 
@@ -52,3 +53,13 @@ returns-in-Some c =
           (c.args.cols.ok, omega arith) found;
       memory = tt;
     }
+
+pub returns-in_err-run-clause-memory : goal.returns-in_err-run-clause-memory
+returns-in_err-run-clause-memory c =
+    let is : c.from_residual-in_err-run.result ≡ Err Memory = search rules in
+    rw is refl
+
+pub returns-in_err-view_session-in-Some-clause-memory : goal.returns-in_err-view_session-in-Some-clause-memory
+returns-in_err-view_session-in-Some-clause-memory c =
+    let is : c.from_residual-in_err-view_session-in-Some.result ≡ Err Memory = search rules in
+    rw is refl
