@@ -1,13 +1,15 @@
 -- Views of a run's sessions.
 use Rattle.std.proofs.Common.{◌≡◌, ◌∙◌, ℕ, zero, suc, ◌≤◌, false, List, [], ◌∷◌, ◌++◌, length, take, drop, map, None}
-use Rattle.std.proofs.Common.{Some, sym, ap, subst, arith, take-append-drop}
+use Rattle.std.proofs.Common.{Some, Ok, Err, Result, refl, sym, ap, subst, arith, take-append-drop}
 use Rattle.std.specs.List.{list_any, slice_get, concat}
 use Rattle.vte.specs.Moves.{Gives}
 use Rattle.terminal_model.specs.Term.{Size, Term, shown_of}
 use Rattle.termrelay.specs.Hub.{HubState, as_kept, IsNewHub}
 use Rattle.termrelay.specs.Calls.{Call}
 use Rattle.termrelay.specs.declared.call.Reply.{Reply}
-use Rattle.termrelay.specs.Log.{SessionView, LogView, empty_log, MadeAll}
+use Rattle.termrelay.specs.declared.error.HubError.{HubError}
+use Rattle.termrelay.specs.declared.error.HubError.TheVariants as hub
+use Rattle.termrelay.specs.Log.{SessionView, LogView, empty_log, MadeAll, RunsCalls}
 use Rattle.termview.specs.Seen.{seen}
 use Rattle.termview.specs.Standing.{shown_by}
 use Rattle.termview.specs.declared.view.View.{View}
@@ -23,10 +25,28 @@ use Rattle.relay_theorem.proofs.ServesLemmas.{logs-follow}
 use Rattle.relay_theorem.proofs.LoggedLemmas.{story-at}
 use Rattle.relay_streams.specs.Pieces.{cut_by}
 use Rattle.relay_streams.specs.Far.{HasReadFirst, IsFarView, ShowsJudged, FarViewsShow, last_given}
+use Rattle.relay_streams.specs.Turns.{fault_of}
+use Rattle.relay_streams.specs.declared.error.RelayError.{RelayError}
+use Rattle.relay_streams.specs.declared.error.RelayError.TheVariants.{Memory}
 use Rattle.relay_streams.proofs.LawLemmas.{given-Gives}
 use Rattle.relay_streams.proofs.PieceLemmas.{concat-cut_by}
 
 -- ---- logs
+
+-- one error in results of two types
+pub same-error : {T U : Type 0} (e d : RelayError) (r : Result T RelayError) (s : Result U RelayError) → r ≡ Err e
+    → r ≡ Err d → s ≡ Err e → s ≡ Err d
+same-error {T} {U} e d r s is other so =
+    let error : Result T RelayError → RelayError = λ r. elim r as (λ r. RelayError) [ Ok x ↦ d | Err y ↦ y ] in
+    so ∙ ap Err (sym (ap error is) ∙ ap error other)
+
+-- a run has ended for want of memory
+pub run-refused : (h g : HubState as_kept) (l m : LogView) (calls : List Call) (e : HubError)
+    → RunsCalls h l calls (Err e) g m → fault_of e ≡ Memory
+run-refused h g l m calls hub.Memory r = refl
+run-refused h g l m calls hub.Failed r = refl
+run-refused h g l m calls hub.UnknownClient r = refl
+run-refused h g l m calls (hub.Write e) r = absurd r
 
 none-logged : (ts : List Story) (n : ℕ) → slice_get (map (λ t. t.session) ts) n ≡ None → length ts ≤ n
 none-logged [] n is = omega arith

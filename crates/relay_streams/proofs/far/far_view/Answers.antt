@@ -1,12 +1,13 @@
-use Rattle.std.proofs.Common.{rules, ◌≡◌, ◌∙◌, refl, Err, List, false, None, Some, map, ap, sym, subst, arith}
+use Rattle.std.proofs.Common.{◌≡◌, ◌∙◌, refl, Err, List, false, None, Some, map, ap, sym, subst, arith}
 use Rattle.std.specs.List.{list_any, slice_get}
+use Rattle.std.proofs.lemmas.Result.{err_from_is_err_and}
 use Rattle.std.proofs.lemmas.Option.{slice_get_past, slice_get-get_or}
 use Rattle.termrelay.specs.Calls.{call_of}
 use Rattle.termrelay.specs.Log.{LogView, SessionView, MadeAll, empty_log}
 use Rattle.termrelay.specs.declared.call.Reply.{Reply}
 use Rattle.relay_theorem.specs.Isolation.{is_out_of_memory}
 use Rattle.relay_streams.specs.declared.error.RelayError.TheVariants.{Memory}
-use Rattle.relay_streams.proofs.FarLemmas.{none-found, one-found, shows-judged}
+use Rattle.relay_streams.proofs.FarLemmas.{none-found, one-found, run-refused, same-error, shows-judged}
 use Rattle.relay_streams.proofs.far.far_view.Goals as goal
 
 pub returns-clause-view : goal.returns-clause-view
@@ -56,10 +57,16 @@ returns-in-Some c =
 
 pub returns-in_err-run-clause-memory : goal.returns-in_err-run-clause-memory
 returns-in_err-run-clause-memory c =
-    let is : c.from_residual-in_err-run.result ≡ Err Memory = search rules in
+    let none = run-refused _ _ _ _ _ c.in_err-run.field-0.0 c.in_err-run.ensures in
+    let p = err_from_is_err_and c.from_residual-in_err-run.result c.from_residual-in_err-run.ensures.1 in
+    let is : c.from_residual-in_err-run.result ≡ Err Memory = p.1 ∙ ap Err (p.2 ∙ none) in
     rw is refl
 
 pub returns-in_err-view_session-in-Some-clause-memory : goal.returns-in_err-view_session-in-Some-clause-memory
 returns-in_err-view_session-in-Some-clause-memory c =
-    let is : c.from_residual-in_err-view_session-in-Some.result ≡ Err Memory = search rules in
+    let e = c.in_err-view_session-in-Some.field-0.0 in
+    let p = err_from_is_err_and c.from_residual-in_err-view_session-in-Some.result
+    c.from_residual-in_err-view_session-in-Some.ensures.1 in
+    let is : c.from_residual-in_err-view_session-in-Some.result ≡ Err Memory =
+    same-error e Memory _ _ refl c.in_err-view_session-in-Some.ensures.memory (p.1 ∙ ap Err p.2) in
     rw is refl
