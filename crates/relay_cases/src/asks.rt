@@ -1,7 +1,7 @@
 //! Steps that tell of hubs and change nothing.
 
 use crate::hubs::Hubs;
-use crate::told::told_in;
+use crate::told::{Told, told_in};
 use crate::wordings::push_text;
 use case_player::{Answer, StepError, Words};
 use std::fmt::Write;
@@ -60,11 +60,14 @@ impl Hubs {
         Ok(())
     }
 
-    // What the log replied.
+    // What the log replied, but for calls that were refused memory.
     fn push_replies(&self, answer: &mut Answer) -> Result<(), StepError> {
         for reply in self.log.replies() {
-            told_in(reply).push(answer)?;
-            answer.end_line()?;
+            let told = told_in(reply);
+            if told != Told::Memory {
+                told.push(answer)?;
+                answer.end_line()?;
+            }
         }
         Ok(())
     }

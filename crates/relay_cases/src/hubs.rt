@@ -89,6 +89,11 @@ impl Hubs {
             .unwrap_or(b"")
     }
 
+    /// Whether the first hub has made a call that the second one was refused memory for.
+    pub fn is_pending(&self) -> bool {
+        self.told.is_some()
+    }
+
     /// Makes a call on both hubs. The seats stay as they are.
     pub fn make(&mut self, deed: Deed) -> Result<Told, StepError> {
         let told = match self.told.take() {
@@ -148,8 +153,7 @@ impl Hubs {
     /// Each client is owed what it has to be, and the log has what was pumped to it.
     pub fn check(&self) -> Result<(), StepError> {
         for (index, seat) in self.seats.iter().enumerate() {
-            let is_pending = self.told.is_some();
-            if !is_pending && !seat.is_owed(&self.hub, Side::Called) {
+            if !self.is_pending() && !seat.is_owed(&self.hub, Side::Called) {
                 return Err(StepError::Wrong("a client is owed something else than before"));
             }
             if self.is_alone {

@@ -66,12 +66,13 @@ impl Hubs {
         }
     }
 
-    /// A client is sent all that it is owed, which is added to the bytes.
+    /// A client is sent all that it is owed, which is added to the bytes. It stays there where the run alone is refused
+    /// memory, after which nothing more is owed.
     pub fn send_to(&mut self, index: usize, sent: &mut Vec<u8>) -> Result<(), StepError> {
         let length = sent.len();
         sent.extend_from_slice(self.owed(index))?;
         let outcome = self.send(index);
-        if outcome.is_err() {
+        if outcome.is_err() && !self.is_pending() {
             sent.truncate(length);
         }
         outcome
