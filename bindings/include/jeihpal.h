@@ -307,7 +307,7 @@ typedef struct jeihpal_request {
 /* Takes the oldest request out of the screen's queue, and answers its kind; NO_REQUEST where none waits, and then all
  * of *request but `dropped` is 0. As much of the text as fits is copied into `to`; where it is longer than `capacity`,
  * the request stays the oldest of the queue. A request is dropped and counted where as many wait as can, where its text
- * is too long, and where there is no memory for it. A text is as the program wrote it, and needn't be UTF-8. */
+ * is too long, and where there is no memory for its text. A text is as the program wrote it, and needn't be UTF-8. */
 int32_t jeihpal_screen_request(jeihpal_screen *screen, uint8_t *to, size_t capacity, jeihpal_request *request);
 
 /* Closes the word: what it holds, of any kind, is freed. */

@@ -45,9 +45,19 @@ pub record Gets (q : RequestsView) (r : RequestView) (new : RequestsView) : Type
   pub short : length r.text ≤ 1024
   pub new_is : new ≡ record q { waiting = q.waiting ++ r ∷ [] }
 
--- the request is queued, or it is counted as dropped; the count stops at the greatest number of 64 bits
+-- a request with this text may find no place in the queue: the queue is full, or the text isn't empty, so that it can be
+-- too long, or its allocation can fail
+abbrev pub HasNoPlace : RequestsView → List ℕ → Type 0
+HasNoPlace q text = (256 ≤ length q.waiting) ⊎ (0 < length text)
+
+-- the request is counted as dropped; the count stops at the greatest number of 64 bits
+abbrev pub Drops : RequestsView → RequestView → RequestsView → Type 0
+Drops q r new =
+    HasNoPlace q r.text × (new ≡ record q { dropped = min (q.dropped + 1) 18446744073709551615 })
+
+-- the request is queued, or it is dropped, which one without a text isn't unless the queue is full
 abbrev pub Queues : RequestsView → RequestView → RequestsView → Type 0
-Queues q r new = Gets q r new ⊎ (new ≡ record q { dropped = min (q.dropped + 1) 18446744073709551615 })
+Queues q r new = Gets q r new ⊎ Drops q r new
 
 abbrev pub ReceivesOf : RequestsView → Option RequestView → RequestsView → Type 0
 ReceivesOf q None new = new ≡ q

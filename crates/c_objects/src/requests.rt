@@ -1,10 +1,10 @@
 //! The queue of what a program asks of its terminal beyond drawing.
-ghost use Rattle.std.specs.Prelude.{◌≡◌, ◌∷◌, ◌++◌, [], length, true, false};
-ghost use Rattle.c_objects.specs.Requests.{no_requests, request_of, Queues, Gets, Takes};
+ghost use Rattle.std.specs.Prelude.{◌≡◌, ◌≤◌, ◌<◌, ◌+◌, ◌∷◌, ◌++◌, [], length, true, false, IfOk, OnErr};
+ghost use Rattle.c_objects.specs.Requests.{no_requests, request_of, Queues, Gets, HasNoPlace, Takes};
 
 use crate::copy::copy_prefix;
 use crate::plain::CRequest;
-use std::alloc::Global;
+use std::alloc::{AllocError, Global};
 use std::marker::Model;
 use vt100::capture::RowContents;
 use vt100::{Call, Callbacks, Screen};
@@ -48,30 +48,30 @@ pub struct Requests {
 }
 
 impl Model for Requests {
-    ghost use Rattle.std.specs.Prelude.{◌≤◌, vec_len};
+    ghost use Rattle.std.specs.Prelude.{◌≤◌, ◌×◌, vec_len, vec_capacity};
     ghost use Rattle.c_objects.specs.Requests.{RequestsView};
 
     ghost Value = { RequestsView };
 
     ghost view = { λ q. record { waiting = q.waiting.items; dropped = q.dropped } };
 
-    ghost invariant = { λ q. vec_len q.waiting ≤ 256 };
+    ghost invariant = { λ q. (vec_len q.waiting ≤ 256) × (256 ≤ vec_capacity q.waiting) };
 }
 
 impl Requests {
-    /// An empty queue.
-    pub(crate) fn new(alloc: Global) -> Requests
-        ensures { result ≡ no_requests }
+    /// An empty queue, with room for all the requests that may wait. Refused if the allocation of this room fails.
+    pub(crate) fn new(alloc: Global) -> Result<Requests, AllocError>
+        ensures { IfOk result (λ q. q ≡ no_requests) }
     {
-        Requests {
-            waiting: Vec::new(alloc),
+        Ok(Requests {
+            waiting: Vec::with_capacity(alloc, MOST_REQUESTS)?,
             dropped: 0,
             alloc,
-        }
+        })
     }
 
-    /// Queues a request of this kind. If it is too long, the queue is full or an allocation fails, it is counted as
-    /// dropped.
+    /// Queues a request of this kind. If the queue is full, its text is too long, or the allocation of its text fails, it
+    /// is counted as dropped.
     // Few streams have requests, and what reads the others is faster without this inlined.
     #[inline(never)]
     fn queue(&mut self, kind: u8, size: (u16, u16), letters: &[u8], text: &[u8])
@@ -88,7 +88,8 @@ impl Requests {
         }
     }
 
-    /// Queues a request and returns true. Returns false if it is too long, the queue is full or an allocation fails.
+    /// Queues a request and returns true. Returns false if the queue is full, its text is too long, or the allocation of
+    /// its text fails.
     fn find_room(&mut self, kind: u8, size: (u16, u16), letters: &[u8], text: &[u8]) -> bool
         ensures queued { result ≡ true → Gets self.old (record {
           kind = kind;
@@ -98,6 +99,7 @@ impl Requests {
           text = letters.now ++ text.now;
         }) self.new }
         ensures refused { result ≡ false → self.new ≡ self.old }
+        ensures no_place { result ≡ false → HasNoPlace self.old (letters.now ++ text.now) }
     {
         if self.waiting.len() >= MOST_REQUESTS || letters.len() > MOST_BYTES {
             return false;
@@ -105,16 +107,15 @@ impl Requests {
         if text.len() > MOST_BYTES - letters.len() {
             return false;
         }
-        let mut joined = Vec::new(self.alloc);
-        if joined.extend_from_slice(letters).is_err() || joined.extend_from_slice(text).is_err() {
+        let Ok(text) = joined(self.alloc, letters, text) else {
             return false;
-        }
+        };
         let request = Request {
             kind,
             rows: size.0,
             cols: size.1,
             letters: letters.len(),
-            text: joined,
+            text,
         };
         self.waiting.push(request).is_ok()
     }
@@ -150,6 +151,18 @@ impl Requests {
         }
         i32::from(kind)
     }
+}
+
+/// The letters, and then the text.
+fn joined(alloc: Global, letters: &[u8], text: &[u8]) -> Result<Vec<u8>, AllocError>
+    requires short { length letters.now + length text.now ≤ 1024 }
+    ensures joined { IfOk result (λ v. v.items ≡ letters.now ++ text.now) }
+    ensures refused { OnErr result (0 < length (letters.now ++ text.now)) }
+{
+    let mut joined = Vec::with_capacity(alloc, letters.len() + text.len())?;
+    joined.extend_from_slice(letters)?;
+    joined.extend_from_slice(text)?;
+    Ok(joined)
 }
 
 /// Queues the calls that C can receive, and leaves the screen as it is.

@@ -33,7 +33,9 @@ pub fn new_screen(
     let (Some(rows), Some(cols)) = (NonZeroU16::new(rows), NonZeroU16::new(cols)) else {
         return Err(BAD_SIZE);
     };
-    let requests = Requests::new(alloc);
+    let Ok(requests) = Requests::new(alloc) else {
+        return Err(MEMORY);
+    };
     let parser = match Parser::new_with_callbacks(alloc, rows, cols, scrollback, requests) {
         Ok(parser) => parser,
         Err(_) => return Err(MEMORY),

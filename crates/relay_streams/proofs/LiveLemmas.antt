@@ -26,7 +26,7 @@ use Rattle.relay_streams.specs.Frames.{asked, is_overlong}
 use Rattle.relay_streams.specs.Live as live
 use Rattle.charset_filter.specs.Lines.{all_passed, passed}
 use Rattle.relay_streams.specs.Live.{live_len, Tries, Listens, SendsFlushed, StreamsThrough, RelaysThrough, IsLiveText}
-use Rattle.relay_streams.specs.Live.{TakesLive, TriesOnce, read_as}
+use Rattle.relay_streams.specs.Live.{TakesLive, TriesOnce, CountsReads, read_as}
 use Rattle.relay_streams.specs.Sessions.{AreRelayed, EndsOverlong}
 use Rattle.relay_streams.specs.Turns.{Relaying, Turned}
 use Rattle.relay_streams.proofs.FrameLists.{frames_of, answers_of, base_of, frames-more, fits-push, base-push}
@@ -75,7 +75,7 @@ module _ {S : Type 0} {step : S → ℕ → Result (List ℕ) Error → S → Ty
 
   -- the reads have ended
   pub tried : {n : ℕ} (before after : ℕ) (piece : List ℕ) (answer : Result ℕ RelayError)
-      → Tries step room now n (read_as answer piece) new → after ≡ before + (made + n) → after ≤ max_reads
+      → Tries step room now n (read_as answer piece) new → after ≡ before + (made + n) → CountsReads answer after
       → IfOk answer (λ k. k ≤ room) → IfOk answer (λ k. 0 < n)
       → TriesOnce step old room before answer new piece after
   tried {n} before after piece answer tries counted most within some = record {
@@ -86,6 +86,14 @@ module _ {S : Type 0} {step : S → ℕ → Result (List ℕ) Error → S → Ty
     within = within;
     some = more-made made n answer some;
   }
+
+-- the count of a fault doesn't depend on what else could be answered
+counts-as : (e : RelayError) (count : ℕ) → CountsReads {ℕ} (Err e) count → CountsReads {Unit {0}} (Err e) count
+counts-as Read count h = h
+counts-as Write count h = h
+counts-as Memory count h = h
+counts-as TooManyReads count h = h
+counts-as FrameTooLong count h = h
 
 module _ {S : Type 0} {step : S → ℕ → Result (List ℕ) Error → S → Type 0} {old new : S} {room before after : ℕ}
     {answer : Result ℕ RelayError} {piece : List ℕ} (r : TriesOnce step old room before answer new piece after)
@@ -114,6 +122,15 @@ module _ {S : Type 0} {step : S → ℕ → Result (List ℕ) Error → S → Ty
       )) in
       subst (λ (k : ℕ). Listens step live_len s k (past ++ take n piece ∷ []) new) (sym r.counted)
       (live.more old listens (tried-gave n is) got)
+
+  -- the reads made in all
+  pub tried-counts : (e : RelayError) → answer ≡ Err e → CountsReads {Unit {0}} (Err e) (before + r.made)
+  tried-counts e is =
+      subst (λ (k : ℕ). CountsReads {Unit {0}} (Err e) k) r.counted
+      (counts-as e after (subst (λ (a : Result ℕ RelayError). CountsReads a after) is r.most))
+
+  pub tried-most : (n : ℕ) → answer ≡ Ok n → after ≤ max_reads
+  tried-most n is = subst (λ (a : Result ℕ RelayError). CountsReads a after) is r.most
 
   pub tried-made : (n : ℕ) → answer ≡ Ok n → 0 < r.made
   tried-made n is = subst (λ (a : Result ℕ RelayError). IfOk a (λ k. 0 < r.made)) is r.some
@@ -151,33 +168,34 @@ module _ (S W : Type 0) (gives : S → ℕ → Result (List ℕ) Error → S →
 
   -- the piece couldn't pass
   pub live-refused : (s t : S) (w v : W) (n : ℕ) → IsSide rows → IsSide cols → Listens gives live_len s n pieces t
-      → Fit before → SendsFlushed takes flushes w (frames_of rows cols before) over v
+      → Fit before → SendsFlushed takes flushes w (frames_of rows cols before) over v → n ≤ max_reads
       → StreamsThrough lines gives takes flushes rows cols s w (Err Memory) t v
-  live-refused s t w v n height width b fit sends =
+  live-refused s t w v n height width b fit sends most =
       live.unmade past (frames_of rows cols before) piece b (frames-are-relayed rows cols before height width fit) sends
+      most
 
   -- a turn at which a fault came
   pub live-faults : (key : ℕ) (g : HubState as_kept) (s t : S) (w m v : W) (n : ℕ) (e : RelayError) → IsSide rows
       → IsSide cols → Listens gives live_len s n pieces t → Fit before
       → SendsFlushed takes flushes w (frames_of rows cols before) over m
-      → Turned takes rows cols fed base key m (Err e) v g
+      → Turned takes rows cols fed base key m (Err e) v g → n ≤ max_reads
       → StreamsThrough lines gives takes flushes rows cols s w (Err e) t v
-  live-faults key g s t w m v n Read height width b fit sends turned = absurd turned
-  live-faults key g s t w m v n Write height width b fit sends (last, x, k, pumps) =
+  live-faults key g s t w m v n Read height width b fit sends turned most = absurd turned
+  live-faults key g s t w m v n Write height width b fit sends (last, x, k, pumps) most =
       live.stopped pieces (frames_of rows cols fed) x b
       (subst (λ (ps : List (List ℕ)). AreRelayed rows cols ps (frames_of rows cols fed)) (sym fed-is)
       (frames-are-relayed rows cols fed height width (fits-push rows cols before here fit last)))
       (subst (λ (texts : List (List ℕ)). SendsFlushed takes flushes w texts (Err x) v) (sym frames-are)
-      (live.broken m sends pumps))
-  live-faults key g s t w m v n Memory height width b fit sends turned =
+      (live.broken m sends pumps)) most
+  live-faults key g s t w m v n Memory height width b fit sends turned most =
       live.unmade past (frames_of rows cols before) piece b (frames-are-relayed rows cols before height width fit)
-      (subst (λ (u : W). SendsFlushed takes flushes w (frames_of rows cols before) over u) (sym turned) sends)
-  live-faults key g s t w m v n FrameTooLong height width b fit sends (long, stays) =
+      (subst (λ (u : W). SendsFlushed takes flushes w (frames_of rows cols before) over u) (sym turned) sends) most
+  live-faults key g s t w m v n FrameTooLong height width b fit sends (long, stays) most =
       live.overlong past (frames_of rows cols before) piece b (frames-are-relayed rows cols before height width fit)
       (subst (λ (ps : List (List ℕ)). EndsOverlong rows cols ps) (sym fed-is)
       (ends-overlong rows cols before here height width long))
-      (subst (λ (u : W). SendsFlushed takes flushes w (frames_of rows cols before) over u) (sym stays) sends)
-  live-faults key g s t w m v n TooManyReads height width b fit sends turned = absurd turned
+      (subst (λ (u : W). SendsFlushed takes flushes w (frames_of rows cols before) over u) (sym stays) sends) most
+  live-faults key g s t w m v n TooManyReads height width b fit sends turned most = absurd turned
 
   -- one that went well, and the flush after it
   abbrev Goes : ℕ → HubState as_kept → W → Result (Unit {0}) Error → W → List (List ℕ) → Type 0
@@ -309,21 +327,21 @@ module _ (S W : Type 0) (gives : S → ℕ → Result (List ℕ) Error → S →
         (t : S) (v : W) (bytes : List ℕ) → StreamsThrough lines gives takes flushes rows cols s w answer t v
         → left s ≡ Some bytes → TakesLive rows cols (passed lines [] bytes) (contents w) (contents v)
     streams-prefix rows cols lines s w answer t v bytes
-        (live.unread {n = n} m pieces frames e listens tries are sends) is =
+        (live.unread {n = n} m pieces frames e listens tries are sends counts) is =
         let cut = listened s n pieces m bytes listens is in
         takes-live rows cols lines w v pieces frames over bytes cut.0 are sends cut.1
-    streams-prefix rows cols lines s w answer t v bytes (live.unmade {n = n} pieces frames piece listens are sends) is =
+    streams-prefix rows cols lines s w answer t v bytes (live.unmade {n = n} pieces frames piece listens are sends most) is =
         let cut = listened-past s n pieces piece t bytes listens is in
         takes-live rows cols lines w v pieces frames over bytes cut.0 are sends cut.1
     streams-prefix rows cols lines s w answer t v bytes
-        (live.overlong {n = n} pieces frames piece listens are ends sends) is =
+        (live.overlong {n = n} pieces frames piece listens are ends sends most) is =
         let cut = listened-past s n pieces piece t bytes listens is in
         takes-live rows cols lines w v pieces frames over bytes cut.0 are sends cut.1
-    streams-prefix rows cols lines s w answer t v bytes (live.stopped {n = n} pieces frames e listens are sends) is =
+    streams-prefix rows cols lines s w answer t v bytes (live.stopped {n = n} pieces frames e listens are sends most) is =
         let cut = listened s n pieces t bytes listens is in
         takes-live rows cols lines w v pieces frames (Err e) bytes cut.0 are sends cut.1
     streams-prefix rows cols lines s w answer t v bytes
-        (live.ended {n = n} m pieces frames listens tries are sends) is =
+        (live.ended {n = n} m pieces frames listens tries are sends most) is =
         let cut = listened s n pieces m bytes listens is in
         takes-live rows cols lines w v pieces frames over bytes cut.0 are sends cut.1
 
@@ -332,7 +350,7 @@ module _ (S W : Type 0) (gives : S → ℕ → Result (List ℕ) Error → S →
         → left s ≡ Some bytes
         → (text : List ℕ) × IsLiveText rows cols (passed lines [] bytes) text × Appends (contents w) (contents v) text
     streams-whole rows cols lines s w answer t v bytes
-        (live.ended {n = n} {k = k} m pieces frames listens tries are sends) ok is = (
+        (live.ended {n = n} {k = k} m pieces frames listens tries are sends most) ok is = (
           concat frames,
           record {
             pieces = all_passed lines pieces;

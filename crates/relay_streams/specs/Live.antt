@@ -33,6 +33,11 @@ pub data Tries {S : Type 0} (step : S → ℕ → Result (List ℕ) Error → S 
   again : {s t : S} {n : ℕ} {answer : Result (List ℕ) RelayError} (m : S) (e : Error) → step s room (Err e) m
       → error_kind e ≡ Interrupted → Tries step room m n answer t → Tries step room s (1 + n) answer t
 
+-- the reads made in all, where this is answered: there were too many only after as many as may be made
+abbrev pub CountsReads : {A : Type 0} → Result A RelayError → ℕ → Type 0
+CountsReads (Err TooManyReads) count = count ≡ max_reads
+CountsReads answer count = count ≤ max_reads
+
 -- the bytes that one read gave, where a function answers so and leaves its room so
 abbrev pub read_as : Result ℕ RelayError → List ℕ → Result (List ℕ) RelayError
 read_as (Ok n) room = Ok (take n room)
@@ -44,7 +49,7 @@ pub record TriesOnce {S : Type 0} (step : S → ℕ → Result (List ℕ) Error 
   pub made : ℕ
   pub tries : Tries step room old made (read_as answer piece) new
   pub counted : after ≡ before + made
-  pub most : after ≤ max_reads
+  pub most : CountsReads answer after
   pub within : IfOk answer (λ n. n ≤ room)
   pub some : IfOk answer (λ n. 0 < made)
 
@@ -81,26 +86,26 @@ pub data StreamsThrough (lines : LineDrawing) {S W : Type 0} (gives : S → ℕ 
   unread : {t : S} {v : W} {n k : ℕ} (m : S) (pieces frames : List (List ℕ)) (e : RelayError)
       → Listens gives live_len s n pieces m → Tries gives live_len m k (Err e) t
       → AreRelayed rows cols (all_passed lines pieces) frames → SendsFlushed takes flushes w frames (Ok tt) v
-      → StreamsThrough lines gives takes flushes rows cols s w (Err e) t v
+      → CountsReads {Unit {0}} (Err e) (n + k) → StreamsThrough lines gives takes flushes rows cols s w (Err e) t v
   -- there was no memory for a piece or its frame: the frames before it were sent
   unmade : {t : S} {v : W} {n : ℕ} (pieces frames : List (List ℕ)) (piece : List ℕ)
       → Listens gives live_len s n (pieces ++ piece ∷ []) t → AreRelayed rows cols (all_passed lines pieces) frames
-      → SendsFlushed takes flushes w frames (Ok tt) v
+      → SendsFlushed takes flushes w frames (Ok tt) v → n ≤ max_reads
       → StreamsThrough lines gives takes flushes rows cols s w (Err Memory) t v
   -- the frame of the last piece would be too long: the frames before it were sent
   overlong : {t : S} {v : W} {n : ℕ} (pieces frames : List (List ℕ)) (piece : List ℕ)
       → Listens gives live_len s n (pieces ++ piece ∷ []) t → AreRelayed rows cols (all_passed lines pieces) frames
       → EndsOverlong rows cols (all_passed lines (pieces ++ piece ∷ [])) → SendsFlushed takes flushes w frames (Ok tt) v
-      → StreamsThrough lines gives takes flushes rows cols s w (Err FrameTooLong) t v
+      → n ≤ max_reads → StreamsThrough lines gives takes flushes rows cols s w (Err FrameTooLong) t v
   -- a write of the last piece's frame failed or took nothing, or the flush after it failed
   stopped : {t : S} {v : W} {n : ℕ} (pieces frames : List (List ℕ)) (e : Error)
       → Listens gives live_len s n pieces t → AreRelayed rows cols (all_passed lines pieces) frames
-      → SendsFlushed takes flushes w frames (Err e) v
+      → SendsFlushed takes flushes w frames (Err e) v → n ≤ max_reads
       → StreamsThrough lines gives takes flushes rows cols s w (Err Write) t v
   -- the input was read to its end, and all frames were sent
   ended : {t : S} {v : W} {n k : ℕ} (m : S) (pieces frames : List (List ℕ)) → Listens gives live_len s n pieces m
       → Tries gives live_len m k (Ok []) t → AreRelayed rows cols (all_passed lines pieces) frames
-      → SendsFlushed takes flushes w frames (Ok tt) v
+      → SendsFlushed takes flushes w frames (Ok tt) v → n + k ≤ max_reads
       → StreamsThrough lines gives takes flushes rows cols s w (Ok tt) t v
 
 -- From a source and a writer it answers so, and leaves both so: there was no memory for the screen, and nothing is read

@@ -10,7 +10,7 @@ use Rattle.relay_streams.specs.Turns.{Relaying, Turned}
 use Rattle.relay_streams.proofs.FrameLists.{frames_of, answers_of, base_of}
 use Rattle.charset_filter.proofs.LineLemmas.{none-passed}
 use Rattle.relay_streams.proofs.LiveLemmas.{tried-fault, tried-gave, tried-made, listens-on, live-faults, live-goes}
-use Rattle.relay_streams.proofs.LiveLemmas.{live-refused}
+use Rattle.relay_streams.proofs.LiveLemmas.{live-refused, tried-counts, tried-most}
 use Rattle.relay_streams.proofs.PieceLemmas.{concat-push}
 use Rattle.relay_streams.proofs.SessionLemmas.{frames-are-relayed}
 use Rattle.relay_streams.proofs.live.relay_reads.Goals as goal
@@ -40,7 +40,7 @@ returns-in_err-n g c = λ rows cols lines at passes.
     rw is (unread c.reads.input so_far.past (frames_of rows cols fed) fault so_far.read
     (tried-fault c.read_some.ensures whole fault c.in_err-n.was)
     (frames-are-relayed rows cols fed at.height at.width (so_far.fits rows cols lines at passes))
-    (so_far.sent rows cols lines at passes))
+    (so_far.sent rows cols lines at passes) (tried-counts c.read_some.ensures whole fault c.in_err-n.was))
 
 pub returns-then-n-eq0 : goal.returns-then-n-eq0
 returns-then-n-eq0 g c = λ rows cols lines at passes.
@@ -55,6 +55,7 @@ returns-then-n-eq0 g c = λ rows cols lines at passes.
     ended c.reads.input so_far.past (frames_of rows cols fed) so_far.read last
     (frames-are-relayed rows cols fed at.height at.width (so_far.fits rows cols lines at passes))
     (so_far.sent rows cols lines at passes)
+    (omega (arith, c.read_some.ensures.counted, tried-most c.read_some.ensures whole n c.in_ok-n.was))
 
 pub returns-in_err-pass : goal.returns-in_err-pass
 returns-in_err-pass g c = λ rows cols lines at passes.
@@ -67,7 +68,7 @@ returns-in_err-pass g c = λ rows cols lines at passes.
     rw is (live-refused g.row.S.Denot g.row.W.Denot g.S.Source.gives g.W.ByteSink.takes g.W.FlushSink.flushes rows cols
     lines so_far.past piece c.args.input.now c.read_some.new.input c.args.output.now c.reads.output
     c.read_some.new.reads at.height at.width read (so_far.fits rows cols lines at passes)
-    (so_far.sent rows cols lines at passes))
+    (so_far.sent rows cols lines at passes) (tried-most c.read_some.ensures whole n c.in_ok-n.was))
 
 pub returns-in_err-turn : goal.returns-in_err-turn
 returns-in_err-turn g c = λ rows cols lines at passes.
@@ -88,7 +89,8 @@ returns-in_err-turn g c = λ rows cols lines at passes.
     rw is (live-faults g.row.S.Denot g.row.W.Denot g.S.Source.gives g.W.ByteSink.takes g.W.FlushSink.flushes rows cols
     lines past piece c.args.client c.turn.new.hub c.args.input.now c.read_some.new.input c.args.output.now
     c.reads.output c.turn.new.output c.read_some.new.reads fault at.height at.width read
-    (so_far.fits rows cols lines at passes) (so_far.sent rows cols lines at passes) turned)
+    (so_far.fits rows cols lines at passes) (so_far.sent rows cols lines at passes) turned
+    (tried-most c.read_some.ensures whole n c.in_ok-n.was))
 
 pub returns-in-Err : goal.returns-in-Err
 returns-in-Err g c = λ rows cols lines at passes.
@@ -112,6 +114,7 @@ returns-in-Err g c = λ rows cols lines at passes.
     (so_far.sent rows cols lines at passes) turned c.in-Err.ensures.flushes in
     stopped pieces (frames_of rows cols fed) c.in-Err.field-0 read
     (frames-are-relayed rows cols fed at.height at.width goes.0) goes.1
+    (tried-most c.read_some.ensures whole n c.in_ok-n.was)
 
 pub reads-preserved : goal.reads-preserved
 reads-preserved g c =
@@ -133,7 +136,7 @@ reads-preserved g c =
     (c.in_ok-turn.ensures rows cols (all_passed lines past) base (so_far.at rows cols lines at passes)))
     c.in-Ok.ensures.flushes in
     record {
-      most = c.read_some.ensures.most;
+      most = tried-most c.read_some.ensures whole n c.in_ok-n.was;
       past = past ++ piece ∷ [];
       read = listens-on c.read_some.ensures whole n c.in_ok-n.was (omega arith) c.read_some.auto.room so_far.read;
       passes = λ lines passes. subst (λ (xs : List ℕ). HasPassed c.pass.new.self lines xs) (sym (concat-push past piece))
@@ -149,6 +152,6 @@ reads-smaller g c =
     omega (
       arith,
       c.read_some.ensures.counted,
-      c.read_some.ensures.most,
+      tried-most c.read_some.ensures whole c.in_ok-n.n c.in_ok-n.was,
       tried-made c.read_some.ensures whole c.in_ok-n.n c.in_ok-n.was,
     )
