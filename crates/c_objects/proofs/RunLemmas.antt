@@ -13,10 +13,10 @@ use Rattle.termrelay.specs.Calls as call
 use Rattle.termrelay.specs.Calls.{Call, WritesAsReported, taken_by, IsCall, Serves, done, replied}
 use Rattle.termrelay.specs.Log as log
 use Rattle.termrelay.specs.Log.{SessionView, change_last, grown, is_of, RunsLogged}
-use Rattle.termrelay.specs.declared.call.Take.{Take}
-use Rattle.termrelay.specs.declared.call.Take.TheVariants.{Bytes, Fault}
-use Rattle.termrelay.specs.declared.call.Reply.{Reply}
-use Rattle.termrelay.specs.declared.call.Reply.TheVariants.{Attached as WasAttached, Answered, Refused}
+use Rattle.termrelay.specs.declared.runs.call.Take.{Take}
+use Rattle.termrelay.specs.declared.runs.call.Take.TheVariants.{Bytes, Fault}
+use Rattle.termrelay.specs.declared.runs.call.Reply.{Reply}
+use Rattle.termrelay.specs.declared.runs.call.Reply.TheVariants.{Attached as WasAttached, Answered, Refused}
 use Rattle.termrelay.specs.declared.error.HubError.{HubError}
 use Rattle.termrelay.specs.declared.error.HubError.TheVariants.{Memory, Failed, UnknownClient, Write}
 use Rattle.c_objects.specs.Codes.{IsRefusal, ok, unknown_client, not_owed, code_of}

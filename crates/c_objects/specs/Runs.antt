@@ -8,9 +8,9 @@ use Rattle.termrelay.specs.Calls.{Call, done, replied}
 use Rattle.termrelay.specs.Hub.{HubState, as_kept, clients_in}
 use Rattle.termrelay.specs.Log.{SessionView, begun, ended, grown, change_last, is_of, RunsLogged}
 use Rattle.termrelay.specs.declared.answer.Answer.{Answer}
-use Rattle.termrelay.specs.declared.call.Reply.{Reply}
-use Rattle.termrelay.specs.declared.call.Reply.TheVariants.{Attached as WasAttached, Answered}
-use Rattle.termrelay.specs.declared.call.Take.{Take}
+use Rattle.termrelay.specs.declared.runs.call.Reply.{Reply}
+use Rattle.termrelay.specs.declared.runs.call.Reply.TheVariants.{Attached as WasAttached, Answered}
+use Rattle.termrelay.specs.declared.runs.call.Take.{Take}
 use Rattle.termrelay.specs.declared.error.HubError.{HubError}
 use Rattle.c_objects.specs.Codes.{IsRefusal, ok, code_of, frame_code}
 use Rattle.c_objects.specs.Hubs.{Feeds, Resizes, Attached, Attaches, Detaches, Frames, Sends}

@@ -11,7 +11,7 @@ use Rattle.termview.specs.Timeout.{until_cleared}
 use Rattle.termrelay.specs.Hub.{HubState, as_kept}
 use Rattle.termrelay.specs.Calls.{Call}
 use Rattle.termrelay.specs.Log.{SessionView, LogView, RunsLogged}
-use Rattle.termrelay.specs.declared.call.Reply.{Reply}
+use Rattle.termrelay.specs.declared.runs.call.Reply.{Reply}
 use Rattle.relay_theorem.specs.History.{Story, size_of_session}
 use Rattle.relay_theorem.specs.Judge.{IsShownRight}
 use Rattle.relay_theorem.specs.Headline.{ReadsPrefix, last_read}

@@ -6,7 +6,7 @@ use Rattle.screen_model.specs.Holds.{IsSide}
 use Rattle.termview.specs.Standing.{view_size, shown_by}
 use Rattle.termrelay.specs.Calls.{Call}
 use Rattle.termrelay.specs.Log.{SessionView}
-use Rattle.termrelay.specs.declared.call.Reply.{Reply}
+use Rattle.termrelay.specs.declared.runs.call.Reply.{Reply}
 use Rattle.relay_theorem.specs.History.{Story, size_of_session}
 use Rattle.relay_theorem.specs.Judge.{IsShownRight}
 use Rattle.relay_theorem.specs.Laws.{IsSession}

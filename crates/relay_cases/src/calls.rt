@@ -3,7 +3,8 @@
 use std::alloc::{AllocError, Global};
 use std::io::ErrorKind;
 use std::num::NonZeroU16;
-use termrelay::{Call, Client, Take};
+use termrelay::Client;
+use termrelay::runs::{Call, Take};
 
 /// Where a part of what is kept stands.
 #[derive(Clone, Copy)]

@@ -8,7 +8,7 @@ use case_player::{Answer, StepError, Words};
 use relay_streams::{RelayError, far_view};
 use std::alloc::Global;
 use std::array;
-use termrelay::Call;
+use termrelay::runs::Call;
 use termview::{UntilCleared, View};
 
 /// Of how many calls a far view is made at most.

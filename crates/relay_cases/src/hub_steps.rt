@@ -11,7 +11,8 @@ use case_player::{Answer, StepError, Words};
 use std::alloc::Global;
 use std::fmt::Write;
 use std::io::ErrorKind;
-use termrelay::{Client, Take};
+use termrelay::Client;
+use termrelay::runs::Take;
 
 /// How many bytes a writer takes a write where a step doesn't say it.
 const MOST: usize = 7;

@@ -9,7 +9,8 @@ use crate::writers::{Pumped, Writer};
 use case_player::StepError;
 use std::alloc::Global;
 use std::num::NonZeroU16;
-use termrelay::{Hub, Log};
+use termrelay::Hub;
+use termrelay::runs::Log;
 
 /// The hubs, the log of the second one, and their clients.
 #[derive(Drop)]

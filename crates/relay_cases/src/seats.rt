@@ -1,7 +1,8 @@
 //! Clients, in the order of their coming.
 
 use crate::sums::Sum;
-use termrelay::{Client, Hub, Log};
+use termrelay::runs::Log;
+use termrelay::{Client, Hub};
 
 /// Which of the two hubs is meant.
 #[derive(Clone, Copy, Debug, Eq, PartialEq)]

@@ -5,7 +5,8 @@ use case_player::{Answer as Line, StepError};
 use std::fmt::Write;
 use std::io::ErrorKind;
 use std::slice;
-use termrelay::{Answer, Call, Client, Hub, HubError, Log, Reply, run};
+use termrelay::runs::{Call, Log, Reply, run};
+use termrelay::{Answer, Client, Hub, HubError};
 
 /// What a call told.
 #[derive(Clone, Copy, Debug, Eq, PartialEq)]

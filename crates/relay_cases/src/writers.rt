@@ -3,7 +3,7 @@
 use crate::sums::Sum;
 use std::io;
 use std::io::{ErrorKind, Write};
-use termrelay::Take;
+use termrelay::runs::Take;
 
 /// What a writer was given.
 #[derive(Clone, Copy)]

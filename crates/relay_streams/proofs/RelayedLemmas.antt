@@ -22,7 +22,7 @@ use Rattle.std.proofs.Common.{take, drop}
 use Rattle.std.proofs.lemmas.List.Folds.{list_any-append}
 use Rattle.screen_model.specs.State.{State}
 use Rattle.termrelay.specs.Answers.{answer_for}
-use Rattle.termrelay.specs.declared.call.Reply.TheVariants.{Attached}
+use Rattle.termrelay.specs.declared.runs.call.Reply.TheVariants.{Attached}
 use Rattle.relay_theorem.specs.History.{Story, size_of_story}
 use Rattle.relay_theorem.specs.Judge.{state_at, last_frame, judged, IsSure}
 use Rattle.relay_theorem.specs.Laws.{AreAnswered}

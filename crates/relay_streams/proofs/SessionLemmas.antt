@@ -19,9 +19,9 @@ use Rattle.termrelay.specs.Answers.{ClientState, answer_for, after_answer, is_fr
 use Rattle.termrelay.specs.Hub.{HubState, screen_in, size_in, shown_in, is_failed, with_client, new_client, Feeds}
 use Rattle.termrelay.specs.Hub.{Attaches, CanFrame, Framed, PumpsFrom, Puts}
 use Rattle.termrelay.specs.declared.answer.Answer.{Answer}
-use Rattle.termrelay.specs.declared.call.Take.{Take}
-use Rattle.termrelay.specs.declared.call.Reply.{Reply}
-use Rattle.termrelay.specs.declared.call.Reply.TheVariants.{Done, Attached, Answered, Refused}
+use Rattle.termrelay.specs.declared.runs.call.Take.{Take}
+use Rattle.termrelay.specs.declared.runs.call.Reply.{Reply}
+use Rattle.termrelay.specs.declared.runs.call.Reply.TheVariants.{Done, Attached, Answered, Refused}
 use Rattle.termrelay.specs.declared.error.HubError.{HubError}
 use Rattle.termrelay.specs.Calls.{Feed, Attach, Frame, Pump, WritesAsReported, taken_by, done, replied, Serves}
 use Rattle.termrelay.specs.Log.{change_last, begun, grown, bytes_taken}

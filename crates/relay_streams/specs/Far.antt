@@ -10,7 +10,7 @@ use Rattle.termview.specs.declared.view.View.{View}
 use Rattle.termview.specs.declared.until_cleared.UntilCleared.{UntilCleared}
 use Rattle.termrelay.specs.Hub.{HubState}
 use Rattle.termrelay.specs.Log.{SessionView}
-use Rattle.termrelay.specs.declared.call.Reply.{Reply}
+use Rattle.termrelay.specs.declared.runs.call.Reply.{Reply}
 use Rattle.relay_theorem.specs.History.{as_reported, Entry, Story, size_of_session, size_of_story, fresh, RunsReported}
 use Rattle.relay_theorem.specs.Judge.{texts, last_frame, last_whole, IsShownRight}
 use Rattle.relay_theorem.specs.Laws.{IsSession}

@@ -6,8 +6,8 @@ use Rattle.screen_model.specs.Holds.{IsSide}
 use Rattle.termrelay.specs.Calls.{Call, Feed, Attach, Frame, Pump}
 use Rattle.termrelay.specs.declared.answer.Answer.{Answer}
 use Rattle.termrelay.specs.declared.answer.Answer.TheVariants.{TooLong}
-use Rattle.termrelay.specs.declared.call.Reply.{Reply}
-use Rattle.termrelay.specs.declared.call.Reply.TheVariants.{Attached, Refused}
+use Rattle.termrelay.specs.declared.runs.call.Reply.{Reply}
+use Rattle.termrelay.specs.declared.runs.call.Reply.TheVariants.{Attached, Refused}
 use Rattle.relay_theorem.specs.History.{Entry, Story, size_of_story}
 use Rattle.relay_theorem.specs.Judge.{texts}
 use Rattle.relay_theorem.specs.Laws.{IsSession}

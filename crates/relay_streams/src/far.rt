@@ -13,7 +13,8 @@ ghost use Rattle.relay_streams.specs.declared.error.RelayError.TheVariants.{Memo
 use crate::error::RelayError;
 use std::alloc::Global;
 use std::num::NonZeroU16;
-use termrelay::{Call, Hub, HubError, Log, Reply, Session, run};
+use termrelay::runs::{Call, Log, Reply, Session, run};
+use termrelay::{Hub, HubError};
 use termview::laws::until_cleared_is_exact;
 use termview::{UntilCleared, View};
 

@@ -25,5 +25,6 @@ pub use pieces::{TakesPieces, each_piece};
 pub use printing::print_text;
 pub use relaying::{is_overlong, relay};
 pub use showing::{print_view, show, write_view};
-pub use termrelay::{Call, Client, Take};
+pub use termrelay::Client;
+pub use termrelay::runs::{Call, Take};
 pub use termview::{UntilCleared, View};

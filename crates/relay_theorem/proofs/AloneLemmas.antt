@@ -7,8 +7,8 @@ use Rattle.std.specs.declared.io.Error.{Error}
 use Rattle.std.proofs.lemmas.Bool.{eq-eqb}
 use Rattle.screen_model.specs.Made.{Act, Fed, Resized}
 use Rattle.termrelay.specs.Answers.{ClientState}
-use Rattle.termrelay.specs.declared.call.Reply.{Reply}
-use Rattle.termrelay.specs.declared.call.Reply.TheVariants.{Done, Attached, Answered}
+use Rattle.termrelay.specs.declared.runs.call.Reply.{Reply}
+use Rattle.termrelay.specs.declared.runs.call.Reply.TheVariants.{Done, Attached, Answered}
 use Rattle.termrelay.specs.Hub.{HubState, screen_in, with_client, new_client, no_clients, CanFrame, Framed}
 use Rattle.termrelay.specs.Hub.{DetachesFrom, PumpsFrom, pump_answer}
 use Rattle.termrelay.specs.Calls.{Feed, Resize, Attach, Detach, Frame, Pump, IsCall, WritesAsReported, done, Serves}

@@ -8,9 +8,9 @@ use Rattle.termrelay.specs.Answers.{ClientState, answer_for, after_answer}
 use Rattle.termrelay.specs.Hub.{HubState, screen_in, size_in, shown_in, with_client, new_client, no_clients, Feeds}
 use Rattle.termrelay.specs.Hub.{Resizes, Attaches, DetachesFrom, CanFrame, Framed, PumpsFrom}
 use Rattle.termrelay.specs.declared.answer.Answer.{Answer}
-use Rattle.termrelay.specs.declared.call.Take.{Take}
-use Rattle.termrelay.specs.declared.call.Reply.{Reply}
-use Rattle.termrelay.specs.declared.call.Reply.TheVariants.{Done, Attached, Answered, Refused}
+use Rattle.termrelay.specs.declared.runs.call.Take.{Take}
+use Rattle.termrelay.specs.declared.runs.call.Reply.{Reply}
+use Rattle.termrelay.specs.declared.runs.call.Reply.TheVariants.{Done, Attached, Answered, Refused}
 use Rattle.termrelay.specs.declared.error.HubError.{HubError}
 use Rattle.termrelay.specs.declared.error.HubError.TheVariants as hub
 use Rattle.termrelay.specs.Calls.{Call, Feed, Resize, Attach, Detach, Frame, Pump, WritesAsReported, taken_by, done}

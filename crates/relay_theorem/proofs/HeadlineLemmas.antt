@@ -28,7 +28,7 @@ use Rattle.termrelay.specs.declared.answer.Answer.TheVariants.{TooLong}
 use Rattle.termview.specs.Seen.{seen}
 use Rattle.termview.proofs.LawLemmas.{whole_shown, none_torn}
 use Rattle.termrelay.specs.Calls.{Call}
-use Rattle.termrelay.specs.declared.call.Reply.{Reply}
+use Rattle.termrelay.specs.declared.runs.call.Reply.{Reply}
 use Rattle.relay_theorem.specs.History.{Entry, Story, size_of_story}
 use Rattle.relay_theorem.specs.Judge.{state_at, size_at, shown_at, texts, frame_or, last_frame, whole_in, judged}
 use Rattle.relay_theorem.specs.Judge.{IsSure, IsShownRight}

@@ -17,7 +17,7 @@ use Rattle.screen_model.proofs.MadeLemmas.{makes-last_size}
 use Rattle.termrelay.specs.Frame.{frame_text}
 use Rattle.termrelay.specs.Answers.{ClientState, is_frame, answer_for, after_answer}
 use Rattle.termrelay.specs.declared.answer.Answer.{Answer}
-use Rattle.termrelay.specs.declared.call.Reply.{Reply}
+use Rattle.termrelay.specs.declared.runs.call.Reply.{Reply}
 use Rattle.termrelay.specs.declared.error.HubError.TheVariants as hub
 use Rattle.termrelay.specs.Hub.{HubState, screen_in, size_in, shown_in, with_client, new_client, no_clients}
 use Rattle.termrelay.specs.Calls.{Call, Frame, Pump, IsCall, taken_by}

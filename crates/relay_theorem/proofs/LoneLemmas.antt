@@ -5,8 +5,8 @@ use Rattle.std.specs.Prelude.{◌==◌, slice_get}
 use Rattle.std.specs.List.{list_any}
 use Rattle.std.proofs.lemmas.Bool.{eq-eqb, or_parts}
 use Rattle.screen_model.specs.Made.{Act, Fed, Resized}
-use Rattle.termrelay.specs.declared.call.Reply.{Reply}
-use Rattle.termrelay.specs.declared.call.Reply.TheVariants.{Done, Attached}
+use Rattle.termrelay.specs.declared.runs.call.Reply.{Reply}
+use Rattle.termrelay.specs.declared.runs.call.Reply.TheVariants.{Done, Attached}
 use Rattle.termrelay.specs.declared.error.HubError.TheVariants as hub
 use Rattle.termrelay.specs.Hub.{HubState, new_client, no_clients, DetachesFrom}
 use Rattle.termrelay.specs.Calls.{Call, Feed, Resize, Attach, Detach, done, Serves}

@@ -10,7 +10,7 @@ use Rattle.screen_model.specs.Made.{Act, Fed, Resized, bytes_fed, played, events
 use Rattle.vt100.proofs.PlayLemmas.{feeds_nothing}
 use Rattle.termrelay.specs.Answers.{ClientState, is_frame}
 use Rattle.termrelay.specs.declared.answer.Answer.{Answer}
-use Rattle.termrelay.specs.declared.call.Reply.{Reply}
+use Rattle.termrelay.specs.declared.runs.call.Reply.{Reply}
 use Rattle.termrelay.specs.Hub.{HubState, clients_in}
 use Rattle.termrelay.specs.Calls.{Call, Frame, Pump}
 use Rattle.termrelay.specs.Log.{change_last, begun, ended, grown, bytes_taken}

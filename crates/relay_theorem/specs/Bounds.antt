@@ -6,7 +6,7 @@ use Rattle.termrelay.specs.Frame.{IsShortFrame}
 use Rattle.termrelay.specs.declared.answer.Answer.TheVariants.{TooLong}
 use Rattle.termrelay.specs.Hub.{clients_in}
 use Rattle.termrelay.specs.Calls.{Call}
-use Rattle.termrelay.specs.declared.call.Reply.{Reply}
+use Rattle.termrelay.specs.declared.runs.call.Reply.{Reply}
 use Rattle.relay_theorem.specs.History.{Story, size_of_story}
 use Rattle.relay_theorem.specs.Laws.{IsSession}
 

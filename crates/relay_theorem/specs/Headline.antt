@@ -9,7 +9,7 @@ use Rattle.termrelay.specs.Answers.{is_frame}
 use Rattle.termrelay.specs.declared.answer.Answer.TheVariants.{Unsure}
 use Rattle.termview.specs.Seen.{seen}
 use Rattle.termrelay.specs.Calls.{Call}
-use Rattle.termrelay.specs.declared.call.Reply.{Reply}
+use Rattle.termrelay.specs.declared.runs.call.Reply.{Reply}
 use Rattle.relay_theorem.specs.History.{Entry, Story, size_of_story}
 use Rattle.relay_theorem.specs.Judge.{texts, last_frame, whole_in, last_whole, IsShownRight}
 use Rattle.relay_theorem.specs.Laws.{IsSession}

@@ -7,8 +7,8 @@ use Rattle.termrelay.specs.Frame.{frame_text}
 use Rattle.termrelay.specs.Answers.{ClientState, is_frame}
 use Rattle.termrelay.specs.Hub.{Telling, HubState, size_in, shown_in, clients_in, no_clients}
 use Rattle.termrelay.specs.declared.answer.Answer.{Answer}
-use Rattle.termrelay.specs.declared.call.Reply.{Reply}
-use Rattle.termrelay.specs.declared.call.Reply.TheVariants.{Done, Attached, Answered}
+use Rattle.termrelay.specs.declared.runs.call.Reply.{Reply}
+use Rattle.termrelay.specs.declared.runs.call.Reply.TheVariants.{Done, Attached, Answered}
 use Rattle.termrelay.specs.Calls.{Call, Resize, Attach, Detach, Frame, Pump, RunsBeside}
 use Rattle.termrelay.specs.Log.{SessionView, is_of, change_last, begun, ended, grown, bytes_taken}
 

@@ -7,9 +7,9 @@ use Rattle.termrelay.specs.Answers.{ClientState}
 use Rattle.termrelay.specs.Hub.{clients_in}
 use Rattle.termrelay.specs.Calls.{Call, Feed, Resize, Attach, Detach, Frame, Pump}
 use Rattle.termrelay.specs.Log.{SessionView, LogView}
-use Rattle.termrelay.specs.declared.call.Take.{Take}
-use Rattle.termrelay.specs.declared.call.Reply.{Reply}
-use Rattle.termrelay.specs.declared.call.Reply.TheVariants.{Done, Attached, Refused}
+use Rattle.termrelay.specs.declared.runs.call.Take.{Take}
+use Rattle.termrelay.specs.declared.runs.call.Reply.{Reply}
+use Rattle.termrelay.specs.declared.runs.call.Reply.TheVariants.{Done, Attached, Refused}
 use Rattle.termrelay.specs.declared.error.HubError.TheVariants.{Memory}
 use Rattle.relay_theorem.specs.History.{Story}
 use Rattle.relay_theorem.specs.Laws.{IsSession}

@@ -8,7 +8,7 @@ use Rattle.termrelay.specs.Frame.{frame_text}
 use Rattle.termrelay.specs.Answers.{ClientState, is_frame, answer_for}
 use Rattle.termrelay.specs.Hub.{HubState, clients_in}
 use Rattle.termrelay.specs.Calls.{Call}
-use Rattle.termrelay.specs.declared.call.Reply.{Reply}
+use Rattle.termrelay.specs.declared.runs.call.Reply.{Reply}
 use Rattle.relay_theorem.specs.History.{Entry, Story, as_reported, fresh, size_of_story, is_on, RunsReported}
 use Rattle.relay_theorem.specs.Judge.{state_at, size_at, shown_at, texts}
 

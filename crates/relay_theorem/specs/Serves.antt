@@ -6,9 +6,9 @@ use Rattle.termrelay.specs.Answers.{ClientState}
 use Rattle.termrelay.specs.Hub.{Telling, HubState, as_kept, is_failed, clients_in, IsNewHub, PumpsClient}
 use Rattle.termrelay.specs.Calls.{Call, Pump, taken_by, done, Serves, Runs}
 use Rattle.termrelay.specs.Log.{SessionView, RunsLogged}
-use Rattle.termrelay.specs.declared.call.Take.{Take}
-use Rattle.termrelay.specs.declared.call.Reply.{Reply}
-use Rattle.termrelay.specs.declared.call.Reply.TheVariants.{Done, Refused}
+use Rattle.termrelay.specs.declared.runs.call.Take.{Take}
+use Rattle.termrelay.specs.declared.runs.call.Reply.{Reply}
+use Rattle.termrelay.specs.declared.runs.call.Reply.TheVariants.{Done, Refused}
 use Rattle.termrelay.specs.declared.error.HubError.{HubError}
 use Rattle.termrelay.specs.declared.error.HubError.TheVariants.{Write}
 use Rattle.relay_theorem.specs.History.{Story, as_reported, fresh, RunsReported}

@@ -8,7 +8,7 @@ use Rattle.termrelay.proofs.MadeLemmas.{bytes-more}
 use Rattle.termrelay.specs.Hub.{GoesOn, Feeds}
 use Rattle.termrelay.specs.Calls.{done}
 use Rattle.termrelay.specs.Laws.{TwoFeedsAreOne, TwoFeedsRunAsOne}
-use Rattle.termrelay.specs.declared.call.Reply.TheVariants.{Done}
+use Rattle.termrelay.specs.declared.runs.call.Reply.TheVariants.{Done}
 use Rattle.termrelay.specs.declared.error.HubError.{HubError}
 
 bytes-joined : (acts : List Act) (a b : List ℕ)

@@ -2,8 +2,8 @@
 use Rattle.std.proofs.Common.{◌≡◌, ◌∙◌, ℕ, ◌+◌, ◌<◌, ◌≤◌, List, [], ◌∷◌, ◌++◌, map, take, length, Result, Err}
 use Rattle.std.proofs.Common.{refl, sym, ap, arith, append-nil, append_assoc, get_or}
 use Rattle.std.proofs.lemmas.List.{take-map, take_more, take_all, length-map, map-append}
-use Rattle.termrelay.specs.declared.call.Reply.{Reply}
-use Rattle.termrelay.specs.declared.call.Call.{Call as Given}
+use Rattle.termrelay.specs.declared.runs.call.Reply.{Reply}
+use Rattle.termrelay.specs.declared.runs.call.Call.{Call as Given}
 use Rattle.termrelay.specs.declared.error.HubError.{HubError}
 use Rattle.termrelay.specs.declared.error.HubError.TheVariants.{Memory}
 use Rattle.termrelay.specs.Hub.{HubState, as_kept}

@@ -12,9 +12,9 @@ use Rattle.termrelay.specs.Answers.{ClientState}
 use Rattle.termrelay.specs.Hub.{Telling, HubState, clients_in, Puts, PumpsFrom}
 use Rattle.termrelay.specs.Calls.{WritesAsReported, taken_by, Pump, Serves}
 use Rattle.termrelay.specs.Log.{bytes_taken}
-use Rattle.termrelay.specs.declared.call.Take.{Take}
-use Rattle.termrelay.specs.declared.call.Take.TheVariants.{Bytes, Fault}
-use Rattle.termrelay.specs.declared.call.Reply.{Reply}
+use Rattle.termrelay.specs.declared.runs.call.Take.{Take}
+use Rattle.termrelay.specs.declared.runs.call.Take.TheVariants.{Bytes, Fault}
+use Rattle.termrelay.specs.declared.runs.call.Reply.{Reply}
 
 pub takes-nothing : (takes : List Take) → taken_by takes 0 ≡ 0
 unfolding taken_by

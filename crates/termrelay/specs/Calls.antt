@@ -6,12 +6,12 @@ use Rattle.screen_model.specs.Holds.{IsSide}
 use Rattle.termrelay.specs.Hub.{Telling, HubState, Feeds, Resizes, Attaches, Detaches, Frames, PumpsClient}
 use Rattle.termrelay.specs.declared.answer.Answer.{Answer}
 use Rattle.termrelay.specs.declared.error.HubError.{HubError}
-use Rattle.termrelay.specs.declared.call.Take.{Take}
-use Rattle.termrelay.specs.declared.call.Take.TheVariants.{Bytes, Fault}
-use Rattle.termrelay.specs.declared.call.Reply.{Reply}
-use Rattle.termrelay.specs.declared.call.Reply.TheVariants.{Done, Attached, Answered, Refused}
-use Rattle.termrelay.specs.declared.call.Call.{Call as Given}
-use Rattle.termrelay.specs.declared.call.Call.TheVariants as given
+use Rattle.termrelay.specs.declared.runs.call.Take.{Take}
+use Rattle.termrelay.specs.declared.runs.call.Take.TheVariants.{Bytes, Fault}
+use Rattle.termrelay.specs.declared.runs.call.Reply.{Reply}
+use Rattle.termrelay.specs.declared.runs.call.Reply.TheVariants.{Done, Attached, Answered, Refused}
+use Rattle.termrelay.specs.declared.runs.call.Call.{Call as Given}
+use Rattle.termrelay.specs.declared.runs.call.Call.TheVariants as given
 
 -- ---- scripted writers
 

@@ -3,8 +3,8 @@ use Rattle.std.specs.Prelude.{ℕ, List, ◌∷◌, ◌++◌, Ok}
 use Rattle.termrelay.specs.Hub.{HubState, as_kept, Feeds}
 use Rattle.termrelay.specs.Calls.{Call, Feed}
 use Rattle.termrelay.specs.Log.{SessionView, RunsLogged}
-use Rattle.termrelay.specs.declared.call.Reply.{Reply}
-use Rattle.termrelay.specs.declared.call.Reply.TheVariants.{Done}
+use Rattle.termrelay.specs.declared.runs.call.Reply.{Reply}
+use Rattle.termrelay.specs.declared.runs.call.Reply.TheVariants.{Done}
 
 -- two feeds that succeed give the same hub as one successful feed of the joined bytes
 abbrev pub TwoFeedsAreOne : Type 0

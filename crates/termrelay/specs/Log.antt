@@ -5,9 +5,9 @@ use Rattle.std.specs.List.{list_any}
 use Rattle.termrelay.specs.Answers.{ClientState}
 use Rattle.termrelay.specs.Hub.{Telling, HubState, as_kept, size_in, clients_in}
 use Rattle.termrelay.specs.Calls.{Call, Resize, Attach, Detach, Pump, taken_by, IsCall, Serves, RunsBeside}
-use Rattle.termrelay.specs.declared.call.Take.{Take}
-use Rattle.termrelay.specs.declared.call.Reply.{Reply}
-use Rattle.termrelay.specs.declared.call.Reply.TheVariants.{Done, Attached}
+use Rattle.termrelay.specs.declared.runs.call.Take.{Take}
+use Rattle.termrelay.specs.declared.runs.call.Reply.{Reply}
+use Rattle.termrelay.specs.declared.runs.call.Reply.TheVariants.{Done, Attached}
 use Rattle.termrelay.specs.declared.error.HubError.{HubError}
 use Rattle.termrelay.specs.declared.error.HubError.TheVariants.{Memory, Failed, UnknownClient, Write}
 

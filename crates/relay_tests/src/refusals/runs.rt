@@ -5,7 +5,8 @@ use std::alloc::Global;
 use std::num::NonZeroU16;
 use std::process::Abort;
 use std::test::Fail;
-use termrelay::{Answer, Call, Client, Hub, HubError, Log, Reply, Take, run};
+use termrelay::runs::{Call, Log, Reply, Take, run};
+use termrelay::{Answer, Client, Hub, HubError};
 
 /// A reply in words.
 fn words_of(reply: &Reply) -> &'static str {

@@ -21,8 +21,8 @@ use Rattle.termrelay.specs.Calls.{Feed, Resize, Attach, Frame, Pump, taken_by}
 use Rattle.termrelay.specs.Hub.{HubState, size_in, shown_in, with_client, new_client, no_clients}
 use Rattle.termrelay.specs.declared.answer.Answer.{Answer}
 use Rattle.termrelay.specs.declared.answer.Answer.TheVariants.{Full, Unchanged, Behind}
-use Rattle.termrelay.specs.declared.call.Take.TheVariants.{Bytes, Fault}
-use Rattle.termrelay.specs.declared.call.Reply.TheVariants.{Done, Attached, Answered, Refused}
+use Rattle.termrelay.specs.declared.runs.call.Take.TheVariants.{Bytes, Fault}
+use Rattle.termrelay.specs.declared.runs.call.Reply.TheVariants.{Done, Attached, Answered, Refused}
 use Rattle.termrelay.specs.declared.error.HubError.TheVariants.{UnknownClient, Write}
 use Rattle.byte_streams.specs.Pump.{some, all, fault}
 use Rattle.screen_model.specs.Made.{Fed, Resized}

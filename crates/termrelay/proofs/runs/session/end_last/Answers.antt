@@ -1,7 +1,7 @@
 use Rattle.std.proofs.Common.{sym}
 use Rattle.termrelay.specs.Log.{is_of, ended}
 use Rattle.termrelay.proofs.LogLemmas.{none-changed, last-changed}
-use Rattle.termrelay.proofs.session.end_last.Goals as goal
+use Rattle.termrelay.proofs.runs.session.end_last.Goals as goal
 
 pub returns-in-Some : goal.returns-in-Some
 returns-in-Some c =

@@ -1,7 +1,7 @@
 use Rattle.std.proofs.Common.{◌≡◌, false, ◌≤◌, length, drop}
 use Rattle.std.specs.List.{list_any}
 use Rattle.termrelay.specs.Log.{is_of}
-use Rattle.termrelay.proofs.session.last_of.Given as goal
+use Rattle.termrelay.proofs.runs.session.last_of.Given as goal
 
 -- none of those from here on is
 abbrev pub invariant-loop-at : goal.invariant-loop-at

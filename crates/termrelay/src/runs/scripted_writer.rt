@@ -2,7 +2,7 @@
 ghost use Rattle.std.specs.Prelude.{List};
 ghost use Rattle.termrelay.specs.Calls.{WritesAsReported};
 
-use crate::call::Take;
+use crate::runs::call::Take;
 use byte_streams::ByteSink;
 use std::io;
 use std::io::ErrorKind;
@@ -16,7 +16,7 @@ pub(crate) struct ScriptedWriter<'a> {
 
 impl<'a> Model for ScriptedWriter<'a> {
     ghost use Rattle.std.specs.Prelude.{List};
-    ghost use Rattle.termrelay.specs.declared.call.Take.{Take};
+    ghost use Rattle.termrelay.specs.declared.runs.call.Take.{Take};
 
     ghost Value = { List Take };
 

@@ -1,7 +1,7 @@
 use Rattle.std.proofs.Common.{◌∙◌, ap, Err}
 use Rattle.std.proofs.lemmas.Result.{err_from_is_err_and}
 use Rattle.termrelay.proofs.RunLemmas.{made-none, made-more, made-all, made-some}
-use Rattle.termrelay.proofs.log.run.Goals as goal
+use Rattle.termrelay.proofs.runs.log.run.Goals as goal
 
 pub loop-call-init : goal.loop-call-init
 loop-call-init c = made-none c.args.hub.now c.args.log.now

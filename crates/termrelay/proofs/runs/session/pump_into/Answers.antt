@@ -1,8 +1,8 @@
 use Rattle.std.proofs.Common.{◌≡◌, ◌++◌, length, ap, refl, arith, length-drop}
 use Rattle.termrelay.specs.Hub.{clients_in}
 use Rattle.termrelay.proofs.ScriptLemmas.{IsPumped, pumped-by, prefix-kept}
-use Rattle.termrelay.proofs.session.pump_into.Goals as goal
-use Rattle.termrelay.proofs.session.pump_into.Goals.{After-owed_count}
+use Rattle.termrelay.proofs.runs.session.pump_into.Goals as goal
+use Rattle.termrelay.proofs.runs.session.pump_into.Goals.{After-owed_count}
 
 -- what the pump has left, and what it took
 pumped : (c : After-owed_count)

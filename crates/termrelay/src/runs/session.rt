@@ -5,10 +5,10 @@ ghost use Rattle.termrelay.specs.Calls.{Pump, Serves};
 ghost use Rattle.termrelay.specs.Hub.{clients_in};
 ghost use Rattle.termrelay.specs.Log.{is_of, change_last, bytes_taken, grown, ended as ended_now, IsLast};
 
-use crate::call::{Reply, Take};
 use crate::client::Client;
 use crate::hub::Hub;
-use crate::scripted_writer::ScriptedWriter;
+use crate::runs::call::{Reply, Take};
+use crate::runs::scripted_writer::ScriptedWriter;
 use std::alloc::{AllocError, Global};
 use std::marker::Model;
 use std::num::NonZeroU16;

@@ -1,6 +1,6 @@
 use Rattle.std.proofs.Common.{◌≡◌, ◌++◌, take, drop, map}
 use Rattle.termrelay.specs.Log.{ended}
-use Rattle.termrelay.proofs.session.end_all.Given as goal
+use Rattle.termrelay.proofs.runs.session.end_all.Given as goal
 
 -- those before it have ended
 abbrev pub invariant-loop-session : goal.invariant-loop-session

@@ -3,11 +3,11 @@ ghost use Rattle.std.specs.Prelude.{◌≡◌, map, OnOk, OnErr, IfOk};
 ghost use Rattle.termrelay.specs.Calls.{Feed, Resize, Attach, Detach, Frame, Pump, Serves, IsCall, call_of};
 ghost use Rattle.termrelay.specs.Log.{empty_log, sessions_after, ServesLogged, RunsCalls};
 
-use crate::call::{Call, Reply, Take};
 use crate::client::Client;
 use crate::error::HubError;
 use crate::hub::Hub;
-use crate::session::{Session, end_all, end_last, last_of, pump};
+use crate::runs::call::{Call, Reply, Take};
+use crate::runs::session::{Session, end_all, end_last, last_of, pump};
 use std::alloc::{AllocError, Global};
 use std::marker::Model;
 use std::num::NonZeroU16;

@@ -1,7 +1,7 @@
 use Rattle.std.proofs.Common.{ap, sym, ◌∙◌, set, arith}
 use Rattle.std.proofs.lemmas.List.Edits.{map_over_more}
 use Rattle.termrelay.specs.Log.{SessionView, ended}
-use Rattle.termrelay.proofs.session.end_all.Goals as goal
+use Rattle.termrelay.proofs.runs.session.end_all.Goals as goal
 
 pub loop-session-preserved : goal.loop-session-preserved
 loop-session-preserved c =

@@ -2,7 +2,7 @@ use Rattle.std.proofs.Common.{◌≡◌, ◌∙◌, ap, sym, get_or}
 use Rattle.termrelay.specs.Hub.{clients_in}
 use Rattle.termrelay.specs.Log.{is_of, bytes_taken, grown}
 use Rattle.termrelay.proofs.LogLemmas.{none-changed, last-changed, found-passes, of-key, ok-then}
-use Rattle.termrelay.proofs.log.pump_kept.Goals as goal
+use Rattle.termrelay.proofs.runs.log.pump_kept.Goals as goal
 
 pub returns-in-Some-clause-sessions : goal.returns-in-Some-clause-sessions
 returns-in-Some-clause-sessions c =
