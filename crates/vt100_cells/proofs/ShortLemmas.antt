@@ -11,7 +11,8 @@ use Rattle.std.proofs.lemmas.Str.{chars_past_char, IsUtf8-past_char, IsUtf8-had,
 use Rattle.ucd_table.specs.Rows.{in_ranges}
 use Rattle.vt100_cells.specs.declared.cell_text.CellText.TheInside.{Inside as TextInside}
 use Rattle.vt100_cells.specs.declared.short_char.ShortChar.TheInside.{Inside}
-use Rattle.vt100_cells.specs.Cell.{IsPrintable, IsWide}
+use Rattle.printable.specs.Printable.{IsPrintable}
+use Rattle.vt100_cells.specs.Cell.{IsWide}
 use Rattle.vt100_cells.specs.Narrow.{IsNarrow}
 use Rattle.vt100_cells.specs.CellFields.{IsText, text_of}
 use Rattle.vt100_cells.specs.ShortFields.{as_text, char_of, IsShortChar, first_char, BeginsOne, BeginsTwo, BeginsThree}
