@@ -8,7 +8,7 @@ use Rattle.std.proofs.lemmas.Bool.Decides.{nat_tests}
 use Rattle.vt100_forms.specs.declared.attrs.Attrs.{Attrs}
 use Rattle.vt100_forms.specs.Form.{Form, Text, MoveTo, MoveRight, EraseChar, ClearAttrs, Crlf}
 use Rattle.vt100_forms.specs.Form.{Sgr, changed_attrs}
-use Rattle.vt100_cells.specs.Cell.{CellView, IsCell, IsCellText, IsWideAs, cell_of, columns_of, appended_plain}
+use Rattle.vt100_cells.specs.Cell.{CellView, IsCell, IsCellText, IsWideAs, cell_of, columns_of, appended_in_place}
 use Rattle.vt100_cells.specs.Cell.{is_filled, is_undrawable}
 use Rattle.vt100_cells.specs.Line.{span_of, put, base_col}
 use Rattle.vt100_cells.proofs.JoinedCells.{plain-continuation}
@@ -47,7 +47,7 @@ unfolding join with_line
 join-behind d i c t h =
     let f = t.cell t.row in
     let b = base_col f t.col in
-    let x = appended_plain (f b) d in
+    let x = appended_in_place (f b) d in
     let g : ℕ → CellView = update f b x in
     record {
       row = h.row;

@@ -50,7 +50,7 @@ pub record BeginsRun (j : RowChange) (c : ℕ) (p : Pen) : Type 0 where
   pub closed : p.erase ≡ None
   pub whole : ((j.new c).continuation && not (c == j.start)) ≡ false
   pub other : is_same j c ≡ false
-  pub short : length (encode_utf8_all (j.new c).text) ≤ 4
+  pub four : length (encode_utf8_all (j.new c).text) ≤ 4
   pub keeps : put_unflags j.cols j.old c (j.new c) ≡ false
 
 -- the cursor is at column c of the row

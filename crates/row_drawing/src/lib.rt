@@ -14,5 +14,5 @@ mod opening;
 pub mod pen;
 mod runs;
 
-pub use drawing::Drawing;
+pub use drawing::{Drawing, Place};
 pub use pen::{Erase, Pen};

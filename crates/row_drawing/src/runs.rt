@@ -10,10 +10,10 @@ use crate::drawing::Drawing;
 use crate::pen::{Pen, span};
 use vt100_cells::Cell;
 use vt100_cells::line::{alike_to, same_to};
-use vt100_forms::{GridError, SHORT_BYTES, TextRun};
+use vt100_forms::{GridError, CHAR_BYTES, TextRun};
 
 /// How many bytes a move of the cursor, a change of attributes and a short text take at most.
-const MOVE_CHANGE_AND_TEXT_BYTES: usize = 14 + 58 + SHORT_BYTES;
+const MOVE_CHANGE_AND_TEXT_BYTES: usize = 14 + 58 + CHAR_BYTES;
 
 impl<'a> Drawing<'a> {
     /// The first column from `from` up to `to` for which something may have to be written. Skipped are columns that the
@@ -109,7 +109,7 @@ impl<'a> Drawing<'a> {
         ensures { IsTrue result → BeginsRun (row_change_of self.now) col pen.now }
     {
         !self.is_same(col)
-            && self.cell(col).has_short_text()
+            && self.cell(col).has_text_of_four()
             && pen.erase.is_none()
             && !self.loses_by_print(col)
     }
@@ -141,7 +141,7 @@ impl<'a> Drawing<'a> {
     {
         let mut alike = like;
         let mut m = n;
-        while m < count && run.has_room(SHORT_BYTES) {
+        while m < count && run.has_room(CHAR_BYTES) {
             let col = self.start + m;
             if !self.joins_run(pen, alike, col) {
                 break;

@@ -7,7 +7,7 @@ use Rattle.std.proofs.lemmas.Bool.Decides.{nat_tests}
 use mathlib.Core.Path.{fun_ext}
 use Rattle.unicode_width.specs.Width.{char_width}
 use Rattle.vt100_forms.specs.declared.attrs.Attrs.{Attrs}
-use Rattle.vt100_cells.specs.Cell.{CellView, IsCell, IsCellText, cell_of, columns_of, is_undrawable, appended_plain}
+use Rattle.vt100_cells.specs.Cell.{CellView, IsCell, IsCellText, cell_of, columns_of, is_undrawable, appended_in_place}
 use Rattle.vt100_cells.specs.Cell.{all_appended}
 use Rattle.vt100_cells.specs.Line.{span_of, put, base_col}
 use Rattle.vt100_cells.proofs.CellTexts.{cell-is_characters}
@@ -72,12 +72,12 @@ unfolding update
 put-replaced f i y x a k w = grind (arith, nat_tests)
 
 joined-put : (z : Size) (d : ℕ) (y : CellView) (u : Term) → y.continuation ≡ false
-    → join d (print z y u) ≡ print z (appended_plain y d) u
+    → join d (print z y u) ≡ print z (appended_in_place y d) u
 unfolding join print with_line
 joined-put z d y u whole =
     let f = u.cell u.row in
     let a = u.attrs in
-    let x = appended_plain y d in
+    let x = appended_in_place y d in
     let g = put f u.col y a in
     let w : x.wide ≡ y.wide = plain-wide y d in
     let row : update u.cell u.row g u.row ≡ g = update-same u.cell u.row g in
@@ -85,10 +85,10 @@ joined-put z d y u whole =
     ap (λ h. base_col h (u.col + span_of y)) row ∙ put-base f u.col y a whole in
     let here : update u.cell u.row g u.row u.col ≡ y = ap (λ h. h u.col) row ∙ put-at f u.col y a in
     let line : update (update u.cell u.row g u.row) (base_col (update u.cell u.row g u.row) (u.col + span_of y))
-    (appended_plain (update u.cell u.row g u.row (base_col (update u.cell u.row g u.row) (u.col + span_of y)))
+    (appended_in_place (update u.cell u.row g u.row (base_col (update u.cell u.row g u.row) (u.col + span_of y)))
     d) ≡ put f u.col x a =
-    ap (λ j. update (update u.cell u.row g u.row) j (appended_plain (update u.cell u.row g u.row j) d)) base
-    ∙ ap (λ v. update (update u.cell u.row g u.row) u.col (appended_plain v d)) here
+    ap (λ j. update (update u.cell u.row g u.row) j (appended_in_place (update u.cell u.row g u.row j) d)) base
+    ∙ ap (λ v. update (update u.cell u.row g u.row) u.col (appended_in_place v d)) here
     ∙ ap (λ h. update h u.col x) row
     ∙ fun_ext (λ k. put-replaced f u.col y x a k w) in
     let cells : update (update u.cell u.row g) u.row _ ≡ update u.cell u.row (put f u.col x a) =
@@ -115,13 +115,13 @@ all_zero z (d ∷ ds) y u whole h =
     let some = span-some y in
     let kept = kept_zero z d (print z y u) e (print-later z y u) in
     let none : (columns_of d == 0) ≡ true = eq-eqb (columns_of d) 0 e in
-    let one : input z d (print z y u) ≡ print z (appended_plain y d) u = rw (kept, none) (joined-put z d y u whole) in
-    ap (inputs z ds) one ∙ all_zero z ds (appended_plain y d) u (plain-continuation y d
+    let one : input z d (print z y u) ≡ print z (appended_in_place y d) u = rw (kept, none) (joined-put z d y u whole) in
+    ap (inputs z ds) one ∙ all_zero z ds (appended_in_place y d) u (plain-continuation y d
     ∙ whole) (λ k c l. h (suc k) c (omega arith))
 
 all_appended-wide : (cs : List ℕ) (x : CellView) → (all_appended x cs).wide ≡ x.wide
 all_appended-wide [] x = refl
-all_appended-wide (c ∷ cs) x = all_appended-wide cs (appended_plain x c) ∙ plain-wide x c
+all_appended-wide (c ∷ cs) x = all_appended-wide cs (appended_in_place x c) ∙ plain-wide x c
 
 kept_first : (z : Size) (c : ℕ) (t : Term) → is_undrawable c ≡ false → 0 < columns_of c → columns_of c ≤ z.cols
     → is_dropped z.cols t.col c ≡ false

@@ -8,7 +8,7 @@ use Rattle.vt100_forms.specs.Form.{Crlf, Lf, Backspace, SaveCursor, RestoreCurso
 use Rattle.vt100_forms.specs.declared.attrs.Attrs.{Attrs}
 use Rattle.vt100_forms.specs.declared.modes.CursorStyle.{CursorStyle}
 use Rattle.vt100_cells.specs.Cell.{CellView, default_cell, empty_cell, cell_of, columns_of, is_undrawable, is_filled}
-use Rattle.vt100_cells.specs.Cell.{appended_plain}
+use Rattle.vt100_cells.specs.Cell.{appended_in_place}
 use Rattle.vt100_cells.specs.Line.{IsPaired, Bounded, span_of, put, put_unflags, base_col, wiped, wipe_unflags}
 use Rattle.vt100_cells.proofs.LineLemmas.{Bounded-wiped, IsPaired-wiped, wiped-last, Bounded-put, IsPaired-put}
 use Rattle.vt100_cells.proofs.LineLemmas.{put-filled}
@@ -234,7 +234,7 @@ IsTerm-join z c t h some =
     let f = t.cell t.row in
     let p = h.paired t.row in
     let i = base_col f t.col in
-    let x = appended_plain (f i) c in
+    let x = appended_in_place (f i) c in
     let whole = base_col-whole f t.col p in
     let within = base_col-within f z.cols t.col some h.in_cols in
     IsTerm-with_line z t (update f i x) true h (IsPaired-updated f i x p (plain-wide (f i) c)

@@ -5,7 +5,7 @@ use Rattle.std.proofs.lemmas.Bool.{false≢true, cond_both, eqb-true, lt-ltb}
 use Rattle.std.proofs.lemmas.Bool.Decides.{nat_tests}
 use Rattle.vt100_forms.specs.declared.attrs.Attrs.{Attrs}
 use Rattle.vt100_forms.specs.Form.{Form, Text, MoveRight, EraseChar, ClearRowForward, ClearScreen, Crlf, Lf}
-use Rattle.vt100_cells.specs.Cell.{CellView, columns_of, cell_of, appended_plain}
+use Rattle.vt100_cells.specs.Cell.{CellView, columns_of, cell_of, appended_in_place}
 use Rattle.vt100_cells.specs.Line.{put, wiped, base_col}
 use Rattle.terminal_model.specs.Position.{update}
 use Rattle.terminal_model.specs.Term.{Size, Term}
@@ -58,8 +58,8 @@ unfolding join
 join-untouched c t r k h =
     let f = t.cell t.row in
     let i = base_col f t.col in
-    line-untouched t (update f i (appended_plain (f i) c)) true (k == i) r k h
-    (λ q. update-untouched f i (appended_plain (f i) c) k q)
+    line-untouched t (update f i (appended_in_place (f i) c)) true (k == i) r k h
+    (λ q. update-untouched f i (appended_in_place (f i) c) k q)
 
 -- ---- the next row
 

@@ -7,7 +7,7 @@ use Rattle.vt100_forms.specs.Form.{Crlf, Lf, Backspace, SaveCursor, RestoreCurso
 use Rattle.vt100_forms.specs.Form.{Paste, Mouse, Encoding, Style, Sgr, mouse_number, encoding_number, style_number}
 use Rattle.vt100_forms.specs.Form.{with_change}
 use Rattle.vt100_cells.specs.Cell.{CellView, columns_of, is_undrawable, cell_of, empty_cell, default_cell, is_filled}
-use Rattle.vt100_cells.specs.Cell.{appended_plain}
+use Rattle.vt100_cells.specs.Cell.{appended_in_place}
 use Rattle.vt100_cells.specs.Line.{span_of, put, put_unflags, base_col, wiped, wipe_unflags}
 use Rattle.terminal_model.specs.Position.{update}
 use Rattle.terminal_model.specs.Term.{Size, Term}
@@ -35,7 +35,7 @@ print z x t = record (with_line t (put (t.cell t.row) t.col x t.attrs)
 unfoldable pub join : ℕ → Term → Term
 join c t =
     let i = base_col (t.cell t.row) t.col in
-    with_line t (update (t.cell t.row) i (appended_plain (t.cell t.row i) c)) true
+    with_line t (update (t.cell t.row) i (appended_in_place (t.cell t.row i) c)) true
 
 -- ---- the next row
 

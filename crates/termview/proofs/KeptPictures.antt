@@ -4,13 +4,13 @@ use Rattle.std.proofs.Common.{set, Some, refl, ap, ◌∙◌, arith, length-set}
 use Rattle.std.specs.Char.{IsScalar}
 use Rattle.vt100_forms.specs.declared.attrs.Attrs.{Attrs}
 use Rattle.std.proofs.lemmas.List.{length-replicate}
-use Rattle.vt100_cells.specs.Cell.{CellView, IsCell, has_text, drawn_columns, appended_plain, empty_cell}
+use Rattle.vt100_cells.specs.Cell.{CellView, IsCell, has_text, drawn_columns, appended_in_place, empty_cell}
 use Rattle.vt100_cells.specs.Cells.{cell_at}
 use Rattle.vt100_cells.specs.Line.{span_of, put, put_unflags, wiped, wipe_unflags, base_col, update}
 use Rattle.vt100_cells.proofs.ListLemmas.{length-by_position}
-use Rattle.vt100_rows.specs.Row.{RowView, placed, joined_plain, wiped_row, with_wrap, cleared_row}
+use Rattle.vt100_rows.specs.Row.{RowView, placed, joined_in_place, wiped_row, with_wrap, cleared_row}
 use Rattle.vt100_rows.proofs.RowLemmas.{IsRow-placed, IsRow-wiped, IsRow-with_wrap, IsRow-cleared}
-use Rattle.vt100_rows.proofs.JoinLemmas.{IsRow-joined_plain}
+use Rattle.vt100_rows.proofs.JoinLemmas.{IsRow-joined_in_place}
 use Rattle.terminal_model.specs.Term.{Term}
 use Rattle.vt100_rows.specs.Sheet.{row_at, rows_by_position, moved_up, IsRowOf, IsSheet, erased_forward_at}
 use Rattle.vt100_rows.proofs.SheetLemmas.{IsSheet-with_row, IsSheet-by_position, IsRowOf-cond, wrapped-cond}
@@ -72,7 +72,7 @@ IsPicture-put p y n i cell text e h =
     h
 
 abbrev pub joined_at : PictureView → ℕ → PictureView
-joined_at p c = record p { rows = set p.rows p.row (joined_plain (cursor_row p) p.col c) }
+joined_at p c = record p { rows = set p.rows p.row (joined_in_place (cursor_row p) p.col c) }
 
 pub IsPicture-joined : (p : PictureView) (c : ℕ) → IsPicture p → IsScalar c → drawn_columns c ≡ Some 0 → 0 < p.col
     → IsPicture (joined_at p c)
@@ -81,10 +81,10 @@ IsPicture-joined p c i scalar zero_width h =
     let r = cursor_row-is p i in
     let f = cell_at v.cells in
     let j = base_col f p.col in
-    IsPicture-row p (joined_plain v p.col c) p.col i
+    IsPicture-row p (joined_in_place v p.col c) p.col i
     (record {
-      row = IsRow-joined_plain v p.col c r.row scalar zero_width h (omega (arith, r.wide, i.in_cols));
-      wide = length-by_position (length v.cells) (update f j (appended_plain (f j) c)) ∙ r.wide;
+      row = IsRow-joined_in_place v p.col c r.row scalar zero_width h (omega (arith, r.wide, i.in_cols));
+      wide = length-by_position (length v.cells) (update f j (appended_in_place (f j) c)) ∙ r.wide;
     })
     (λ w. w) i.in_cols
 

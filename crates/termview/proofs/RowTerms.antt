@@ -9,13 +9,13 @@ use Rattle.std.proofs.lemmas.Bool.{cond_both, cond-true, cond-false, lt-ltb, le-
 use Rattle.std.proofs.Math.Bool.{and-true, and-false}
 use mathlib.Core.Path.{fun_ext}
 use Rattle.vt100_forms.specs.declared.attrs.Attrs.{Attrs}
-use Rattle.vt100_cells.specs.Cell.{CellView, appended_plain, default_cell, is_filled, cell_of, columns_of}
+use Rattle.vt100_cells.specs.Cell.{CellView, appended_in_place, default_cell, is_filled, cell_of, columns_of}
 use Rattle.vt100_cells.specs.Cells.{cell_at}
 use Rattle.vt100_cells.specs.Line.{span_of, put, put_unflags, base_col, wipe_unflags}
 use Rattle.vt100_cells.specs.Line.{update as changed}
 use Rattle.vt100_cells.proofs.ListLemmas.{Bounded-row, cell_at-whole}
 use Rattle.vt100_cells.proofs.JoinedCells.{base_col-within, Bounded-update}
-use Rattle.vt100_rows.specs.Row.{RowView, blank_row, placed, joined_plain, wiped_row, with_wrap}
+use Rattle.vt100_rows.specs.Row.{RowView, blank_row, placed, joined_in_place, wiped_row, with_wrap}
 use Rattle.vt100_rows.proofs.RowLemmas.{line-placed, line-wiped}
 use Rattle.terminal_model.specs.Position.{update}
 use Rattle.terminal_model.specs.Term.{Size, Term}
@@ -92,7 +92,7 @@ printed-is p y n i e l =
 
 -- a zero-width character joins
 pub joined-is : (p : PictureView) (c : ℕ) → IsPicture p → 0 < p.col
-    → term_of_picture (record p { rows = set p.rows p.row (joined_plain (cursor_row p) p.col c) }) ≡ join c (term_of_picture p)
+    → term_of_picture (record p { rows = set p.rows p.row (joined_in_place (cursor_row p) p.col c) }) ≡ join c (term_of_picture p)
 unfolding join update
 joined-is p c i h =
     let v = cursor_row p in
@@ -100,10 +100,10 @@ joined-is p c i h =
     let j = base_col f p.col in
     let r = cursor_row-is p i in
     let n = length v.cells in
-    let line = cell_at-whole n (changed f j (appended_plain (f j) c))
-    (Bounded-update n f j (appended_plain (f j) c) (Bounded-row v.cells)
+    let line = cell_at-whole n (changed f j (appended_in_place (f j) c))
+    (Bounded-update n f j (appended_in_place (f j) c) (Bounded-row v.cells)
     (base_col-within f n p.col h (omega (arith, r.wide, i.in_cols)))) in
-    with_line-is p (joined_plain v p.col c) true (here p i) (sym (and-true v.wrapped))
+    with_line-is p (joined_in_place v p.col c) true (here p i) (sym (and-true v.wrapped))
     ∙ ap (λ l. with_line (term_of_picture p) l true) line
 
 -- columns are erased

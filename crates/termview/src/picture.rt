@@ -87,7 +87,7 @@ impl Picture {
         ensures { Becomes self.old self.new (printed self.old.size c (term_of_picture self.old)) }
     {
         if is_printable(c) {
-            self.input_letter(c as u8);
+            self.input_printable(c as u8);
         } else {
             self.input_any(c);
         }
@@ -95,14 +95,14 @@ impl Picture {
 
     /// Prints one character of printable ASCII.
     #[inline(always)]
-    fn input_letter(&mut self, c: u8)
+    fn input_printable(&mut self, c: u8)
         requires { IsPrintable c }
         ensures { Becomes self.old self.new (printed self.old.size c (term_of_picture self.old)) }
     {
         // A row has a column.
         let _cols = self.size.cols();
         self.make_room(1);
-        self.put_letter(c);
+        self.print_printable(c);
     }
 
     /// Prints one character, as [`input`](Self::input) does.
@@ -169,7 +169,7 @@ impl Picture {
     {
         if columns <= self.size.cols() {
             self.make_room(columns);
-            self.put(c, columns);
+            self.print_spacing(c, columns);
         }
     }
 
@@ -180,11 +180,11 @@ impl Picture {
         ensures { Becomes self.old self.new (join c (term_of_picture self.old)) }
     {
         let col = self.pos.col;
-        self.rows[usize::from(self.pos.row)].join_plain(col, c);
+        self.rows[usize::from(self.pos.row)].join_in_place(col, c);
     }
 
-    /// Puts a character of one or two columns at the cursor.
-    fn put(&mut self, c: char, columns: u16)
+    /// Prints a character of one or two columns at the cursor.
+    fn print_spacing(&mut self, c: char, columns: u16)
         requires drawn { drawn_columns c ≡ Some columns }
         requires spacing { 0 < columns }
         requires fits { self.old.col + columns ≤ self.old.size.cols }
@@ -195,15 +195,15 @@ impl Picture {
         self.pos.col = col + columns;
     }
 
-    /// Puts a character of printable ASCII at the cursor.
+    /// Prints a character of printable ASCII at the cursor.
     #[inline(always)]
-    fn put_letter(&mut self, c: u8)
+    fn print_printable(&mut self, c: u8)
         requires printable { IsPrintable c }
         requires fits { self.old.col + 1 ≤ self.old.size.cols }
         ensures { Becomes self.old self.new (print self.old.size (cell_of c self.old.attrs) (term_of_picture self.old)) }
     {
         let col = self.pos.col;
-        self.rows[usize::from(self.pos.row)].print_letter(col, c, &self.attrs);
+        self.rows[usize::from(self.pos.row)].put_printable(col, c, &self.attrs);
         self.pos.col = col + 1;
     }
 

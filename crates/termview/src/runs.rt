@@ -10,7 +10,7 @@ ghost use Rattle.termview.specs.Picture.{Does, ShowsPrefix};
 
 use crate::picture::Picture;
 use arrayvec::ArrayVec;
-use vt100_cells::{Glyph, RUN_LEN, ShortChar, TextGlyph, take_run};
+use vt100_cells::{Char3, Glyph, RUN_LEN, TextGlyph, take_run};
 
 impl Picture {
     /// Prints the characters at the start of a text that take one column each, or two each, as many as make a run.
@@ -21,10 +21,10 @@ impl Picture {
         ensures shown { IfSome result (λ rest. ShowsPrefix text.now rest.now self.old self.new) }
         ensures none { IfNone result (self.new ≡ self.old) }
     {
-        if ShortChar::split(text, 2).is_some() {
-            self.input_taken::<ShortChar, 2>(text, &mut ArrayVec::new())
-        } else if ShortChar::split(text, 1).is_some() {
-            self.input_taken::<ShortChar, 1>(text, &mut ArrayVec::new())
+        if Char3::split(text, 2).is_some() {
+            self.input_taken::<Char3, 2>(text, &mut ArrayVec::new())
+        } else if Char3::split(text, 1).is_some() {
+            self.input_taken::<Char3, 1>(text, &mut ArrayVec::new())
         } else if char::split(text, 1).is_some() {
             self.input_taken::<char, 1>(text, &mut ArrayVec::new())
         } else if char::split(text, 2).is_some() {
@@ -92,12 +92,12 @@ impl Picture {
         self.make_room(COLUMNS as u16);
         let room = usize::from(cols - self.pos.col) / COLUMNS;
         let n = text.len().min(room);
-        self.put_run::<G, COLUMNS>(&text[..n]);
+        self.print_fitting::<G, COLUMNS>(&text[..n]);
         n
     }
 
-    /// Puts the characters of a text at the cursor. Its row has enough columns left for them.
-    fn put_run<G: Glyph, const COLUMNS: usize>(&mut self, text: &[G])
+    /// Prints the characters of a text at the cursor. Its row has enough columns left for them.
+    fn print_fitting<G: Glyph, const COLUMNS: usize>(&mut self, text: &[G])
         requires columns { (COLUMNS ≡ 1) ⊎ (COLUMNS ≡ 2) }
         requires drawn { All (G.Takes COLUMNS) text.now }
         requires fits { self.old.col + COLUMNS * length text.now ≤ self.old.size.cols }
@@ -109,7 +109,7 @@ impl Picture {
         ensures characters { All IsScalar (map G.code text.now) }
     {
         let col = self.pos.col;
-        self.rows[usize::from(self.pos.row)].print_run::<G, COLUMNS>(col, text, &self.attrs);
+        self.rows[usize::from(self.pos.row)].put_run::<G, COLUMNS>(col, text, &self.attrs);
         self.pos.col = col + (COLUMNS * text.len()) as u16;
     }
 }

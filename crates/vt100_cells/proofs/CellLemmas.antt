@@ -14,7 +14,7 @@ use Rattle.vt100_cells.proofs.WidthLemmas.{space_is_narrow, space_is_drawn, draw
 use Rattle.vt100_cells.specs.Cell.{CellView, IsCell, IsCellText, IsShort, IsWideAs, columns_of, is_undrawable}
 use Rattle.vt100_cells.specs.Cell.{drawn_columns, has_room, empty_cell, continuation_cell, cell_of, text_with}
 use Rattle.printable.specs.Printable.{IsPrintable}
-use Rattle.vt100_cells.specs.Cell.{is_widened_by, appended, appended_plain, IsWide}
+use Rattle.vt100_cells.specs.Cell.{is_widened_by, appended, appended_in_place, IsWide}
 
 -- ---- each kind of cell
 
@@ -163,7 +163,7 @@ IsCell-with_plain x c h s z n r = IsCell-taken x c x.wide h s z n r
     (wide-with x.text c x.wide false h.wide (λ e. absurd (false≢true e))))
 
 pub IsCell-plain : (x : CellView) (c : ℕ) → IsCell x → IsScalar c → drawn_columns c ≡ Some 0
-    → x.continuation ≡ false → IsCell (appended_plain x c)
+    → x.continuation ≡ false → IsCell (appended_in_place x c)
 IsCell-plain x c h s z n = cond_both (has_room x.text) _ x IsCell (λ r. IsCell-with_plain x c h s z n r) (λ _. h)
 
 -- the same for the fields that the code has made

@@ -19,7 +19,7 @@ use borrow.Rule.Slice.PartMut.{put_mid}
 use Rattle.vt100_cells.specs.declared.cell_text.CellText.TheInside.{Inside}
 use Rattle.vt100_cells.specs.Cell.{has_room, text_eq}
 use Rattle.vt100_cells.specs.CellFields.{IsText, text_of, length-text_of, fields_of, fields_of-text_of, padded}
-use Rattle.vt100_cells.specs.CellFields.{start_eq, is_short}
+use Rattle.vt100_cells.specs.CellFields.{start_eq, fits_start}
 
 pub len-text_of : (t : Inside) (cs : List ℕ) → IsText t → text_of t ≡ cs → t.len ≡ length (encode_utf8_all cs)
 len-text_of t cs h e = sym (length-text_of t h) ∙ ap (λ x. length (encode_utf8_all x)) e
@@ -158,8 +158,8 @@ same-fields t u ht hu = both_ways (nat_eq t.len u.len && text_eq t.bytes u.bytes
 
 -- ---- starts and rests
 
-pub short-fields : (t : Inside) (cs : List ℕ) → IsText t → text_of t ≡ cs → nat_lt t.len 6 ≡ is_short cs
-short-fields t cs h e = ap (λ n. nat_lt n 6) (sym (length-text_of t h)) ∙ ap is_short e
+pub fits-fields : (t : Inside) (cs : List ℕ) → IsText t → text_of t ≡ cs → nat_lt t.len 6 ≡ fits_start cs
+fits-fields t cs h e = ap (λ n. nat_lt n 6) (sym (length-text_of t h)) ∙ ap fits_start e
 
 module _ (t u : Inside) (cs ds : List ℕ) (ht : IsText t) (hu : IsText u) (et : text_of t ≡ cs) (eu : text_of u ≡ ds)
   where
@@ -173,12 +173,12 @@ module _ (t u : Inside) (cs ds : List ℕ) (ht : IsText t) (hu : IsText u) (et :
         ∙ (λ i. start_eq (et i) (eu i))
 
     -- short texts with the same start are the same
-    pub short-same : is_short cs ≡ true → start_eq cs ds ≡ true → cs ≡ ds
-    short-same short h =
+    pub fits-same : fits_start cs ≡ true → start_eq cs ds ≡ true → cs ≡ ds
+    fits-same short h =
         let p = and_parts (nat_eq t.len u.len) (text_eq (take 5 t.bytes) (take 5 u.bytes)) (start-fields ∙ h) in
         let n = eqb-true t.len u.len p.0 in
         let bs = text_eq-true (take 5 t.bytes) (take 5 u.bytes) p.1 in
-        let le : t.len ≤ 5 = omega (arith, ltb-true t.len 6 (short-fields t cs ht et ∙ short)) in
+        let le : t.len ≤ 5 = omega (arith, ltb-true t.len 6 (fits-fields t cs ht et ∙ short)) in
         sym et
         ∙ ap chars (sym (take-take t.len 5 t.bytes le) ∙ ap (take t.len) bs ∙ take-take t.len 5 u.bytes le
         ∙ ap (λ k. take k u.bytes) n) ∙ eu

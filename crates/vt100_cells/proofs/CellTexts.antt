@@ -7,12 +7,12 @@ use Rattle.std.proofs.Math.Seq.{take-append_seam}
 use Rattle.std.proofs.lemmas.Bool.{ltb-true}
 use Rattle.std.proofs.lemmas.Str.{encodes-append, length-encode, len_utf8_bounds}
 use Rattle.vt100_forms.specs.declared.attrs.Attrs.{Attrs}
-use Rattle.vt100_cells.specs.Cell.{CellView, IsCell, IsShort, IsWideAs, columns_of, has_room, appended_plain}
+use Rattle.vt100_cells.specs.Cell.{CellView, IsCell, IsShort, IsWideAs, columns_of, has_room, appended_in_place}
 use Rattle.vt100_cells.specs.Cell.{all_appended, EachCellIsItsCharacters, EachTextIsShort}
 
 -- a character put on a text with room
 put_on : (y : ℕ) (ys : List ℕ) (w q : Bool) (a : Attrs) (d : ℕ) → has_room (y ∷ ys) ≡ true
-    → appended_plain (record { text = y ∷ ys; wide = w; continuation = q; attrs = a }) d
+    → appended_in_place (record { text = y ∷ ys; wide = w; continuation = q; attrs = a }) d
     ≡ record { text = y ∷ (ys ++ d ∷ []); wide = w; continuation = q; attrs = a }
 put_on y ys w q a d h = rw h refl
 
@@ -53,8 +53,8 @@ one_char (c ∷ []) e = omega (arith, length-append (encode_utf8 c) [], length-e
 one_char (c ∷ d ∷ ds) e = absurd (omega (arith, e))
 
 -- the last of n + 2 characters was put on a text with room
-last-is_short : (n : ℕ) (cs : List ℕ) → length cs ≡ n + 2 → IsShort cs → length (encode_utf8_all cs) ≤ 21
-last-is_short n cs e h =
+last-fits_start : (n : ℕ) (cs : List ℕ) → length cs ≡ n + 2 → IsShort cs → length (encode_utf8_all cs) ≤ 21
+last-fits_start n cs e h =
     let prefix = ltb-true (length (encode_utf8_all (take (n + 1) cs))) 18 (h (n + 1) (omega arith) (omega arith)) in
     let last = one_char (drop (n + 1) cs) (omega (arith, length-drop (n + 1) cs)) in
     let whole : length (encode_utf8_all cs) ≡ length (encode_utf8_all (take (n + 1) cs))
@@ -65,10 +65,10 @@ last-is_short n cs e h =
     omega arith
 
 -- a text that is none, one character, or one put on a text with room
-text-is_short : (cs : List ℕ) → IsShort cs → length (encode_utf8_all cs) ≤ 21
-text-is_short [] h = omega arith
-text-is_short (c ∷ []) h = let one = one_char (c ∷ []) refl in omega arith
-text-is_short (c ∷ d ∷ ds) h = last-is_short (length ds) (c ∷ d ∷ ds) (omega arith) h
+text-fits_start : (cs : List ℕ) → IsShort cs → length (encode_utf8_all cs) ≤ 21
+text-fits_start [] h = omega arith
+text-fits_start (c ∷ []) h = let one = one_char (c ∷ []) refl in omega arith
+text-fits_start (c ∷ d ∷ ds) h = last-fits_start (length ds) (c ∷ d ∷ ds) (omega arith) h
 
 pub text-short : EachTextIsShort
-text-short x h = text-is_short x.text h.short
+text-short x h = text-fits_start x.text h.short

@@ -5,7 +5,7 @@ use Rattle.std.proofs.lemmas.Bool.{false≢true, cases_eq, eq-eqb, ne_eqb, cond_
 use Rattle.std.proofs.lemmas.Bool.Decides.{nat_tests}
 use Rattle.unicode_width.specs.Width.{str_width}
 use Rattle.vt100_cells.specs.Cell.{CellView, IsCell, IsWideAs, has_text, is_filled, has_room, text_with, is_widened_by}
-use Rattle.vt100_cells.specs.Cell.{appended, appended_plain}
+use Rattle.vt100_cells.specs.Cell.{appended, appended_in_place}
 use Rattle.vt100_cells.specs.Line.{IsPaired, Bounded, update, base_col}
 use Rattle.vt100_cells.proofs.CellLemmas.{or-false}
 use Rattle.vt100_cells.proofs.ListLemmas.{not_first}
@@ -68,18 +68,18 @@ appended-has_text x c h =
 
 -- ---- the same where U+FE0F widens nothing
 
-pub plain-continuation : (x : CellView) (c : ℕ) → (appended_plain x c).continuation ≡ x.continuation
+pub plain-continuation : (x : CellView) (c : ℕ) → (appended_in_place x c).continuation ≡ x.continuation
 plain-continuation x c = cond_both (has_room x.text) _ x (λ y. y.continuation ≡ x.continuation) (λ _. refl) (λ _. refl)
 
-pub plain-wide : (x : CellView) (c : ℕ) → (appended_plain x c).wide ≡ x.wide
+pub plain-wide : (x : CellView) (c : ℕ) → (appended_in_place x c).wide ≡ x.wide
 plain-wide x c = cond_both (has_room x.text) _ x (λ y. y.wide ≡ x.wide) (λ _. refl) (λ _. refl)
 
-pub plain-filled : (x : CellView) (c : ℕ) → is_filled x ≡ true → is_filled (appended_plain x c) ≡ true
+pub plain-filled : (x : CellView) (c : ℕ) → is_filled x ≡ true → is_filled (appended_in_place x c) ≡ true
 plain-filled x c h = cond_both (has_room x.text) _ x (λ y. is_filled y ≡ true)
     (λ _. ap (λ b. not b || x.continuation) (text_with-some x.text c)) (λ _. h)
 
 -- a character other than U+FE0F widens nothing
-pub appended-narrow : (x : CellView) (c : ℕ) → (c == 0xFE0F) ≡ false → appended x c ≡ appended_plain x c
+pub appended-narrow : (x : CellView) (c : ℕ) → (c == 0xFE0F) ≡ false → appended x c ≡ appended_in_place x c
 appended-narrow x c e =
     let same : (x.wide || is_widened_by x.text c) ≡ x.wide =
     ap (λ b. x.wide || (b && nat_lt 1 (str_width false (text_with x.text c)))) e ∙ or-false x.wide in

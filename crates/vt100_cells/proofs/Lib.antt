@@ -9,7 +9,7 @@ pub mod MoveLemmas
 pub mod EditedCells
 pub mod EditLemmas
 pub mod ShiftLemmas
-pub mod ShortTexts
+pub mod FourByteTexts
 pub mod TrimLemmas
 pub mod JoinedCells
 pub mod CellTexts
@@ -20,4 +20,4 @@ pub mod WideScripts
 pub mod NarrowScripts
 pub mod JoiningMarks
 pub mod NarrowLemmas
-pub mod ShortLemmas
+pub mod Char3Lemmas

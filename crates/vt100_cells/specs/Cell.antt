@@ -86,8 +86,8 @@ appended x c =
     else x
 
 -- the same where U+FE0F widens nothing
-abbrev pub appended_plain : CellView → ℕ → CellView
-appended_plain x c =
+abbrev pub appended_in_place : CellView → ℕ → CellView
+appended_in_place x c =
     if has_room x.text
     then record { text = text_with x.text c; wide = x.wide; continuation = x.continuation; attrs = x.attrs }
     else x
@@ -95,7 +95,7 @@ appended_plain x c =
 -- the same for these characters, one after the other
 abbrev pub all_appended : CellView → List ℕ → CellView
 all_appended x [] = x
-all_appended x (c ∷ cs) = all_appended (appended_plain x c) cs
+all_appended x (c ∷ cs) = all_appended (appended_in_place x c) cs
 
 -- ---- what is true of every cell
 

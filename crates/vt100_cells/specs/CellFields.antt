@@ -57,8 +57,8 @@ start_eq x y = (length (encode_utf8_all x) == length (encode_utf8_all y))
     && text_eq (take 5 (padded x)) (take 5 (padded y))
 
 -- the first five bytes are all
-abbrev pub is_short : List ℕ → Bool
-is_short x = nat_lt (length (encode_utf8_all x)) 6
+abbrev pub fits_start : List ℕ → Bool
+fits_start x = nat_lt (length (encode_utf8_all x)) 6
 
 -- ---- the columns
 

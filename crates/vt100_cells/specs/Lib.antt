@@ -7,5 +7,5 @@ pub mod Line
 pub use Rattle.vt100_forms.specs.Attrs
 pub mod Narrow
 pub mod Ascii
-pub mod ShortFields
+pub mod Char3Fields
 pub mod Runs

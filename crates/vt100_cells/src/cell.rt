@@ -14,7 +14,7 @@ pub use packed::PackedAttrs;
 use std::marker::Model;
 use std::mem::size_of;
 use vt100_forms::attrs::Attrs;
-use vt100_forms::{Color, SHORT_BYTES, TextRun};
+use vt100_forms::{Color, CHAR_BYTES, TextRun};
 
 /// How a cell stands in its row.
 #[derive(Clone, Copy, Debug, Eq, PartialEq)]
@@ -91,9 +91,9 @@ impl Eq for Cell {
 impl Cell {
     ghost use Rattle.std.specs.Prelude.{Some};
     ghost use Rattle.vt100_cells.specs.Cell.{empty_cell, default_cell, continuation_cell, cell_of, appended};
-    ghost use Rattle.vt100_cells.specs.Cell.{appended_plain, drawn_columns, has_room};
+    ghost use Rattle.vt100_cells.specs.Cell.{appended_in_place, drawn_columns, has_room};
     ghost use Rattle.vt100_cells.specs.Cell.{has_text, is_default};
-    ghost use Rattle.vt100_cells.specs.CellFields.{cell_start_eq, is_short};
+    ghost use Rattle.vt100_cells.specs.CellFields.{cell_start_eq, fits_start};
 
     /// A cell that shows nothing, with default attributes.
     pub fn new() -> Self
@@ -190,10 +190,10 @@ impl Cell {
     /// Adds a character of no columns to the text, where U+FE0F makes no cell wide. For rows alone.
     #[doc(hidden)]
     #[inline]
-    pub fn join_plain(&mut self, c: char)
+    pub fn join_in_place(&mut self, c: char)
         requires zero_width { drawn_columns c ≡ Some 0 }
         requires no_half { self.old.continuation ≡ false }
-        ensures { self.new ≡ appended_plain self.old c }
+        ensures { self.new ≡ appended_in_place self.old c }
     {
         if self.text.has_room() {
             self.text.join(c);
@@ -233,22 +233,22 @@ impl Cell {
     /// Whether the cell has a text, and one of at most four bytes. For redraws alone.
     #[doc(hidden)]
     #[inline(always)]
-    pub fn has_short_text(&self) -> bool
+    pub fn has_text_of_four(&self) -> bool
         ensures { IsTrue result ↔ ((has_text self.now ≡ true) × (length (encode_utf8_all self.now.text) ≤ 4)) }
     {
         let len = self.text.len();
-        (len != 0) & (len <= SHORT_BYTES)
+        (len != 0) & (len <= CHAR_BYTES)
     }
 
-    /// Puts a short text at the end of `run`. For redraws alone.
+    /// Puts a text of at most four bytes at the end of `run`. For redraws alone.
     #[doc(hidden)]
     #[inline(always)]
     pub fn push_text(&self, run: &mut TextRun)
         requires room { length run.old + 4 ≤ 128 }
-        requires short { length (encode_utf8_all self.now.text) ≤ 4 }
+        requires four { length (encode_utf8_all self.now.text) ≤ 4 }
         ensures { run.new ≡ run.old ++ encode_utf8_all self.now.text }
     {
-        run.push_short(self.text.first_bytes(), self.text.len());
+        run.push_four(self.text.first_bytes(), self.text.len());
     }
 
     /// The text.
@@ -312,7 +312,7 @@ impl Cell {
     #[inline(always)]
     pub(crate) fn has_start_of(&self, other: &Self) -> bool
         ensures value { result ≡ cell_start_eq self.now other.now }
-        ensures short { cell_start_eq self.now other.now ≡ true → is_short self.now.text ≡ true → self.now ≡ other.now }
+        ensures whole { cell_start_eq self.now other.now ≡ true → fits_start self.now.text ≡ true → self.now ≡ other.now }
     {
         self.has_attrs_of(other) & (self.span == other.span) & self.text.has_start_of(&other.text)
     }

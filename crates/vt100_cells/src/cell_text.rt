@@ -6,11 +6,11 @@ ghost use Rattle.std.specs.Char.{IsScalar};
 ghost use Rattle.unicode_width.specs.Width.{str_width};
 ghost use Rattle.vt100_cells.specs.Cell.{text_eq};
 
-use crate::short_char::ShortChar;
+use crate::char3::Char3;
 use std::marker::Model;
 use std::str;
 use unicode_width::UnicodeWidthStr;
-use vt100_forms::SHORT_BYTES;
+use vt100_forms::CHAR_BYTES;
 
 /// How many bytes a text has at most: 17, and a character of 4.
 const CONTENT_BYTES: usize = 21;
@@ -48,29 +48,29 @@ impl Model for CellText {
 
 impl CellText {
     ghost use Rattle.vt100_cells.specs.Cell.{text_with, has_room, is_widened_by};
-    ghost use Rattle.vt100_cells.specs.CellFields.{start_eq, is_short};
+    ghost use Rattle.vt100_cells.specs.CellFields.{start_eq, fits_start};
 
-    /// Whether the texts have the same length and the same first bytes: short texts are the same then.
+    /// Whether the texts have the same length and the same first bytes. Texts that have no others are the same then.
     #[inline(always)]
     pub(crate) fn has_start_of(&self, other: &Self) -> bool
         ensures value { result ≡ start_eq self.now other.now }
-        ensures short { start_eq self.now other.now ≡ true → is_short self.now ≡ true → self.now ≡ other.now }
+        ensures whole { start_eq self.now other.now ≡ true → fits_start self.now ≡ true → self.now ≡ other.now }
     {
         (self.len == other.len) & have_same_start(&self.bytes, &other.bytes)
     }
 
-    /// Whether texts with the same start are the same: where they are short, they have no other bytes.
+    /// Whether texts with the same start are the same.
     #[inline(always)]
     pub(crate) fn has_rest_of(&self, other: &Self) -> bool
         ensures { start_eq self.now other.now ≡ true → result ≡ text_eq self.now other.now }
     {
-        self.is_short() || have_same_rest(&self.bytes, &other.bytes)
+        self.fits_start() || have_same_rest(&self.bytes, &other.bytes)
     }
 
     /// Whether the first bytes are the whole text.
     #[inline(always)]
-    pub(crate) fn is_short(&self) -> bool
-        ensures { result ≡ is_short self.now }
+    pub(crate) fn fits_start(&self) -> bool
+        ensures { result ≡ fits_start self.now }
     {
         usize::from(self.len) < START_BYTES + 1
     }
@@ -159,8 +159,8 @@ impl CellText {
 
     /// Puts the character `c` in place of another one of at most three bytes.
     #[inline(always)]
-    pub(crate) fn replace_by_short(&mut self, c: ShortChar)
-        requires short { length (encode_utf8_all self.old) ≤ 3 }
+    pub(crate) fn replace_by_char3(&mut self, c: Char3)
+        requires three { length (encode_utf8_all self.old) ≤ 3 }
         ensures text { self.new ≡ c ∷ [] }
         ensures character { IsScalar c }
     {
@@ -191,7 +191,7 @@ impl CellText {
         ensures text { let bs = encode_utf8_all self.now in length bs ≤ 4 → take (length bs) result.now ≡ bs }
         ensures utf8 { IsUtf8 (encode_utf8_all self.now) }
     {
-        &self.bytes[..SHORT_BYTES]
+        &self.bytes[..CHAR_BYTES]
     }
 
     pub(crate) fn has_room(&self) -> bool

@@ -13,10 +13,10 @@ mod cell_text;
 pub mod laws;
 pub mod line;
 mod runs;
-mod short_char;
+mod char3;
 mod width;
 
 pub use cell::{Cell, Glyph, PackedAttrs};
 pub use runs::{RUN_LEN, TextGlyph, take_run};
-pub use short_char::ShortChar;
+pub use char3::Char3;
 pub use width::columns;

@@ -12,7 +12,7 @@ mod packed;
 
 use crate::cell::{Cell, is_same};
 use crate::cell_text::START_BYTES;
-pub use packed::{print_letter, print_run, run_end};
+pub use packed::{put_printable, put_run, run_end};
 use vt100_forms::attrs::Attrs;
 
 /// The cell at column `i`.
@@ -105,7 +105,7 @@ fn is_alike_pair(cells: &[Cell], cell: &Cell, i: usize) -> bool
     ensures { IsTrue result → AreSame (cell_at cells.now) (λ _. cell.now) i (i + 2) }
 {
     let (first, second) = (at(cells, i), at(cells, i + 1));
-    (cell.has_start_of(first) & cell.has_start_of(second)) && cell.text().is_short()
+    (cell.has_start_of(first) & cell.has_start_of(second)) && cell.text().fits_start()
 }
 
 /// The first column from `from` on at which another cell than `cell` stands, or `to` if there is none before it.

@@ -4,7 +4,7 @@ ghost use Rattle.std.specs.Str.{chars};
 ghost use Rattle.vt100_cells.specs.Runs.{IsShown};
 
 use crate::cell::Glyph;
-use crate::short_char::{ShortChar, split_narrow, split_wide};
+use crate::char3::{Char3, split_common_narrow, split_common_wide};
 use crate::width::columns;
 use arrayvec::ArrayVec;
 
@@ -28,12 +28,12 @@ pub trait TextGlyph: Glyph + Default {
 }
 
 /// Only printable ASCII and characters of the common scripts are found.
-impl TextGlyph for ShortChar {
+impl TextGlyph for Char3 {
     #[inline(always)]
-    fn split(text: &str, count: u16) -> Option<(ShortChar, &str)> {
+    fn split(text: &str, count: u16) -> Option<(Char3, &str)> {
         match count {
-            1 => split_narrow(text),
-            2 => split_wide(text),
+            1 => split_common_narrow(text),
+            2 => split_common_wide(text),
             _ => None,
         }
     }
@@ -67,7 +67,7 @@ pub fn take_run<'a, G: TextGlyph, const COLUMNS: usize>(
     ensures shown { All IsShown (map G.code run.new.items) }
 {
     let mut rest = text;
-    while !run.is_full() && !(COLUMNS == 1 && begins_ascii(rest)) {
+    while !run.is_full() && !(COLUMNS == 1 && begins_ascii_run(rest)) {
         match G::split(rest, COLUMNS as u16) {
             Some((glyph, left)) => {
                 run.push(glyph);
@@ -81,7 +81,7 @@ pub fn take_run<'a, G: TextGlyph, const COLUMNS: usize>(
 
 /// Whether a text begins with `ASCII_LEN` characters of ASCII.
 #[inline(always)]
-fn begins_ascii(text: &str) -> bool {
+fn begins_ascii_run(text: &str) -> bool {
     let bytes = text.as_bytes();
     // Nearly always the first byte tells.
     if bytes.len() < ASCII_LEN || !bytes[0].is_ascii() {

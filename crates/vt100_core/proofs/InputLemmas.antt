@@ -7,7 +7,7 @@ use Rattle.std.proofs.lemmas.Bool.Decides.{nat_tests}
 use mathlib.Core.Path.{fun_ext}
 use Rattle.vt100_forms.specs.declared.attrs.Attrs.{Attrs}
 use Rattle.vt100_cells.specs.Cell.{CellView, cell_of, columns_of, is_filled, is_widened_by, has_room, text_with}
-use Rattle.vt100_cells.specs.Cell.{appended, appended_plain, default_cell}
+use Rattle.vt100_cells.specs.Cell.{appended, appended_in_place, default_cell}
 use Rattle.vt100_cells.specs.Cells.{cell_at}
 use Rattle.vt100_cells.specs.Line.{span_of, put, put_unflags, base_col}
 use Rattle.vt100_cells.specs.Line.{update as changed}
@@ -429,7 +429,7 @@ not-more true w e = refl
 not-more false w e = sym (both-true w) ∙ e
 
 appended-narrow : (y : CellView) (c : ℕ) → ((appended y c).wide && not y.wide) ≡ false
-    → appended y c ≡ appended_plain y c
+    → appended y c ≡ appended_in_place y c
 appended-narrow y c =
     let wide : CellView = record {
       text = text_with y.text c;

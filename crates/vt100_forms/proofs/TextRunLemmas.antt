@@ -34,9 +34,9 @@ bytes_of-push r xs k n ys h v e l =
     ∙ (λ i. v i ++ take n ys)
 
 pub IsRun-push : (r : Inside) (xs : List ℕ) (k n : ℕ) (ys : List ℕ) → IsRun r → bytes_of r ≡ xs
-    → length xs + 4 ≤ 128 → k ≡ 4 → length ys ≡ k → n ≤ k → IsUtf8 (take n ys)
+    → length xs + k ≤ 192 → length ys ≡ k → n ≤ k → IsUtf8 (take n ys)
     → IsRun (record { bytes = put_mid r.len k r.bytes ys; len = r.len + n })
-IsRun-push r xs k n ys h v room four e l u =
+IsRun-push r xs k n ys h v room e l u =
     let size = len-is r xs h v in
     record {
       fits = omega arith;
@@ -51,7 +51,7 @@ IsAscii-one : (c : ℕ) → c < 128 → IsAscii (c ∷ [])
 IsAscii-one c h zero = h
 IsAscii-one c h (suc i) = omega arith
 
-pub IsRun-ascii : (r : Inside) (xs : List ℕ) (c : ℕ) → IsRun r → bytes_of r ≡ xs → length xs < 128 → c < 128
+pub IsRun-ascii : (r : Inside) (xs : List ℕ) (c : ℕ) → IsRun r → bytes_of r ≡ xs → length xs < 192 → c < 128
     → IsRun (record { bytes = set r.bytes r.len c; len = r.len + 1 })
 IsRun-ascii r xs c h v room ascii =
     let size = len-is r xs h v in

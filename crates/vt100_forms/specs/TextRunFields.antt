@@ -7,6 +7,6 @@ bytes_of r = take r.len r.bytes
 
 -- the bytes past the length are left over from earlier texts
 pub record IsRun (r : Inside) : Type 0 where
-  pub fits : r.len ≤ 128
-  pub whole : length r.bytes ≡ 128
+  pub fits : r.len ≤ 192
+  pub whole : length r.bytes ≡ 192
   pub utf8 : ∥ IsUtf8 (take r.len r.bytes) ∥₁

@@ -201,7 +201,7 @@ impl Attrs {
     #[doc(hidden)]
     #[inline(always)]
     pub fn push_escape_code_diff(&self, run: &mut TextRun, other: &Self)
-        requires { length run.old + 58 ≤ 128 }
+        requires { length run.old + 58 ≤ 192 }
         ensures bytes { run.new ≡ run.old ++ bytes_of (change other.now self.now) }
         ensures len { length run.new ≤ length run.old + 58 }
     {

@@ -14,4 +14,4 @@ pub use error::GridError;
 pub use modes::{CursorStyle, MouseProtocolEncoding, MouseProtocolMode};
 pub use position::Pos;
 #[doc(hidden)]
-pub use text_run::{SHORT_BYTES, TextRun};
+pub use text_run::{CHAR_BYTES, TextRun};

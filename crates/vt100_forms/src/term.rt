@@ -76,7 +76,7 @@ pub enum Intensity {
 
 // Appends the decimal digits of a number, 5 at most.
 fn push_count(run: &mut TextRun, n: u32)
-    requires room { length run.old + 5 ≤ 128 }
+    requires room { length run.old + 5 ≤ 192 }
     requires few { n ≤ 2 ^ 16 }
     ensures bytes { run.new ≡ run.old ++ decimal n }
     ensures len { length run.new ≤ length run.old + 5 }
@@ -92,7 +92,7 @@ fn push_count(run: &mut TextRun, n: u32)
 }
 
 fn push_number(run: &mut TextRun, n: u32)
-    requires room { length run.old + 3 ≤ 128 }
+    requires room { length run.old + 3 ≤ 192 }
     requires few { n < 1000 }
     ensures bytes { run.new ≡ run.old ++ decimal n }
     ensures len { length run.new ≤ length run.old + 3 }
@@ -111,7 +111,7 @@ fn push_number(run: &mut TextRun, n: u32)
 }
 
 fn push_digit(run: &mut TextRun, n: u32)
-    requires room { length run.old < 128 }
+    requires room { length run.old < 192 }
     requires digit { n < 10 }
     ensures bytes { run.new ≡ run.old ++ (48 + n) ∷ [] }
     ensures len { length run.new ≡ length run.old + 1 }
@@ -121,7 +121,7 @@ fn push_digit(run: &mut TextRun, n: u32)
 
 // Appends CSI, the count and the letter. A count of 1 is left out, and for a count of 0 nothing is appended.
 fn push_counted(run: &mut TextRun, count: u16, letter: u8)
-    requires room { length run.old + 8 ≤ 128 }
+    requires room { length run.old + 8 ≤ 192 }
     requires ascii { letter < 128 }
     ensures bytes { run.new ≡ run.old ++ counted count (letter ∷ []) }
     ensures len { length run.new ≤ length run.old + 8 }

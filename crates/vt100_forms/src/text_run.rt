@@ -7,13 +7,13 @@ use std::marker::Model;
 use std::str;
 
 /// How many bytes a run has at most.
-const RUN_BYTES: usize = 128;
+const RUN_BYTES: usize = 192;
 
-/// How many bytes a short text has at most: those of one character.
+/// How many bytes a character of UTF-8 has at most.
 #[doc(hidden)]
-pub const SHORT_BYTES: usize = 4;
+pub const CHAR_BYTES: usize = 4;
 
-/// A buffer on the stack of at most 128 bytes of UTF-8, which are appended to a string in one call.
+/// A buffer on the stack of at most 192 bytes of UTF-8, which are appended to a string in one call.
 #[derive(Debug, Drop)]
 pub struct TextRun {
     // A byte, and before the others: so LLVM sees that a write of one of these never changes it, and keeps it in a
@@ -49,8 +49,8 @@ impl TextRun {
     /// Whether there is room for `count` more bytes.
     #[inline(always)]
     pub fn has_room(&self, count: usize) -> bool
-        requires { count ≤ 128 }
-        ensures { IsTrue result ↔ (length self.now + count ≤ 128) }
+        requires { count ≤ 192 }
+        ensures { IsTrue result ↔ (length self.now + count ≤ 192) }
     {
         self.len as usize <= RUN_BYTES - count
     }
@@ -58,7 +58,7 @@ impl TextRun {
     /// Appends an ASCII character.
     #[inline(always)]
     pub fn push_ascii(&mut self, c: u8)
-        requires room { length self.old < 128 }
+        requires room { length self.old < 192 }
         requires ascii { c < 128 }
         ensures bytes { self.new ≡ self.old ++ c ∷ [] }
         ensures len { length self.new ≡ length self.old + 1 }
@@ -67,19 +67,31 @@ impl TextRun {
         self.len += 1;
     }
 
-    /// Appends a short text: the first `len` of these four bytes.
+    /// Appends a text of at most four bytes: the first `len` of these.
     // All four are copied, which is one move and no branch.
     #[inline(always)]
-    pub fn push_short(&mut self, bytes: &[u8], len: usize)
-        requires room { length self.old + 4 ≤ 128 }
+    pub fn push_four(&mut self, bytes: &[u8], len: usize)
+        requires room { length self.old + 4 ≤ 192 }
         requires four { length bytes.now ≡ 4 }
-        requires short { len ≤ 4 }
+        requires few { len ≤ 4 }
         requires utf8 { IsUtf8 (take len bytes.now) }
         ensures { self.new ≡ self.old ++ take len bytes.now }
     {
         let start = self.len as usize;
-        self.bytes[start..start + SHORT_BYTES].copy_from_slice(bytes);
+        self.bytes[start..start + CHAR_BYTES].copy_from_slice(bytes);
         self.len = (start + len) as u8;
+    }
+
+    /// Appends a text.
+    #[inline]
+    pub fn push_str(&mut self, text: &str)
+        requires { length self.old + length text.now ≤ 192 }
+        ensures { self.new ≡ self.old ++ text.now }
+    {
+        let start = self.len as usize;
+        let end = start + text.len();
+        self.bytes[start..end].copy_from_slice(text.as_bytes());
+        self.len = end as u8;
     }
 
     /// The bytes.
@@ -112,8 +124,8 @@ impl TextRun {
     /// fails.
     #[inline]
     pub fn make_room(&mut self, count: usize, contents: &mut String) -> Result<(), AllocError>
-        requires { count ≤ 128 }
-        ensures room { OnOk result (length self.new + count ≤ 128) }
+        requires { count ≤ 192 }
+        ensures room { OnOk result (length self.new + count ≤ 192) }
         ensures kept { OnOk result (string_bytes contents.new ++ self.new ≡ string_bytes contents.old ++ self.old) }
         ensures moved { (string_bytes contents.new ≡ string_bytes contents.old)
             ⊎ (string_bytes contents.new ≡ string_bytes contents.old ++ self.old) }

@@ -6,11 +6,11 @@ use Rattle.std.proofs.lemmas.List.{set-get_or}
 use Rattle.std.proofs.lemmas.Bool.{false≢true, and_parts, cond_both, ltb-true, not-true}
 use Rattle.vt100_forms.specs.declared.attrs.Attrs.{Attrs}
 use Rattle.vt100_cells.specs.Cell.{CellView, IsCell, has_text, has_room, text_with, is_widened_by, is_filled, appended}
-use Rattle.vt100_cells.specs.Cell.{appended_plain, drawn_columns, default_cell}
+use Rattle.vt100_cells.specs.Cell.{appended_in_place, drawn_columns, default_cell}
 use Rattle.vt100_cells.specs.Line.{span_of, update, put, base_col}
 use Rattle.vt100_cells.specs.Cells.{cell_at, by_position}
 use Rattle.vt100_rows.specs.Row.{RowView, IsRow, joined_cell, is_widening, joined_row, join_row, placed, wiped_row}
-use Rattle.vt100_rows.specs.Row.{joined_plain, join_answer}
+use Rattle.vt100_rows.specs.Row.{joined_in_place, join_answer}
 use Rattle.vt100_rows.specs.declared.join.Join.TheVariants.{InPlace}
 use Rattle.vt100_cells.proofs.CellLemmas.{IsCell-appended, IsCell-plain}
 use Rattle.vt100_cells.proofs.ListLemmas.{Bounded-row, set-by_position, length-by_position}
@@ -150,21 +150,21 @@ joins-full v xs ys col n i c y a exs eys en ei ey full h l =
 
 -- ---- where U+FE0F makes no cell wide
 
-pub IsRow-joined_plain : (v : RowView) (col c : ℕ) → IsRow v → IsScalar c → drawn_columns c ≡ Some 0 → 0 < col
-    → col ≤ length v.cells → IsRow (joined_plain v col c)
-IsRow-joined_plain v col c r s z h l =
+pub IsRow-joined_in_place : (v : RowView) (col c : ℕ) → IsRow v → IsScalar c → drawn_columns c ≡ Some 0 → 0 < col
+    → col ≤ length v.cells → IsRow (joined_in_place v col c)
+IsRow-joined_in_place v col c r s z h l =
     let f = cell_at v.cells in
     let i = base_col f col in
     let whole = base_col-whole f col r.paired in
-    IsRow-updated v i (appended_plain (f i) c) r (base_col-within f (length v.cells) col h l) whole
+    IsRow-updated v i (appended_in_place (f i) c) r (base_col-within f (length v.cells) col h l) whole
     (plain-continuation (f i) c ∙ whole) (plain-wide (f i) c) (IsCell-plain (f i) c (r.cells i) s z whole)
     (plain-filled (f i) c)
 
-pub joins-plain : (v : RowView) (xs ys : List CellView) (col n i c : ℕ) (x y : CellView) → xs ≡ v.cells
-    → ys ≡ v.cells → n ≡ col → i ≡ base_col (cell_at xs) n → y ≡ cell_at ys i → x ≡ appended_plain y c → 0 < col
-    → col ≤ length v.cells → record { cells = set v.cells i x; wrapped = v.wrapped } ≡ joined_plain v col c
-joins-plain v xs ys col n i c x y exs eys en ei ey ex h l =
-    let both = joins-cells (λ z. appended_plain z c) v xs ys col n i x y exs eys en ei ey ex h l in
+pub joins-in_place : (v : RowView) (xs ys : List CellView) (col n i c : ℕ) (x y : CellView) → xs ≡ v.cells
+    → ys ≡ v.cells → n ≡ col → i ≡ base_col (cell_at xs) n → y ≡ cell_at ys i → x ≡ appended_in_place y c → 0 < col
+    → col ≤ length v.cells → record { cells = set v.cells i x; wrapped = v.wrapped } ≡ joined_in_place v col c
+joins-in_place v xs ys col n i c x y exs eys en ei ey ex h l =
+    let both = joins-cells (λ z. appended_in_place z c) v xs ys col n i x y exs eys en ei ey ex h l in
     λ k. record { cells = both.1 k; wrapped = v.wrapped }
 
 -- ---- a character other than U+FE0F makes no cell wide
@@ -174,7 +174,7 @@ not-more true = refl
 not-more false = refl
 
 pub joins-narrow : (v : RowView) (col c : ℕ) (a : Attrs) → (c == 0xFE0F) ≡ false
-    → (joined_plain v col c ≡ join_row v col c a) × (InPlace ≡ join_answer v col c a)
+    → (joined_in_place v col c ≡ join_row v col c a) × (InPlace ≡ join_answer v col c a)
 joins-narrow v col c a e =
     let f = cell_at v.cells in
     let i = base_col f col in
@@ -182,9 +182,9 @@ joins-narrow v col c a e =
     let same : is_widening v col c ≡ false =
     ap (λ (x : CellView). x.wide && not (f i).wide) plain ∙ ap (λ b. b && not (f i).wide) (plain-wide (f i) c)
     ∙ not-more (f i).wide in
-    let row : joined_plain v col c ≡ joined_row v col c =
+    let row : joined_in_place v col c ≡ joined_row v col c =
     ap (λ x. record { cells = by_position (length v.cells) (update f i x); wrapped = v.wrapped }) (sym plain) in (
-      cond_both (not (is_widening v col c)) (joined_row v col c) _ (λ w. joined_plain v col c ≡ w) (λ _. row)
+      cond_both (not (is_widening v col c)) (joined_row v col c) _ (λ w. joined_in_place v col c ≡ w) (λ _. row)
           (λ n. absurd (false≢true (sym n ∙ ap not same))),
       cond_both (not (is_widening v col c)) InPlace _ (λ w. InPlace ≡ w) (λ _. refl)
           (λ n. absurd (false≢true (sym n ∙ ap not same))),

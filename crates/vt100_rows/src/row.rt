@@ -9,7 +9,7 @@ ghost use Rattle.vt100_cells.specs.Cell.{cell_of, default_cell, has_text, drawn_
 ghost use Rattle.vt100_cells.specs.Line.{span_of};
 ghost use Rattle.vt100_rows.specs.Row.{IsBlankFrom, IsFilledAfter, blank_row, cleared_row, with_wrap, placed, wiped_row, pair_cleared};
 ghost use Rattle.vt100_rows.specs.Row.{join_row};
-ghost use Rattle.vt100_rows.specs.Row.{join_answer, inserted, removed, truncated, grown, resized_row, trimmed, joined_plain};
+ghost use Rattle.vt100_rows.specs.Row.{join_answer, inserted, removed, truncated, grown, resized_row, trimmed, joined_in_place};
 ghost use Rattle.vt100_rows.specs.Text.{written_text};
 ghost use Rattle.row_drawing.specs.Writes.{IsBegun};
 
@@ -310,7 +310,7 @@ impl Row {
         ensures answer { result ≡ join_answer self.old col c attrs }
     {
         if c != '\u{FE0F}' {
-            self.join_plain(col, c);
+            self.join_in_place(col, c);
             return Join::InPlace;
         }
         let base = base_col(&self.cells, usize::from(col));
@@ -336,15 +336,15 @@ impl Row {
 
     /// Puts the zero-width character `c` where [`join`](Self::join) puts it, but U+FE0F makes no cell wide.
     #[doc(hidden)]
-    pub fn join_plain(&mut self, col: u16, c: char)
+    pub fn join_in_place(&mut self, col: u16, c: char)
         requires zero_width { drawn_columns c ≡ Some 0 }
         requires after_some { 0 < col }
         requires in_row { col ≤ length self.old.cells }
-        ensures { self.new ≡ joined_plain self.old col c }
+        ensures { self.new ≡ joined_in_place self.old col c }
     {
         let base = base_col(&self.cells, usize::from(col));
         self.filled = self.filled.max(col);
-        self.cells[base].join_plain(c);
+        self.cells[base].join_in_place(c);
     }
 }
 

@@ -5,7 +5,7 @@ ghost use Rattle.vt100.specs.Runs.{PrintsPrefix};
 use crate::callbacks::Callbacks;
 use crate::screen::WrappedScreen;
 use arrayvec::ArrayVec;
-use vt100_cells::{RUN_LEN, ShortChar, TextGlyph, take_run};
+use vt100_cells::{Char3, RUN_LEN, TextGlyph, take_run};
 
 impl<CB: Callbacks> WrappedScreen<CB> {
     /// Prints the characters at the start of a text that take one column each, or two each, up to a run of them, and
@@ -17,10 +17,10 @@ impl<CB: Callbacks> WrappedScreen<CB> {
         ensures none { IfNone result (self.new ≡ self.old) }
     {
         // Characters of the common scripts are printed from their bytes.
-        if ShortChar::split(text, 2).is_some() {
-            self.print_taken::<ShortChar, 2>(text, &mut ArrayVec::new())
-        } else if ShortChar::split(text, 1).is_some() {
-            self.print_taken::<ShortChar, 1>(text, &mut ArrayVec::new())
+        if Char3::split(text, 2).is_some() {
+            self.print_taken::<Char3, 2>(text, &mut ArrayVec::new())
+        } else if Char3::split(text, 1).is_some() {
+            self.print_taken::<Char3, 1>(text, &mut ArrayVec::new())
         } else {
             self.print_other(text)
         }

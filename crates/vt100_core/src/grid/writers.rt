@@ -10,7 +10,7 @@ ghost use Rattle.vt100_core.specs.WriterLaws.{IsUnscrolledGrid, IsDrawableGrid};
 ghost use Rattle.vt100_core.specs.FormLists.{HasByteCells, HasByteVisibleCells, IsShortGrowth, AppendsLocal};
 
 use crate::grid::Grid;
-use row_drawing::Pen;
+use row_drawing::{Pen, Place};
 use vt100_forms::attrs::Attrs;
 use vt100_forms::term::{BufWrite, ClearAttrs, ClearScreen};
 use vt100_forms::{GridError, Pos};
@@ -39,7 +39,7 @@ impl Grid {
         ClearAttrs.write_buf(contents)?;
         ClearScreen.write_buf(contents)?;
         let mut pen = pen_at(Pos { row: 0, col: 0 }, Attrs::new());
-        self.redraw_rows(contents, &mut pen)?;
+        self.redraw_rows(&mut pen, contents)?;
         self.write_cursor_position_formatted(contents, Some(pen.pos), Some(pen.attrs))?;
         Ok(pen.attrs)
     }
@@ -77,28 +77,29 @@ impl Grid {
         // For the proof: the rows' own facts.
         let _rows = &self.rows;
         let mut pen = pen_at(prev.pos, prev_attrs);
-        self.rows_diff(contents, &mut pen, prev)?;
+        self.rows_diff(prev, &mut pen, contents)?;
         self.write_cursor_position_formatted(contents, Some(pen.pos), Some(pen.attrs))?;
         Ok(pen.attrs)
     }
 
     /// Draws the rows that are shown, on a cleared screen.
-    fn redraw_rows(&self, contents: &mut String, pen: &mut Pen) -> Result<(), GridError>
+    fn redraw_rows(&self, pen: &mut Pen, contents: &mut String) -> Result<(), GridError>
         ensures { Writes (lines_redraw self.now (length self.now.rows)) pen.old contents.old
             (is_ok result) pen.new contents.new }
     {
         let mut wrapping = false;
         for i in 0..self.rows.len() as u16 {
             let row = self.shown_row(i);
+            let place = self.place(i, wrapping, false);
             pen.lost = false;
-            row.redraw(contents, pen, 0, self.size.cols(), i, wrapping)?;
+            row.redraw(pen, contents, place)?;
             wrapping = row.wrapped();
         }
         Ok(())
     }
 
     /// Draws the rows that are shown over those that `prev` shows.
-    fn rows_diff(&self, contents: &mut String, pen: &mut Pen, prev: &Self) -> Result<(), GridError>
+    fn rows_diff(&self, prev: &Self, pen: &mut Pen, contents: &mut String) -> Result<(), GridError>
         ensures { Writes (lines_difference self.now prev.now (min (length self.now.rows) (length prev.now.rows)))
             pen.old contents.old (is_ok result) pen.new contents.new }
     {
@@ -107,22 +108,34 @@ impl Grid {
         for i in 0..self.rows.len().min(prev.rows.len()) as u16 {
             let row = self.shown_row(i);
             let prev_row = prev.shown_row(i);
-            let flagged = has_flag(prev_wrapping, pen);
+            let place = self.place(i, wrapping, has_flag(prev_wrapping, pen));
             pen.lost = false;
-            row.difference(
-                contents,
-                pen,
-                prev_row,
-                0,
-                self.size.cols(),
-                i,
-                wrapping,
-                flagged,
-            )?;
+            row.difference(prev_row, pen, contents, place)?;
             wrapping = row.wrapped();
             prev_wrapping = prev_row.wrapped();
         }
         Ok(())
+    }
+
+    /// The place of a whole row. `above` says whether the row above wraps into it, `was_above` whether the terminal has
+    /// that flag.
+    #[inline(always)]
+    fn place(&self, row: u16, above: bool, was_above: bool) -> Place
+        ensures { result ≡ record {
+          row = row;
+          start = 0;
+          width = self.now.width;
+          above = above;
+          was_above = was_above;
+        } }
+    {
+        Place {
+            row,
+            start: 0,
+            width: self.size.cols(),
+            above,
+            was_above,
+        }
     }
 }
 

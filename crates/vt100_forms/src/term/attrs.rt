@@ -207,7 +207,7 @@ impl Attrs {
     // Inlined, like `of_change`: so what differs needn't be kept before it is written.
     #[inline(always)]
     pub(crate) fn push_to(&self, run: &mut TextRun)
-        requires { length run.old + 58 ≤ 128 }
+        requires { length run.old + 58 ≤ 192 }
         ensures bytes { run.new ≡ run.old ++ bytes_of (Form.Sgr self.now ∷ []) }
         ensures len { length run.new ≤ length run.old + 58 }
     {
@@ -243,7 +243,7 @@ impl BufWrite for Attrs {
 }
 
 fn push_further(run: &mut TextRun, numbers: &[u8])
-    requires { length run.old + 4 * length numbers.now ≤ 128 }
+    requires { length run.old + 4 * length numbers.now ≤ 192 }
     ensures bytes { run.new ≡ run.old ++ further_numbers numbers.now }
     ensures len { length run.new ≤ length run.old + 4 * length numbers.now }
 {

@@ -1,8 +1,9 @@
 //! Escape sequences that erase (ECMA-48).
-ghost use Rattle.std.specs.Prelude.{◌≡◌, List, [], ◌∷◌};
+ghost use Rattle.std.specs.Prelude.{◌≡◌, ◌≤◌, ◌+◌, length, List, [], ◌∷◌, ◌++◌};
 ghost use Rattle.vt100_forms.specs.Form.{Form, bytes_of};
 
-use super::{BufWrite, FormText, counted};
+use super::{BufWrite, FormText, counted, push_counted};
+use crate::text_run::TextRun;
 use std::marker::Model;
 
 /// Moves the cursor to the top left corner and clears the screen (CUP, ED).
@@ -49,6 +50,16 @@ impl EraseChar {
         ensures { result ≡ Form.EraseChar count }
     {
         EraseChar { count }
+    }
+
+    /// Appends the escape sequence's bytes to `run`, 8 at most.
+    #[doc(hidden)]
+    pub fn push_to(&self, run: &mut TextRun)
+        requires { length run.old + 8 ≤ 192 }
+        ensures bytes { run.new ≡ run.old ++ bytes_of (self.now ∷ []) }
+        ensures len { length run.new ≤ length run.old + 8 }
+    {
+        push_counted(run, self.count, b'X');
     }
 }
 

@@ -84,7 +84,7 @@ impl MoveTo {
 
     /// Appends the escape sequence's bytes to `run`.
     fn push_to(&self, run: &mut TextRun)
-        requires { length run.old + 14 ≤ 128 }
+        requires { length run.old + 14 ≤ 192 }
         ensures bytes { run.new ≡ run.old ++ bytes_of (self.now ∷ []) }
         ensures len { length run.new ≤ length run.old + 14 }
     {
@@ -179,7 +179,7 @@ impl MoveFromTo {
     /// Appends the escape sequence's bytes to `run`, 14 at most.
     #[doc(hidden)]
     pub fn push_to(&self, run: &mut TextRun)
-        requires { length run.old + 14 ≤ 128 }
+        requires { length run.old + 14 ≤ 192 }
         ensures bytes { run.new ≡ run.old ++ bytes_of self.now }
         ensures len { length run.new ≤ length run.old + 14 }
     {

@@ -3,7 +3,7 @@ ghost use Rattle.std.specs.Prelude.{◌≡◌, ◌≤◌, ◌↔◌, IsTrue, len
 ghost use Rattle.vt100_rows.specs.Row.{IsBlankFrom};
 
 use crate::row::Row;
-use row_drawing::Pen;
+use row_drawing::{Pen, Place};
 use vt100_cells::Cell;
 use vt100_cells::line::same_to;
 
@@ -40,17 +40,17 @@ impl Row {
     }
 
     /// Whether nothing is to be drawn of the row over `prev`: a terminal that shows `prev` shows the row, and the pen has
-    /// nothing pending. `above` and `was_above` are those of [`difference`](Self::difference).
-    pub(crate) fn is_drawn(&self, prev: &Self, pen: &Pen, above: bool, was_above: bool) -> bool
+    /// nothing pending.
+    pub(crate) fn is_drawn(&self, prev: &Self, pen: &Pen, place: Place) -> bool
         ensures row { IsTrue result → self.now ≡ prev.now }
-        ensures above { IsTrue result → IsTrue above → IsTrue was_above }
+        ensures above { IsTrue result → IsTrue place.above → IsTrue place.was_above }
         ensures closed { IsTrue result → pen.now.erase ≡ None }
         ensures kept { IsTrue result → pen.now.lost ≡ false }
     {
         if self.cells.len() != prev.cells.len() {
             return false;
         }
-        (!above || was_above) && pen.erase.is_none() && !pen.lost && self.is_same(prev)
+        (!place.above || place.was_above) && pen.erase.is_none() && !pen.lost && self.is_same(prev)
     }
 
     /// A column from which on every cell is a default cell. It is 65,535 if none is known.

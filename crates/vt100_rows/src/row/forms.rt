@@ -7,7 +7,7 @@ ghost use Rattle.vt100_rows.specs.Forms.{redraw, pen_before, formatted, differen
 ghost use Rattle.row_drawing.specs.Writes.{IsBegun};
 
 use crate::row::Row;
-use row_drawing::{Drawing, Pen};
+use row_drawing::{Drawing, Pen, Place};
 use vt100_forms::GridError;
 use vt100_forms::attrs::Attrs;
 use vt100_forms::position::Pos;
@@ -45,8 +45,15 @@ impl Row {
         ensures full { OnErr result (string_capacity contents.old < string_len contents.old
             + length (bytes_of (formatted self.now start width row wrapping prev_pos prev_attrs).forms)) }
     {
-        let mut pen = self.pen_at(start, row, wrapping, prev_pos, prev_attrs);
-        self.redraw(contents, &mut pen, start, width, row, wrapping)?;
+        let place = Place {
+            row,
+            start,
+            width,
+            above: wrapping,
+            was_above: false,
+        };
+        let mut pen = self.pen_before(place, prev_pos, prev_attrs);
+        self.redraw(&mut pen, contents, place)?;
         Ok((pen.pos, pen.attrs))
     }
 
@@ -91,37 +98,31 @@ impl Row {
             erase: None,
             lost: false,
         };
-        self.difference(
-            contents,
-            &mut pen,
-            prev,
+        let place = Place {
+            row,
             start,
             width,
-            row,
-            wrapping,
-            prev_wrapping,
-        )?;
+            above: wrapping,
+            was_above: prev_wrapping,
+        };
+        self.difference(prev, &mut pen, contents, place)?;
         Ok((pen.pos, pen.attrs))
     }
 
     /// The pen before the row is drawn.
-    fn pen_at(
-        &self,
-        start: u16,
-        row: u16,
-        wrapping: bool,
-        prev_pos: Option<Pos>,
-        prev_attrs: Option<Attrs>,
-    ) -> Pen
-        ensures { result ≡ pen_before self.now start row wrapping prev_pos prev_attrs }
+    fn pen_before(&self, place: Place, prev_pos: Option<Pos>, prev_attrs: Option<Attrs>) -> Pen
+        ensures { result ≡ pen_before self.now place.start place.row place.above prev_pos prev_attrs }
     {
-        let pos = if wrapping {
+        let pos = if place.above {
             Pos {
-                row: row.saturating_sub(1),
+                row: place.row.saturating_sub(1),
                 col: self.cols(),
             }
         } else {
-            Pos { row, col: start }
+            Pos {
+                row: place.row,
+                col: place.start,
+            }
         };
         Pen {
             pos: prev_pos.unwrap_or(pos),
@@ -134,23 +135,19 @@ impl Row {
 
 /// Redraws and differences with the whole pen, for the grid.
 impl Row {
-    /// Draws the row as [`write_contents_formatted`](Self::write_contents_formatted) does. `above` says whether the row
-    /// above goes on in this one.
+    /// Draws the row as [`write_contents_formatted`](Self::write_contents_formatted) does.
     #[doc(hidden)]
     pub fn redraw(
         &self,
-        contents: &mut String,
         pen: &mut Pen,
-        start: u16,
-        width: u16,
-        row: u16,
-        above: bool,
+        contents: &mut String,
+        place: Place,
     ) -> Result<(), GridError>
-        ensures { Writes (redraw self.now start width row above) pen.old contents.old (is_ok result)
-            pen.new contents.new }
+        ensures { Writes (redraw self.now place.start place.width place.row place.above) pen.old contents.old
+            (is_ok result) pen.new contents.new }
     {
         let cols = self.cols();
-        if cols <= start {
+        if cols <= place.start {
             return Ok(());
         }
         let drawing = Drawing {
@@ -158,37 +155,33 @@ impl Row {
             earlier: &[],
             wrapped: self.wrapped,
             was_wrapped: false,
-            above,
+            above: place.above,
             was_above: false,
-            row,
-            start,
+            row: place.row,
+            start: place.start,
         };
-        drawing.redraw(pen, contents, width.min(cols - start))?;
+        drawing.redraw(pen, contents, place.width.min(cols - place.start))?;
         Ok(())
     }
 
-    /// Draws the row over `prev` as [`write_contents_diff`](Self::write_contents_diff) does. `above` says whether the
-    /// row above goes on in this one, `was_above` whether the terminal has the flag for it.
+    /// Draws the row over `prev` as [`write_contents_diff`](Self::write_contents_diff) does.
     #[doc(hidden)]
     pub fn difference(
         &self,
-        contents: &mut String,
-        pen: &mut Pen,
         prev: &Self,
-        start: u16,
-        width: u16,
-        row: u16,
-        above: bool,
-        was_above: bool,
+        pen: &mut Pen,
+        contents: &mut String,
+        place: Place,
     ) -> Result<(), GridError>
-        ensures { Writes (difference self.now prev.now start width row above was_above) pen.old
+        ensures { Writes
+            (difference self.now prev.now place.start place.width place.row place.above place.was_above) pen.old
             contents.old (is_ok result) pen.new contents.new }
     {
-        if self.is_drawn(prev, pen, above, was_above) {
+        if self.is_drawn(prev, pen, place) {
             return Ok(());
         }
         let cols = self.cols().min(prev.cols());
-        if cols <= start {
+        if cols <= place.start {
             return Ok(());
         }
         let drawing = Drawing {
@@ -196,12 +189,12 @@ impl Row {
             earlier: &prev.cells,
             wrapped: self.wrapped,
             was_wrapped: prev.wrapped,
-            above,
-            was_above,
-            row,
-            start,
+            above: place.above,
+            was_above: place.was_above,
+            row: place.row,
+            start: place.start,
         };
-        drawing.difference(pen, contents, width.min(cols - start))?;
+        drawing.difference(pen, contents, place.width.min(cols - place.start))?;
         Ok(())
     }
 }

@@ -2,7 +2,7 @@ use Rattle.std.proofs.Common.{◌∙◌, ◌+◌, ◌≡◌, ◌≤◌, ap, arit
 use Rattle.std.specs.Prelude.{encode_utf8_all}
 use Rattle.std.proofs.lemmas.Bool.{and_parts, cases_lt}
 use Rattle.std.proofs.lemmas.Nat.{le_or_l, le_or_r}
-use Rattle.vt100_cells.specs.CellFields.{is_short}
+use Rattle.vt100_cells.specs.CellFields.{fits_start}
 use Rattle.vt100_cells.specs.Cells.{cell_at}
 use Rattle.vt100_cells.proofs.line.have_same_eight.Goals as goal
 
@@ -17,10 +17,10 @@ loop-k-preserved c =
           elim (cases_lt j k) [
             | inl before ↦ c.loop-k.invariant.same p.0 j a before s
             | inr after ↦ (let last : k ≡ j = omega (arith, b, after) in
-                let short : is_short c.at-cell.result.now.text ≡ true =
-                ap (λ v. is_short v.text) (c.at-cell.ensures ∙ ap f last) ∙ s in
+                let whole : fits_start c.at-cell.result.now.text ≡ true =
+                ap (λ v. fits_start v.text) (c.at-cell.ensures ∙ ap f last) ∙ s in
                 sym (c.at-cell.ensures ∙ ap f last)
-                ∙ c.has_start_of-same.ensures.short (sym c.has_start_of-same.ensures.value ∙ p.1) short
+                ∙ c.has_start_of-same.ensures.whole (sym c.has_start_of-same.ensures.value ∙ p.1) whole
                 ∙ c.at.ensures ∙ ap g last)
           ];
       longest = λ j a b. elim (cases_lt j k) [

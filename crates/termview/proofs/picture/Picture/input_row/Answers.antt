@@ -12,8 +12,8 @@ use Rattle.termview.proofs.RowTerms.{cursor_row}
 use Rattle.termview.proofs.RunSteps.{IsOne, run_at, shows-row, columns-fit, some-fit, few-fit}
 use Rattle.termview.proofs.picture.Picture.input_row.Goals as goal
 
-pub put_run-requires-clause-drawn : goal.put_run-requires-clause-drawn
-put_run-requires-clause-drawn g c =
+pub print_fitting-requires-clause-drawn : goal.print_fitting-requires-clause-drawn
+print_fitting-requires-clause-drawn g c =
     All-take (g.G.Glyph.Takes g.row.COLUMNS) c.min-n.result c.args.text.now c.requires.drawn
 
 pub returns-clause-shown : goal.returns-clause-shown
@@ -45,8 +45,8 @@ returns-clause-shown g c =
     (omega (arith, few, col, cols, same, c.cols-cols.ensures, c.from-room.ensures, c.make_room.ensures.fits)) in
     let drawn = All-map (λ k. drawn_columns k ≡ Some w) code first (λ k d l. g.met.G.Glyph.drawn w _
     (All-take (g.G.Glyph.Takes w) n text c.requires.drawn k d l)) in
-    let put : c.put_run.new.self ≡ run_at o q xs =
-    c.put_run.ensures.picture
+    let put : c.print_fitting.new.self ≡ run_at o q xs =
+    c.print_fitting.ensures.picture
     ∙ ap (λ k. let r : PictureView = record q {
       rows = set q.rows q.row (placed_each w (cursor_row q) q.col (map code first) q.attrs);
       col = q.col + w * k;
@@ -60,5 +60,5 @@ returns-clause-shown g c =
       c.min-n.ensures,
       c.requires.some,
     ))
-    (subst (All (IsOne o)) (sym here) (λ k d l. (c.put_run.ensures.characters k d l, drawn k d l)))
+    (subst (All (IsOne o)) (sym here) (λ k d l. (c.print_fitting.ensures.characters k d l, drawn k d l)))
     (All-take IsShown n (map code text) c.requires.shown) enough c.make_room.ensures.picture within)

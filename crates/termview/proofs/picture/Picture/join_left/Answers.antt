@@ -21,8 +21,8 @@ returns c =
       shows = joined-is p c.args.c (rw (← c.self.view_is) c.self.invariant) c.requires.after_some;
     })
 
-pub join_plain-requires-clause-in_row : goal.join_plain-requires-clause-in_row
-join_plain-requires-clause-in_row c =
+pub join_in_place-requires-clause-in_row : goal.join_in_place-requires-clause-in_row
+join_in_place-requires-clause-in_row c =
     let here = subst (λ (p : PictureView). p.col + 0 ≤ p.size.cols) c.self.view_is
     (omega (arith, c.self.invariant.in_cols)) in
     omega (arith, row-fits 0 c.self.view_is c.self.invariant c.from.ensures c.index_mut.ensures.value here)

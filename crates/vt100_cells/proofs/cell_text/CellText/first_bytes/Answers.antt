@@ -2,7 +2,7 @@ use Rattle.std.proofs.Common.{length, sym, ◌∙◌, take-take}
 use Rattle.std.specs.Prelude.{encode_utf8_all}
 use Rattle.std.proofs.lemmas.Str.{IsUtf8-had}
 use Rattle.vt100_cells.specs.CellFields.{encode_utf8_all-text_of}
-use Rattle.vt100_cells.proofs.ShortTexts.{bytes-text_of}
+use Rattle.vt100_cells.proofs.FourByteTexts.{bytes-text_of}
 use Rattle.vt100_cells.proofs.cell_text.CellText.first_bytes.Goals as goal
 
 pub returns-clause-text : goal.returns-clause-text

@@ -2,18 +2,18 @@ use Rattle.std.proofs.Common.{◌∙◌, nat_eq, ap, sym, take}
 use Rattle.std.proofs.lemmas.Bool.{and_parts}
 use Rattle.std.proofs.lemmas.Cmp.{nat_list_eq_equiv}
 use Rattle.vt100_cells.specs.Cell.{text_eq}
-use Rattle.vt100_cells.proofs.CellTextLemmas.{short-same, start-fields, rest-same}
+use Rattle.vt100_cells.proofs.CellTextLemmas.{fits-same, start-fields, rest-same}
 use Rattle.vt100_cells.proofs.cell_text.CellText.has_rest_of.Goals as goal
 
-pub returns-then-is_short : goal.returns-then-is_short
-returns-then-is_short c h =
+pub returns-then-fits_start : goal.returns-then-fits_start
+returns-then-fits_start c h =
     let x = c.args.self.now in
-    let same = short-same c.self.inside c.other.inside x c.args.other.now c.self.invariant c.other.invariant
-    c.self.view_is c.other.view_is (sym c.is_short.ensures ∙ c.if-is_short.true) h in
-    c.if-is_short.true ∙ sym (ap (text_eq x) (sym same) ∙ nat_list_eq_equiv.refl x)
+    let same = fits-same c.self.inside c.other.inside x c.args.other.now c.self.invariant c.other.invariant
+    c.self.view_is c.other.view_is (sym c.fits_start.ensures ∙ c.if-fits_start.true) h in
+    c.if-fits_start.true ∙ sym (ap (text_eq x) (sym same) ∙ nat_list_eq_equiv.refl x)
 
-pub returns-else-is_short : goal.returns-else-is_short
-returns-else-is_short c h =
+pub returns-else-fits_start : goal.returns-else-fits_start
+returns-else-fits_start c h =
     let t = c.self.inside in
     let u = c.other.inside in
     let x = c.args.self.now in

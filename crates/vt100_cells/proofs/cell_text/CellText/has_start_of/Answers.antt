@@ -1,5 +1,5 @@
 use Rattle.std.proofs.Common.{◌∙◌, ◌&&◌, nat_eq, ap}
-use Rattle.vt100_cells.proofs.CellTextLemmas.{start-fields, short-same}
+use Rattle.vt100_cells.proofs.CellTextLemmas.{start-fields, fits-same}
 use Rattle.vt100_cells.proofs.cell_text.CellText.has_start_of.Goals as goal
 
 pub returns-clause-value : goal.returns-clause-value
@@ -8,7 +8,7 @@ returns-clause-value c =
     ∙ start-fields c.self.inside c.other.inside c.args.self.now c.args.other.now c.self.invariant c.other.invariant
     c.self.view_is c.other.view_is
 
-pub returns-clause-short : goal.returns-clause-short
-returns-clause-short c h s =
-    short-same c.self.inside c.other.inside c.args.self.now c.args.other.now c.self.invariant c.other.invariant
+pub returns-clause-whole : goal.returns-clause-whole
+returns-clause-whole c h s =
+    fits-same c.self.inside c.other.inside c.args.self.now c.args.other.now c.self.invariant c.other.invariant
     c.self.view_is c.other.view_is s h

@@ -7,8 +7,8 @@ use Rattle.vt100_core.proofs.TextLemmas.{IsMade-made}
 use Rattle.vt100_core.proofs.RunLemmas.{printed-printable}
 use Rattle.vt100_core.proofs.grid.Grid.print.Goals as goal
 
-pub put_letter-requires-clause-fits : goal.put_letter-requires-clause-fits
-put_letter-requires-clause-fits g c =
+pub print_printable-requires-clause-fits : goal.print_printable-requires-clause-fits
+print_printable-requires-clause-fits g c =
     let m = IsMade-made c.args.self.now 1 true c.in_ok-make_room.ensures.wide in
     subst (λ (x : GridView). x.col + 1 ≤ x.width) (sym c.in_ok-make_room.ensures.scrolls.grid) m.fits
 
@@ -17,14 +17,14 @@ returns-then-is_printable g c =
     let a = c.args.attrs.now in
     rw (printed-printable c.args.self.now c.args.c a (c.is_printable.ensures.0 c.if-is_printable.true)
     c.in_ok-make_room.ensures.wide) (record {
-      grid = c.put_letter.ensures.grid ∙ ap (λ (h : GridView). put_at h (cell_of c.args.c a) a 1)
+      grid = c.print_printable.ensures.grid ∙ ap (λ (h : GridView). put_at h (cell_of c.args.c a) a 1)
           c.in_ok-make_room.ensures.scrolls.grid;
       sink = c.in_ok-make_room.ensures.scrolls.sink;
       answer = refl;
       limits = search rules;
       keeps_none = search rules;
       stays = search rules;
-      allocated = c.put_letter.ensures.allocated;
+      allocated = c.print_printable.ensures.allocated;
     })
 
 pub returns-in_err-make_room : goal.returns-in_err-make_room

@@ -8,13 +8,13 @@ use Rattle.vt100_core.proofs.TextLemmas.{IsMade-made}
 use Rattle.vt100_core.proofs.RunLemmas.{printed-printable}
 use Rattle.vt100_core.proofs.grid.Grid.text.Goals as goal
 
-pub put-requires-clause-drawn : goal.put-requires-clause-drawn
-put-requires-clause-drawn g c =
+pub print_spacing-requires-clause-drawn : goal.print_spacing-requires-clause-drawn
+print_spacing-requires-clause-drawn g c =
     let printable = c.is_printable.ensures.0 c.if-is_printable.true in
     sym (drawn-ascii c.args.c (omega (arith, printable.0)) (omega (arith, printable.1)))
 
-pub put-requires-clause-fits : goal.put-requires-clause-fits
-put-requires-clause-fits g c =
+pub print_spacing-requires-clause-fits : goal.print_spacing-requires-clause-fits
+print_spacing-requires-clause-fits g c =
     let m = IsMade-made c.args.self.now 1 true c.in_ok-make_room.ensures.wide in
     subst (λ (x : GridView). x.col + 1 ≤ x.width) (sym c.in_ok-make_room.ensures.scrolls.grid) m.fits
 
@@ -22,14 +22,14 @@ pub returns-then-is_printable : goal.returns-then-is_printable
 returns-then-is_printable g c =
     rw (printed-printable c.args.self.now c.args.c c.args.attrs (c.is_printable.ensures.0 c.if-is_printable.true)
     c.in_ok-make_room.ensures.wide) (record {
-      grid = c.put.ensures.grid ∙ ap (λ (h : GridView). put_at h (cell_of c.args.c c.args.attrs) c.args.attrs 1)
+      grid = c.print_spacing.ensures.grid ∙ ap (λ (h : GridView). put_at h (cell_of c.args.c c.args.attrs) c.args.attrs 1)
           c.in_ok-make_room.ensures.scrolls.grid;
       sink = c.in_ok-make_room.ensures.scrolls.sink;
       answer = refl;
       limits = search rules;
       keeps_none = search rules;
       stays = search rules;
-      allocated = c.put.ensures.allocated;
+      allocated = c.print_spacing.ensures.allocated;
     })
 
 pub returns-in_err-make_room : goal.returns-in_err-make_room

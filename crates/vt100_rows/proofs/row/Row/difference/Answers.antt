@@ -11,17 +11,17 @@ pub returns-then-is_drawn : goal.returns-then-is_drawn
 returns-then-is_drawn c =
     let drawn = c.is_drawn.ensures in
     let yes = c.if-is_drawn.true in
-    appended_none _ (wrote_difference_same c.args.self.now c.args.prev.now c.args.start c.args.width c.args.row c.args.above
-    c.args.was_above c.args.pen.now (string_bytes c.args.contents.now) (drawn.row yes) (drawn.above yes)
+    appended_none _ (wrote_difference_same c.args.self.now c.args.prev.now c.args.place.start c.args.place.width c.args.place.row c.args.place.above
+    c.args.place.was_above c.args.pen.now (string_bytes c.args.contents.now) (drawn.row yes) (drawn.above yes)
     (drawn.closed yes) (drawn.kept yes))
 
 pub returns-then-cols-start : goal.returns-then-cols-start
 returns-then-cols-start c =
     let v = c.args.self.now in
     let earlier = c.args.prev.now in
-    let outside : min (length v.cells) (length earlier.cells) ≤ c.args.start =
+    let outside : min (length v.cells) (length earlier.cells) ≤ c.args.place.start =
     omega (arith, c.cols.ensures, c.cols-2.ensures, c.min-cols.ensures) in
-    appended_none _ (wrote_difference_none v earlier c.args.start c.args.width c.args.row c.args.above c.args.was_above c.args.pen.now
+    appended_none _ (wrote_difference_none v earlier c.args.place.start c.args.place.width c.args.place.row c.args.place.above c.args.place.was_above c.args.pen.now
     (string_bytes c.args.contents.now) outside)
 
 pub invariant_of-drawing : goal.invariant_of-drawing

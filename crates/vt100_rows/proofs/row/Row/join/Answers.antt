@@ -48,7 +48,7 @@ invariant_of-self c = record {
 
 pub returns-then-c-ne65039-clause-row : goal.returns-then-c-ne65039-clause-row
 returns-then-c-ne65039-clause-row c =
-    c.join_plain.ensures
+    c.join_in_place.ensures
     ∙ (joins-narrow c.args.self.now c.args.col c.args.c c.args.attrs (ne_eqb c.args.c 0xFE0F c.if-c-ne65039.true)).0
 
 pub returns-then-c-ne65039-clause-answer : goal.returns-then-c-ne65039-clause-answer

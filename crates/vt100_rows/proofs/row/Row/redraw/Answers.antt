@@ -9,8 +9,8 @@ use Rattle.vt100_rows.proofs.row.Row.redraw.Goals as goal
 
 pub returns-then-cols-start : goal.returns-then-cols-start
 returns-then-cols-start c =
-    let outside : length c.args.self.now.cells ≤ c.args.start = omega (arith, c.cols-cols.ensures) in
-    appended_none _ (wrote_row_none c.args.self.now c.args.start c.args.width c.args.row c.args.above c.args.pen.now
+    let outside : length c.args.self.now.cells ≤ c.args.place.start = omega (arith, c.cols-cols.ensures) in
+    appended_none _ (wrote_row_none c.args.self.now c.args.place.start c.args.place.width c.args.place.row c.args.place.above c.args.pen.now
     (string_bytes c.args.contents.now) outside)
 
 pub invariant_of-drawing : goal.invariant_of-drawing
