@@ -8,7 +8,7 @@ ghost use Rattle.printable.specs.Printable.{IsPrintable};
 
 pub mod thresholds;
 
-use crate::thresholds::{BLOCK_LEN, SHORT_LEN};
+use crate::thresholds::{BLOCK_LEN, FIRST_LEN};
 
 /// Whether a character is printable ASCII.
 #[inline(always)]
@@ -26,7 +26,8 @@ pub fn is_printable_byte(byte: u8) -> bool
     matches!(byte, b' '..=b'~')
 }
 
-/// How many bytes at the start are printable ASCII. Many texts end within a short block, which is looked at first.
+/// How many bytes at the start are printable ASCII. Many texts end within the first few, which are looked at one by
+/// one.
 #[inline(always)]
 pub fn printable_len(bytes: &[u8]) -> usize
     ensures within { result ≤ length bytes.now }
@@ -34,12 +35,12 @@ pub fn printable_len(bytes: &[u8]) -> usize
     ensures whole { result < length bytes.now → IsPrintable (get_or bytes.now result 0) → ⊥ }
 {
     let mut len = 0;
-    if bytes.len() >= SHORT_LEN {
-        len = short_len(bytes);
-        if len < SHORT_LEN {
+    if bytes.len() >= FIRST_LEN {
+        len = first_len(bytes);
+        if len < FIRST_LEN {
             return len;
         }
-        len += blocks_len(&bytes[SHORT_LEN..]);
+        len += blocks_len(&bytes[FIRST_LEN..]);
     }
     while len < bytes.len() && is_printable_byte(bytes[len]) {
         len += 1;
@@ -47,24 +48,24 @@ pub fn printable_len(bytes: &[u8]) -> usize
     len
 }
 
-/// How many bytes at the start of a short block are printable ASCII.
-// The block's length is known, so that each byte is read without a test of the index.
+/// How many bytes at the start are printable ASCII, of the first eight.
+// The number of bytes is known, so that each is read without a test of its index.
 #[inline(always)]
-fn short_len(bytes: &[u8]) -> usize
+fn first_len(bytes: &[u8]) -> usize
     requires { 8 ≤ length bytes.now }
     ensures within { result ≤ 8 }
     ensures printable { All IsPrintable (take result bytes.now) }
     ensures whole { result < 8 → IsPrintable (get_or bytes.now result 0) → ⊥ }
 {
-    let block = &bytes[..SHORT_LEN];
+    let block = &bytes[..FIRST_LEN];
     let mut len = 0;
-    while len < SHORT_LEN {
+    while len < FIRST_LEN {
         if !is_printable_byte(block[len]) {
             return len;
         }
         len += 1;
     }
-    SHORT_LEN
+    FIRST_LEN
 }
 
 /// How many bytes at the start stand in whole blocks of printable ASCII.

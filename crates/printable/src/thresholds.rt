@@ -2,7 +2,7 @@
 
 /// How many bytes of a text are looked at one by one first, since many texts end within them. The lines are coloured
 /// and motion, at `events`.
-pub const SHORT_LEN: usize = 8;
+pub const FIRST_LEN: usize = 8;
 
 /// How many bytes are compared at once after them. The line is ascii, at `events`.
 pub const BLOCK_LEN: usize = 16;

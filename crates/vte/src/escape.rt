@@ -23,7 +23,8 @@ pub fn execute<H: Handler>(handler: &mut H, byte: u8)
     }
 }
 
-/// The same, by a table.
+/// Makes the call of any control character, if it has one, by the whole table.
+// It isn't inlined, so that the frequent controls need no stack for its calls.
 #[inline(never)]
 fn execute_any<H: Handler>(handler: &mut H, byte: u8)
     ensures { Calls H.step handler.old (execute_calls byte) handler.new }

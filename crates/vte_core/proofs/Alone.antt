@@ -37,7 +37,8 @@ module _ (numbers ends : List ℕ) (len groups : ℕ) (old : List (List ℕ)) (s
   some-numbers = length-take-le len numbers (omega (arith, s.1, s.3))
 
   pub numbers-alone : groups ≡ len → old ≡ each_alone (take len numbers)
-  numbers-alone e = sym v ∙ cut-alone 0 (take groups ends) (take len numbers) s.0 (omega (arith, e, some-ends, some-numbers))
+  numbers-alone e = sym v ∙ cut-alone 0 (take groups ends) (take len numbers) s.0
+      (omega (arith, e, some-ends, some-numbers))
 
   pub numbers-few : length (take len numbers) ≤ 32
   numbers-few = omega (arith, some-numbers, s.1)

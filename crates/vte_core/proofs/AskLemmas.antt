@@ -14,8 +14,11 @@ use Rattle.vte_core.proofs.GroundTextLemmas.{text-tells}
 pub ends-asked : AsksAtEnds
 ends-asked past piece =
     let none : drop (length piece) piece ≡ [] = drop_all (length piece) piece (omega arith) in
-    let last : ends_run (drop (length piece) piece) ≡ true = ap ends_run none in
-    (refl, rw last (rw (or-true (not (ends_in_text (past ++ take (length piece) piece)))) (or-true (length piece == 0))))
+    let last : ends_run (drop (length piece) piece) ≡ true = ap ends_run none in (
+      refl,
+      rw last (rw (or-true (not (ends_in_text (past ++ take (length piece) piece))))
+          (or-true (length piece == 0))),
+    )
 
 -- after a byte that isn't ground text
 pub asks-past_text : (past piece : List ℕ) (m : ℕ) → ends_in_text (past ++ take m piece) ≡ false

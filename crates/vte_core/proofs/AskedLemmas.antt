@@ -1,6 +1,6 @@
 -- Bytes between whose steps the performer is asked.
-use Rattle.std.proofs.Common.{◌≡◌, ◌==◌, ℕ, zero, suc, ◌+◌, ◌-◌, ◌<◌, Bool, true, false, not, List, [], ◌++◌, length, take, drop}
-use Rattle.std.proofs.Common.{arith, length-take, refl, subst}
+use Rattle.std.proofs.Common.{◌≡◌, ◌==◌, ℕ, zero, suc, ◌+◌, ◌-◌, ◌<◌, Bool, true, false, not, List, [], ◌++◌, length}
+use Rattle.std.proofs.Common.{take, drop, arith, length-take, refl, subst}
 use Rattle.std.proofs.lemmas.List.{take-append-drop}
 use Rattle.vte_core.specs.Event.{Event}
 use Rattle.vte_core.specs.Pending.{Pending, InText, after_bytes, events_from}
@@ -21,16 +21,19 @@ use Rattle.vte_core.proofs.Telling.{same_events}
 pub never-asked : (a : ℕ) → a ≡ 0 → not (a == 0) ≡ true → ⊥
 never-asked a none asks = let no = rw none at asks in cc
 
-module _ {S : Type 0} {step : S → Event → S → Type 0} {terminated : S → Bool} {n : ℕ} {p r : Parser n} {old new : S} where
+module _ {S : Type 0} {step : S → Event → S → Type 0} {terminated : S → Bool} {n : ℕ} {p r : Parser n}
+    {old new : S} where
   pub asked_step : (bs : List ℕ) (k : ℕ) → terminated old ≡ false → ReadsStep step n p old bs k r new
       → ReadsAsked step terminated n p old bs k r new
   asked_step bs k goes_on read = record {
     reads = read.reads;
     stops = λ q at j end left.
         let tells = read.reads.reported in
-        let gone = same_events step old new tells.reported (events_from n q (take k bs)) (tells.added q at) tells.performed
+        let gone = same_events step old new tells.reported (events_from n q (take k bs))
+        (tells.added q at) tells.performed
         in
-        let whole = step_stops step terminated n q (take k bs) (drop k bs) old new j end (read.is_step q at) goes_on gone left
+        let whole = step_stops step terminated n q (take k bs) (drop k bs) old new j end
+        (read.is_step q at) goes_on gone left
         in
         let all : take k bs ++ drop k bs ≡ bs = take-append-drop k bs in
         let len : length (take k bs) + j ≡ k + j = omega (arith, length-take k bs, read.reads.within) in
@@ -43,7 +46,8 @@ module _ {S : Type 0} {step : S → Event → S → Type 0} {n : ℕ} {p r : Par
   unmoved q bs at read =
       same_events step old new read.reported.reported [] (read.reported.added q at) read.reported.performed
 
-module _ {S : Type 0} {step : S → Event → S → Type 0} {terminated : S → Bool} {n : ℕ} {p r : Parser n} {old new : S} where
+module _ {S : Type 0} {step : S → Event → S → Type 0} {terminated : S → Bool} {n : ℕ} {p r : Parser n}
+    {old new : S} where
   -- one run of ground text, or none
   pub asked_run : (bs : List ℕ) (k : ℕ) → terminated old ≡ false → Reads step n p old bs k r new
       → (0 < k → (q : Pending) → IsAt n p q → is_one_step q (take k bs) (drop k bs) ≡ true)
@@ -60,11 +64,13 @@ module _ {S : Type 0} {step : S → Event → S → Type 0} {terminated : S → 
     is_step = λ q at. one-step n q (take (suc k) bs) (drop (suc k) bs) (one (omega arith) q at);
   }
 
-abbrev pub asked_none : {S : Type 0} {step : S → Event → S → Type 0} {terminated : S → Bool} {n : ℕ} {p : Parser n} {old : S}
+abbrev pub asked_none : {S : Type 0} {step : S → Event → S → Type 0} {terminated : S → Bool} {n : ℕ} {p : Parser n}
+    {old : S}
     (bs : List ℕ) → terminated old ≡ false → ReadsAsked step terminated n p old bs 0 p old
 asked_none bs goes_on = asked_run bs 0 goes_on (reads_none bs) (λ some q at. absurd (omega (arith, some)))
 
-module _ {S : Type 0} {step : S → Event → S → Type 0} {terminated : S → Bool} {n : ℕ} {p mid r : Parser n} {old between new : S} where
+module _ {S : Type 0} {step : S → Event → S → Type 0} {terminated : S → Bool} {n : ℕ} {p mid r : Parser n}
+    {old between new : S} where
   -- bytes after others
   pub asked_more : (bs : List ℕ) (i k : ℕ) → ReadsAsked step terminated n p old bs i mid between
       → ReadsAsked step terminated n mid between (take (length bs - i) (drop i bs)) k r new
@@ -85,8 +91,10 @@ module _ {S : Type 0} {step : S → Event → S → Type 0} {terminated : S → 
         rw all (a.stops q at (k + j) end rest);
   }
 
-module _ {S : Type 0} {step : S → Event → S → Type 0} {terminated : S → Bool} {asks : Bool} {n : ℕ} {p r : Parser n} {old new : S} where
-  pub on_step : (bs : List ℕ) (k : ℕ) → ReadsStep step n p old bs k r new → ReadsOn step terminated asks n p old bs k r new
+module _ {S : Type 0} {step : S → Event → S → Type 0} {terminated : S → Bool} {asks : Bool} {n : ℕ} {p r : Parser n}
+    {old new : S} where
+  pub on_step : (bs : List ℕ) (k : ℕ) → ReadsStep step n p old bs k r new
+      → ReadsOn step terminated asks n p old bs k r new
   on_step bs k one = record { some = one.some; reads = one.reads; asked = λ a goes_on. asked_step bs k goes_on one }
 
   -- one run of ground text
@@ -99,7 +107,8 @@ module _ {S : Type 0} {step : S → Event → S → Type 0} {terminated : S → 
     asked = λ a goes_on. asked_run bs k goes_on reads one;
   }
 
-module _ {S : Type 0} {step : S → Event → S → Type 0} {terminated : S → Bool} {asks : Bool} {n : ℕ} {p mid r : Parser n} {old between new : S} where
+module _ {S : Type 0} {step : S → Event → S → Type 0} {terminated : S → Bool} {asks : Bool} {n : ℕ} {p mid r : Parser n}
+    {old between new : S} where
   pub on_more : (bs : List ℕ) (i k : ℕ) → Reads step n p old bs i mid between
       → (asks ≡ true → terminated old ≡ false → ReadsAsked step terminated n p old bs i mid between)
       → (asks ≡ true → terminated old ≡ false → terminated between ≡ false)

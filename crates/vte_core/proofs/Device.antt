@@ -34,7 +34,8 @@ device-at n p q xs s e at =
     rw is (m.0, rw m.1 here)
 
 -- some of it, read at once
-pub device-read : {S : Type 0} {step : S → Event → S → Type 0} {n : ℕ} {p : Parser n} {old new : S} (bs : List ℕ) (k : ℕ)
+pub device-read : {S : Type 0} {step : S → Event → S → Type 0} {n : ℕ} {p : Parser n} {old new : S} (bs : List ℕ)
+    (k : ℕ)
     → p.state ≡ DcsPassthrough → TellsEach step is_device_data Put old bs k new → Reads step n p old bs k p new
 device-read {S} {step} {n} {p} bs k state put = record {
   within = put.within;

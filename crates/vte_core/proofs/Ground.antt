@@ -7,7 +7,7 @@ use Rattle.std.specs.Prelude.{All}
 use Rattle.std.proofs.lemmas.List.Elements.{All-drop}
 use Rattle.printable.specs.Printable.{IsPrintable}
 use Rattle.vte_core.specs.Event.{Event, Print, Execute}
-use Rattle.vte_core.specs.Bytes.{each, is_esc, is_c0, is_plain}
+use Rattle.vte_core.specs.Bytes.{each, is_esc, is_c0, is_printed_ascii}
 use Rattle.vte_core.specs.Text.{char_event}
 use Rattle.vte_core.specs.Shapes.{before}
 use Rattle.vte_core.specs.Runs.{run_reported, run_rest, has_no_esc, printed_len}
@@ -43,25 +43,26 @@ c0-run = ascii-run is_c0 Execute (λ b h.
     (grind (arith, nat_tests), grind (arith, nat_tests), rw control refl))
 
 -- characters of ASCII are printed, one by one
-pub plain-run : (xs : List ℕ) → each is_plain xs ≡ true → (run_reported [] xs ≡ map Print xs) × (run_rest [] xs ≡ [])
+pub printed-run : (xs : List ℕ) → each is_printed_ascii xs ≡ true → (run_reported [] xs ≡ map Print xs)
+    × (run_rest [] xs ≡ [])
     × (has_no_esc xs ≡ true)
-plain-run = ascii-run is_plain Print (λ b h.
+printed-run = ascii-run is_printed_ascii Print (λ b h.
     let control : nat_lt b 0x20 ≡ false = grind (arith, nat_tests) in
     let high : is_in_range 0x80 0x9F b ≡ false = grind (arith, nat_tests) in
     (grind (arith, nat_tests), grind (arith, nat_tests), rw (control, high) refl))
 
-printable_plain : (xs : List ℕ) → All IsPrintable xs → each is_plain xs ≡ true
-printable_plain [] h = refl
-printable_plain (b ∷ xs) h =
+printable-printed : (xs : List ℕ) → All IsPrintable xs → each is_printed_ascii xs ≡ true
+printable-printed [] h = refl
+printable-printed (b ∷ xs) h =
     let printable = h zero 0 (omega arith) in
     let low : 32 ≤ b = printable.0 in
     let high : b < 127 = printable.1 in
-    let plain : is_plain b ≡ true = grind (arith, nat_tests) in
-    rw plain (printable_plain xs (All-drop IsPrintable 1 (b ∷ xs) h))
+    let printed : is_printed_ascii b ≡ true = grind (arith, nat_tests) in
+    rw printed (printable-printed xs (All-drop IsPrintable 1 (b ∷ xs) h))
 
 pub printable-run : (xs : List ℕ) → All IsPrintable xs → (run_reported [] xs ≡ map Print xs)
     × (run_rest [] xs ≡ []) × (has_no_esc xs ≡ true)
-printable-run xs h = plain-run xs (printable_plain xs h)
+printable-run xs h = printed-run xs (printable-printed xs h)
 
 -- ESC isn't printed
 pub printed-no_esc : (xs : List ℕ) → printed_len xs ≡ length xs → has_no_esc xs ≡ true

@@ -76,8 +76,9 @@ kept-then n f p xs b keeps h =
 abbrev esc_event : List ℕ → ℕ → List Event
 esc_event q b = Esc (take 2 q) (nat_lt 2 (length q)) b ∷ []
 
-final-plain : (b : ℕ) → is_introducer b ≡ false → (final_reported [] b ≡ esc_event [] b) × (final_rest [] b ≡ InText [])
-final-plain b h =
+final-unmarked : (b : ℕ) → is_introducer b ≡ false → (final_reported [] b ≡ esc_event [] b)
+    × (final_rest [] b ≡ InText [])
+final-unmarked b h =
     let csi = or_parts (b == 0x5B) (b == 0x5D || (b == 0x50 || (b == 0x58 || (b == 0x5E || b == 0x5F)))) h in
     let osc = or_parts (b == 0x5D) (b == 0x50 || (b == 0x58 || (b == 0x5E || b == 0x5F))) csi.1 in
     let dcs = or_parts (b == 0x50) (b == 0x58 || (b == 0x5E || b == 0x5F)) osc.1 in
@@ -85,7 +86,7 @@ final-plain b h =
 
 final-escape : (q : List ℕ) (b : ℕ) → (q ≡ [] → is_introducer b ≡ false)
     → (final_reported q b ≡ esc_event q b) × (final_rest q b ≡ InText [])
-final-escape [] b h = final-plain b (h refl)
+final-escape [] b h = final-unmarked b (h refl)
 final-escape (i ∷ q) b h = let e : (length (i ∷ q) == 0) ≡ false = grind (arith, nat_tests) in rw e (refl, refl)
 
 final-ends : (n : ℕ) (q : List ℕ) (b : ℕ) → is_in_range 0x30 0x7E b ≡ true → (q ≡ [] → is_introducer b ≡ false)

@@ -12,8 +12,8 @@ use Rattle.vte_core.specs.Text.{char_len, first_bits, joined, char_event, malfor
 use Rattle.vte_core.specs.Header.{is_well_formed}
 use Rattle.vte_core.specs.Shapes.{events, first_bytes, osc_pieces}
 use Rattle.vte_core.specs.Pending.{Pending, InText, InEscape, InCsi, InOsc, InHook, InDevice, InSwallowed, pending}
-use Rattle.vte_core.specs.Pending.{reported, goes_on, begun, text_reported, closed, final_reported, byte_reported, events_of_byte}
-use Rattle.vte_core.specs.Pending.{after_byte, events_from}
+use Rattle.vte_core.specs.Pending.{reported, goes_on, begun, text_reported, closed, final_reported, byte_reported}
+use Rattle.vte_core.specs.Pending.{events_of_byte, after_byte, events_from}
 use Rattle.vte_core.specs.Laws.{Fits}
 use Rattle.vte_core.proofs.Characters.{if_holds}
 use Rattle.vte_core.proofs.Machine.{events-past, events-reported, after_bytes-append}
@@ -56,7 +56,8 @@ after-abort InSwallowed b h = rw (abort-not_esc b h, h) refl
 pub abort-cut : (b : ℕ) → is_abort b ≡ true → (n : ℕ) (s t : List ℕ)
     → events n (s ++ b ∷ t) ≡ events n (s ++ b ∷ []) ++ events n t
 abort-cut b h n s t = cut-after n s b t
-    ∙ rw (after-abort (pending s) b h) (ap (λ (es : List Event). events n (s ++ b ∷ []) ++ es) (sym (events-reported n t)))
+    ∙ rw (after-abort (pending s) b h) (ap (λ (es : List Event). events n (s ++ b ∷ []) ++ es)
+    (sym (events-reported n t)))
 
 -- the pieces of an operating system command
 

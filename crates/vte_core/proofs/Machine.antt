@@ -11,9 +11,9 @@ use Rattle.vte_core.specs.Shapes.{before, from, executed, swallowed, device_end,
 use Rattle.vte_core.specs.Shapes.{introduced, escape_end, escape, cut_at_esc, segments, events}
 use Rattle.vte_core.proofs.Characters.{bool_cases, if_holds, both_ifs_agree, either_way, text-byte, text-end}
 use Rattle.vte_core.proofs.Characters.{IsUnfinished-rest}
-use Rattle.vte_core.specs.Pending.{Pending, InText, InEscape, InCsi, InOsc, InHook, InDevice, InSwallowed, kept, reported}
-use Rattle.vte_core.specs.Pending.{closed, final_reported, final_rest, byte_reported, byte_rest, events_of_byte, after_byte}
-use Rattle.vte_core.specs.Pending.{events_from, after_bytes, pending, IsSound}
+use Rattle.vte_core.specs.Pending.{Pending, InText, InEscape, InCsi, InOsc, InHook, InDevice, InSwallowed, kept}
+use Rattle.vte_core.specs.Pending.{reported, closed, final_reported, final_rest, byte_reported, byte_rest}
+use Rattle.vte_core.specs.Pending.{events_of_byte, after_byte, events_from, after_bytes, pending, IsSound}
 
 -- the rest of the definition, read from what is pending
 abbrev pub go_on : ℕ → Pending → Bool → List ℕ → List Event
@@ -43,7 +43,8 @@ filter-kept keep h b s =
 skip-reported : (p r keep : ℕ → Bool) (f : ℕ → Event) (fin : List ℕ → List ℕ
     → List Event) (h : List ℕ) (b : ℕ) (s : List ℕ) → p b ≡ false
     → map f (filter r (before p (b ∷ s))) ++ fin (h ++ filter keep (before p (b ∷ s))) (from p (b ∷ s))
-    ≡ reported r f b ++ (map f (filter r (before p s)) ++ fin ((h ++ kept keep b) ++ filter keep (before p s)) (from p s))
+    ≡ reported r f b ++ (map f (filter r (before p s))
+    ++ fin ((h ++ kept keep b) ++ filter keep (before p s)) (from p s))
 skip-reported p r keep f fin h b s e =
     rw (e, filter-reported r f b (before p s), filter-kept keep h b (before p s)) (append_assoc (reported r f b) _ _)
 

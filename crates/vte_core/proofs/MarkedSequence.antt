@@ -25,7 +25,8 @@ marked n m h =
 
 -- the final byte has one
 final-marked : (n m f : ℕ) → is_in_range 0x30 0x7E f ≡ true
-    → (events_of_byte n (InEscape (m ∷ [])) f ≡ Esc (m ∷ []) false f ∷ []) × (after_byte (InEscape (m ∷ [])) f ≡ InText [])
+    → (events_of_byte n (InEscape (m ∷ [])) f ≡ Esc (m ∷ []) false f ∷ [])
+    × (after_byte (InEscape (m ∷ [])) f ≡ InText [])
 final-marked n m f h =
     let esc : is_esc f ≡ false = grind (arith, nat_tests) in
     let ends : ends_escape f ≡ true = grind (arith, nat_tests) in
@@ -34,7 +35,7 @@ final-marked n m f h =
 
 final-unmarked : (n f : ℕ) → is_in_range 0x30 0x7E f ≡ true → opens_sequence f ≡ false
     → (events_of_byte n (InEscape []) f ≡ Esc [] false f ∷ []) × (after_byte (InEscape []) f ≡ InText [])
-final-unmarked n f h short =
+final-unmarked n f h opens_none =
     let esc : is_esc f ≡ false = grind (arith, nat_tests) in
     let ends : ends_escape f ≡ true = grind (arith, nat_tests) in
     let other : is_abort f ≡ false = grind (arith, nat_tests) in
@@ -110,7 +111,7 @@ module _ {S : Type 0} {step : S → Event → S → Type 0} {n : ℕ} {p : Parse
   pub unmarked_step : (bs : List ℕ) → BeginsWithEsc bs → p.state ≡ Ground → p.unfinished ≡ [] → 2 ≤ length bs
       → is_in_range 0x30 0x7E (get_or bs 1 0) ≡ true → opens_sequence (get_or bs 1 0) ≡ false
       → step old (Esc [] false (get_or bs 1 0)) new → ReadsStep step n p old bs 2 p new
-  unmarked_step bs begins ground whole some final short told =
+  unmarked_step bs begins ground whole some final opens_none told =
       let f = get_or bs 1 0 in
       escape_step bs (0x1B ∷ []) 2 f [] (Esc [] false f) (omega arith) some ground whole
-      (first_two bs f some begins.esc refl) (refl, refl) (final-unmarked n f final short) told
+      (first_two bs f some begins.esc refl) (refl, refl) (final-unmarked n f final opens_none) told

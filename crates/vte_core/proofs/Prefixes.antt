@@ -52,7 +52,7 @@ reads_prefix {S} {step} {u} {old} bs k {new} {v} s l h p r =
       rest = ap (run_rest u) e ∙ (run_rest-append u (take k bs) left ∙ ap (λ (w : List ℕ). run_rest w left) (sym r));
     }
 
--- the same, where nothing is unfinished
+-- a text is read alone where nothing is unfinished
 pub reads_alone : {S : Type 0} {step : S → Event → S → Type 0} {old : S} (bs prefix : List ℕ) (k : ℕ) {new : S}
     {v : List ℕ} (es : List Event) → 0 < k → k ≤ length bs → take k bs ≡ prefix
     → (run_reported [] prefix ≡ es) × (run_rest [] prefix ≡ v) × (has_no_esc prefix ≡ true)
@@ -72,7 +72,8 @@ reads_byte {S} {step} {u} (b ∷ s) some e p r =
 
 -- a byte that doesn't go on the character that was begun: what is read after that character's U+FFFD
 cut-anew : (a : ℕ) (t : List ℕ) (b : ℕ) (s : List ℕ) → goes_on a t b ≡ false
-    → (run_reported (a ∷ t) (b ∷ s) ≡ Print 0xFFFD ∷ run_reported [] (b ∷ s)) × (run_rest (a ∷ t) (b ∷ s) ≡ run_rest [] (b ∷ s))
+    → (run_reported (a ∷ t) (b ∷ s) ≡ Print 0xFFFD ∷ run_reported [] (b ∷ s))
+    × (run_rest (a ∷ t) (b ∷ s) ≡ run_rest [] (b ∷ s))
 cut-anew a t b s off = (rw off refl, rw off refl)
 
 pub reads_cut : {S : Type 0} {step : S → Event → S → Type 0} (u : List ℕ) {old : S} (bs : List ℕ) {mid : S}
@@ -102,7 +103,8 @@ reads_cut (a ∷ t) (b ∷ s) {mid} begun e off p none r =
 -- a malformed sequence of one byte, of two and three
 
 cut-one : (a b : ℕ) (s : List ℕ) → 1 < char_len a → goes_on a [] b ≡ false
-    → (run_reported [] (a ∷ b ∷ s) ≡ Print 0xFFFD ∷ run_reported [] (b ∷ s)) × (run_rest [] (a ∷ b ∷ s) ≡ run_rest [] (b ∷ s))
+    → (run_reported [] (a ∷ b ∷ s) ≡ Print 0xFFFD ∷ run_reported [] (b ∷ s))
+    × (run_rest [] (a ∷ b ∷ s) ≡ run_rest [] (b ∷ s))
 cut-one a b s long off =
     let one : (char_len a == 1) ≡ false = grind (arith, nat_tests) in
     let none : (char_len a == 0) ≡ false = grind (arith, nat_tests) in
@@ -240,7 +242,8 @@ reads_all u w bs i reported e a b =
     let s = before is_esc bs in
     let all : take i bs ≡ s = ap (λ (j : ℕ). take j bs) e ∙ take-before bs in
     let none : drop i s ≡ [] = drop_all i s (omega (arith, e)) in (
-      sym (ap (run_reported u) all ∙ (a ∙ (ap (λ (xs : List ℕ). reported ++ run_reported w xs) none ∙ append-nil reported))),
+      sym (ap (run_reported u) all ∙ (a ∙ (ap (λ (xs : List ℕ). reported ++ run_reported w xs) none
+          ∙ append-nil reported))),
       sym (ap (run_rest u) all ∙ (b ∙ ap (run_rest w) none)),
     )
 

@@ -224,7 +224,8 @@ quiet-byte-step n p q bs k lt e s at =
 
 -- `ESC [` and some of a header, after whole ground text
 
-pub begun-text : (n : ℕ) (p : Parser n) (q : Pending) → p.state ≡ Ground → p.unfinished ≡ [] → IsAt n p q → q ≡ InText []
+pub begun-text : (n : ℕ) (p : Parser n) (q : Pending) → p.state ≡ Ground → p.unfinished ≡ [] → IsAt n p q → q
+    ≡ InText []
 begun-text n p q s e at =
     let (u, is) = by_state n p Ground q s at in
     let here = rw is at at in
@@ -314,7 +315,8 @@ pub esc-quiet : {n : ℕ} {p r : Parser n} (bs : List ℕ) → BeginsWithEsc bs 
     → r.state ≡ Escape → r.unfinished ≡ [] → KeepsTwo r.intermediates [] → ReadsQuietly n p bs 1 r
 esc-quiet {n} {p} {r} bs begins ground whole escape none kept =
     let first : take 1 bs ≡ 0x1B ∷ [] = take_more bs 0 0 begins.some ∙ ap (λ (c : ℕ). c ∷ []) begins.esc in
-    quiet_by (omega (arith, begins.some)) (λ q at. rw (begun-text n p q ground whole at, first) (refl, (escape, none, kept)))
+    quiet_by (omega (arith, begins.some)) (λ q at. rw (begun-text n p q ground whole at, first)
+    (refl, (escape, none, kept)))
 
 -- bytes without events are a step
 pub quiet-alone : {S : Type 0} {step : S → Event → S → Type 0} {n : ℕ} {p r : Parser n} {old : S} (bs : List ℕ) (k : ℕ)
@@ -332,7 +334,8 @@ quiet-alone bs k some quiet = record {
 }
 
 -- and so are they with a step after them
-pub quiet-and-step : {S : Type 0} {step : S → Event → S → Type 0} {n : ℕ} {p mid r : Parser n} {old new : S} (bs : List ℕ)
+pub quiet-and-step : {S : Type 0} {step : S → Event → S → Type 0} {n : ℕ} {p mid r : Parser n} {old new : S}
+    (bs : List ℕ)
     (i k : ℕ) → ReadsQuietly n p bs i mid → ReadsStep step n mid old (take (length bs - i) (drop i bs)) k r new
     → ReadsStep step n p old bs (i + k) r new
 quiet-and-step {S} {step} {n} {p} {mid} bs i k quiet after = record {

@@ -51,7 +51,8 @@ byte-quiet n (InCsi x) b h =
     (either_quiet (is_well_formed x) _ _ (one_quiet (Csi (kept_groups x) (kept_intermediates x) (overflows x) b) tt)
     none_quiet)) (reported-quiet is_control Execute b tt)
 byte-quiet n (InOsc s) b h =
-    either_quiet (ends_osc b) _ _ (All-cons PrintsNothing (Osc (osc_pieces n s) (b == 0x07)) (reported is_abort Execute b)
+    either_quiet (ends_osc b) _ _ (All-cons PrintsNothing (Osc (osc_pieces n s) (b == 0x07))
+    (reported is_abort Execute b)
     tt (reported-quiet is_abort Execute b tt)) none_quiet
 byte-quiet n (InHook x) b h =
     either_quiet (ends_header b) _ _ (either_quiet (is_abort b) _ _ (one_quiet (Execute b) tt)
@@ -65,10 +66,10 @@ byte-quiet n InSwallowed b h = reported-quiet is_abort Execute b tt
 pub others-print_nothing : PrintsTextAlone
 others-print_nothing n past b other outside =
     let q = pending past in
-    let plain : is_esc b ≡ false = ne_eqb b 0x1B other in
+    let other_byte : is_esc b ≡ false = ne_eqb b 0x1B other in
     let at : (is_text q && not (is_esc b)) ≡ false = sym (ends_in_text-last past b) ∙ outside in
-    let still : is_text q ≡ false = sym (and-true (is_text q)) ∙ rw plain at at in
-    let reported : AllQuiet (events_of_byte n q b) = rw plain (byte-quiet n q b still) in
+    let still : is_text q ≡ false = sym (and-true (is_text q)) ∙ rw other_byte at at in
+    let reported : AllQuiet (events_of_byte n q b) = rw other_byte (byte-quiet n q b still) in
     subst AllQuiet (sym (added-from n past (b ∷ []) ∙ append-nil (events_of_byte n q b))) reported
 
 closed-cut_off : (n : ℕ) (q : Pending) → All IsCutOff (closed n q)

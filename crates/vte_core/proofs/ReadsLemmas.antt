@@ -43,11 +43,16 @@ module _ {S : Type 0} {step : S → Event → S → Type 0} {n : ℕ} {p mid r :
       → Reads step n mid between (take (length bs - i) (drop i bs)) k r new → Reads step n p old bs (i + k) r new
   reads_on bs i k a b = record {
     within = within_more bs i k a.within b.within;
-    state_after = λ q at. rw (read_more bs i k, after_bytes-append q (take i bs) (take k (take (length bs - i) (drop i bs))))
+    state_after = λ q at. rw (
+      read_more bs i k,
+      after_bytes-append q (take i bs) (take k (take (length bs - i) (drop i bs))),
+    )
         (b.state_after (after_bytes q (take i bs)) (a.state_after q at));
     reported = record {
       reported = a.reported.reported ++ b.reported.reported;
-      performed = performs-append step old between new a.reported.reported b.reported.reported a.reported.performed b.reported.performed;
+      performed =
+          performs-append step old between new a.reported.reported b.reported.reported a.reported.performed
+          b.reported.performed;
       added = λ q at. rw (
         read_more bs i k,
         events_from-append n q (take i bs) (take k (take (length bs - i) (drop i bs))),
@@ -66,7 +71,8 @@ module _ {S : Type 0} {step : S → Event → S → Type 0} {n : ℕ} {p mid r :
         (b.state_after (after_bytes q (take i bs)) (a.state_after q at));
     reported = record {
       reported = a.reported.reported ++ step_events n mid r (get_or bs i 0);
-      performed = performs-append step old between new a.reported.reported (step_events n mid r (get_or bs i 0)) a.reported.performed
+      performed = performs-append step old between new a.reported.reported
+          (step_events n mid r (get_or bs i 0)) a.reported.performed
           b.reported;
       added = λ q at. rw (
         take_more bs i 0 less,
@@ -82,7 +88,8 @@ module _ {S : Type 0} {step : S → Event → S → Type 0} {n : ℕ} {p mid r :
 module _ {S : Type 0} {step : S → Event → S → Type 0} {n : ℕ} {p r : Parser n} {old new : S} where
   pub state_after_past : (bs : List ℕ) (k : ℕ) → Reads step n p old bs k r new → (past : List ℕ) → IsAfter n p past
       → IsAfter n r (past ++ take k bs)
-  state_after_past bs k reads past h = rw (after_bytes-append (InText []) past (take k bs)) (reads.state_after (pending past) h)
+  state_after_past bs k reads past h = rw (after_bytes-append (InText []) past (take k bs))
+      (reads.state_after (pending past) h)
 
   pub reported_past : (bs : List ℕ) (k : ℕ) (reads : Reads step n p old bs k r new)
       → (take k bs ≡ [] → reads.reported.reported ≡ []) → Reported step n p old (take k bs) new

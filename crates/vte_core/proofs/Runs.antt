@@ -38,7 +38,8 @@ one c rest h =
 
 pub two : (a b c : ℕ) (rest : List ℕ) → char_len a ≡ 2 → is_in_range (second_min a) (second_max a) b ≡ true
     → first_bits a * 64 + (b - 128) ≡ c
-    → (run_reported [] (a ∷ b ∷ rest) ≡ char_event c ∷ run_reported [] rest) × (run_rest [] (a ∷ b ∷ rest) ≡ run_rest [] rest)
+    → (run_reported [] (a ∷ b ∷ rest) ≡ char_event c ∷ run_reported [] rest)
+    × (run_rest [] (a ∷ b ∷ rest) ≡ run_rest [] rest)
 two a b c rest n s e = (rw (n, s, n) (ap (λ x. char_event x ∷ run_reported [] rest) e), rw (n, s, n) refl)
 
 pub three : (a b d c : ℕ) (rest : List ℕ) → char_len a ≡ 3 → is_in_range (second_min a) (second_max a) b ≡ true
@@ -46,7 +47,10 @@ pub three : (a b d c : ℕ) (rest : List ℕ) → char_len a ≡ 3 → is_in_ran
     → (first_bits a * 64 + (b - 128)) * 64 + (d - 128) ≡ c
     → (run_reported [] (a ∷ b ∷ d ∷ rest) ≡ char_event c ∷ run_reported [] rest)
     × (run_rest [] (a ∷ b ∷ d ∷ rest) ≡ run_rest [] rest)
-three a b d c rest n s t e = (rw (n, s, n, t, n) (ap (λ x. char_event x ∷ run_reported [] rest) e), rw (n, s, n, t, n) refl)
+three a b d c rest n s t e = (
+  rw (n, s, n, t, n) (ap (λ x. char_event x ∷ run_reported [] rest) e),
+  rw (n, s, n, t, n) refl,
+)
 
 pub four : (a b d e c : ℕ) (rest : List ℕ) → char_len a ≡ 4 → is_in_range (second_min a) (second_max a) b ≡ true
     → is_in_range 0x80 0xBF d ≡ true → is_in_range 0x80 0xBF e ≡ true
@@ -137,11 +141,13 @@ run-text bs h =
     let same = encodes-chars bs h in
     (ap (run_reported []) (sym same) ∙ all.0, ap (run_rest []) (sym same) ∙ all.1)
 
-pub run_reported-append : (u xs ys : List ℕ) → run_reported u (xs ++ ys) ≡ run_reported u xs ++ run_reported (run_rest u xs) ys
+pub run_reported-append : (u xs ys : List ℕ) → run_reported u (xs ++ ys) ≡ run_reported u xs
+    ++ run_reported (run_rest u xs) ys
 run_reported-append u [] ys = refl
 run_reported-append u (x ∷ xs) ys =
     ap (λ es. text_reported u x ++ es) (run_reported-append (text_rest u x) xs ys)
-    ∙ sym (append_assoc (text_reported u x) (run_reported (text_rest u x) xs) (run_reported (run_rest (text_rest u x) xs) ys))
+    ∙ sym (append_assoc (text_reported u x) (run_reported (text_rest u x) xs)
+    (run_reported (run_rest (text_rest u x) xs) ys))
 
 pub run_rest-append : (u xs ys : List ℕ) → run_rest u (xs ++ ys) ≡ run_rest (run_rest u xs) ys
 run_rest-append u [] ys = refl

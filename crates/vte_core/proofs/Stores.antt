@@ -1,6 +1,6 @@
 -- Lists in one store.
-use Rattle.std.proofs.Common.{◌≡◌, ℕ, ◌+◌, ◌-◌, ◌<◌, ◌≤◌, List, [], ◌∷◌, ◌++◌, length, take, refl, sym, zero, suc, ◌∙◌, ap}
-use Rattle.std.proofs.Common.{arith, length-append, slice_range, subst, set, get_or}
+use Rattle.std.proofs.Common.{◌≡◌, ℕ, ◌+◌, ◌-◌, ◌<◌, ◌≤◌, List, [], ◌∷◌, ◌++◌, length, take, refl, sym, zero, suc, ◌∙◌}
+use Rattle.std.proofs.Common.{ap, arith, length-append, slice_range, subst, set, get_or}
 use Rattle.std.proofs.lemmas.Grind.{common_steps}
 use Rattle.std.proofs.lemmas.List.{take_more, take_more_set}
 use Rattle.std.proofs.Math.ListN.{length-set}
@@ -155,7 +155,8 @@ module _ (numbers ends : List ℕ) (len groups : ℕ) (old : List (List ℕ)) (s
       let end = get_or ends (groups - 1) 0 in
       let was : take groups ends ≡ prefix ++ end ∷ [] =
       ap (λ k. take k ends) (sym last) ∙ take_more ends (groups - 1) 0 (omega (arith, s.4, s.2, one)) in
-      let ends_are : take groups (set ends (groups - 1) (len + 1)) ≡ prefix ++ length (take len numbers ++ n ∷ []) ∷ [] =
+      let ends_are : take groups (set ends (groups - 1) (len + 1)) ≡ prefix
+      ++ length (take len numbers ++ n ∷ []) ∷ [] =
       ap (λ k. take k (set ends (groups - 1) (len + 1))) (sym last)
       ∙ (take_more_set ends (groups - 1) (len + 1) (omega (arith, s.4, s.2, one))
       ∙ ap (λ k. prefix ++ k ∷ []) (size_more n)) in

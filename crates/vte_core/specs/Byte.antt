@@ -15,7 +15,7 @@ pub record ReadsByte {S : Type 0} (step : S → Event → S
   pub reported : Performs step old (step_events n p r b) new
   pub is_reported : (q : Pending) → IsAt n p q → step_events n p r b ≡ events_of_byte n q b
 
--- the same of a byte other than ESC, in the state s
+-- what `ReadsByte` says, of a byte other than ESC in the state s
 pub record ReadsOther {S : Type 0} (step : S → Event → S
     → Type 0) (n : ℕ) (s : State) (p : Parser n) (old : S) (b : ℕ) (r : Parser n) (new : S) : Type 0 where
   pub state_after : (q : Pending) → IsAt n p q → IsAt n r (byte_rest q b)

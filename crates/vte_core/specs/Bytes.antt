@@ -21,9 +21,9 @@ is_control b = nat_lt b 0x20 && not (is_abort b || is_esc b)
 abbrev pub is_c0 : ℕ → Bool
 is_c0 b = nat_lt b 0x20 && not (is_esc b)
 
--- a character of ASCII that is printed
-abbrev pub is_plain : ℕ → Bool
-is_plain b = is_in_range 0x20 0x7F b
+-- a character of ASCII that is printed, DEL among them
+abbrev pub is_printed_ascii : ℕ → Bool
+is_printed_ascii b = is_in_range 0x20 0x7F b
 
 abbrev pub is_intermediate : ℕ → Bool
 is_intermediate b = is_in_range 0x20 0x2F b

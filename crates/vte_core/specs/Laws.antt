@@ -71,7 +71,8 @@ AsksAtEnds = (past piece : List ℕ) → (asks_after past piece 0 ≡ true) × (
 -- and after each byte that adds more than characters of ground text
 abbrev pub AsksAfterSequences : Type 0
 AsksAfterSequences = (n : ℕ) (past bytes : List ℕ) (b : ℕ) (rest : List ℕ)
-    → ¬ All IsCharacter (added n (past ++ bytes) (b ∷ [])) → asks_after past (bytes ++ b ∷ rest) (length bytes + 1) ≡ true
+    → ¬ All IsCharacter (added n (past ++ bytes) (b ∷ [])) → asks_after past (bytes ++ b ∷ rest) (length bytes + 1)
+    ≡ true
 
 -- but not behind ground text that goes on in the piece
 abbrev pub AsksOutsideRuns : Type 0

@@ -4,7 +4,7 @@ pub mod Bytes
 pub mod Classes
 pub mod Text
 pub mod Header
-pub mod Plain
+pub mod LoneNumbers
 pub mod Shapes
 pub mod Added
 pub mod GroundText

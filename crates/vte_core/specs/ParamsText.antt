@@ -11,6 +11,6 @@ group_text group = join_by decimal (codes ":") group
 abbrev pub groups_text : List (List ℕ) → List ℕ
 groups_text groups = join_by group_text (codes ";") groups
 
--- the same in brackets
+-- the text in brackets
 abbrev pub params_text : List (List ℕ) → List ℕ
 params_text groups = codes "[" ++ (groups_text groups ++ codes "]")

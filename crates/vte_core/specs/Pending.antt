@@ -90,7 +90,8 @@ final_rest is b =
 abbrev pub byte_reported : ℕ → Pending → ℕ → List Event
 byte_reported n (InText u) b = text_reported u b
 byte_reported n (InEscape is) b =
-    if ends_escape b then (if is_abort b then Execute b ∷ [] else final_reported is b) else reported is_control Execute b
+    if ends_escape b then
+    (if is_abort b then Execute b ∷ [] else final_reported is b) else reported is_control Execute b
 byte_reported n (InCsi h) b =
     if ends_header b then (if is_abort b then Execute b ∷ []
     else (if is_well_formed h then Csi (kept_groups h) (kept_intermediates h) (overflows h) b ∷ [] else []))
@@ -125,7 +126,7 @@ events_of_byte n q b = if is_esc b then closed n q else byte_reported n q b
 abbrev pub after_byte : Pending → ℕ → Pending
 after_byte q b = if is_esc b then InEscape [] else byte_rest q b
 
--- the same of more bytes
+-- the events of several bytes, and what is pending after them
 abbrev pub events_from : ℕ → Pending → List ℕ → List Event
 events_from n q [] = []
 events_from n q (b ∷ bs) = events_of_byte n q b ++ events_from n (after_byte q b) bs

@@ -15,7 +15,7 @@ phase_of (a ∷ t) =
     if each is_numeric (unmarked (a ∷ t)) then InNumbers
     else (if in_order (unmarked (a ∷ t)) then InIntermediates else Ignored)
 
--- the same after one more byte, which is numeric or an intermediate or neither
+-- how far it has come after one more byte, which is numeric or an intermediate or neither
 abbrev pub next_by : Bool → Bool → Phase → Phase
 next_by numeric inter Start = if inter then InIntermediates else InNumbers
 next_by numeric inter InNumbers = if numeric then InNumbers else (if inter then InIntermediates else Ignored)

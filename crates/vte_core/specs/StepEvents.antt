@@ -52,7 +52,8 @@ byte_events n s.Csi old new b =
     if ends_header b then (if is_abort b then Execute b ∷ []
     else (if is_kept old.header.phase then csi_event new.header b ∷ [] else []))
     else reported is_control Execute b
-byte_events n s.OscString old new b = if ends_osc b then osc_event new.osc (b == 0x07) ∷ reported is_abort Execute b else []
+byte_events n s.OscString old new b = if ends_osc b then osc_event new.osc
+    (b == 0x07) ∷ reported is_abort Execute b else []
 byte_events n s.DcsHeader old new b =
     if ends_header b then (if is_abort b then Execute b ∷ []
     else (if is_kept old.header.phase then hook_event new.header b ∷ [] else []))

@@ -1,10 +1,12 @@
 //! Laws of the events of a byte stream, each as the contract of a function that does nothing.
 
 ghost use Rattle.vte_core.specs.Laws.{KeepsBeginnings, AddsInOrder, CutsBeforeEsc, EscCutsOff, CutsAfter, AddsFitting};
-ghost use Rattle.vte_core.specs.Laws.{TellsCharacters, PrintsTextAlone, AsksAtEnds, AsksAfterSequences, AsksOutsideRuns};
+ghost use Rattle.vte_core.specs.Laws.{TellsCharacters, PrintsTextAlone, AsksAtEnds, AsksAfterSequences};
+ghost use Rattle.vte_core.specs.Laws.{AsksOutsideRuns};
 ghost use Rattle.vte_core.specs.Ground.{AddsAsAlone, NothingIsAtGround, GroundJoins, EscLeavesGround, LeadsToGround};
 ghost use Rattle.vte_core.specs.Ground.{EscapesEndAtGround, ControlSequencesEndAtGround, TextsEndAtGround};
-ghost use Rattle.vte_core.specs.Ground.{NothingPendingIsGround, EscapesAreEvents, ControlSequencesAreEvents, TextsAreEvents};
+ghost use Rattle.vte_core.specs.Ground.{NothingPendingIsGround, EscapesAreEvents, ControlSequencesAreEvents};
+ghost use Rattle.vte_core.specs.Ground.{TextsAreEvents};
 
 /// The events of a beginning of a stream are a beginning of the stream's events; pieces that follow one another add
 /// their events one after the other.
@@ -13,8 +15,9 @@ pub fn beginnings()
     ensures in_order { AddsInOrder }
 {}
 
-/// A stream may be cut before each ESC: `s ESC t` has the events of `s ESC`, then those of `ESC t`. The ESC itself tells
-/// only what it cuts off: an unfinished character as U+FFFD, an operating system command, or a device string's end.
+/// A stream may be cut before each ESC: `s ESC t` has the events of `s ESC`, then those of `ESC t`. The ESC itself
+/// tells only what it cuts off: an unfinished character as U+FFFD, an operating system command, or a device string's
+/// end.
 pub fn cut_before_esc()
     ensures cut { CutsBeforeEsc }
     ensures ended { EscCutsOff }
@@ -40,9 +43,9 @@ pub fn ground_text()
     ensures alone { PrintsTextAlone }
 {}
 
-/// Where `Parser::advance_until_terminated` asks its performer: before the first byte of a piece and after its last, and
-/// after each byte that adds an event other than a printed character or an executed control; but never behind ground
-/// text that goes on in the piece.
+/// Where `Parser::advance_until_terminated` asks its performer: before the first byte of a piece and after its last,
+/// and after each byte that adds an event other than a printed character or an executed control; but never behind
+/// ground text that goes on in the piece.
 pub fn asking_points()
     ensures ends { AsksAtEnds }
     ensures sequences { AsksAfterSequences }

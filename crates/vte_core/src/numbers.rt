@@ -3,7 +3,7 @@
 ghost use Rattle.std.specs.Prelude.{◌≡◌, ◌+◌, ◌-◌, ◌*◌, ◌<◌, ◌≤◌, ◌^◌, ℕ, List, [], ◌∷◌, ◌++◌, length, take, true};
 ghost use Rattle.std.specs.Prelude.{IsTrue, IfSome, false, slice_index};
 ghost use Rattle.vte_core.specs.Bytes.{each, is_numeric};
-ghost use Rattle.vte_core.specs.Plain.{ArePlain};
+ghost use Rattle.vte_core.specs.LoneNumbers.{AreLoneNumbers};
 ghost use Rattle.vte_core.specs.Store.{total};
 
 use crate::Params;
@@ -129,14 +129,14 @@ impl Numbers {
         read
     }
 
-    /// Reads numbers that `;` alone separates, up to the first other byte. Returns how many bytes they are; nothing
-    /// where they are more than are kept, or one has more than four digits, or where few bytes are left.
+    /// Reads lone numbers, those that `;` alone separates, up to the first other byte. Returns how many bytes they are;
+    /// nothing where they are more than are kept, or one has more than four digits, or where few bytes are left.
     #[inline(always)]
-    pub fn read_plain(&mut self, bytes: &[u8]) -> Option<usize>
-        ensures { IfSome result (λ k. ArePlain bytes.now k self.new.params) }
+    pub fn read_lone_numbers(&mut self, bytes: &[u8]) -> Option<usize>
+        ensures { IfSome result (λ k. AreLoneNumbers bytes.now k self.new.params) }
     {
         self.is_open = false;
-        self.params.read_plain(bytes)
+        self.params.read_lone_numbers(bytes)
     }
 
     /// The header ends, and with it the last number and the last group.

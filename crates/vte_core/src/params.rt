@@ -1,10 +1,10 @@
 //! The parameters of a control sequence or a device control string.
 
-ghost use Rattle.std.specs.Prelude.{◌≡◌, ◌+◌, ◌-◌, ◌<◌, ◌≤◌, ◌==◌, ℕ, List, [], ◌∷◌, ◌++◌, length, take, map, true, false};
-ghost use Rattle.std.specs.Prelude.{IfSome, IfNone};
+ghost use Rattle.std.specs.Prelude.{◌≡◌, ◌+◌, ◌-◌, ◌<◌, ◌≤◌, ◌==◌, ℕ, List, [], ◌∷◌, ◌++◌, length, take, map, true};
+ghost use Rattle.std.specs.Prelude.{false, IfSome, IfNone};
 ghost use Rattle.std.specs.Int.{is_in_range};
 ghost use Rattle.vte_core.specs.Store.{total};
-ghost use Rattle.vte_core.specs.Plain.{ArePlain, IsShortNumber};
+ghost use Rattle.vte_core.specs.LoneNumbers.{AreLoneNumbers, IsBoundedNumber};
 ghost use Rattle.vte_core.specs.ParamsText.{group_text, groups_text};
 ghost use Rattle.std.specs.Iterator.{YieldsFirstBy, item_count};
 ghost use Rattle.std.specs.Fmt.{WritesOnOk};
@@ -143,12 +143,12 @@ impl Params {
         self.subparameters += 1;
     }
 
-    /// Reads numbers that `;` alone separates, up to the first other byte. Returns how many bytes they are; nothing
-    /// where they are more than are kept, or one has more than four digits, or where few bytes are left, or many are
-    /// read.
+    /// Reads lone numbers, those that `;` alone separates, up to the first other byte. Returns how many bytes they are;
+    /// nothing where they are more than are kept, or one has more than four digits, or where few bytes are left, or
+    /// many are read.
     #[inline(always)]
-    pub(crate) fn read_plain(&mut self, bytes: &[u8]) -> Option<usize>
-        ensures { IfSome result (λ k. ArePlain bytes.now k self.new) }
+    pub(crate) fn read_lone_numbers(&mut self, bytes: &[u8]) -> Option<usize>
+        ensures { IfSome result (λ k. AreLoneNumbers bytes.now k self.new) }
     {
         if bytes.len() < NUMBER_LEN {
             return None;
@@ -161,7 +161,7 @@ impl Params {
         let mut count = 0;
         let mut read = 0;
         while read <= last {
-            let (number, digits) = short_number(&bytes[read..])?;
+            let (number, digits) = bounded_number(&bytes[read..])?;
             self.numbers[count] = number;
             count += 1;
             read += digits;
@@ -185,11 +185,11 @@ fn digit(byte: u8) -> u32
     (byte as u32).wrapping_sub(0x30)
 }
 
-/// The number of up to four digits at the start, and how many they are; nothing where a fifth follows.
+/// The number of at most four digits at the start, and how many they are; nothing where a fifth follows.
 #[inline(always)]
-fn short_number(bytes: &[u8]) -> Option<(u16, usize)>
+fn bounded_number(bytes: &[u8]) -> Option<(u16, usize)>
     requires { 5 ≤ length bytes.now }
-    ensures { IfSome result (λ x. IsShortNumber bytes.now x.0 x.1) }
+    ensures { IfSome result (λ x. IsBoundedNumber bytes.now x.0 x.1) }
 {
     let [first, second, third, fourth, fifth, ..] = bytes else {
         unreachable!();

@@ -1,7 +1,7 @@
 //! The parser: what each byte does in each state, and how bytes are read many at a time.
 
-ghost use Rattle.std.specs.Prelude.{◌≡◌, ◌≢◌, ◌<◌, ◌≤◌, ℕ, List, [], ◌∷◌, ◌++◌, length, IsTrue, take, drop, slice_index};
-ghost use Rattle.std.specs.Prelude.{false, true, not, ◌&&◌, ◌==◌, IfSome};
+ghost use Rattle.std.specs.Prelude.{◌≡◌, ◌≢◌, ◌<◌, ◌≤◌, ℕ, List, [], ◌∷◌, ◌++◌, length, IsTrue, take, drop};
+ghost use Rattle.std.specs.Prelude.{slice_index, false, true, not, ◌&&◌, ◌==◌, IfSome};
 ghost use Rattle.std.specs.Int.{is_in_range};
 ghost use Rattle.vte_core.specs.Byte.{ReadsByte, ReadsOther};
 ghost use Rattle.vte_core.specs.Bytes.{each, is_device_data, is_esc, is_private, is_swallowed, opens_sequence};
@@ -129,21 +129,21 @@ impl<const N: usize> Parser<N> {
         ensures is_reported { (is : List ℕ) → IsAt N self.old (InEscape is)
             → final_events self.old.intermediates byte ≡ final_reported is byte }
     {
-        let plain = self.intermediates.kept.is_empty();
+        let is_unmarked = self.intermediates.kept.is_empty();
         match byte {
-            b'[' if plain => {
+            b'[' if is_unmarked => {
                 self.state = State::Csi;
                 self.header.clear();
             }
-            b']' if plain => {
+            b']' if is_unmarked => {
                 self.state = State::OscString;
                 self.osc.clear();
             }
-            b'P' if plain => {
+            b'P' if is_unmarked => {
                 self.state = State::DcsHeader;
                 self.header.clear();
             }
-            b'X' | b'^' | b'_' if plain => self.state = State::SosPmApcString,
+            b'X' | b'^' | b'_' if is_unmarked => self.state = State::SosPmApcString,
             _ => {
                 self.state = State::Ground;
                 performer.esc_dispatch(
@@ -371,8 +371,8 @@ impl<const N: usize> Parser<N> {
         }
     }
 
-    /// Reads what has no event, and the byte after it, if there is one. Returns how many bytes it read. It is called where
-    /// a sequence goes on behind ESC and the byte after it.
+    /// Reads what has no event, and the byte after it, if there is one. Returns how many bytes it read. It is called
+    /// where a sequence goes on behind ESC and the byte after it.
     #[inline(always)]
     fn read_inside<P: Perform>(&mut self, performer: &mut P, bytes: &[u8]) -> usize
         requires some { 0 < length bytes.now }
@@ -397,9 +397,9 @@ impl<const N: usize> Parser<N> {
         performer.csi_dispatch(&self.header.numbers.params, &[mark], false, byte as char);
     }
 
-    /// Reads a control sequence of a private byte and plain numbers, if it stands whole at the start. Returns how many
+    /// Reads a control sequence of a private byte and lone numbers, if it stands whole at the start. Returns how many
     /// bytes it is, or else 0.
-    // Never inlined, so that the more frequent plain sequences keep the registers.
+    // Never inlined, so that the more frequent sequences without a private byte keep the registers.
     #[inline(never)]
     fn read_private<P: Perform>(&mut self, performer: &mut P, bytes: &[u8]) -> usize
         requires { IsAtEsc N self.old bytes.now }
@@ -413,7 +413,7 @@ impl<const N: usize> Parser<N> {
         if !is_private(*mark) {
             return 0;
         }
-        let Some(len) = self.header.numbers.read_plain(rest) else {
+        let Some(len) = self.header.numbers.read_lone_numbers(rest) else {
             return 0;
         };
         if !is_final(rest[len]) {
@@ -423,7 +423,7 @@ impl<const N: usize> Parser<N> {
         len + 4
     }
 
-    /// Reads a control sequence of plain numbers, if it stands whole at the start. It may have one intermediate after
+    /// Reads a control sequence of lone numbers, if it stands whole at the start. It may have one intermediate after
     /// them, or a private byte before them. Returns how many bytes it is, or else 0.
     #[inline(always)]
     fn read_csi<P: Perform>(&mut self, performer: &mut P, bytes: &[u8]) -> usize
@@ -435,7 +435,7 @@ impl<const N: usize> Parser<N> {
         let [_, b'[', rest @ ..] = bytes else {
             return 0;
         };
-        let Some(len) = self.header.numbers.read_plain(rest) else {
+        let Some(len) = self.header.numbers.read_lone_numbers(rest) else {
             return 0;
         };
         let byte = rest[len];
@@ -453,7 +453,7 @@ impl<const N: usize> Parser<N> {
     /// Reads an escape sequence with one intermediate or none, if it stands whole at the start and opens no longer one.
     /// Returns how many bytes it is, or else 0.
     #[inline(always)]
-    fn read_short_escape<P: Perform>(&self, performer: &mut P, bytes: &[u8]) -> usize
+    fn read_whole_escape<P: Perform>(&self, performer: &mut P, bytes: &[u8]) -> usize
         requires { IsAtEsc N self.now bytes.now }
         ensures { ReadsWhole P.step N self.now performer.old bytes.now result self.now performer.new }
     {
@@ -487,7 +487,7 @@ impl<const N: usize> Parser<N> {
         1 + self.read_escape(performer, &bytes[1..])
     }
 
-    /// Reads a short sequence, if it stands whole at the start. Returns how many bytes it is, or else 0.
+    /// Reads a sequence of a frequent form, if it stands whole at the start. Returns how many bytes it is, or else 0.
     #[inline(always)]
     fn read_whole<P: Perform>(&mut self, performer: &mut P, bytes: &[u8]) -> usize
         requires { IsAtEsc N self.old bytes.now }
@@ -497,12 +497,12 @@ impl<const N: usize> Parser<N> {
     {
         match bytes {
             [_, b'[', ..] => self.read_csi(performer, bytes),
-            _ => self.read_short_escape(performer, bytes),
+            _ => self.read_whole_escape(performer, bytes),
         }
     }
 
-    /// Reads what ESC begins after whole ground text. A short sequence that stands whole in the bytes is read at once,
-    /// and any other by `read_begun`, which comes to the same. Returns how many bytes it read.
+    /// Reads what ESC begins after whole ground text. A sequence of a frequent form that stands whole in the bytes is
+    /// read at once. Any other is read by `read_begun`, which comes to the same. Returns how many bytes it read.
     #[inline(always)]
     fn read_sequence<P: Perform>(&mut self, performer: &mut P, bytes: &[u8]) -> usize
         requires { IsAtEsc N self.old bytes.now }
@@ -530,9 +530,10 @@ impl<const N: usize> Parser<N> {
         1
     }
 
-    /// Reads short ground text of ASCII up to the next ESC, if it stands at the start. Returns how many bytes it read.
+    /// Reads inline text, if it stands at the start: one to eight printable characters of ASCII up to the next ESC.
+    /// Returns how many bytes it read.
     #[inline(always)]
-    fn read_short<P: Perform>(&mut self, performer: &mut P, bytes: &[u8]) -> usize
+    fn read_inline_text<P: Perform>(&mut self, performer: &mut P, bytes: &[u8]) -> usize
         requires room { 8 < length bytes.now }
         requires ground { self.old.state ≡ State.Ground }
         requires whole { self.old.unfinished ≡ [] }
@@ -543,7 +544,7 @@ impl<const N: usize> Parser<N> {
         ensures is_step { 0 < result → (q : Pending) → IsAt N self.old q
             → is_one_step q (take result bytes.now) (drop result bytes.now) ≡ true }
     {
-        self.unfinished.read_short(performer, bytes)
+        self.unfinished.read_inline(performer, bytes)
     }
 
     /// Reads the ground text before the next ESC, if there is some. Returns how many bytes it read.
@@ -587,7 +588,7 @@ impl<const N: usize> Parser<N> {
         text + self.read_esc(performer, &bytes[text..])
     }
 
-    /// Reads as `read_through` does, but short text and a sequence after it without a call. It is called where no
+    /// Reads as `read_through` does, but inline text and a sequence after it without a call. It is called where no
     /// character is unfinished and many bytes are left.
     #[inline(always)]
     fn read_turn<P: Perform, const ASKED: bool>(&mut self, performer: &mut P, bytes: &[u8]) -> usize
@@ -597,7 +598,7 @@ impl<const N: usize> Parser<N> {
         ensures { ReadsOn P.step P.is_terminated ASKED N self.old performer.old bytes.now result
             self.new performer.new }
     {
-        let text = self.read_short(performer, bytes);
+        let text = self.read_inline_text(performer, bytes);
         if ASKED && text > 0 && performer.terminated() {
             return text;
         }
@@ -623,8 +624,8 @@ impl<const N: usize> Parser<N> {
         data + 1
     }
 
-    /// Reads some bytes of a sequence, up to the first that has an event, and with it. Where the performer isn't asked, a
-    /// device control string's data is read at once. Returns how many bytes it read.
+    /// Reads some bytes of a sequence, up to the first that has an event, and with it. Where the performer isn't asked,
+    /// a device control string's data is read at once. Returns how many bytes it read.
     #[inline(always)]
     fn read_apart<P: Perform, const ASKED: bool>(
         &mut self,
@@ -652,7 +653,7 @@ impl<const N: usize> Parser<N> {
     }
 
     /// Reads sequences up to the next ground text, or as far as the performer goes on. Returns how many bytes it read.
-    // Never inlined, for the reason of `read_through`.
+    // Never inlined, so that the loop over a piece is short.
     #[inline(never)]
     fn read_outside<P: Perform, const ASKED: bool>(
         &mut self,
@@ -710,7 +711,8 @@ impl<const N: usize> Parser<N> {
     /// nothing.
     pub fn advance_until_terminated<P: Perform>(&mut self, performer: &mut P, bytes: &[u8]) -> usize
         ensures within { result ≤ length bytes.now }
-        ensures state_after { (past : List ℕ) → IsAfter N self.old past → IsAfter N self.new (past ++ take result bytes.now) }
+        ensures state_after { (past : List ℕ) → IsAfter N self.old past
+            → IsAfter N self.new (past ++ take result bytes.now) }
         ensures reported { Reported P.step N self.old performer.old (take result bytes.now) performer.new }
         ensures stops { (past : List ℕ) → IsAfter N self.old past
             → Stops P.step P.is_terminated N past bytes.now performer.old result performer.new }

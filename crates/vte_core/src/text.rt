@@ -9,21 +9,21 @@ ghost use Rattle.std.specs.Prelude.{◌≡◌, ◌==◌, ◌+◌, ◌-◌, ◌<�
 ghost use Rattle.std.specs.Prelude.{IsTrue, true, false, slice_index, take, All};
 ghost use Rattle.std.specs.Str.{IsUtf8};
 ghost use Rattle.printable.specs.Printable.{IsPrintable};
-ghost use Rattle.vte_core.specs.Bytes.{each, is_c0, is_esc, is_plain};
+ghost use Rattle.vte_core.specs.Bytes.{each, is_c0, is_esc, is_printed_ascii};
 ghost use Rattle.vte_core.specs.Runs.{ReadsText, TellsEach, run_reported, run_rest, is_printed, printed_len};
 ghost use Rattle.vte_core.specs.Shapes.{before};
 ghost use Rattle.vte_core.specs.Event.{Event, Print, Execute, Performs};
 ghost use Rattle.vte_core.specs.Text.{char_len, second_min, second_max, first_bits, joined, char_event};
 ghost use Rattle.vte_core.specs.Text.{malformed_event};
-ghost use Rattle.vte_core.specs.Pending.{IsUnfinished, begun, begun_rest, text_reported, text_rest, goes_on, whole_goes_on};
-ghost use Rattle.vte_core.specs.Pending.{IsWhole, BeginsLong, code_of};
+ghost use Rattle.vte_core.specs.Pending.{IsUnfinished, begun, begun_rest, text_reported, text_rest, goes_on};
+ghost use Rattle.vte_core.specs.Pending.{whole_goes_on, IsWhole, BeginsLong, code_of};
 ghost use Rattle.std.specs.Char.{InScalarRange};
 ghost use Rattle.std.specs.Int.{is_in_range};
 
 use crate::Perform;
 use crate::thresholds::{BLOCK_LEN, LINE_LEN};
 use arrayvec::ArrayVec;
-use printable::thresholds::SHORT_LEN;
+use printable::thresholds::FIRST_LEN;
 use printable::{is_printable_byte, printable_len};
 use simdutf8::compat::from_utf8;
 use std::marker::Model;
@@ -333,10 +333,10 @@ fn c1(bytes: &[u8]) -> Option<u8>
     }
 }
 
-/// Whether the byte is a character of ASCII that is printed.
+/// Whether the byte is a character of ASCII that is printed, DEL among them.
 #[inline(always)]
-fn is_plain(byte: u8) -> bool
-    ensures { result ≡ is_plain byte }
+fn is_printed_ascii(byte: u8) -> bool
+    ensures { result ≡ is_printed_ascii byte }
 {
     (0x20..=0x7F).contains(&byte)
 }
@@ -346,7 +346,7 @@ fn is_plain(byte: u8) -> bool
 fn ends_text(bytes: &[u8]) -> bool {
     match bytes {
         [] => true,
-        [next, ..] => !is_plain(*next) && (*next < 0xC2 || !begins_long(bytes)),
+        [next, ..] => !is_printed_ascii(*next) && (*next < 0xC2 || !begins_long(bytes)),
     }
 }
 
@@ -482,7 +482,7 @@ impl Unfinished {
     #[inline(always)]
     fn read_ascii<P: Perform>(&mut self, performer: &mut P, bytes: &[u8]) -> usize
         requires some { 0 < length bytes.now }
-        requires plain { is_plain (slice_index bytes.now 0) ≡ true }
+        requires printed { is_printed_ascii (slice_index bytes.now 0) ≡ true }
         requires none { self.old ≡ [] }
         ensures { ReadsText P.step self.old performer.old bytes.now result performer.new self.new }
     {
@@ -639,10 +639,10 @@ impl Unfinished {
         }
     }
 
-    /// Reads ground text of one to eight printable characters of ASCII up to the next ESC. Returns how many bytes it
+    /// Reads inline text: one to eight printable characters of ASCII up to the next ESC. Returns how many bytes it
     /// read: none where other text stands at the start.
     #[inline(always)]
-    pub fn read_short<P: Perform>(&mut self, performer: &mut P, bytes: &[u8]) -> usize
+    pub fn read_inline<P: Perform>(&mut self, performer: &mut P, bytes: &[u8]) -> usize
         requires room { 8 < length bytes.now }
         requires whole { self.old ≡ [] }
         ensures within { result < length bytes.now }
@@ -657,7 +657,7 @@ impl Unfinished {
         if bytes[1] == 0x1B {
             return print_alone(performer, bytes[0]);
         }
-        let len = printable_len(&bytes[..SHORT_LEN]);
+        let len = printable_len(&bytes[..FIRST_LEN]);
         if bytes[len] != 0x1B {
             return 0;
         }

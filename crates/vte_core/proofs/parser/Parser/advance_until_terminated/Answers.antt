@@ -45,7 +45,8 @@ loop-read-preserved g c =
     }
 
 pub returns-then-terminated-clause-state_after : goal.returns-then-terminated-clause-state_after
-returns-then-terminated-clause-state_after g c = state_after_past c.args.bytes.now c.loop-read.read c.loop-read.invariant.reads
+returns-then-terminated-clause-state_after g c =
+    state_after_past c.args.bytes.now c.loop-read.read c.loop-read.invariant.reads
 
 pub returns-then-terminated-clause-reported : goal.returns-then-terminated-clause-reported
 returns-then-terminated-clause-reported g c =

@@ -11,5 +11,6 @@ returns-then-bytes-eq1 g c =
 pub returns : goal.returns
 returns g c =
     let need = c.requires in
-    quiet-and-step c.args.bytes.now 1 c.read_escape.result (esc-quiet c.args.bytes.now need.begins need.ground need.whole
+    quiet-and-step c.args.bytes.now 1 c.read_escape.result
+    (esc-quiet c.args.bytes.now need.begins need.ground need.whole
     refl need.whole c.clear.ensures) c.read_escape.ensures

@@ -1,11 +1,11 @@
 use Rattle.std.proofs.Common.{◌∙◌, ◌+◌, refl, sym, arith}
-use Rattle.vte_core.proofs.PlainSequence.{marked_csi_step, plain_step, sequence_read, still_text, whole_from}
+use Rattle.vte_core.proofs.WholeCsi.{marked_csi_step, csi_step, sequence_read, still_text, whole_from}
 use Rattle.vte_core.proofs.parser.Parser.read_csi.Goals as goal
 
 pub returns-then-is_final-clause-reads : goal.returns-then-is_final-clause-reads
 returns-then-is_final-clause-reads g c =
     let need = c.requires in
-    sequence_read c.args.bytes.now (c.in-Some.len + 3) (plain_step c.args.bytes.now c.in-Some.len need.begins need.ground
+    sequence_read c.args.bytes.now (c.in-Some.len + 3) (csi_step c.args.bytes.now c.in-Some.len need.begins need.ground
     need.whole (omega arith) (omega arith) c.in-Some.ensures (sym c.is_final.ensures ∙ c.if-is_final.true)
     (still_text _ _ _ need.ground need.ground refl) c.csi_dispatch.ensures)
 

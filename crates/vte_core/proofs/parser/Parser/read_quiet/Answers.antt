@@ -6,7 +6,8 @@ returns-in-Csi-clause-reads g c = header_quiet c.read.ensures.within c.read.new.
     c.read.ensures.reads
 
 pub returns-in-OscString-clause-reads : goal.returns-in-OscString-clause-reads
-returns-in-OscString-clause-reads g c = osc_quiet c.read-in-OscString.ensures.within c.read-in-OscString.new.self c.in-OscString.is
+returns-in-OscString-clause-reads g c =
+    osc_quiet c.read-in-OscString.ensures.within c.read-in-OscString.new.self c.in-OscString.is
     c.read-in-OscString.ensures.all_data c.read-in-OscString.ensures.reads
 
 pub returns-in-SosPmApcString-clause-reads : goal.returns-in-SosPmApcString-clause-reads

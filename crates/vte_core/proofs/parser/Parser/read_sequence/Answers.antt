@@ -1,5 +1,5 @@
 use Rattle.std.proofs.Common.{arith}
-use Rattle.vte_core.proofs.PlainSequence.{after_nothing}
+use Rattle.vte_core.proofs.WholeCsi.{after_nothing}
 use Rattle.vte_core.proofs.parser.Parser.read_sequence.Goals as goal
 
 pub returns-then-len-gt0 : goal.returns-then-len-gt0

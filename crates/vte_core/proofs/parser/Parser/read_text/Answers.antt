@@ -29,7 +29,8 @@ pub returns-clause-ended : goal.returns-clause-ended
 returns-clause-ended g c less =
     let bs = c.args.bytes.now in
     let k = c.read.result in
-    let ends : is_esc (get_or bs k 0) ≡ true = rw c.read.ensures.len (before-ends bs (rw (← c.read.ensures.len) less)) in
+    let ends : is_esc (get_or bs k 0) ≡ true = rw c.read.ensures.len
+    (before-ends bs (rw (← c.read.ensures.len) less)) in
     grind (arith, nat_tests, ends)
 
 pub returns-clause-is_step : goal.returns-clause-is_step

@@ -21,7 +21,8 @@ returns g c =
     let text = c.read_text-text.ensures in
     on_text c.args.bytes.now c.read_text-text.result c.read_esc.result c.requires.ground text.reads text.is_step
     (λ asks some. elim c.else-this-ne0.branch [
-      | else-this-ne0-via-then-this-ne0+then-text-gt0+else-terminated w ↦ sym w.terminated.ensures ∙ w.if-terminated.false
+      | else-this-ne0-via-then-this-ne0+then-text-gt0+else-terminated w ↦ sym w.terminated.ensures
+          ∙ w.if-terminated.false
       | else-this-ne0-via-then-this-ne0+else-text-gt0 w ↦ absurd (omega (arith, some, w.if-text-gt0.false))
       | else-this-ne0-via-else-this-ne0 w ↦ absurd (never-asked _ w.if-this-ne0.false asks)
     ])

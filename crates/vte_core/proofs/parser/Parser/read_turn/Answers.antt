@@ -7,15 +7,17 @@ use Rattle.vte_core.proofs.parser.Parser.read_turn.Goals.{else-this-ne0-via-else
 
 pub returns-then-terminated : goal.returns-then-terminated
 returns-then-terminated g c =
-    let short = c.read_short-text.ensures in
-    on_run c.args.bytes.now c.read_short-text.result c.if-text-gt0.true short.reads short.is_step
+    let inline = c.read_inline_text-text.ensures in
+    on_run c.args.bytes.now c.read_inline_text-text.result c.if-text-gt0.true inline.reads inline.is_step
 
 pub returns-then-bytes-text-eq27 : goal.returns-then-bytes-text-eq27
 returns-then-bytes-text-eq27 g c =
-    let short = c.read_short-text.ensures in
-    on_text c.args.bytes.now c.read_short-text.result c.read_sequence.result c.requires.ground short.reads short.is_step
+    let inline = c.read_inline_text-text.ensures in
+    on_text c.args.bytes.now c.read_inline_text-text.result c.read_sequence.result c.requires.ground inline.reads
+    inline.is_step
     (λ asks some. elim c.else-this-ne0.branch [
-      | else-this-ne0-via-then-this-ne0+then-text-gt0+else-terminated w ↦ sym w.terminated.ensures ∙ w.if-terminated.false
+      | else-this-ne0-via-then-this-ne0+then-text-gt0+else-terminated w ↦ sym w.terminated.ensures
+          ∙ w.if-terminated.false
       | else-this-ne0-via-then-this-ne0+else-text-gt0 w ↦ absurd (omega (arith, some, w.if-text-gt0.false))
       | else-this-ne0-via-else-this-ne0 w ↦ absurd (never-asked _ w.if-this-ne0.false asks)
     ])
@@ -23,10 +25,12 @@ returns-then-bytes-text-eq27 g c =
 
 pub returns : goal.returns
 returns g c =
-    let short = c.read_short-text.ensures in
-    on_text c.args.bytes.now c.read_short-text.result c.read_through.result c.requires.ground short.reads short.is_step
+    let inline = c.read_inline_text-text.ensures in
+    on_text c.args.bytes.now c.read_inline_text-text.result c.read_through.result c.requires.ground inline.reads
+    inline.is_step
     (λ asks some. elim c.else-this-ne0.branch [
-      | else-this-ne0-via-then-this-ne0+then-text-gt0+else-terminated w ↦ sym w.terminated.ensures ∙ w.if-terminated.false
+      | else-this-ne0-via-then-this-ne0+then-text-gt0+else-terminated w ↦ sym w.terminated.ensures
+          ∙ w.if-terminated.false
       | else-this-ne0-via-then-this-ne0+else-text-gt0 w ↦ absurd (omega (arith, some, w.if-text-gt0.false))
       | else-this-ne0-via-else-this-ne0 w ↦ absurd (never-asked _ w.if-this-ne0.false asks)
     ])

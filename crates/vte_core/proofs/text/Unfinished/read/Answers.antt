@@ -28,7 +28,8 @@ loop-read-preserved g c =
     let inv = c.loop-read.invariant in
     let reads = c.read_more-read.ensures in
     let more = reads_more g.P.Perform.step c.args.self.now c.loop-read.self c.loop-read.performer bs i k
-    c.read_more-read.new.performer c.read_more-read.new.self inv.reported inv.within inv.no_esc inv.added inv.rest reads in
+    c.read_more-read.new.performer c.read_more-read.new.self inv.reported inv.within inv.no_esc inv.added inv.rest reads
+    in
     record {
       within = within_more bs i k inv.within reads.within;
       no_esc = ap has_no_esc (read_more bs i k)

@@ -5,7 +5,7 @@ use Rattle.std.specs.Str.{chars}
 use Rattle.vte_core.specs.Event.{Print}
 use Rattle.vte_core.proofs.Prefixes.{reads_alone}
 use Rattle.printable.proofs.PrintableLemmas.{printable-ascii}
-use Rattle.vte_core.proofs.Ground.{plain-run, printable-run}
+use Rattle.vte_core.proofs.Ground.{printed-run, printable-run}
 use Rattle.vte_core.proofs.Telling.{same_events}
 use Rattle.vte_core.proofs.text.Unfinished.read_ascii.Goals as goal
 
@@ -13,7 +13,7 @@ pub returns-then-is_alone : goal.returns-then-is_alone
 returns-then-is_alone g c =
     let bs = c.args.bytes.now in
     let b = get_or bs 0 0 in
-    let r = plain-run (b ∷ []) (rw c.requires.plain refl) in
+    let r = printed-run (b ∷ []) (rw c.requires.printed refl) in
     rw c.requires.none (reads_alone bs (b ∷ []) 1 _ (omega arith) c.requires.some (take_more bs 0 0 c.requires.some) r
     (c.print.new.self, c.print.ensures, refl))
 

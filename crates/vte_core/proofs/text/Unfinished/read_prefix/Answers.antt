@@ -9,7 +9,8 @@ returns-then-not-is_empty-clause-reported g c =
     let prefix = c.text_prefix-text.ensures.prefix in
     let none : c.args.self.now ≡ [] = nil_of_len c.args.self.now (sym c.is_empty.ensures ∙ c.if-is_empty.true) in
     let printed : printed_len text ≡ length text =
-    ap printed_len prefix ∙ (all_printed-take (length text) c.args.bytes.now c.requires.printed ∙ ap length (sym prefix))
+    ap printed_len prefix ∙ (all_printed-take (length text) c.args.bytes.now c.requires.printed
+    ∙ ap length (sym prefix))
     in
     rw (none, ← prefix, printed-text text c.text_prefix-text.ensures.text printed) c.print_str.ensures
 

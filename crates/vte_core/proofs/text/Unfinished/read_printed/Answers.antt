@@ -25,7 +25,8 @@ loop-read-preserved g c =
       within = within_more bs i k inv.within c.read_prefix-read.ensures.within;
       reported = rw (more, run_reported-append u (take i bs) piece, ← inv.rest)
           (performs-append g.P.Perform.step c.args.performer.now c.loop-read.performer c.read_prefix-read.new.performer
-          (run_reported u (take i bs)) (run_reported c.loop-read.self piece) inv.reported c.read_prefix-read.ensures.reported);
+          (run_reported u (take i bs))
+          (run_reported c.loop-read.self piece) inv.reported c.read_prefix-read.ensures.reported);
       rest = rw (more, run_rest-append u (take i bs) piece, ← inv.rest) c.read_prefix-read.ensures.rest;
     }
 

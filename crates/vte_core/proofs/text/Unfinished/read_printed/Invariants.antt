@@ -6,7 +6,8 @@ use Rattle.vte_core.proofs.text.Unfinished.read_printed.Given as goal
 abbrev pub invariant-loop-read : goal.invariant-loop-read
 invariant-loop-read g l = record {
   within : l.read ≤ length l.bytes;
-  reported : Performs g.P.Perform.step l.initial.performer (run_reported l.initial.self (take l.read l.bytes)) l.performer;
+  reported : Performs g.P.Perform.step l.initial.performer
+      (run_reported l.initial.self (take l.read l.bytes)) l.performer;
   rest : l.self ≡ run_rest l.initial.self (take l.read l.bytes);
 }
 

@@ -1,4 +1,4 @@
--- Control sequences of plain numbers, read at once.
+-- Control sequences of lone numbers, read at once.
 use Rattle.std.proofs.Common.{◌≡◌, ◌∙◌, ℕ, ◌+◌, ◌-◌, ◌<◌, ◌≤◌, true, false, List, [], ◌∷◌, ◌++◌, length, take}
 use Rattle.std.proofs.Common.{drop, get_or, nat_lt, refl, suc, ap, arith, length-drop, length-take, subst, sym}
 use Rattle.std.proofs.lemmas.Bool.Decides.{nat_tests}
@@ -10,7 +10,7 @@ use Rattle.vte_core.specs.Event.{Event, Csi}
 use Rattle.vte_core.specs.Header.{first_numbers, groups_of, intermediates, is_well_formed}
 use Rattle.vte_core.specs.Header.{kept_groups, kept_intermediates, overflows}
 use Rattle.vte_core.specs.Pending.{Pending, InText, InCsi, events_of_byte, events_from, after_byte, after_bytes}
-use Rattle.vte_core.specs.Plain.{ArePlain}
+use Rattle.vte_core.specs.LoneNumbers.{AreLoneNumbers}
 use Rattle.vte_core.specs.Reads.{BeginsWithEsc, ReadsStep, ReadsWhole}
 use Rattle.vte_core.specs.Runs.{is_one_step}
 use Rattle.vte_core.specs.Standing.{IsAt}
@@ -40,47 +40,49 @@ reported_by : (h m is : List ℕ) (numbers : List (List ℕ)) → each is_header
     → filter is_numeric h ≡ m → intermediates h ≡ is → nat_lt 2 (length is) ≡ false → take 2 is ≡ is
     → numbers ≡ first_numbers 32 (groups_of m) → total (groups_of m) ≤ 32
     → IsReported h numbers is
-reported_by h m is numbers header well numeric others short all groups few = record {
+reported_by h m is numbers header well numeric others fits all groups few = record {
   header = header;
   in_order = well;
   groups = rw (numeric, groups) refl;
   others = rw (others, all) refl;
-  all = rw (numeric, others, short, no_more _ few) refl;
+  all = rw (numeric, others, fits, no_more _ few) refl;
 }
 
 -- numbers alone
-numbers_reported : (bs : List ℕ) (k : ℕ) (numbers : List (List ℕ)) → ArePlain bs k numbers
+numbers_reported : (bs : List ℕ) (k : ℕ) (numbers : List (List ℕ)) → AreLoneNumbers bs k numbers
     → IsReported (take k bs) numbers []
-numbers_reported bs k numbers plain =
+numbers_reported bs k numbers lone =
     let h = take k bs in
-    let kept = numerics-kept [] h plain.numeric in
-    reported_by h h [] numbers (numeric-header h plain.numeric) (numbers-well h plain.numeric) kept.0 kept.1 refl refl
-    plain.groups plain.few
+    let kept = numerics-kept [] h lone.numeric in
+    reported_by h h [] numbers (numeric-header h lone.numeric) (numbers-well h lone.numeric) kept.0 kept.1 refl refl
+    lone.groups lone.few
 
 -- numbers after a private byte
-private_reported : (m : ℕ) (bs : List ℕ) (k : ℕ) (numbers : List (List ℕ)) → is_private m ≡ true → ArePlain bs k numbers
+private_reported : (m : ℕ) (bs : List ℕ) (k : ℕ) (numbers : List (List ℕ)) → is_private m ≡ true
+    → AreLoneNumbers bs k numbers
     → IsReported (m ∷ take k bs) numbers (m ∷ [])
-private_reported m bs k numbers private plain =
+private_reported m bs k numbers private lone =
     let h = take k bs in
     let other : is_numeric m ≡ false = grind (arith, nat_tests) in
     let header : is_header m ≡ true = grind (arith, nat_tests) in
-    let kept = numerics-kept (m ∷ []) h plain.numeric in
-    reported_by (m ∷ h) h (m ∷ []) numbers (rw header (numeric-header h plain.numeric)) (private-well m h private plain.numeric)
-    (kept.0 ∙ rw other refl) (kept.1 ∙ rw other refl) refl refl plain.groups plain.few
+    let kept = numerics-kept (m ∷ []) h lone.numeric in
+    reported_by (m ∷ h) h (m ∷ []) numbers (rw header (numeric-header h lone.numeric))
+    (private-well m h private lone.numeric)
+    (kept.0 ∙ rw other refl) (kept.1 ∙ rw other refl) refl refl lone.groups lone.few
 
 -- numbers before an intermediate
 marked_reported : (m : ℕ) (bs : List ℕ) (k : ℕ) (numbers : List (List ℕ)) → is_intermediate m ≡ true
-    → ArePlain bs k numbers
+    → AreLoneNumbers bs k numbers
     → IsReported (take k bs ++ m ∷ []) numbers (m ∷ [])
-marked_reported m bs k numbers mark plain =
+marked_reported m bs k numbers mark lone =
     let h = take k bs in
     let other : is_numeric m ≡ false = grind (arith, nat_tests) in
     let header : is_header m ≡ true = grind (arith, nat_tests) in
-    let kept = numerics-kept [] h plain.numeric in
+    let kept = numerics-kept [] h lone.numeric in
     let more = numeric-no h m other in
     reported_by (h ++ m ∷ []) h (m ∷ []) numbers
-    (each-more is_header h m (numeric-header h plain.numeric) header) (marked-well m h mark plain.numeric)
-    (more.0 ∙ kept.0) (more.1 ∙ ap (λ (is : List ℕ). is ++ m ∷ []) kept.1) refl refl plain.groups plain.few
+    (each-more is_header h m (numeric-header h lone.numeric) header) (marked-well m h mark lone.numeric)
+    (more.0 ∙ kept.0) (more.1 ∙ ap (λ (is : List ℕ). is ++ m ∷ []) kept.1) refl refl lone.groups lone.few
 
 -- the event of a final byte after a header
 header-event : (n : ℕ) (h : List ℕ) (f : ℕ) (numbers : List (List ℕ)) (is : List ℕ) → IsReported h numbers is
@@ -150,30 +152,34 @@ module _ {S : Type 0} {step : S → Event → S → Type 0} {n : ℕ} {p r : Par
             (rw (begun q at).1 (one-step n (InCsi h) (f ∷ []) _ (asked h f _))));
       }
 
-  pub plain_step : (bs : List ℕ) (k : ℕ) → BeginsWithEsc bs → p.state ≡ Ground → p.unfinished ≡ [] → 2 ≤ length bs
-      → get_or bs 1 0 ≡ 0x5B → ArePlain (rest_of 2 bs) k r.header.numbers.params
+  pub csi_step : (bs : List ℕ) (k : ℕ) → BeginsWithEsc bs → p.state ≡ Ground → p.unfinished ≡ [] → 2 ≤ length bs
+      → get_or bs 1 0 ≡ 0x5B → AreLoneNumbers (rest_of 2 bs) k r.header.numbers.params
       → is_in_range 0x40 0x7E (get_or (rest_of 2 bs) k 0) ≡ true
       → ((q : Pending) → IsAt n p q → IsAt n r q)
       → step old (Csi r.header.numbers.params [] false (get_or (rest_of 2 bs) k 0)) new
       → ReadsStep step n p old bs (k + 3) r new
-  plain_step bs k begins ground whole some bracket plain final state_after reported =
+  csi_step bs k begins ground whole some bracket lone final state_after reported =
       let numbers = r.header.numbers.params in
-      let kept : ArePlain (drop 2 bs) k numbers = subst (λ xs. ArePlain xs k numbers) (whole_rest bs 2) plain in
+      let kept : AreLoneNumbers (drop 2 bs) k numbers = subst (λ xs. AreLoneNumbers xs k numbers)
+      (whole_rest bs 2) lone in
       let less : 2 + k < length bs = omega (arith, kept.within, length-drop 2 bs) in
       let end : k + 3 ≡ 2 + k + 1 = omega arith in
-      rw end (header_step bs k numbers [] ground whole less begins.esc bracket (numbers_reported (drop 2 bs) k numbers kept)
+      rw end (header_step bs k numbers [] ground whole less begins.esc bracket
+      (numbers_reported (drop 2 bs) k numbers kept)
       (rw (← rest_at 2 bs k) final) state_after (rw (← rest_at 2 bs k) reported))
 
   pub marked_csi_step : (bs : List ℕ) (k : ℕ) → BeginsWithEsc bs → p.state ≡ Ground → p.unfinished ≡ [] → 2 ≤ length bs
-      → get_or bs 1 0 ≡ 0x5B → ArePlain (rest_of 2 bs) k r.header.numbers.params
+      → get_or bs 1 0 ≡ 0x5B → AreLoneNumbers (rest_of 2 bs) k r.header.numbers.params
       → is_in_range 0x20 0x2F (get_or (rest_of 2 bs) k 0) ≡ true → k + 1 < length (rest_of 2 bs)
       → is_in_range 0x40 0x7E (get_or (rest_of 2 bs) (k + 1) 0) ≡ true
       → ((q : Pending) → IsAt n p q → IsAt n r q)
-      → step old (Csi r.header.numbers.params (get_or (rest_of 2 bs) k 0 ∷ []) false (get_or (rest_of 2 bs) (k + 1) 0)) new
+      → step old (Csi r.header.numbers.params (get_or (rest_of 2 bs) k 0 ∷ []) false
+      (get_or (rest_of 2 bs) (k + 1) 0)) new
       → ReadsStep step n p old bs (k + 4) r new
-  marked_csi_step bs k begins ground whole some bracket plain mark less final state_after reported =
+  marked_csi_step bs k begins ground whole some bracket lone mark less final state_after reported =
       let numbers = r.header.numbers.params in
-      let kept : ArePlain (drop 2 bs) k numbers = subst (λ xs. ArePlain xs k numbers) (whole_rest bs 2) plain in
+      let kept : AreLoneNumbers (drop 2 bs) k numbers = subst (λ xs. AreLoneNumbers xs k numbers)
+      (whole_rest bs 2) lone in
       let m = get_or (rest_of 2 bs) k 0 in
       let at_mark : get_or (drop 2 bs) k 0 ≡ m = ap (λ (xs : List ℕ). get_or xs k 0) (sym (whole_rest bs 2)) in
       let cut : take (k + 1) (drop 2 bs) ≡ take k (drop 2 bs) ++ m ∷ [] =
@@ -186,14 +192,16 @@ module _ {S : Type 0} {step : S → Event → S → Type 0} {n : ℕ} {p r : Par
       (rw (← rest_at 2 bs (k + 1)) reported))
 
   pub private_step : (bs : List ℕ) (k : ℕ) → BeginsWithEsc bs → p.state ≡ Ground → p.unfinished ≡ [] → 3 ≤ length bs
-      → get_or bs 1 0 ≡ 0x5B → is_private (get_or bs 2 0) ≡ true → ArePlain (rest_of 3 bs) k r.header.numbers.params
+      → get_or bs 1 0 ≡ 0x5B → is_private (get_or bs 2 0) ≡ true
+      → AreLoneNumbers (rest_of 3 bs) k r.header.numbers.params
       → is_in_range 0x40 0x7E (get_or (rest_of 3 bs) k 0) ≡ true
       → ((q : Pending) → IsAt n p q → IsAt n r q)
       → step old (Csi r.header.numbers.params (get_or bs 2 0 ∷ []) false (get_or (rest_of 3 bs) k 0)) new
       → ReadsStep step n p old bs (k + 4) r new
-  private_step bs k begins ground whole some bracket private plain final state_after reported =
+  private_step bs k begins ground whole some bracket private lone final state_after reported =
       let numbers = r.header.numbers.params in
-      let kept : ArePlain (drop 3 bs) k numbers = subst (λ xs. ArePlain xs k numbers) (whole_rest bs 3) plain in
+      let kept : AreLoneNumbers (drop 3 bs) k numbers = subst (λ xs. AreLoneNumbers xs k numbers)
+      (whole_rest bs 3) lone in
       let m = get_or bs 2 0 in
       let cut : take (1 + k) (drop 2 bs) ≡ m ∷ take k (drop 3 bs) = from_third bs k some in
       let end : k + 4 ≡ 2 + (1 + k) + 1 = omega arith in

@@ -1,7 +1,7 @@
 use Rattle.std.proofs.Common.{◌∙◌, sym, arith}
 use Rattle.vte_core.proofs.MarkedSequence.{marked_step, unmarked_step}
-use Rattle.vte_core.proofs.PlainSequence.{sequence_read}
-use Rattle.vte_core.proofs.parser.Parser.read_short_escape.Goals as goal
+use Rattle.vte_core.proofs.WholeCsi.{sequence_read}
+use Rattle.vte_core.proofs.parser.Parser.read_whole_escape.Goals as goal
 
 pub returns-then-is_escape_final : goal.returns-then-is_escape_final
 returns-then-is_escape_final g c =

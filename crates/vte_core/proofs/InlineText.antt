@@ -1,4 +1,4 @@
--- Short ground text, after whole characters.
+-- Inline text, after whole characters.
 use Rattle.std.proofs.Common.{◌≡◌, ◌∙◌, ℕ, zero, suc, ◌<◌, ◌≤◌, true, false, List, [], ◌∷◌, length, take, drop, get_or}
 use Rattle.std.proofs.Common.{ap, arith, inl, inr, refl, sym}
 use Rattle.vte_core.specs.Bytes.{is_esc}
@@ -15,9 +15,9 @@ use Rattle.vte_core.proofs.GroundTextLemmas.{text_is}
 use Rattle.vte_core.proofs.Runs.{no_esc-before, run-at, run-events, take-before}
 use Rattle.vte_core.proofs.StopLemmas.{is_text-at}
 
-pub short-no_esc : (bs : List ℕ) (k : ℕ) → (0 < k → k ≡ length (before is_esc bs)) → has_no_esc (take k bs) ≡ true
-short-no_esc bs zero h = refl
-short-no_esc bs (suc k) h =
+pub inline-no_esc : (bs : List ℕ) (k : ℕ) → (0 < k → k ≡ length (before is_esc bs)) → has_no_esc (take k bs) ≡ true
+inline-no_esc bs zero h = refl
+inline-no_esc bs (suc k) h =
     ap has_no_esc (ap (λ (j : ℕ). take j bs) (h (omega arith)) ∙ take-before bs) ∙ no_esc-before bs
 
 not-esc : (bs : List ℕ) → 0 < length (before is_esc bs) → is_esc (get_or bs 0 0) ≡ false
@@ -33,10 +33,10 @@ whole_text n p q ground whole h =
     q_is ∙ ap InText (sym here.1 ∙ whole)
 
 module _ {S : Type 0} {step : S → Event → S → Type 0} {n : ℕ} {p r : Parser n} {old new : S} where
-  pub short_reads : (bs : List ℕ) (k : ℕ) → p.state ≡ Ground → p.unfinished ≡ [] → k ≤ length bs
+  pub inline_reads : (bs : List ℕ) (k : ℕ) → p.state ≡ Ground → p.unfinished ≡ [] → k ≤ length bs
       → has_no_esc (take k bs) ≡ true → run_rest [] (take k bs) ≡ [] → r.state ≡ Ground → r.unfinished ≡ []
       → Performs step old (run_reported [] (take k bs)) new → Reads step n p old bs k r new
-  short_reads bs k ground whole within no_esc rest grounds wholes performed =
+  inline_reads bs k ground whole within no_esc rest grounds wholes performed =
       let run = run-events n [] (take k bs) no_esc in
       record {
         within = within;
@@ -48,8 +48,8 @@ module _ {S : Type 0} {step : S → Event → S → Type 0} {n : ℕ} {p r : Par
         };
       }
 
-pub short_step : (n : ℕ) (p : Parser n) (bs : List ℕ) (k : ℕ) (q : Pending) → p.state ≡ Ground → 0 < length bs → 0 < k
+pub inline_step : (n : ℕ) (p : Parser n) (bs : List ℕ) (k : ℕ) (q : Pending) → p.state ≡ Ground → 0 < length bs → 0 < k
     → k ≡ length (before is_esc bs) → IsAt n p q → is_one_step q (take k bs) (drop k bs) ≡ true
-short_step n p bs k q ground some more len at =
+inline_step n p bs k q ground some more len at =
     let esc : is_esc (get_or bs 0 0) ≡ false = not-esc bs (omega (arith, more, len)) in
     (run-at n p bs k q some (rw (ground, esc) refl) len at).2
