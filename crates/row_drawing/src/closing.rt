@@ -11,8 +11,8 @@ use crate::drawing::Drawing;
 use crate::pen::Pen;
 use vt100_cells::Cell;
 use vt100_cells::line::{is_continuation_at, same_to};
-use vt100_forms::{GridError, TextRun};
 use vt100_forms::position::Pos;
+use vt100_forms::{GridError, TextRun};
 
 impl<'a> Drawing<'a> {
     /// The column of the last cell, or of its first half.
