@@ -8,14 +8,15 @@ use Rattle.std.proofs.lemmas.List.{get_or-set_same, set-get_or, set-set, map-app
 use Rattle.std.proofs.lemmas.List.{take_all}
 use Rattle.std.proofs.lemmas.List.Elements.{All-drop, All-map}
 use Rattle.std.proofs.lemmas.Str.{chars_past_char, chars-nil}
-use Rattle.vt100_cells.specs.Cell.{IsPrintable, cell_of, drawn_columns}
+use Rattle.printable.specs.Printable.{IsPrintable}
+use Rattle.vt100_cells.specs.Cell.{cell_of, drawn_columns}
 use Rattle.vt100_cells.specs.Ascii.{printable_takes}
 use Rattle.vt100_cells.specs.Runs.{IsShown}
 use Rattle.vt100_cells.proofs.CellLemmas.{IsCell-of}
 use Rattle.vt100_cells.proofs.GlyphLemmas.{OneOrTwo, by_columns, some-column, first-place, more-columns}
 use Rattle.vt100_cells.proofs.WidthLemmas.{drawn-is}
 use Rattle.vt100_rows.specs.Row.{RowView, blank_row, placed, placed_each}
-use Rattle.vt100_rows.proofs.PrintableLemmas.{printable-chars}
+use Rattle.printable.proofs.PrintableLemmas.{printable-chars}
 use Rattle.vte_types.specs.Call.{Call, Calls, input}
 use Rattle.vte_types.proofs.CallLemmas.{Calls-append}
 use Rattle.terminal_model.specs.Apply.{made_to_fit}

@@ -1,6 +1,7 @@
 //! The picture that a terminal shows.
 ghost use Rattle.std.specs.Prelude.{◌≡◌, ℕ, ◌+◌, ◌-◌, ◌<◌, ◌≤◌, ◌==◌, Some, true, false, min, length, IfOk};
-ghost use Rattle.vt100_cells.specs.Cell.{cell_of, drawn_columns, IsPrintable};
+ghost use Rattle.printable.specs.Printable.{IsPrintable};
+ghost use Rattle.vt100_cells.specs.Cell.{cell_of, drawn_columns};
 ghost use Rattle.std.specs.Option.{option_copied};
 ghost use Rattle.vt100_cells.specs.Cells.{cell_at};
 ghost use Rattle.vt100_rows.specs.Text.{line_text};
@@ -11,12 +12,12 @@ ghost use Rattle.termview.specs.Picture.{term_of_picture, Becomes, ShowsPrefix};
 ghost use Rattle.termview.specs.Seen.{cell_shown, text_shown};
 
 use crate::error::ViewError;
+use printable::{is_printable, printable_len};
 use std::alloc::Global;
 use std::marker::Model;
-use vt100_cells::{Cell, PackedAttrs, columns, is_printable};
+use vt100_cells::{Cell, PackedAttrs, columns};
 use vt100_forms::attrs::Attrs;
 use vt100_forms::{CursorStyle, MouseProtocolEncoding, MouseProtocolMode, Pos};
-use vt100_rows::printable::printable_len;
 use vt100_rows::rows_edit::{blank_rows, erase_forward, move_up};
 use vt100_rows::{Row, Size};
 

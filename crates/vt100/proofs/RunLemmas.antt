@@ -7,15 +7,13 @@ use Rattle.std.specs.Char.{encode_utf8}
 use Rattle.std.specs.Str.{IsUtf8, chars}
 use Rattle.std.proofs.lemmas.Grind.{common_steps}
 use Rattle.std.proofs.lemmas.Str.{chars_past_char, chars-IsAscii, chars-nil}
-use Rattle.vte_core.specs.Bytes.{each, is_printable}
-use Rattle.vte_core.proofs.Ground.{printable-ascii}
-use Rattle.vte_core.proofs.PhaseLemmas.{each-first}
 use Rattle.vte_core.proofs.Telling.{performs-append, same_events}
 use Rattle.std.proofs.lemmas.Bool.{cases_Bool, and_parts}
 use Rattle.std.proofs.lemmas.Bool.Decides.{nat_tests}
 use Rattle.std.proofs.lemmas.List.{map-append, map-id}
 use Rattle.std.proofs.lemmas.List.Elements.{All-drop, All-map}
-use Rattle.vt100_cells.specs.Cell.{IsPrintable, columns_of, drawn_columns, is_undrawable}
+use Rattle.printable.specs.Printable.{IsPrintable}
+use Rattle.vt100_cells.specs.Cell.{columns_of, drawn_columns, is_undrawable}
 use Rattle.vt100_cells.specs.Runs.{IsShown}
 use Rattle.vt100_cells.proofs.WidthLemmas.{drawn-is}
 use Rattle.vt100_forms.specs.declared.attrs.Attrs.{Attrs}
@@ -46,7 +44,7 @@ use Rattle.vt100.specs.Draws.{Draws}
 use Rattle.vt100.specs.declared.screen.reported.Reporter.{Reporter}
 use Rattle.vt100.proofs.ReceiveLemmas.{Reports, receives_all, receives_whole, draws_all, scroll_as, refused_keeps}
 use Rattle.vt100.proofs.ReceiveLemmas.{not_grown}
-use Rattle.vt100_rows.proofs.PrintableLemmas.{printable-chars}
+use Rattle.printable.proofs.PrintableLemmas.{printable-ascii, printable-chars}
 use Rattle.vt100.proofs.EventLemmas.{is_alive, does_as, does_live, does_none, does_where}
 use Rattle.vt100.proofs.LimitsLemmas.{bounds_typed, bounds_back, capacity_typed}
 use Rattle.vt100.proofs.PlayLemmas.{Steps}
@@ -147,16 +145,6 @@ shown-handled c (inr h, known) = grind (arith, nat_tests)
 
 pub all-handled : (xs : List ℕ) → All IsShown xs → All IsHandled xs
 all-handled xs p k d l = shown-handled (get_or xs k d) (p k d l)
-
-pub printables : (xs : List ℕ) → each is_printable xs ≡ true → All IsPrintable xs
-printables [] h k d l = absurd (omega (arith, l))
-printables (x ∷ xs) h zero d l =
-    let first = each-first is_printable x xs h in
-    let printable : is_printable x ≡ true = first.0 in
-    grind (arith, nat_tests)
-printables (x ∷ xs) h (suc k) d l =
-    let first = each-first is_printable x xs h in
-    printables xs first.1 k d (omega (arith, l))
 
 module _ {C : Type 0} (scrolls : C → RowView → Bool → C → Type 0) where
   -- drawing a run is typing it
@@ -412,15 +400,14 @@ module _ {C : Type 0} (step : C → ScreenView → Call → C → ScreenView →
 
   -- a text of printable ASCII
   pub ascii-run : (bs : List ℕ) {p q : WrappedScreen C} (result : Result (Unit {0}) ScreenError) → 0 < length bs
-      → each is_printable bs ≡ true → (p.screen.failed ≡ false → IsState p.screen.state)
+      → All IsPrintable bs → (p.screen.failed ≡ false → IsState p.screen.state)
       → MayScroll scrolls (typed_all (map (λ (b : ℕ). b) bs)) p result q
       → Performs (Steps step scrolls) p (map Print (chars bs)) q
   ascii-run bs {p} {q} result some printable is x =
-      let all = printables bs printable in
       same_events (Steps step scrolls) p q (map Print bs) (map Print (chars bs))
       (ap (map Print) (sym (chars-IsAscii bs (printable-ascii bs printable))))
       (performs-goes (map Print bs) p q
-      (goes-typed_all bs result some (λ i e l. printable-handled (get_or bs i e) (all i e l)) is (bytes-typed bs x)))
+      (goes-typed_all bs result some (λ i e l. printable-handled (get_or bs i e) (printable i e l)) is (bytes-typed bs x)))
 
   -- ---- the start of a text
 

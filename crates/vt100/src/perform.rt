@@ -18,9 +18,8 @@ ghost use Rattle.vt100.specs.Runs.{PrintsPrefix};
 use crate::callbacks::Callbacks;
 use crate::screen::WrappedScreen;
 use arrayvec::ArrayVec;
+use printable::{is_printable, printable_len};
 use std::num::NonZeroU16;
-use vt100_cells::is_printable;
-use vt100_rows::printable::printable_len;
 use vte_core::{Event, Params, ParamsIter, Perform};
 
 impl<CB: Callbacks> Perform for WrappedScreen<CB> {

@@ -13,7 +13,8 @@ use Rattle.vt100_forms.specs.declared.attrs.Attrs.{Attrs}
 use Rattle.vt100_cells.proofs.WidthLemmas.{space_is_narrow, space_is_drawn, drawn-is, printable-is, wide_space_is_drawn}
 use Rattle.vt100_cells.specs.Cell.{CellView, IsCell, IsCellText, IsShort, IsWideAs, columns_of, is_undrawable}
 use Rattle.vt100_cells.specs.Cell.{drawn_columns, has_room, empty_cell, continuation_cell, cell_of, text_with}
-use Rattle.vt100_cells.specs.Cell.{is_widened_by, appended, appended_in_place, IsPrintable, IsWide}
+use Rattle.printable.specs.Printable.{IsPrintable}
+use Rattle.vt100_cells.specs.Cell.{is_widened_by, appended, appended_in_place, IsWide}
 
 -- ---- each kind of cell
 

@@ -5,7 +5,8 @@ use Rattle.std.proofs.lemmas.Bool.Decides.{nat_tests}
 use Rattle.std.proofs.lemmas.Str.{encode_ascii}
 use Rattle.vt100_forms.specs.declared.attrs.Attrs.{Attrs}
 use Rattle.vt100_cells.specs.declared.cell_text.CellText.TheInside.{Inside}
-use Rattle.vt100_cells.specs.Cell.{CellView, IsCell, cell_of, drawn_columns, IsPrintable}
+use Rattle.printable.specs.Printable.{IsPrintable}
+use Rattle.vt100_cells.specs.Cell.{CellView, IsCell, cell_of, drawn_columns}
 use Rattle.vt100_cells.specs.CellFields.{IsText, text_of}
 use Rattle.vt100_cells.specs.Narrow.{IsNarrow}
 use Rattle.vt100_cells.proofs.CellLemmas.{IsCell-of, replaced-like, scalar-printable}

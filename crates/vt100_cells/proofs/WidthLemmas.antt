@@ -3,7 +3,8 @@ use Rattle.std.proofs.Common.{◌≡◌, ℕ, ◌<◌, ◌≤◌, true, false, c
 use Rattle.std.proofs.lemmas.Bool.Decides.{nat_tests}
 use Rattle.unicode_width.specs.Width.{char_width}
 use Rattle.unicode_width.proofs.Computing.{unicode_width}
-use Rattle.vt100_cells.specs.Cell.{columns_of, is_undrawable, drawn_columns, IsPrintable}
+use Rattle.printable.specs.Printable.{IsPrintable}
+use Rattle.vt100_cells.specs.Cell.{columns_of, is_undrawable, drawn_columns}
 
 width-ascii : (c : ℕ) → 32 ≤ c → c < 127 → char_width false c ≡ Some 1
 unfolding char_width

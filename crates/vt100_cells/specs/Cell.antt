@@ -30,10 +30,6 @@ is_undrawable c = is_none (char_width false c) && nat_lt c 0x100
 abbrev pub drawn_columns : ℕ → Option ℕ
 drawn_columns c = if is_undrawable c then None else Some (columns_of c)
 
--- the printable characters of ASCII, which take one column each
-abbrev pub IsPrintable : ℕ → Type 0
-IsPrintable c = (32 ≤ c) × (c < 127)
-
 -- a character that takes two columns
 abbrev pub IsWide : ℕ → Type 0
 IsWide c = drawn_columns c ≡ Some 2

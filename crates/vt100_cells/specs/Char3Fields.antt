@@ -4,6 +4,7 @@ use Rattle.std.specs.Prelude.{chars}
 use Rattle.std.proofs.Common.{sym, ap, ◌∙◌}
 use Rattle.std.proofs.lemmas.List.{take_at}
 use Rattle.std.specs.Char.{IsScalar}
+use Rattle.printable.specs.Printable.{IsPrintable}
 use Rattle.vt100_cells.specs.declared.cell_text.CellText.TheInside.{Inside as TextInside}
 use Rattle.vt100_cells.specs.declared.char3.Char3.TheInside.{Inside}
 use Rattle.vt100_cells.specs.CellFields.{IsText, text_of, fields_of, fields_of-text_of}
@@ -39,7 +40,7 @@ first_char bs = slice_index (chars bs) 0
 
 -- a text begins with a printable character of ASCII, with one of two bytes, or with one of three
 abbrev pub BeginsPrintable : List ℕ → Type 0
-BeginsPrintable bs = (1 ≤ length bs) × (32 ≤ slice_index bs 0) × (slice_index bs 0 < 127)
+BeginsPrintable bs = (1 ≤ length bs) × IsPrintable (slice_index bs 0)
 
 abbrev pub BeginsTwoBytes : List ℕ → Type 0
 BeginsTwoBytes bs = (2 ≤ length bs) × (192 ≤ slice_index bs 0) × (slice_index bs 0 < 224)

@@ -5,6 +5,7 @@ ghost use Rattle.vt100_cells.specs.Cell.{IsWide};
 ghost use Rattle.vt100_cells.specs.Narrow.{IsNarrow};
 ghost use Rattle.vt100_cells.specs.Char3Fields.{BeginsPrintable, BeginsTwoBytes, BeginsThreeBytes, first_char};
 
+use printable::is_printable_byte;
 use std::marker::Model;
 use std::str;
 
@@ -98,7 +99,7 @@ pub(crate) fn split_common_narrow(text: &str) -> Option<(Char3, &str)>
 fn begins_printable(text: &str) -> bool
     ensures { IsTrue result → BeginsPrintable text.now }
 {
-    matches!(text.as_bytes(), [b' '..=b'~', ..])
+    matches!(text.as_bytes(), [first, ..] if is_printable_byte(*first))
 }
 
 /// Whether a text begins with a character of two bytes.

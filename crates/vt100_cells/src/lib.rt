@@ -7,7 +7,6 @@
 //! they edit a slice of cells, which by itself promises nothing. A row's own calls have no such conditions.
 #![tactic(auto)]
 
-mod ascii;
 mod cell;
 mod cell_color;
 mod cell_text;
@@ -17,7 +16,6 @@ mod runs;
 mod char3;
 mod width;
 
-pub use ascii::is_printable;
 pub use cell::{Cell, Glyph, PackedAttrs};
 pub use runs::{RUN_LEN, TextGlyph, take_run};
 pub use char3::Char3;

@@ -16,7 +16,6 @@ pub mod KeptLemmas
 pub mod BackLemmas
 pub mod WidthLemmas
 pub mod PictureLemmas
-pub mod PrintableLemmas
 pub mod BlankLemmas
 pub mod FilledLemmas
 pub mod CopyLemmas

@@ -12,7 +12,6 @@ mod attributed_text;
 mod join;
 pub mod kept_rows;
 pub mod laws;
-pub mod printable;
 mod row;
 pub mod row_sink;
 pub mod rows_back;

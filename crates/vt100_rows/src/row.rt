@@ -5,7 +5,8 @@ ghost use Rattle.std.specs.Prelude.{IfOk, IsOk, OnOk, OnErr, slice_get, encode_u
 ghost use Rattle.std.specs.Prelude.{string_bytes, string_len, string_capacity, min, nat_lt, if◌then◌else◌};
 ghost use Rattle.std.specs.Option.{option_copied};
 ghost use Rattle.std.specs.Char.{IsScalar};
-ghost use Rattle.vt100_cells.specs.Cell.{cell_of, default_cell, has_text, drawn_columns, IsPrintable, IsWide};
+ghost use Rattle.printable.specs.Printable.{IsPrintable};
+ghost use Rattle.vt100_cells.specs.Cell.{cell_of, default_cell, has_text, drawn_columns, IsWide};
 ghost use Rattle.vt100_cells.specs.Line.{span_of};
 ghost use Rattle.vt100_rows.specs.Row.{IsBlankFrom, IsFilledAfter, blank_row, cleared_row, with_wrap, placed, wiped_row};
 ghost use Rattle.vt100_rows.specs.Row.{pair_cleared};

@@ -1,20 +1,18 @@
 -- Printed text, passed to a handler, with the last character stored once, after it.
-use Rattle.std.proofs.Common.{◌≡◌, ◌≤◌, ◌<◌, ◌∙◌, sym, ap, refl, ℕ, zero, suc, true, List, [], ◌∷◌, ◌++◌, Option, Some}
+use Rattle.std.proofs.Common.{◌≡◌, ◌≤◌, ◌<◌, ◌∙◌, sym, ap, refl, ℕ, List, [], ◌∷◌, ◌++◌, Option, Some}
 use Rattle.std.proofs.Common.{◌+◌, ◌-◌, map, subst, take, length, append-nil, arith, get_or}
 use Rattle.std.specs.Prelude.{All}
 use Rattle.std.specs.Char.{IsScalar}
 use Rattle.std.specs.Str.{IsUtf8, chars}
 use Rattle.std.proofs.Math.Seq.{take-append_seam}
 use Rattle.std.specs.Prelude.{encode_utf8}
-use Rattle.std.proofs.lemmas.Bool.Decides.{nat_tests}
 use Rattle.std.proofs.lemmas.List.{take_all, take_more}
 use Rattle.std.proofs.lemmas.Str.{IsUtf8-encode, IsUtf8-take, IsCharBoundary-at_seam, chars-append, chars_past_char, chars-nil}
 use Rattle.std.proofs.lemmas.Str.{chars-IsAscii}
 use Rattle.std.proofs.Math.Bool.{or-false}
-use Rattle.vte_core.specs.Bytes.{each, is_printable}
 use Rattle.vte_core.specs.Event.{Event, Print, Performs}
-use Rattle.vte_core.proofs.Ground.{printable-ascii}
-use Rattle.vte_core.proofs.PhaseLemmas.{each-first}
+use Rattle.printable.specs.Printable.{IsPrintable}
+use Rattle.printable.proofs.PrintableLemmas.{printable-ascii}
 use Rattle.vte_types.specs.Call.{Call, Calls, input}
 use Rattle.vte.specs.Timeout.{Ticking}
 use Rattle.vte.specs.Performed.{Performed, last_after_all}
@@ -73,21 +71,11 @@ last-read before bs prefix c utf8 scalar e =
 
 -- ---- printable ASCII
 
-pub printables : (xs : List ℕ) → each is_printable xs ≡ true → All (λ b. (32 ≤ b) × (b < 127)) xs
-printables [] h k d l = absurd (omega (arith, l))
-printables (x ∷ xs) h zero d l =
-    let first = each-first is_printable x xs h in
-    let printable : is_printable x ≡ true = first.0 in
-    grind (arith, nat_tests)
-printables (x ∷ xs) h (suc k) d l =
-    let first = each-first is_printable x xs h in
-    printables xs first.1 k d (omega (arith, l))
-
 -- its characters are its bytes
-pub chars-printable : (xs : List ℕ) → each is_printable xs ≡ true → chars xs ≡ xs
+pub chars-printable : (xs : List ℕ) → All IsPrintable xs → chars xs ≡ xs
 chars-printable xs h = chars-IsAscii xs (printable-ascii xs h)
 
-pub last-byte : (before : Option ℕ) (bs text : List ℕ) (d : ℕ) → bs ≡ text → each is_printable text ≡ true
+pub last-byte : (before : Option ℕ) (bs text : List ℕ) (d : ℕ) → bs ≡ text → All IsPrintable text
     → 0 < length bs → Some (get_or bs (length bs - 1) d) ≡ last_after_all before (map Print (chars text))
 last-byte before bs text d e h some =
     let n = length bs - 1 in

@@ -3,9 +3,11 @@ use Rattle.std.proofs.Common.{◌≡◌, ℕ, zero, suc, ◌<◌, ◌≤◌, Boo
 use Rattle.std.proofs.Common.{get_or, nat_lt, inl, inr, refl, ◌∙◌, ap, arith}
 use Rattle.std.proofs.lemmas.Bool.Decides.{nat_tests}
 use Rattle.std.specs.Int.{is_in_range}
-use Rattle.std.specs.Prelude.{slice_index}
+use Rattle.std.specs.Prelude.{All}
+use Rattle.std.proofs.lemmas.List.Elements.{All-drop}
+use Rattle.printable.specs.Printable.{IsPrintable}
 use Rattle.vte_core.specs.Event.{Event, Print, Execute}
-use Rattle.vte_core.specs.Bytes.{each, is_esc, is_c0, is_plain, is_printable}
+use Rattle.vte_core.specs.Bytes.{each, is_esc, is_c0, is_plain}
 use Rattle.vte_core.specs.Text.{char_event}
 use Rattle.vte_core.specs.Shapes.{before}
 use Rattle.vte_core.specs.Runs.{run_reported, run_rest, has_no_esc, printed_len}
@@ -48,23 +50,18 @@ plain-run = ascii-run is_plain Print (λ b h.
     let high : is_in_range 0x80 0x9F b ≡ false = grind (arith, nat_tests) in
     (grind (arith, nat_tests), grind (arith, nat_tests), rw (control, high) refl))
 
-printable_plain : (xs : List ℕ) → each is_printable xs ≡ true → each is_plain xs ≡ true
+printable_plain : (xs : List ℕ) → All IsPrintable xs → each is_plain xs ≡ true
 printable_plain [] h = refl
 printable_plain (b ∷ xs) h =
-    let g = each-first is_printable b xs h in
-    let printable : is_printable b ≡ true = g.0 in
+    let printable = h zero 0 (omega arith) in
+    let low : 32 ≤ b = printable.0 in
+    let high : b < 127 = printable.1 in
     let plain : is_plain b ≡ true = grind (arith, nat_tests) in
-    rw plain (printable_plain xs g.1)
+    rw plain (printable_plain xs (All-drop IsPrintable 1 (b ∷ xs) h))
 
-pub printable-run : (xs : List ℕ) → each is_printable xs ≡ true → (run_reported [] xs ≡ map Print xs)
+pub printable-run : (xs : List ℕ) → All IsPrintable xs → (run_reported [] xs ≡ map Print xs)
     × (run_rest [] xs ≡ []) × (has_no_esc xs ≡ true)
 printable-run xs h = plain-run xs (printable_plain xs h)
-
-pub printable-ascii : (xs : List ℕ) → each is_printable xs ≡ true → (i : ℕ) → slice_index xs i < 128
-printable-ascii [] h i = omega arith
-printable-ascii (b ∷ xs) h zero = let g = each-first is_printable b xs h in let is : is_printable b ≡ true = g.0
-    in grind (arith, nat_tests)
-printable-ascii (b ∷ xs) h (suc i) = let g = each-first is_printable b xs h in printable-ascii xs g.1 i
 
 -- ESC isn't printed
 pub printed-no_esc : (xs : List ℕ) → printed_len xs ≡ length xs → has_no_esc xs ≡ true

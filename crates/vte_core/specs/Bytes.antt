@@ -25,10 +25,6 @@ is_c0 b = nat_lt b 0x20 && not (is_esc b)
 abbrev pub is_plain : ℕ → Bool
 is_plain b = is_in_range 0x20 0x7F b
 
--- the same but for DEL
-abbrev pub is_printable : ℕ → Bool
-is_printable b = is_in_range 0x20 0x7E b
-
 abbrev pub is_intermediate : ℕ → Bool
 is_intermediate b = is_in_range 0x20 0x2F b
 

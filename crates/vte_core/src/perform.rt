@@ -1,8 +1,8 @@
 //! The trait of what receives events.
 
-ghost use Rattle.std.specs.Prelude.{◌≡◌, Bool, map, true};
+ghost use Rattle.std.specs.Prelude.{◌≡◌, Bool, map, All};
 ghost use Rattle.std.specs.Str.{chars};
-ghost use Rattle.vte_core.specs.Bytes.{each, is_printable};
+ghost use Rattle.printable.specs.Printable.{IsPrintable};
 ghost use Rattle.vte_core.specs.Event as e;
 ghost use Rattle.vte_core.specs.Event.{Performs};
 ghost use Rattle.vte_core.specs.EventOf.{event_of};
@@ -57,7 +57,7 @@ pub trait Perform {
     /// A run of printable ASCII (0x20 to 0x7E). It comes in the place of `print_str`, where each character is such. An
     /// implementation may write it, to save a look at each byte.
     fn print_ascii(&mut self, text: &str)
-        requires { each is_printable text.now ≡ true }
+        requires { All IsPrintable text.now }
         ensures { Performs step self.old (map e.Print (chars text.now)) self.new }
     {
         self.print_str(text);

@@ -6,9 +6,10 @@
 //! byte: the length that `str::from_utf8` reports.
 
 ghost use Rattle.std.specs.Prelude.{◌≡◌, ◌==◌, ◌+◌, ◌-◌, ◌<◌, ◌≤◌, ℕ, List, [], ◌∷◌, ◌++◌, length, drop, map, IfSome};
-ghost use Rattle.std.specs.Prelude.{IsTrue, true, false, slice_index, take};
+ghost use Rattle.std.specs.Prelude.{IsTrue, true, false, slice_index, take, All};
 ghost use Rattle.std.specs.Str.{IsUtf8};
-ghost use Rattle.vte_core.specs.Bytes.{each, is_c0, is_esc, is_plain, is_printable};
+ghost use Rattle.printable.specs.Printable.{IsPrintable};
+ghost use Rattle.vte_core.specs.Bytes.{each, is_c0, is_esc, is_plain};
 ghost use Rattle.vte_core.specs.Runs.{ReadsText, TellsEach, run_reported, run_rest, is_printed, printed_len};
 ghost use Rattle.vte_core.specs.Shapes.{before};
 ghost use Rattle.vte_core.specs.Event.{Event, Print, Execute, Performs};
@@ -20,8 +21,10 @@ ghost use Rattle.std.specs.Char.{InScalarRange};
 ghost use Rattle.std.specs.Int.{is_in_range};
 
 use crate::Perform;
-use crate::thresholds::{BLOCK_LEN, LINE_LEN, SHORT_LEN};
+use crate::thresholds::{BLOCK_LEN, LINE_LEN};
 use arrayvec::ArrayVec;
+use printable::thresholds::SHORT_LEN;
+use printable::{is_printable_byte, printable_len};
 use simdutf8::compat::from_utf8;
 use std::marker::Model;
 use std::str;
@@ -338,78 +341,6 @@ fn is_plain(byte: u8) -> bool
     (0x20..=0x7F).contains(&byte)
 }
 
-/// Whether the byte is printable ASCII.
-#[inline(always)]
-fn is_printable(byte: u8) -> bool
-    ensures { result ≡ is_printable byte }
-{
-    (0x20..=0x7E).contains(&byte)
-}
-
-/// Whether each of the bytes is printable ASCII.
-#[inline(always)]
-fn are_printable(bytes: &[u8]) -> bool
-    ensures { IsTrue result → each is_printable bytes.now ≡ true }
-{
-    let mut are_printable = true;
-    for byte in bytes {
-        are_printable &= (*byte >= 0x20) & (*byte < 0x7F);
-    }
-    are_printable
-}
-
-/// How many bytes at the start of a short block are printable ASCII.
-#[inline(always)]
-fn short_len(bytes: &[u8]) -> usize
-    requires { 8 ≤ length bytes.now }
-    ensures within { result ≤ 8 }
-    ensures printable { each is_printable (take result bytes.now) ≡ true }
-{
-    let block = &bytes[..SHORT_LEN];
-    let mut len = 0;
-    while len < SHORT_LEN {
-        if !is_printable(block[len]) {
-            return len;
-        }
-        len += 1;
-    }
-    SHORT_LEN
-}
-
-/// How many bytes at the start stand in whole blocks of printable ASCII.
-#[inline(always)]
-fn blocks_len(bytes: &[u8]) -> usize
-    ensures within { result ≤ length bytes.now }
-    ensures printable { each is_printable (take result bytes.now) ≡ true }
-{
-    let mut len = 0;
-    while bytes.len() - len >= BLOCK_LEN && are_printable(&bytes[len..len + BLOCK_LEN]) {
-        len += BLOCK_LEN;
-    }
-    len
-}
-
-/// How many bytes at the start are printable ASCII. Many texts end within a short block, which is looked at first.
-#[inline(always)]
-fn ascii_len(bytes: &[u8]) -> usize
-    ensures within { result ≤ length bytes.now }
-    ensures printable { each is_printable (take result bytes.now) ≡ true }
-{
-    let mut len = 0;
-    while bytes.len() - len >= SHORT_LEN {
-        let more = short_len(&bytes[len..]);
-        len += more;
-        if more < SHORT_LEN {
-            return len;
-        }
-        len += blocks_len(&bytes[len..]);
-    }
-    while len < bytes.len() && is_printable(bytes[len]) {
-        len += 1;
-    }
-    len
-}
-
 /// Whether text of ASCII before these bytes ends with them: at a control, or at a byte that begins no character.
 #[inline(always)]
 fn ends_text(bytes: &[u8]) -> bool {
@@ -422,7 +353,7 @@ fn ends_text(bytes: &[u8]) -> bool {
 /// The characters of ASCII that the bytes are.
 #[inline(always)]
 fn ascii_text(bytes: &[u8]) -> &str
-    requires { each is_printable bytes.now ≡ true }
+    requires { All IsPrintable bytes.now }
     ensures { result.now ≡ bytes.now }
 {
     unsafe { str::from_utf8_unchecked(bytes) }
@@ -432,10 +363,10 @@ fn ascii_text(bytes: &[u8]) -> &str
 #[inline(always)]
 fn print_alone<P: Perform>(performer: &mut P, byte: u8) -> usize
     ensures few { result ≤ 1 }
-    ensures printable { each is_printable (take result (byte ∷ [])) ≡ true }
+    ensures printable { All IsPrintable (take result (byte ∷ [])) }
     ensures reported { Performs P.step performer.old (map Print (take result (byte ∷ []))) performer.new }
 {
-    if !is_printable(byte) {
+    if !is_printable_byte(byte) {
         return 0;
     }
     performer.print(byte as char);
@@ -560,7 +491,7 @@ impl Unfinished {
             performer.print(bytes[0] as char);
             return 1;
         }
-        let len = ascii_len(bytes);
+        let len = printable_len(bytes);
         if len > 0 && ends_text(&bytes[len..]) {
             performer.print_ascii(ascii_text(&bytes[..len]));
             return len;
@@ -726,7 +657,7 @@ impl Unfinished {
         if bytes[1] == 0x1B {
             return print_alone(performer, bytes[0]);
         }
-        let len = short_len(bytes);
+        let len = printable_len(&bytes[..SHORT_LEN]);
         if bytes[len] != 0x1B {
             return 0;
         }

@@ -7,10 +7,6 @@ pub(crate) const TURN_LEN: usize = 64;
 /// How many bytes are tested at once for controls. The line is ascii, at `events`.
 pub(crate) const BLOCK_LEN: usize = 16;
 
-/// How many bytes of a text are looked at one by one first, since many texts end within them. The lines are coloured
-/// and motion, at `events`.
-pub(crate) const SHORT_LEN: usize = 8;
-
 /// Text up to a control is read at once where it is longer. Otherwise it is read up to its first malformed sequence,
 /// and the control is looked for once more. The line is tree of `./speed --texts`, at `screen`.
 pub(crate) const LINE_LEN: usize = 48;

@@ -1,7 +1,8 @@
 //! The trait that receives a terminal's calls.
 ghost use Rattle.std.specs.Option.{option_map};
-ghost use Rattle.std.specs.Prelude.{map, All, ◌≤◌, ◌<◌};
+ghost use Rattle.std.specs.Prelude.{map, All};
 ghost use Rattle.std.specs.Str.{chars};
+ghost use Rattle.printable.specs.Printable.{IsPrintable};
 ghost use Rattle.vte_types.specs.Call as said;
 ghost use Rattle.vte_types.specs.Call.{Calls, link_of};
 ghost use Rattle.vte_types.specs.CallOf.{call_of};
@@ -84,7 +85,7 @@ pub trait Handler {
     /// faster where it need not look for other characters may override this method.
     #[doc(hidden)]
     fn input_ascii(&mut self, text: &str)
-        requires { All (λ b. (32 ≤ b) × (b < 127)) text.now }
+        requires { All IsPrintable text.now }
         ensures { Calls step self.old (map said.input (chars text.now)) self.new }
     {
         self.input_str(text);

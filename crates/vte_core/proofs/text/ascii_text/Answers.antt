@@ -1,5 +1,5 @@
 use Rattle.std.proofs.lemmas.Str.{IsUtf8-from_ascii}
-use Rattle.vte_core.proofs.Ground.{printable-ascii}
+use Rattle.printable.proofs.PrintableLemmas.{printable-ascii}
 use Rattle.vte_core.proofs.text.ascii_text.Goals as goal
 
 pub from_utf8_unchecked-requires : goal.from_utf8_unchecked-requires

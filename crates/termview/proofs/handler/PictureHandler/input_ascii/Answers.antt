@@ -1,7 +1,7 @@
 use Rattle.std.proofs.Common.{◌∙◌, ℕ, List, map, subst, sym}
 use Rattle.std.specs.Prelude.{All}
 use Rattle.std.proofs.lemmas.List.{map-id}
-use Rattle.vt100_cells.specs.Cell.{IsPrintable}
+use Rattle.printable.specs.Printable.{IsPrintable}
 use Rattle.vte_types.specs.Call.{Calls, input}
 use Rattle.termview.specs.Picture.{Does}
 use Rattle.termview.proofs.RunSteps.{chars-run, all-drawn, all-shown}

@@ -1,8 +1,8 @@
 use Rattle.std.proofs.Common.{◌≤◌, ℕ, List, length, map, take, sym, subst, ap, ◌∙◌}
 use Rattle.std.proofs.lemmas.List.{map-id}
 use Rattle.std.specs.Prelude.{All}
-use Rattle.vt100_cells.specs.Cell.{IsPrintable}
-use Rattle.vt100_rows.proofs.PrintableLemmas.{printable-boundary}
+use Rattle.printable.specs.Printable.{IsPrintable}
+use Rattle.printable.proofs.PrintableLemmas.{printable-boundary}
 use Rattle.vte_types.specs.Call.{Calls, input}
 use Rattle.termview.specs.Picture.{PictureView, Does, ShowsPrefix}
 use Rattle.termview.proofs.RunSteps.{prefix-run, all-drawn, all-shown}

@@ -1,11 +1,11 @@
 use Rattle.std.proofs.Common.{◌≡◌, ◌<◌, length, arith, refl}
 use Rattle.std.proofs.lemmas.Bool.Decides.{nat_tests}
-use Rattle.vt100.proofs.RunLemmas.{ascii-run, prefix-end, printables}
+use Rattle.vt100.proofs.RunLemmas.{ascii-run, prefix-end}
 use Rattle.vt100.proofs.perform.WrappedScreenPerform.print_ascii.Goals as goal
 
 pub run-requires-clause-drawn : goal.run-requires-clause-drawn
 run-requires-clause-drawn g c =
-    rw c.as_bytes.ensures.value (λ k d l. (refl, printables c.args.text.now c.requires k d l))
+    rw c.as_bytes.ensures.value (λ k d l. (refl, c.requires k d l))
 
 pub returns-then-is_empty : goal.returns-then-is_empty
 returns-then-is_empty g c =

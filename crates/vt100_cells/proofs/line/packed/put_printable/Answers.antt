@@ -1,7 +1,8 @@
 use Rattle.std.proofs.Common.{arith, ◌≡◌, ◌∙◌, ◌+◌, ◌<◌, ◌==◌, ℕ, List, length, set, true, false, ap}
 use Rattle.vt100_forms.specs.declared.attrs.Attrs.{Attrs}
 use Rattle.std.proofs.lemmas.List.{get_or-set_same, set-set}
-use Rattle.vt100_cells.specs.Cell.{CellView, cell_of, IsPrintable}
+use Rattle.printable.specs.Printable.{IsPrintable}
+use Rattle.vt100_cells.specs.Cell.{CellView, cell_of}
 use Rattle.vt100_cells.specs.Cells.{cell_at}
 use Rattle.vt100_cells.specs.Line.{left_cleared}
 use Rattle.vt100_cells.proofs.ListLemmas.{reads_len}

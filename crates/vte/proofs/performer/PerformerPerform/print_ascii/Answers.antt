@@ -4,11 +4,8 @@ use Rattle.std.proofs.lemmas.List.{nil_from_length}
 use Rattle.std.proofs.lemmas.Str.{chars-nil}
 use Rattle.vte_core.specs.Event.{Print}
 use Rattle.vte.specs.Performed.{last_after_all}
-use Rattle.vte.proofs.PrintLemmas.{printed-all, printables, last-byte}
+use Rattle.vte.proofs.PrintLemmas.{printed-all, last-byte}
 use Rattle.vte.proofs.performer.PerformerPerform.print_ascii.Goals as goal
-
-pub input_ascii-requires : goal.input_ascii-requires
-input_ascii-requires g c = printables c.args.text.now c.requires
 
 pub returns-in_default : goal.returns-in_default
 returns-in_default g c =

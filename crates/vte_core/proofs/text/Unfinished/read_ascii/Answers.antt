@@ -4,7 +4,8 @@ use Rattle.std.proofs.lemmas.Str.{chars-IsAscii}
 use Rattle.std.specs.Str.{chars}
 use Rattle.vte_core.specs.Event.{Print}
 use Rattle.vte_core.proofs.Prefixes.{reads_alone}
-use Rattle.vte_core.proofs.Ground.{plain-run, printable-run, printable-ascii}
+use Rattle.printable.proofs.PrintableLemmas.{printable-ascii}
+use Rattle.vte_core.proofs.Ground.{plain-run, printable-run}
 use Rattle.vte_core.proofs.Telling.{same_events}
 use Rattle.vte_core.proofs.text.Unfinished.read_ascii.Goals as goal
 
@@ -19,11 +20,11 @@ returns-then-is_alone g c =
 pub returns-then-ends_text : goal.returns-then-ends_text
 returns-then-ends_text g c =
     let bs = c.args.bytes.now in
-    let k = c.ascii_len-len.result in
+    let k = c.printable_len-len.result in
     let prefix : List ℕ = take k bs in
     let spelt : chars c.ascii_text.result.now ≡ prefix = ap chars c.ascii_text.ensures
-    ∙ chars-IsAscii prefix (printable-ascii prefix c.ascii_len-len.ensures.printable) in
-    rw c.requires.none (reads_alone bs prefix k _ (omega arith) c.ascii_len-len.ensures.within refl
-    (printable-run prefix c.ascii_len-len.ensures.printable)
+    ∙ chars-IsAscii prefix (printable-ascii prefix c.printable_len-len.ensures.printable) in
+    rw c.requires.none (reads_alone bs prefix k _ (omega arith) c.printable_len-len.ensures.within refl
+    (printable-run prefix c.printable_len-len.ensures.printable)
     (same_events g.P.Perform.step c.args.performer.now c.print_ascii.new.self _ _ (ap (map Print) spelt)
     c.print_ascii.ensures))

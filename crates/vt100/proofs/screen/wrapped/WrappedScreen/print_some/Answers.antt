@@ -1,5 +1,5 @@
 use Rattle.std.proofs.Common.{refl}
-use Rattle.vt100_rows.proofs.PrintableLemmas.{printable-boundary}
+use Rattle.printable.proofs.PrintableLemmas.{printable-boundary}
 use Rattle.vt100.proofs.RunLemmas.{prefix-run}
 use Rattle.vt100.proofs.screen.wrapped.WrappedScreen.print_some.Goals as goal
 

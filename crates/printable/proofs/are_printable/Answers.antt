@@ -1,9 +1,9 @@
 use Rattle.std.proofs.Common.{◌≡◌, ◌≤◌, ℕ, List, length, take, subst, arith}
 use Rattle.std.specs.Prelude.{All}
 use Rattle.std.proofs.lemmas.Grind.{common_steps}
-use Rattle.vt100_cells.specs.Cell.{IsPrintable}
-use Rattle.vt100_rows.proofs.PrintableLemmas.{printable-more}
-use Rattle.vt100_rows.proofs.printable.are_printable.Goals as goal
+use Rattle.printable.specs.Printable.{IsPrintable}
+use Rattle.printable.proofs.PrintableLemmas.{printable-more}
+use Rattle.printable.proofs.are_printable.Goals as goal
 
 all_taken : (xs : List ℕ) (i : ℕ) → length xs ≤ i → take i xs ≡ xs
 all_taken xs i h = grind (arith, common_steps)

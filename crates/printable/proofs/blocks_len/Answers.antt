@@ -1,8 +1,8 @@
 use Rattle.std.proofs.Common.{◌≡◌, ◌+◌, ◌-◌, ℕ, sym, subst, arith, take, drop, List}
 use Rattle.std.specs.Prelude.{All}
-use Rattle.std.proofs.lemmas.List.Elements.{All-append, All-more}
-use Rattle.vt100_cells.specs.Cell.{IsPrintable}
-use Rattle.vt100_rows.proofs.printable.printable_len.Goals as goal
+use Rattle.std.proofs.lemmas.List.Elements.{All-append}
+use Rattle.printable.specs.Printable.{IsPrintable}
+use Rattle.printable.proofs.blocks_len.Goals as goal
 use lib.Seq.{take-add}
 
 pub loop-len-preserved : goal.loop-len-preserved
@@ -17,10 +17,3 @@ loop-len-preserved c =
       printable = subst (λ (xs : List ℕ). All IsPrintable xs) (sym (take-add i 16 bs))
           (All-append IsPrintable (take i bs) (take 16 (drop i bs)) c.loop-len.invariant.printable block);
     }
-
-pub loop-len-2-preserved : goal.loop-len-2-preserved
-loop-len-2-preserved c = record {
-  within = omega (arith, c.loop-len-2-test.true);
-  printable = All-more IsPrintable c.args.bytes.now c.loop-len-2.len 0 c.loop-len-2-test.true
-      c.loop-len-2.invariant.printable (rw c.from.ensures at (c.is_printable.ensures.0 c.if-is_printable.true));
-}

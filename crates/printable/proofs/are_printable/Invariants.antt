@@ -1,8 +1,8 @@
 use Rattle.std.proofs.Common.{take}
 use Rattle.std.specs.Prelude.{All}
 use Rattle.std.specs.Bool.{IsTrue}
-use Rattle.vt100_cells.specs.Cell.{IsPrintable}
-use Rattle.vt100_rows.proofs.printable.are_printable.Given as goal
+use Rattle.printable.specs.Printable.{IsPrintable}
+use Rattle.printable.proofs.are_printable.Given as goal
 
 abbrev pub invariant-loop-byte : goal.invariant-loop-byte
 invariant-loop-byte l = IsTrue l.are_printable → All IsPrintable (take l.byte-index l.bytes)

@@ -1,0 +1,10 @@
+use Rattle.std.proofs.Common.{◌-◌, ◌≤◌, take}
+use Rattle.std.specs.Prelude.{All}
+use Rattle.printable.specs.Printable.{IsPrintable}
+use Rattle.printable.proofs.short_len.Given as goal
+
+abbrev pub invariant-loop-len : goal.invariant-loop-len
+invariant-loop-len l = record { within : l.len ≤ 8; printable : All IsPrintable (take l.len l.bytes) }
+
+abbrev pub decreases-loop-len : goal.decreases-loop-len
+decreases-loop-len l = 8 - l.len
