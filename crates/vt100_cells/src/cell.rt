@@ -263,7 +263,7 @@ impl Cell {
         if self.has_text_of_four() {
             self.push_text(run);
         } else {
-            run.push_str(self.contents());
+            run.push_str(self.text.as_str());
         }
     }
 
