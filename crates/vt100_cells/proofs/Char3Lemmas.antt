@@ -124,8 +124,8 @@ pub record Three (bs : List ℕ) : Type 0 where
 
 pub one-of : (bs : List ℕ) → IsUtf8 bs → BeginsPrintable bs → One bs
 one-of bs u h =
-    let f = first-of bs u (omega (arith, h.1)) in
-    let below = (sized bs f).one (omega (arith, h.2)) in
+    let f = first-of bs u (omega (arith, h.1.0)) in
+    let below = (sized bs f).one (omega (arith, h.1.1)) in
     record {
       c = f.c;
       rest = f.rest;
@@ -297,7 +297,7 @@ one-is bs xs u h e =
     let is = (one-char3 bs t).1 in
     let first = ap (λ (l : List ℕ). slice_index l 0) t.is in
     subst (λ (l : List ℕ). IsPrintable (char_of (one_byte l))) (sym e)
-    (subst IsPrintable (sym is) (omega (arith, first, h.1), omega (arith, first, h.2)))
+    (subst IsPrintable (sym is) (omega (arith, first, h.1.0), omega (arith, first, h.1.1)))
 
 -- ---- its columns
 
