@@ -1,5 +1,5 @@
 //! What a writer of forms knows of the terminal.
-ghost use Rattle.std.specs.Prelude.{◌≡◌, ◌+◌, ◌<◌, ◌≤◌, ◌^◌, length, IfSome};
+ghost use Rattle.std.specs.Prelude.{◌≡◌, ◌+◌, ◌<◌, ◌≤◌, ◌^◌, false, length, IfSome};
 ghost use Rattle.vt100_cells.specs.Line.{span_of};
 ghost use Rattle.row_drawing.specs.Writer.{goto, turn, color, print, space, back, erasing, clearing, marking};
 ghost use Rattle.row_drawing.specs.Writes.{Wrote};
