@@ -28,15 +28,14 @@ pub wrote_turn : (row : ℕ) (p : Pen) (s : List ℕ) (q : Pen) → q ≡ (turn 
 unfolding turn
 wrote_turn row p s q e = record { pen_is = sym e; text_is = sym (append-nil s) }
 
-pub appended_turn : {Z : Type 0} (row : ℕ) (p : Pen) (s : String Z) (q : Pen) → q ≡ (turn row p).pen
-    → Appended (turn row) p s q s
-appended_turn row p s q e = appended_none s (wrote_turn row p (string_bytes s) q e)
-
-pub appended_marking : {Z : Type 0} (n : ℕ) (a : Attrs) (p : Pen) (s : String Z) (q : Pen)
-    → q ≡ (marking n a p).pen → Appended (marking n a) p s q s
+pub wrote_marking : (n : ℕ) (a : Attrs) (p : Pen) (s : List ℕ) (q : Pen) → q ≡ (marking n a p).pen
+    → Wrote (marking n a) p s q s
 unfolding marking
-appended_marking n a p s q e =
-    appended_none s (record { pen_is = sym e; text_is = sym (append-nil (string_bytes s)) })
+wrote_marking n a p s q e = record { pen_is = sym e; text_is = sym (append-nil s) }
+
+-- the attributes of a cell, which are these
+pub colored_as : {p q : Pen} {s t : List ℕ} {a b : Attrs} → a ≡ b → Wrote (color a) p s q t → Wrote (color b) p s q t
+colored_as {p = p} {q = q} {s = s} {t = t} e w = subst (λ x. Wrote (color x) p s q t) e w
 
 -- ---- where the cursor stands
 

@@ -102,6 +102,14 @@ pub wrote_skip : (p : Pen) (s : List ℕ) → Wrote skip p s p s
 unfolding skip
 wrote_skip p s = record { pen_is = refl; text_is = sym (append-nil s) }
 
+-- the same text behind another one
+pub wrote_behind : {f : Writer} {p : Pen} {s : List ℕ} {q : Pen} {u : List ℕ} (t : List ℕ) → Wrote f p s q u
+    → Wrote f p (t ++ s) q (t ++ u)
+wrote_behind {f = f} {p = p} {s = s} t a = record {
+  pen_is = a.pen_is;
+  text_is = ap (λ bs. t ++ bs) a.text_is ∙ sym (append_assoc t s (bytes_of (f p).forms));
+}
+
 -- ---- calls that append to a string
 
 -- how many bytes two writers append
@@ -181,6 +189,24 @@ module _ {Z : Type 0} where
     begun = ([], bytes_of (h p).forms, refl, same ∙ sym (append-nil (string_bytes s)));
     full = subst (λ bs. string_capacity s < string_len s + length bs) e full;
   }
+
+  -- what was written to an empty run is appended at once
+  pub appended_run : {f : Writer} {p : Pen} {r : List ℕ} {q : Pen} {u : List ℕ} (s t : String Z) → r ≡ []
+      → Wrote f p r q u → string_bytes t ≡ string_bytes s ++ u → string_capacity s ≤ string_capacity t
+      → Appended f p s q t
+  appended_run {f = f} {p = p} s t empty a e room = record {
+    wrote = record {
+      pen_is = a.pen_is;
+      text_is = e ∙ ap (λ bs. string_bytes s ++ bs) (a.text_is ∙ ap (λ bs. bs ++ bytes_of (f p).forms) empty);
+    };
+    capacity = room;
+  }
+
+  pub refused_run : {X E : Type 0} (x : Result X E) {f : Writer} {p : Pen} {r : List ℕ} {q : Pen} {u : List ℕ}
+      (v : Pen) (s t : String Z) → IsErr x → r ≡ [] → Wrote f p r q u → string_bytes t ≡ string_bytes s
+      → string_capacity s < string_len s + length u → Writes f p s (is_ok x) v t
+  refused_run x {f = f} {p = p} v s t failed empty a same full =
+      refused_whole x f p s v t _ failed (a.text_is ∙ ap (λ bs. bs ++ bytes_of (f p).forms) empty) same full
 
   -- the last one
   pub writes_by : (f g : Writer) (p : Pen) (s : String Z) (ok : Bool) (q : Pen) (t : String Z) → g p ≡ f p

@@ -5,14 +5,14 @@ ghost use Rattle.vt100_cells.specs.Line.{span_of};
 ghost use Rattle.row_drawing.specs.Drawing.{row_change_of, IsSettled};
 ghost use Rattle.row_drawing.specs.RowWriter.{last_col_of, unflag, print_last, mend, owes_end, closing};
 ghost use Rattle.row_drawing.specs.RowWriter.{row_difference};
-ghost use Rattle.row_drawing.specs.Writes.{Writes};
+ghost use Rattle.row_drawing.specs.Writes.{Writes, Wrote};
 
 use crate::drawing::Drawing;
 use crate::pen::Pen;
 use vt100_cells::Cell;
 use vt100_cells::line::{is_continuation_at, same_to};
-use vt100_forms::GridError;
 use vt100_forms::position::Pos;
+use vt100_forms::{GridError, TextRun};
 
 impl<'a> Drawing<'a> {
     /// The column of the last cell, or of its first half.
@@ -36,17 +36,19 @@ impl<'a> Drawing<'a> {
     }
 
     /// Draws the last cell again, where the cursor is. If the row doesn't wrap, the cell is erased first, which resets
-    /// the flag.
-    fn mend(&self, pen: &mut Pen, contents: &mut String, cell: &Cell) -> Result<(), GridError>
-        requires { pen.old.pos.col + span_of cell.now < 2 ^ 16 }
-        ensures { Writes (mend (row_change_of self.now) cell.now) pen.old contents.old (is_ok result) pen.new
-            contents.new }
+    /// the flag. These are 145 bytes at most.
+    fn mend(&self, pen: &mut Pen, run: &mut TextRun, cell: &Cell)
+        requires room { length run.old + 145 ≤ 192 }
+        requires fits { pen.old.pos.col + span_of cell.now < 2 ^ 16 }
+        ensures written { Wrote (mend (row_change_of self.now) cell.now) pen.old run.old pen.new run.new }
+        ensures room { length run.new ≤ length run.old + 145 }
     {
         if self.wrapped {
-            return pen.print_last(contents, cell);
+            pen.print_last(run, cell);
+            return;
         }
-        pen.unflag(contents, cell)?;
-        pen.print_last(contents, cell)
+        pen.unflag(run, cell);
+        pen.print_last(run, cell);
     }
 
     /// Corrects the row's flag, after its columns are drawn. To set it, the cursor is left behind the last column: the
@@ -59,9 +61,12 @@ impl<'a> Drawing<'a> {
         if !self.owes_end(pen) {
             return Ok(());
         }
+        let mut run = TextRun::new();
         let col = self.last_col();
-        pen.goto(contents, Pos { row: self.row, col })?;
-        self.mend(pen, contents, self.cell(col))
+        pen.goto(&mut run, Pos { row: self.row, col });
+        self.mend(pen, &mut run, self.cell(col));
+        run.move_to(contents)?;
+        Ok(())
     }
 
     /// How many cells from the left the terminal shows already.
@@ -123,29 +128,32 @@ impl<'a> Drawing<'a> {
 }
 
 impl Pen {
-    /// Erases the last cell of a row, where the cursor is, and so resets the row's flag. An empty cell is erased with
-    /// its own attributes.
-    fn unflag(&mut self, contents: &mut String, cell: &Cell) -> Result<(), GridError>
-        ensures { Writes (unflag cell.now) self.old contents.old (is_ok result) self.new
-            contents.new }
+    /// Erases the last cell of a row, where the cursor is, and so resets the row's flag: 66 bytes at most. An empty
+    /// cell is erased with its own attributes.
+    fn unflag(&mut self, run: &mut TextRun, cell: &Cell)
+        requires { length run.old + 66 ≤ 192 }
+        ensures written { Wrote (unflag cell.now) self.old run.old self.new run.new }
+        ensures room { length run.new ≤ length run.old + 66 }
     {
         if cell.has_contents() {
-            return self.erase(contents, 1, true);
+            self.erase(run, 1, true);
+            return;
         }
-        self.color_as(contents, cell)?;
-        self.erase(contents, 1, true)
+        self.color(run, cell, None);
+        self.erase(run, 1, true);
     }
 
-    /// Prints the last cell of a row, if it has a text; the cursor is then behind the last column.
-    fn print_last(&mut self, contents: &mut String, cell: &Cell) -> Result<(), GridError>
-        requires { self.old.pos.col + span_of cell.now < 2 ^ 16 }
-        ensures { Writes (print_last cell.now) self.old contents.old (is_ok result) self.new
-            contents.new }
+    /// Prints the last cell of a row, if it has a text: 79 bytes at most. The cursor is then behind the last column.
+    fn print_last(&mut self, run: &mut TextRun, cell: &Cell)
+        requires room { length run.old + 79 ≤ 192 }
+        requires fits { self.old.pos.col + span_of cell.now < 2 ^ 16 }
+        ensures written { Wrote (print_last cell.now) self.old run.old self.new run.new }
+        ensures room { length run.new ≤ length run.old + 79 }
     {
         if !cell.has_contents() {
-            return Ok(());
+            return;
         }
-        self.color_as(contents, cell)?;
-        self.print(contents, cell, false)
+        self.color(run, cell, None);
+        self.print(run, cell, false);
     }
 }

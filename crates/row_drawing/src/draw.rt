@@ -1,5 +1,5 @@
 //! Drawing one column of a row on a terminal that shows an earlier one.
-ghost use Rattle.std.specs.Prelude.{ℕ, ◌≡◌, ◌+◌, ◌<◌, ◌≤◌, ◌^◌, ◌-◌, ◌==◌, ◌&&◌, not, false, List, ◌++◌, length};
+ghost use Rattle.std.specs.Prelude.{◌≡◌, ◌+◌, ◌<◌, ◌≤◌, ◌==◌, ◌&&◌, not, false, length};
 ghost use Rattle.std.specs.Prelude.{is_ok};
 ghost use Rattle.vt100_cells.specs.Cell.{has_text};
 ghost use Rattle.vt100_cells.specs.Cells.{cell_at};
@@ -63,76 +63,60 @@ impl<'a> Drawing<'a> {
         self.wraps(pen, columns) && col == 0
     }
 
-    /// Moves the cursor so that `columns` columns are printed from `col` on.
-    fn arrive(
-        &self,
-        pen: &mut Pen,
-        contents: &mut String,
-        col: u16,
-        columns: u16,
-    ) -> Result<(), GridError>
-        ensures { Writes (arrive (row_change_of self.now) col columns) pen.old contents.old (is_ok result)
-            pen.new contents.new }
-    {
-        if self.is_wrapping(pen, columns, col) {
-            pen.turn(self.row);
-            return Ok(());
-        }
-        pen.goto(contents, Pos { row: self.row, col })
-    }
-
-    /// Moves the cursor as `arrive` does, and appends the bytes to `run`, 14 at most.
-    pub(crate) fn arrive_in(&self, pen: &mut Pen, run: &mut TextRun, col: u16, columns: u16)
-        requires { length run.old + 14 ≤ 128 }
-        ensures written { (t : List ℕ) → Wrote (arrive (row_change_of self.now) col columns) pen.old (t ++ run.old) pen.new
-            (t ++ run.new) }
+    /// Moves the cursor so that `columns` columns are printed from `col` on: 14 bytes at most.
+    pub(crate) fn arrive(&self, pen: &mut Pen, run: &mut TextRun, col: u16, columns: u16)
+        requires { length run.old + 14 ≤ 192 }
+        ensures written { Wrote (arrive (row_change_of self.now) col columns) pen.old run.old pen.new run.new }
         ensures room { length run.new ≤ length run.old + 14 }
     {
         if self.is_wrapping(pen, columns, col) {
             pen.turn(self.row);
             return;
         }
-        let pos = Pos { row: self.row, col };
-        pen.goto_in(run, pos);
+        pen.goto(run, Pos { row: self.row, col });
     }
 
-    /// Moves the cursor to the first of the columns that are to be erased, and sets their attributes.
-    fn to_erase(&self, pen: &mut Pen, contents: &mut String, erase: Erase) -> Result<(), GridError>
-        ensures { Writes (to_erase (row_change_of self.now) erase) pen.old contents.old (is_ok result) pen.new
-            contents.new }
+    /// Moves the cursor to the first of the columns that are to be erased, and sets their attributes: 72 bytes at most.
+    fn to_erase(&self, pen: &mut Pen, run: &mut TextRun, erase: Erase)
+        requires { length run.old + 72 ≤ 192 }
+        ensures written { Wrote (to_erase (row_change_of self.now) erase) pen.old run.old pen.new run.new }
+        ensures room { length run.new ≤ length run.old + 72 }
     {
+        let erased = Cell::empty(erase.attrs);
         if self.is_wrapping(pen, 1, erase.from) {
             pen.turn(self.row);
-            pen.space(contents)?;
-            pen.back(contents)?;
-            return pen.color(contents, erase.attrs);
+            pen.space(run);
+            pen.back(run);
+            pen.color(run, &erased, None);
+            return;
         }
         let pos = Pos {
             row: self.row,
             col: erase.from,
         };
-        pen.goto(contents, pos)?;
-        pen.color(contents, erase.attrs)
+        pen.goto(run, pos);
+        pen.color(run, &erased, None);
     }
 
-    /// Erases the pending columns before `col`, if the cell at `col` isn't erased with them.
-    fn flush(&self, pen: &mut Pen, contents: &mut String, col: u16) -> Result<(), GridError>
-        requires { col < length self.now.cells.now }
-        ensures { Writes (flush (row_change_of self.now) col) pen.old contents.old (is_ok result) pen.new
-            contents.new }
+    /// Erases the pending columns before `col`, if the cell at `col` isn't erased with them: 80 bytes at most.
+    fn flush(&self, pen: &mut Pen, run: &mut TextRun, col: u16)
+        requires room { length run.old + 80 ≤ 192 }
+        requires in_row { col < length self.now.cells.now }
+        ensures written { Wrote (flush (row_change_of self.now) col) pen.old run.old pen.new run.new }
+        ensures room { length run.new ≤ length run.old + 80 }
     {
         let Some(erase) = pen.erase else {
-            return Ok(());
+            return;
         };
         if !is_end(self.cell(col), erase.attrs) {
-            return Ok(());
+            return;
         }
-        self.to_erase(pen, contents, erase)?;
+        self.to_erase(pen, run, erase);
         pen.erase(
-            contents,
+            run,
             col.saturating_sub(erase.from),
             self.loses_by_erase(erase.from, col),
-        )
+        );
     }
 
     /// Erases the pending columns, to the end of the row.
@@ -143,28 +127,33 @@ impl<'a> Drawing<'a> {
         let Some(erase) = pen.erase else {
             return Ok(());
         };
-        self.to_erase(pen, contents, erase)?;
-        pen.clear(contents)
+        let mut run = TextRun::new();
+        self.to_erase(pen, &mut run, erase);
+        pen.clear(&mut run);
+        run.move_to(contents)?;
+        Ok(())
     }
 
-    /// Draws the cell at `col`, which differs from the terminal's. An empty cell becomes pending, and is erased later.
-    fn draw(&self, pen: &mut Pen, contents: &mut String, col: u16) -> Result<(), GridError>
+    /// Draws the cell at `col`, which differs from the terminal's: 93 bytes at most. An empty cell becomes pending, and
+    /// is erased later.
+    fn draw(&self, pen: &mut Pen, run: &mut TextRun, col: u16)
+        requires room { length run.old + 93 ≤ 192 }
         requires in_row { col < length self.now.cells.now }
         requires other { is_same (row_change_of self.now) col ≡ false }
-        ensures { Writes (draw (row_change_of self.now) col) pen.old contents.old (is_ok result) pen.new
-            contents.new }
+        ensures written { Wrote (draw (row_change_of self.now) col) pen.old run.old pen.new run.new }
+        ensures room { length run.new ≤ length run.old + 93 }
     {
         let cell = self.cell(col);
         if cell.has_contents() {
-            self.arrive(pen, contents, col, span(cell))?;
-            pen.color_as(contents, cell)?;
-            return pen.print(contents, cell, self.loses_by_print(col));
+            self.arrive(pen, run, col, span(cell));
+            pen.color(run, cell, None);
+            pen.print(run, cell, self.loses_by_print(col));
+            return;
         }
         match pen.erase {
             None => pen.mark(col, cell.attrs()),
             Some(_) => {}
         }
-        Ok(())
     }
 
     /// Whether the cell at `col` is the second half of a wide character, which is drawn with the first half.
@@ -176,27 +165,22 @@ impl<'a> Drawing<'a> {
         self.cell(col).is_wide_continuation() && col != self.start
     }
 
-    /// Draws one column, if it differs. The second half of a wide character is drawn with the first.
+    /// Draws one column, if it differs: 173 bytes at most. The second half of a wide character is drawn with the first.
     // A function of its own, since most columns stay: what those need is kept in registers.
     #[inline(never)]
-    pub(crate) fn change(
-        &self,
-        pen: &mut Pen,
-        contents: &mut String,
-        col: u16,
-    ) -> Result<(), GridError>
-        requires { col < length self.now.cells.now }
-        ensures { Writes (column (row_change_of self.now) col) pen.old contents.old (is_ok result) pen.new
-            contents.new }
+    pub(crate) fn change(&self, pen: &mut Pen, run: &mut TextRun, col: u16)
+        requires room { length run.old + 173 ≤ 192 }
+        requires in_row { col < length self.now.cells.now }
+        ensures { Wrote (column (row_change_of self.now) col) pen.old run.old pen.new run.new }
     {
         if self.is_half(col) {
-            return Ok(());
+            return;
         }
-        self.flush(pen, contents, col)?;
+        self.flush(pen, run, col);
         if self.is_same(col) {
-            return Ok(());
+            return;
         }
-        self.draw(pen, contents, col)
+        self.draw(pen, run, col);
     }
 }
 
@@ -216,7 +200,8 @@ impl<'a> Drawing<'a> {
     #[inline]
     pub(crate) fn loses_by_print(&self, col: u16) -> bool
         requires { col < length self.now.cells.now }
-        ensures { result ≡ put_unflags (row_change_of self.now).cols (row_change_of self.now).old col ((row_change_of self.now).new col) }
+        ensures { result ≡ put_unflags (row_change_of self.now).cols (row_change_of self.now).old col
+            ((row_change_of self.now).new col) }
     {
         let col = usize::from(col);
         at(self.cells, col).is_wide()

@@ -3,12 +3,12 @@ ghost use Rattle.std.specs.Prelude.{◌≡◌, ◌+◌, ◌<◌, ◌≤◌, ◌^
 ghost use Rattle.vt100_cells.specs.Cells.{AreSame, cell_at};
 ghost use Rattle.row_drawing.specs.Drawing.{row_change_of};
 ghost use Rattle.row_drawing.specs.RowWriter.{owes_flag, reprint, opening, row_redraw};
-ghost use Rattle.row_drawing.specs.Writes.{Writes};
+ghost use Rattle.row_drawing.specs.Writes.{Writes, Wrote};
 
 use crate::drawing::Drawing;
 use crate::pen::{Pen, span};
 use vt100_cells::Cell;
-use vt100_forms::GridError;
+use vt100_forms::{GridError, TextRun};
 
 impl<'a> Drawing<'a> {
     /// Whether the first cell must be printed although it stays: the row above wraps, and has no flag yet.
@@ -22,23 +22,27 @@ impl<'a> Drawing<'a> {
             && self.wraps(pen, span(self.cell(self.start)))
     }
 
-    /// Prints a cell over itself, and moves back to its first column. An empty one is printed as a space and erased.
-    fn reprint(&self, pen: &mut Pen, contents: &mut String, cell: &Cell) -> Result<(), GridError>
-        requires { pen.old.pos.col + 2 < 2 ^ 16 }
-        ensures { Writes (reprint (row_change_of self.now) cell.now) pen.old contents.old (is_ok result)
-            pen.new contents.new }
+    /// Prints a cell over itself, and moves back to its first column: 23 bytes at most. An empty one is printed as a
+    /// space and erased.
+    fn reprint(&self, pen: &mut Pen, run: &mut TextRun, cell: &Cell)
+        requires room { length run.old + 23 ≤ 192 }
+        requires fits { pen.old.pos.col + 2 < 2 ^ 16 }
+        ensures written { Wrote (reprint (row_change_of self.now) cell.now) pen.old run.old pen.new run.new }
+        ensures room { length run.new ≤ length run.old + 23 }
     {
         if !cell.has_contents() {
-            pen.space(contents)?;
-            pen.back(contents)?;
-            return pen.erase(contents, 1, self.loses_by_erase(0, 1));
+            pen.space(run);
+            pen.back(run);
+            pen.erase(run, 1, self.loses_by_erase(0, 1));
+            return;
         }
-        pen.print(contents, cell, false)?;
+        pen.print(run, cell, false);
         if cell.is_wide() {
-            pen.back(contents)?;
-            return pen.back(contents);
+            pen.back(run);
+            pen.back(run);
+            return;
         }
-        pen.back(contents)
+        pen.back(run);
     }
 
     /// Sets the flag of the row above, if it is missing and no other cell would set it.
@@ -50,10 +54,13 @@ impl<'a> Drawing<'a> {
         if !self.owes_flag(pen) {
             return Ok(());
         }
+        let mut run = TextRun::new();
         let first = self.cell(self.start);
         pen.turn(self.row);
-        pen.color_as(contents, first)?;
-        self.reprint(pen, contents, first)
+        pen.color(&mut run, first, None);
+        self.reprint(pen, &mut run, first);
+        run.move_to(contents)?;
+        Ok(())
     }
 
     /// Draws `count` columns, from `start` on, over a row that has no flag.

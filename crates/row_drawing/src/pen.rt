@@ -1,18 +1,14 @@
 //! What a writer of forms knows of the terminal.
-ghost use Rattle.std.specs.Prelude.{ℕ, ◌≡◌, ◌+◌, ◌<◌, ◌≤◌, ◌^◌, List, ◌++◌, length, is_ok, IfSome, OnErr};
-ghost use Rattle.std.specs.Prelude.{string_bytes, string_len, string_capacity};
-ghost use Rattle.std.specs.Prelude.{if◌then◌else◌, false};
-ghost use Rattle.vt100_forms.specs.Attrs.{attrs_eq};
+ghost use Rattle.std.specs.Prelude.{◌≡◌, ◌+◌, ◌<◌, ◌≤◌, ◌^◌, false, length, IfSome};
 ghost use Rattle.vt100_cells.specs.Line.{span_of};
 ghost use Rattle.row_drawing.specs.Writer.{goto, turn, color, print, space, back, erasing, clearing, marking};
-ghost use Rattle.row_drawing.specs.Writes.{Writes, Wrote};
+ghost use Rattle.row_drawing.specs.Writes.{Wrote};
 
-use std::alloc::AllocError;
 use vt100_cells::Cell;
+use vt100_forms::TextRun;
 use vt100_forms::attrs::Attrs;
 use vt100_forms::position::Pos;
-use vt100_forms::term::{Backspace, BufWrite, ClearRowForward, EraseChar, MoveFromTo};
-use vt100_forms::{GridError, TextRun};
+use vt100_forms::term::{EraseChar, MoveFromTo};
 
 /// Columns of a row, from one on, that are pending: they are erased together at the next column that isn't to be erased
 /// with them, or at the row's end.
@@ -26,8 +22,7 @@ pub struct Erase {
 
 /// What a writer knows of the terminal that reads its forms, and which columns it has still to erase.
 ///
-/// A call fails only if an allocation fails. It may then have appended some of its forms, and the pen is no longer
-/// right.
+/// Its calls append their forms to a run, which must have room for them.
 #[derive(Clone, Copy, Debug, Eq, PartialEq)]
 pub struct Pen {
     /// The cursor's position. The column equals the number of columns if the next character would wrap.
@@ -41,45 +36,25 @@ pub struct Pen {
 }
 
 impl Pen {
-    /// Moves the cursor to `pos`.
+    /// Moves the cursor to `pos`: 14 bytes at most.
     // Mostly the cursor is there already, and this test costs no call.
     #[inline(always)]
-    pub fn goto(&mut self, contents: &mut String, pos: Pos) -> Result<(), GridError>
-        ensures { Writes (goto pos.row pos.col) self.old contents.old (is_ok result) self.new
-            contents.new }
-    {
-        if self.pos == pos {
-            return Ok(());
-        }
-        self.travel(contents, pos)
-    }
-
-    fn travel(&mut self, contents: &mut String, pos: Pos) -> Result<(), GridError>
-        ensures { Writes (goto pos.row pos.col) self.old contents.old (is_ok result) self.new
-            contents.new }
-    {
-        MoveFromTo::new(self.pos, pos).write_buf(contents)?;
-        self.pos = pos;
-        Ok(())
-    }
-
-    /// Moves the cursor, and appends the bytes to `run`.
-    #[inline(always)]
-    pub(crate) fn goto_in(&mut self, run: &mut TextRun, pos: Pos)
-        requires { length run.old + 14 ≤ 128 }
-        ensures written { (t : List ℕ) → Wrote (goto pos.row pos.col) self.old (t ++ run.old) self.new (t ++ run.new) }
+    pub(crate) fn goto(&mut self, run: &mut TextRun, pos: Pos)
+        requires { length run.old + 14 ≤ 192 }
+        ensures written { Wrote (goto pos.row pos.col) self.old run.old self.new run.new }
         ensures room { length run.new ≤ length run.old + 14 }
     {
         if self.pos == pos {
             return;
         }
-        self.travel_in(run, pos);
+        self.travel(run, pos);
     }
 
+    // Apart, so that the test before it is inlined alone.
     #[inline(never)]
-    fn travel_in(&mut self, run: &mut TextRun, pos: Pos)
-        requires { length run.old + 14 ≤ 128 }
-        ensures written { (t : List ℕ) → Wrote (goto pos.row pos.col) self.old (t ++ run.old) self.new (t ++ run.new) }
+    fn travel(&mut self, run: &mut TextRun, pos: Pos)
+        requires { length run.old + 14 ≤ 192 }
+        ensures written { Wrote (goto pos.row pos.col) self.old run.old self.new run.new }
         ensures room { length run.new ≤ length run.old + 14 }
     {
         MoveFromTo::new(self.pos, pos).push_to(run);
@@ -88,7 +63,7 @@ impl Pen {
 
     /// Takes the cursor as at the start of this row: the next character doesn't fit in the row above, and wraps.
     #[tactic(auto, unfolding(crate::specs::Writer::turn))]
-    pub fn turn(&mut self, row: u16)
+    pub(crate) fn turn(&mut self, row: u16)
         ensures { self.new ≡ (turn row self.old).pen }
     {
         self.pos = Pos { row, col: 0 };
@@ -96,48 +71,20 @@ impl Pen {
 
     /// Makes the columns from `from` on pending, to be erased with these attributes.
     #[tactic(auto, unfolding(crate::specs::Writer::marking))]
-    pub fn mark(&mut self, from: u16, attrs: Attrs)
+    pub(crate) fn mark(&mut self, from: u16, attrs: Attrs)
         ensures { self.new ≡ (marking from attrs self.old).pen }
     {
         self.erase = Some(Erase { from, attrs });
     }
 
-    /// Sets the attributes.
-    #[inline(always)]
-    pub fn color(&mut self, contents: &mut String, attrs: Attrs) -> Result<(), GridError>
-        ensures { Writes (color attrs) self.old contents.old (is_ok result) self.new
-            contents.new }
-    {
-        if self.draws_with(attrs) {
-            return Ok(());
-        }
-        self.recolor(contents, attrs)
-    }
-
-    #[inline(always)]
-    fn draws_with(&self, attrs: Attrs) -> bool
-        ensures { result ≡ attrs_eq self.now.attrs attrs }
-    {
-        self.attrs == attrs
-    }
-
-    /// Sets the attributes of a cell.
-    #[inline(always)]
-    pub(crate) fn color_as(&mut self, contents: &mut String, cell: &Cell) -> Result<(), GridError>
-        ensures { Writes (color cell.now.attrs) self.old contents.old (is_ok result) self.new
-            contents.new }
-    {
-        self.color(contents, cell.attrs())
-    }
-
-    /// Sets the attributes of a cell, and appends the bytes to `run`. `like`, if given, is a cell with the terminal's
-    /// current attributes.
+    /// Sets the attributes of a cell: 58 bytes at most. `like`, if given, is a cell with the terminal's current
+    /// attributes.
     // Whole cells are compared, so that no colour has to be put together first.
     #[inline(always)]
-    pub(crate) fn color_in(&mut self, run: &mut TextRun, cell: &Cell, like: Option<&Cell>)
-        requires room { length run.old + 58 ≤ 128 }
+    pub(crate) fn color(&mut self, run: &mut TextRun, cell: &Cell, like: Option<&Cell>)
+        requires room { length run.old + 58 ≤ 192 }
         requires like { IfSome like (λ x. x.now.attrs ≡ self.old.attrs) }
-        ensures written { (t : List ℕ) → Wrote (color cell.now.attrs) self.old (t ++ run.old) self.new (t ++ run.new) }
+        ensures written { Wrote (color cell.now.attrs) self.old run.old self.new run.new }
         ensures room { length run.new ≤ length run.old + 58 }
     {
         if let Some(like) = like {
@@ -145,14 +92,14 @@ impl Pen {
                 return;
             }
         }
-        self.recolor_in(run, cell);
+        self.recolor(run, cell);
     }
 
     // A function of its own, which gets the whole cell: where attributes are only compared they aren't taken apart.
     #[inline(never)]
-    fn recolor_in(&mut self, run: &mut TextRun, cell: &Cell)
-        requires { length run.old + 58 ≤ 128 }
-        ensures written { (t : List ℕ) → Wrote (color cell.now.attrs) self.old (t ++ run.old) self.new (t ++ run.new) }
+    fn recolor(&mut self, run: &mut TextRun, cell: &Cell)
+        requires { length run.old + 58 ≤ 192 }
+        ensures written { Wrote (color cell.now.attrs) self.old run.old self.new run.new }
         ensures room { length run.new ≤ length run.old + 58 }
     {
         let attrs = cell.attrs();
@@ -160,35 +107,20 @@ impl Pen {
         self.attrs = attrs;
     }
 
-    #[inline(never)]
-    fn recolor(&mut self, contents: &mut String, attrs: Attrs) -> Result<(), GridError>
-        ensures { Writes (color attrs) self.old contents.old (is_ok result) self.new
-            contents.new }
+    /// Prints the text of a cell: 21 bytes at most. `loses` says whether the terminal then loses the row's flag.
+    #[inline]
+    pub(crate) fn print(&mut self, run: &mut TextRun, cell: &Cell, loses: bool)
+        requires room { length run.old + 21 ≤ 192 }
+        requires fits { self.old.pos.col + span_of cell.now < 2 ^ 16 }
+        ensures written { Wrote (print cell.now loses) self.old run.old self.new run.new }
+        ensures room { length run.new ≤ length run.old + 21 }
     {
-        attrs.write_escape_code_diff(contents, &self.attrs)?;
-        self.attrs = attrs;
-        Ok(())
-    }
-
-    /// Prints the text of a cell. `loses` says whether the terminal then loses the row's flag.
-    #[inline(always)]
-    pub fn print(
-        &mut self,
-        contents: &mut String,
-        cell: &Cell,
-        loses: bool,
-    ) -> Result<(), GridError>
-        requires { self.old.pos.col + span_of cell.now < 2 ^ 16 }
-        ensures { Writes (print cell.now loses) self.old contents.old (is_ok result) self.new
-            contents.new }
-    {
-        push_text(contents, cell.contents())?;
+        cell.push_contents(run);
         self.pos.col += span(cell);
         self.lost = self.lost || loses;
-        Ok(())
     }
 
-    /// Moves as printing a cell does. Its text is written later, together with others.
+    /// Moves as printing a cell does, whose text the run gets apart.
     #[inline(always)]
     pub(crate) fn pass(&mut self, cell: &Cell)
         requires { self.old.pos.col + span_of cell.now < 2 ^ 16 }
@@ -198,46 +130,47 @@ impl Pen {
     }
 
     /// Prints a space.
-    pub fn space(&mut self, contents: &mut String) -> Result<(), GridError>
-        requires { self.old.pos.col + 1 < 2 ^ 16 }
-        ensures { Writes space self.old contents.old (is_ok result) self.new
-            contents.new }
+    pub(crate) fn space(&mut self, run: &mut TextRun)
+        requires room { length run.old < 192 }
+        requires fits { self.old.pos.col + 1 < 2 ^ 16 }
+        ensures written { Wrote space self.old run.old self.new run.new }
+        ensures room { length run.new ≤ length run.old + 1 }
     {
-        contents.push(' ')?;
+        run.push_ascii(b' ');
         self.pos.col += 1;
-        Ok(())
     }
 
-    /// Moves the cursor to the left by a column.
-    pub fn back(&mut self, contents: &mut String) -> Result<(), GridError>
-        ensures { Writes back self.old contents.old (is_ok result) self.new
-            contents.new }
+    /// Moves the cursor to the left by a column: one byte.
+    pub(crate) fn back(&mut self, run: &mut TextRun)
+        requires { length run.old < 192 }
+        ensures written { Wrote back self.old run.old self.new run.new }
+        ensures room { length run.new ≤ length run.old + 1 }
     {
-        Backspace.write_buf(contents)?;
+        run.push_ascii(b'\x08');
         self.pos.col = self.pos.col.saturating_sub(1);
-        Ok(())
     }
 
-    /// Erases `count` columns from the cursor on. `loses` says whether the terminal then loses the row's flag.
-    pub fn erase(&mut self, contents: &mut String, count: u16, loses: bool) -> Result<(), GridError>
-        ensures { Writes (erasing count loses) self.old contents.old (is_ok result) self.new
-            contents.new }
+    /// Erases `count` columns from the cursor on: 8 bytes at most. `loses` says whether the terminal then loses the
+    /// row's flag.
+    pub(crate) fn erase(&mut self, run: &mut TextRun, count: u16, loses: bool)
+        requires { length run.old + 8 ≤ 192 }
+        ensures written { Wrote (erasing count loses) self.old run.old self.new run.new }
+        ensures room { length run.new ≤ length run.old + 8 }
     {
-        EraseChar::new(count).write_buf(contents)?;
+        EraseChar::new(count).push_to(run);
         self.erase = None;
         self.lost = self.lost || loses;
-        Ok(())
     }
 
-    /// Erases the columns from the cursor to the end of the row. The terminal loses the row's flag.
-    pub fn clear(&mut self, contents: &mut String) -> Result<(), GridError>
-        ensures { Writes clearing self.old contents.old (is_ok result) self.new
-            contents.new }
+    /// Erases the columns from the cursor to the end of the row: 3 bytes. The terminal loses the row's flag.
+    pub(crate) fn clear(&mut self, run: &mut TextRun)
+        requires { length run.old + 3 ≤ 192 }
+        ensures written { Wrote clearing self.old run.old self.new run.new }
+        ensures room { length run.new ≤ length run.old + 3 }
     {
-        ClearRowForward.write_buf(contents)?;
+        run.push_str("\x1b[K");
         self.erase = None;
         self.lost = true;
-        Ok(())
     }
 }
 
@@ -247,21 +180,4 @@ pub(crate) fn span(cell: &Cell) -> u16
     ensures { result ≡ span_of cell.now }
 {
     if cell.is_wide() { 2 } else { 1 }
-}
-
-/// Appends a text.
-// Mostly it is one byte, and then this costs no call of `memmove`.
-#[inline(always)]
-fn push_text(contents: &mut String, text: &str) -> Result<(), AllocError>
-    ensures bytes { string_bytes contents.new ≡ (if is_ok result then string_bytes contents.old ++ text.now
-        else string_bytes contents.old) }
-    ensures full { OnErr result (string_capacity contents.old < string_len contents.old + length text.now) }
-    ensures capacity { string_capacity contents.old ≤ string_capacity contents.new }
-{
-    if let [byte] = text.as_bytes() {
-        if byte.is_ascii() {
-            return contents.push(char::from(*byte));
-        }
-    }
-    contents.push_str(text)
 }

@@ -10,10 +10,13 @@ use crate::drawing::Drawing;
 use crate::pen::{Pen, span};
 use vt100_cells::Cell;
 use vt100_cells::line::{alike_to, same_to};
-use vt100_forms::{GridError, CHAR_BYTES, TextRun};
+use vt100_forms::{CHAR_BYTES, GridError, TextRun};
 
-/// How many bytes a move of the cursor, a change of attributes and a short text take at most.
-const MOVE_CHANGE_AND_TEXT_BYTES: usize = 14 + 58 + CHAR_BYTES;
+/// How many bytes a move of the cursor, a change of attributes and a text of one character take at most.
+const TEXT_BYTES: usize = 14 + 58 + CHAR_BYTES;
+
+/// How many bytes the forms of one column take at most: an erasure, then a cell, with a move and a change before each.
+const COLUMN_BYTES: usize = 14 + 58 + 8 + 14 + 58 + 21;
 
 impl<'a> Drawing<'a> {
     /// The first column from `from` up to `to` for which something may have to be written. Skipped are columns that the
@@ -78,7 +81,7 @@ impl<'a> Drawing<'a> {
         while n < count {
             let col = self.start + n;
             if self.begins_run(pen, col) {
-                run.make_room(MOVE_CHANGE_AND_TEXT_BYTES, contents)?;
+                run.make_room(TEXT_BYTES, contents)?;
                 n = self.texts(pen, &mut run, like, n, count);
                 like = Some(self.cell(col));
                 continue;
@@ -88,8 +91,8 @@ impl<'a> Drawing<'a> {
                 n = quiet;
                 continue;
             }
-            run.move_to(contents)?;
-            self.change(pen, contents, col)?;
+            run.make_room(COLUMN_BYTES, contents)?;
+            self.change(pen, &mut run, col);
             like = None;
             n += 1;
         }
@@ -100,8 +103,8 @@ impl<'a> Drawing<'a> {
 
 /// Texts that are written together.
 impl<'a> Drawing<'a> {
-    /// Whether the cell at `col` can begin a run of texts: it has a short text, which differs and keeps the row's flag,
-    /// and no column is pending.
+    /// Whether the cell at `col` can begin a run of texts: it has a text of at most four bytes, which differs and keeps
+    /// the row's flag, and no column is pending.
     // The terminal's cell is compared first: LLVM then loads the start of a cell at once, and not byte by byte.
     #[inline(always)]
     fn begins_run(&self, pen: &Pen, col: u16) -> bool
@@ -168,7 +171,7 @@ impl<'a> Drawing<'a> {
     ) -> u16
         requires some { n < count }
         requires in_row { self.now.start + count ≤ length self.now.cells.now }
-        requires room { length run.old + 76 ≤ 128 }
+        requires room { length run.old + 76 ≤ 192 }
         requires like { IfSome like (λ x. x.now.attrs ≡ pen.old.attrs) }
         requires begins { BeginsRun (row_change_of self.now) (self.now.start + n) pen.old }
         ensures within { n < result × result ≤ count }
@@ -178,8 +181,8 @@ impl<'a> Drawing<'a> {
     {
         let col = self.start + n;
         let cell = self.cell(col);
-        self.arrive_in(pen, run, col, span(cell));
-        pen.color_in(run, cell, like);
+        self.arrive(pen, run, col, span(cell));
+        pen.color(run, cell, like);
         cell.push_text(run);
         pen.pass(cell);
         self.gather(pen, run, cell, behind(cell, n, count), count)

@@ -1,5 +1,5 @@
 -- Characters of one column each, or of two each, as characters that are shown one after another.
-use Rattle.std.proofs.Common.{◌≡◌, ℕ, zero, ◌+◌, ◌*◌, ◌<◌, ◌≤◌, ◌/◌, List, [], ◌∷◌, ◌++◌, sym, refl, ap, ⊎_elim, inl}
+use Rattle.std.proofs.Common.{◌≡◌, ℕ, zero, ◌+◌, ◌*◌, ◌<◌, ◌≤◌, List, [], ◌∷◌, ◌++◌, sym, refl, ap, inl}
 use Rattle.std.proofs.Common.{◌∙◌, arith, length, length-drop, set, take, drop, map, subst, append-nil}
 use Rattle.std.specs.Prelude.{All, Some}
 use Rattle.std.specs.Str.{IsUtf8, chars}
@@ -13,7 +13,7 @@ use Rattle.vt100_cells.specs.Cell.{cell_of, drawn_columns}
 use Rattle.vt100_cells.specs.Ascii.{printable_takes}
 use Rattle.vt100_cells.specs.Runs.{IsShown}
 use Rattle.vt100_cells.proofs.CellLemmas.{IsCell-of}
-use Rattle.vt100_cells.proofs.GlyphLemmas.{OneOrTwo, by_columns, some-column, first-place, more-columns}
+use Rattle.vt100_cells.proofs.GlyphLemmas.{OneOrTwo, some-column, first-place, more-columns}
 use Rattle.vt100_cells.proofs.WidthLemmas.{drawn-is}
 use Rattle.vt100_rows.specs.Row.{RowView, blank_row, placed, placed_each}
 use Rattle.printable.proofs.PrintableLemmas.{printable-chars}
@@ -25,18 +25,6 @@ use Rattle.termview.specs.Picture.{PictureView, IsPicture, Becomes, Does, ShowsP
 use Rattle.termview.proofs.RowTerms.{cursor_row, here, printed-is, span_of-cell}
 use Rattle.termview.proofs.KeptPictures.{IsPicture-put, put_at}
 use Rattle.termview.proofs.PictureSteps.{prints, read, room-there}
-
--- ---- room for characters of one column or two
-
-pub columns-fit : (w n : ℕ) → OneOrTwo w → (w ≡ 2 → 2 ≤ n) → 0 < n → w ≤ n
-columns-fit w n o room some =
-    ⊎_elim (λ (e : w ≡ 1). omega (arith, e, some)) (λ (e : w ≡ 2). let h = room e in omega (arith, e, h)) o
-
-pub some-fit : (m w : ℕ) → OneOrTwo w → w ≤ m → 0 < m / w
-some-fit m w o h = by_columns (λ v. v ≤ m → 0 < m / v) (λ l. omega (arith, l)) (λ l. omega (arith, l)) w o h
-
-pub few-fit : (n m w : ℕ) → OneOrTwo w → n ≤ m / w → w * n ≤ m
-few-fit n m w o h = by_columns (λ v. n ≤ m / v → v * n ≤ m) (λ l. omega (arith, l)) (λ l. omega (arith, l)) w o h
 
 -- ---- a run in one row
 

@@ -23,8 +23,7 @@ use Rattle.vt100_core.specs.Grid.{IsKept, GridView, IsAllocated, SameLimits}
 use Rattle.vt100_core.specs.Scroll.{ScrollsNoneOff}
 use Rattle.vt100_core.specs.Text.{PrintedGrid, printed, spaced, printed_all, TakesPrefix}
 use Rattle.vt100_core.specs.declared.printed.Printed.{Printed}
-use Rattle.vt100_cells.proofs.GlyphLemmas.{some-column}
-use Rattle.vt100_core.proofs.RunLemmas.{columns-fit}
+use Rattle.vt100_cells.proofs.GlyphLemmas.{columns-fit, some-column}
 use Rattle.vt100_core.proofs.TextLemmas.{IsMade-made, printed-spaced}
 use Rattle.vt100_core.proofs.CountLemmas.{Counts, Counts-map, Counts-trans, counts-same, counts-printed}
 use Rattle.screen_model.specs.State.{State, IsState}

@@ -53,8 +53,8 @@ one_char (c ∷ []) e = omega (arith, length-append (encode_utf8 c) [], length-e
 one_char (c ∷ d ∷ ds) e = absurd (omega (arith, e))
 
 -- the last of n + 2 characters was put on a text with room
-last-fits_start : (n : ℕ) (cs : List ℕ) → length cs ≡ n + 2 → IsShort cs → length (encode_utf8_all cs) ≤ 21
-last-fits_start n cs e h =
+last-is_short : (n : ℕ) (cs : List ℕ) → length cs ≡ n + 2 → IsShort cs → length (encode_utf8_all cs) ≤ 21
+last-is_short n cs e h =
     let prefix = ltb-true (length (encode_utf8_all (take (n + 1) cs))) 18 (h (n + 1) (omega arith) (omega arith)) in
     let last = one_char (drop (n + 1) cs) (omega (arith, length-drop (n + 1) cs)) in
     let whole : length (encode_utf8_all cs) ≡ length (encode_utf8_all (take (n + 1) cs))
@@ -65,10 +65,10 @@ last-fits_start n cs e h =
     omega arith
 
 -- a text that is none, one character, or one put on a text with room
-text-fits_start : (cs : List ℕ) → IsShort cs → length (encode_utf8_all cs) ≤ 21
-text-fits_start [] h = omega arith
-text-fits_start (c ∷ []) h = let one = one_char (c ∷ []) refl in omega arith
-text-fits_start (c ∷ d ∷ ds) h = last-fits_start (length ds) (c ∷ d ∷ ds) (omega arith) h
+text-is_short : (cs : List ℕ) → IsShort cs → length (encode_utf8_all cs) ≤ 21
+text-is_short [] h = omega arith
+text-is_short (c ∷ []) h = let one = one_char (c ∷ []) refl in omega arith
+text-is_short (c ∷ d ∷ ds) h = last-is_short (length ds) (c ∷ d ∷ ds) (omega arith) h
 
 pub text-short : EachTextIsShort
-text-short x h = text-fits_start x.text h.short
+text-short x h = text-is_short x.text h.short

@@ -10,8 +10,8 @@ use Rattle.std.proofs.lemmas.List.{drop-drop, drop-replicate, take-append-le}
 use Rattle.std.proofs.lemmas.Str.{chars_past_char, IsUtf8-past_char, IsUtf8-had, encode_ascii}
 use Rattle.ucd_table.specs.Rows.{in_ranges}
 use Rattle.vt100_cells.specs.declared.cell_text.CellText.TheInside.{Inside as TextInside}
-use Rattle.printable.specs.Printable.{IsPrintable}
 use Rattle.vt100_cells.specs.declared.char3.Char3.TheInside.{Inside}
+use Rattle.printable.specs.Printable.{IsPrintable}
 use Rattle.vt100_cells.specs.Cell.{IsWide}
 use Rattle.vt100_cells.specs.Narrow.{IsNarrow}
 use Rattle.vt100_cells.specs.CellFields.{IsText, text_of}

@@ -40,7 +40,7 @@ first_char bs = slice_index (chars bs) 0
 
 -- a text begins with a printable character of ASCII, with one of two bytes, or with one of three
 abbrev pub BeginsPrintable : List ℕ → Type 0
-BeginsPrintable bs = (1 ≤ length bs) × (32 ≤ slice_index bs 0) × (slice_index bs 0 < 127)
+BeginsPrintable bs = (1 ≤ length bs) × IsPrintable (slice_index bs 0)
 
 abbrev pub BeginsTwoBytes : List ℕ → Type 0
 BeginsTwoBytes bs = (2 ≤ length bs) × (192 ≤ slice_index bs 0) × (slice_index bs 0 < 224)

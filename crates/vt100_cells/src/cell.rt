@@ -244,11 +244,27 @@ impl Cell {
     #[doc(hidden)]
     #[inline(always)]
     pub fn push_text(&self, run: &mut TextRun)
-        requires room { length run.old + 4 ≤ 128 }
+        requires room { length run.old + 4 ≤ 192 }
         requires four { length (encode_utf8_all self.now.text) ≤ 4 }
         ensures { run.new ≡ run.old ++ encode_utf8_all self.now.text }
     {
         run.push_four(self.text.first_bytes(), self.text.len());
+    }
+
+    /// Puts the text at the end of `run`, 21 bytes at most. For redraws alone.
+    // Mostly it has at most four bytes, which cost no call of `memcpy`.
+    #[doc(hidden)]
+    #[inline]
+    pub fn push_contents(&self, run: &mut TextRun)
+        requires { length run.old + 21 ≤ 192 }
+        ensures text { run.new ≡ run.old ++ encode_utf8_all self.now.text }
+        ensures few { length run.new ≤ length run.old + 21 }
+    {
+        if self.has_text_of_four() {
+            self.push_text(run);
+        } else {
+            run.push_str(self.text.as_str());
+        }
     }
 
     /// The text.

@@ -10,6 +10,7 @@ use Rattle.vt100_forms.specs.Form.{Form, Text, Lf, bytes_of}
 use Rattle.vt100_forms.specs.Attrs.{default_attrs}
 use Rattle.vt100_cells.specs.Cell.{CellView, has_text}
 use Rattle.terminal_model.specs.Term.{Size}
+use Rattle.row_drawing.specs.declared.drawing.Place.{Place}
 use Rattle.row_drawing.specs.declared.pen.Pen.{Pen}
 use Rattle.row_drawing.specs.Writer.{Drawn, Writer, ◌>>◌}
 use Rattle.row_drawing.specs.Writes.{Appended, IsBegun, Refused, Wrote}
@@ -21,12 +22,32 @@ use Rattle.screen_drawing.specs.Cursor as cursor
 use Rattle.screen_drawing.specs.Cursor.{place, arriving, is_pen_at, end_col, end_cell, row_with_end, printed_with}
 use Rattle.screen_drawing.specs.Cursor.{Cells, wait_behind, wait_on_empty, wait, replaced}
 use Rattle.vt100_rows.specs.Row.{RowView}
+use Rattle.vt100_rows.specs.Forms.{redraw, difference}
 use Rattle.vt100_rows.specs.Picture.{lines_of}
 use Rattle.vt100_core.specs.Grid.{GridView, visible_at}
 use Rattle.vt100_core.specs.Contents.{is_below_wrapped}
 use Rattle.vt100_core.specs.Writers.{Appends, AppendedForms, RefusedForms, drawn_on, cursor_position_formatted}
 use Rattle.vt100_core.specs.Picture.{grid_size}
 use Rattle.vt100_core.proofs.ContentsLemmas.{below-next}
+
+-- ---- a row at its place
+
+pub row-redraw : {v w : RowView} {p : Place} {width : ℕ} {above below : Bool} (i : ℕ) → v ≡ w
+    → p ≡ record { row = i; start = 0; width = width; above = above; was_above = false } → above ≡ below
+    → redraw v p.start p.width p.row p.above ≡ redraw w 0 width i below
+row-redraw {w = w} {width = width} i row placed wraps =
+    (λ k. redraw (row k) (placed k).start (placed k).width (placed k).row (placed k).above)
+    ∙ (λ k. redraw w 0 width i (wraps k))
+
+pub row-difference : {v w earlier old : RowView} {p : Place} {width : ℕ} {above below was_above flagged : Bool} (i : ℕ)
+    → v ≡ w → earlier ≡ old
+    → p ≡ record { row = i; start = 0; width = width; above = above; was_above = was_above } → above ≡ below
+    → was_above ≡ flagged
+    → difference v earlier p.start p.width p.row p.above p.was_above ≡ difference w old 0 width i below flagged
+row-difference {w = w} {old = old} {width = width} i row earlier placed wraps flag =
+    (λ k. difference (row k) (earlier k) (placed k).start (placed k).width (placed k).row (placed k).above
+    (placed k).was_above)
+    ∙ (λ k. difference w old 0 width i (wraps k) (flag k))
 
 -- ---- lists of forms
 

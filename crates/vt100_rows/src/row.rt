@@ -1,5 +1,6 @@
 //! One row of a terminal.
-ghost use Rattle.std.specs.Prelude.{◌≡◌, ℕ, ◌+◌, ◌-◌, ◌*◌, ◌<◌, ◌≤◌, ◌==◌, ◌++◌, List, length, Some, true, false, not, ◌&&◌};
+ghost use Rattle.std.specs.Prelude.{◌≡◌, ℕ, ◌+◌, ◌-◌, ◌*◌, ◌<◌, ◌≤◌, ◌==◌, ◌++◌, ◌&&◌, List, length, Some, true, false};
+ghost use Rattle.std.specs.Prelude.{not};
 ghost use Rattle.std.specs.Prelude.{IfOk, IsOk, OnOk, OnErr, slice_get, encode_utf8_all, replicate, All};
 ghost use Rattle.std.specs.Prelude.{string_bytes, string_len, string_capacity, min, nat_lt, if◌then◌else◌};
 ghost use Rattle.std.specs.Option.{option_copied};
@@ -7,9 +8,11 @@ ghost use Rattle.std.specs.Char.{IsScalar};
 ghost use Rattle.printable.specs.Printable.{IsPrintable};
 ghost use Rattle.vt100_cells.specs.Cell.{cell_of, default_cell, has_text, drawn_columns, IsWide};
 ghost use Rattle.vt100_cells.specs.Line.{span_of};
-ghost use Rattle.vt100_rows.specs.Row.{IsBlankFrom, IsFilledAfter, blank_row, cleared_row, with_wrap, placed, wiped_row, pair_cleared};
+ghost use Rattle.vt100_rows.specs.Row.{IsBlankFrom, IsFilledAfter, blank_row, cleared_row, with_wrap, placed, wiped_row};
+ghost use Rattle.vt100_rows.specs.Row.{pair_cleared};
 ghost use Rattle.vt100_rows.specs.Row.{join_row};
-ghost use Rattle.vt100_rows.specs.Row.{join_answer, inserted, removed, truncated, grown, resized_row, trimmed, joined_in_place};
+ghost use Rattle.vt100_rows.specs.Row.{join_answer, inserted, removed, truncated, grown, resized_row, trimmed};
+ghost use Rattle.vt100_rows.specs.Row.{joined_in_place};
 ghost use Rattle.vt100_rows.specs.Text.{written_text};
 ghost use Rattle.row_drawing.specs.Writes.{IsBegun};
 

@@ -123,7 +123,7 @@ pub fn move_down(rows: &mut [Row], first: usize, end: usize, n: usize)
     reset_between(rows, first, first + n);
 }
 
-/// The same; the row at `end - 1` isn't wrapped any more.
+/// Moves rows down as [`move_down`] does. The row at `end - 1` isn't wrapped any more.
 pub fn open_lines(rows: &mut [Row], first: usize, end: usize, n: usize)
     requires in_part { first + n ≤ end }
     requires some { 0 < end }

@@ -63,6 +63,7 @@ impl Grid {
 
     /// Empties the cursor's row from the cursor on, as [`erase_row_forward`](Self::erase_row_forward) does. Mostly the
     /// attributes are the default ones, and then none is looked at.
+    // Apart, since the erasing of a row is inlined twice here.
     #[doc(hidden)]
     #[inline(never)]
     pub fn erase_forward(&mut self, attrs: &PackedAttrs)

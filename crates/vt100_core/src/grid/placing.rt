@@ -26,8 +26,8 @@ impl Grid {
     /// no text, by the last cell of the nearest row above that has one, and line feeds; where no row has one, by a
     /// space, which is erased again while the cursor is saved.
     ///
-    /// It is refused only where the forms don't fit in the capacity of `contents` and there is no memory for more. Then a
-    /// part of them may have been appended.
+    /// It is refused only where the forms don't fit in the capacity of `contents` and there is no memory for more. Then
+    /// a part of them may have been appended.
     pub fn write_cursor_position_formatted(
         &self,
         contents: &mut String,

@@ -20,9 +20,9 @@ impl Grid {
     /// cursors go with their rows, and stay on the screen. A row of another width isn't wrapped any more. The size that
     /// the screen has already changes nothing.
     ///
-    /// Refused is only what makes the screen wider or higher, or keeps a row more. After a refusal the grid is whole, it
-    /// keeps as many rows at most, and the sink has been given the rows that leave for good; its height and its width
-    /// are each the old or the new one, and what it shows is open.
+    /// Refused is only what makes the screen wider or higher, or keeps a row more. After a refusal the grid is whole,
+    /// it keeps as many rows at most, and the sink has been given the rows that leave for good; its height and its
+    /// width are each the old or the new one, and what it shows is open.
     #[tactic(auto, unfolding(crate::specs::Resize::resized, crate::specs::Scroll::scrolled_up))]
     pub fn set_size<S: RowSink>(&mut self, size: Size, sink: &mut S) -> Result<(), GridError>
         ensures grid { OnOk result (self.new ≡ (resized self.old size.rows.value size.cols.value).grid) }

@@ -12,8 +12,8 @@ impl Grid {
     ghost use Rattle.vt100_core.specs.Grid.{GridView, IsAllocated, IsShownWide, SameLimits, is_in_region, with_row};
     ghost use Rattle.vt100_rows.specs.Sheet.{row_at};
     ghost use Rattle.vt100_rows.specs.Row.{with_wrap};
-    ghost use Rattle.vt100_core.specs.Scroll.{ScrollsTo, ScrollsNoneOff, scrolled_up, fed, rows_past_bottom, made_to_fit};
-    ghost use Rattle.vt100_core.specs.Scroll.{scrollback_erased, scrollback_shown};
+    ghost use Rattle.vt100_core.specs.Scroll.{ScrollsTo, ScrollsNoneOff, scrolled_up, fed, rows_past_bottom};
+    ghost use Rattle.vt100_core.specs.Scroll.{made_to_fit, scrollback_erased, scrollback_shown};
 
     /// Moves the lines of the scroll region up; blank ones come in at its bottom (SU). Where the region begins at the
     /// screen's first row, the rows that leave it are kept, as many as the capacity allows. The sink is given those

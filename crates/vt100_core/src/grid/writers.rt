@@ -25,8 +25,8 @@ impl Grid {
     ///
     /// They are at most 1,024 bytes for each cell of the screen, and 256 more (`short`).
     ///
-    /// It is refused only where the forms don't fit in the capacity of `contents` and there is no memory for more. Then a
-    /// part of them may have been appended.
+    /// It is refused only where the forms don't fit in the capacity of `contents` and there is no memory for more. Then
+    /// a part of them may have been appended.
     pub fn write_contents_formatted(&self, contents: &mut String) -> Result<Attrs, GridError>
         ensures text { Appends (contents_formatted self.now) contents.old (is_ok result)
             contents.new }
@@ -56,8 +56,8 @@ impl Grid {
     /// below them, empty ones and those of the first and the last column; each with its other half. Where the cursor
     /// waits at the end of a row, they may also touch the last cell of one row (`local`).
     ///
-    /// It is refused only where the forms don't fit in the capacity of `contents` and there is no memory for more. Then a
-    /// part of them may have been appended.
+    /// It is refused only where the forms don't fit in the capacity of `contents` and there is no memory for more. Then
+    /// a part of them may have been appended.
     pub fn write_contents_diff(
         &self,
         contents: &mut String,

@@ -39,8 +39,8 @@ impl Row {
         self.wrapped == other.wrapped && same_to(&self.cells, &other.cells, 0, end) == end
     }
 
-    /// Whether nothing is to be drawn of the row over `prev`: a terminal that shows `prev` shows the row, and the pen has
-    /// nothing pending.
+    /// Whether nothing is to be drawn of the row over `prev`: a terminal that shows `prev` shows the row, and the pen
+    /// has nothing pending.
     pub(crate) fn is_drawn(&self, prev: &Self, pen: &Pen, place: Place) -> bool
         ensures row { IsTrue result → self.now ≡ prev.now }
         ensures above { IsTrue result → IsTrue place.above → IsTrue place.was_above }

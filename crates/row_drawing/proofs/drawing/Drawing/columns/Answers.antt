@@ -4,10 +4,10 @@ use Rattle.vt100_forms.specs.Form.{bytes_of}
 use Rattle.vt100_cells.specs.Cell.{CellView}
 use Rattle.row_drawing.specs.Drawing.{row_change_of, AreQuiet}
 use Rattle.row_drawing.specs.RowWriter.{columns}
-use Rattle.row_drawing.specs.Writes.{Appended, IsBegun, Wrote}
+use Rattle.row_drawing.specs.Writes.{IsBegun, Wrote}
 use Rattle.row_drawing.proofs.KeptRows.{wrote_columns_quiet}
 use Rattle.row_drawing.proofs.WritesLemmas.{began_columns_all, began_columns_moved, began_none, full_within}
-use Rattle.row_drawing.proofs.WritesLemmas.{refused, refused_columns_at, wrote_columns_next, wrote_columns_none}
+use Rattle.row_drawing.proofs.WritesLemmas.{refused, wrote_behind, wrote_columns_next, wrote_columns_none}
 use Rattle.row_drawing.proofs.drawing.Drawing.columns.Goals as goal
 
 pub loop-n-init : goal.loop-n-init
@@ -38,16 +38,15 @@ returns-in_err-make_room c =
           (began_columns_all j _ c.args.count inv.within inv.drawn).is;
     })
 
-pub returns-in_err-move_to : goal.returns-in_err-move_to
-returns-in_err-move_to c =
+pub returns-in_err-make_room-2 : goal.returns-in_err-make_room-2
+returns-in_err-make_room-2 c =
     let j = row_change_of c.args.self.now in
     let inv = c.loop-n.invariant in
     refused _ {f = columns j c.args.count} (columns j c.args.count) c.args.pen.now _
-    c.from_residual-in_err-move_to.ensures.0 refl (record {
-      begun = subst (λ t. IsBegun (string_bytes c.args.contents.now) (bytes_of (columns j c.args.count c.args.pen.now).forms) t)
-          (sym c.in_err-move_to.ensures.bytes) inv.begun.is;
-      full = full_within c.args.contents.now c.loop-n.contents c.loop-n.run _ inv.capacity c.in_err-move_to.ensures.full
-          (began_columns_all j _ c.args.count inv.within inv.drawn).is;
+    c.from_residual-in_err-make_room-2.ensures.0 refl (record {
+      begun = (began_columns_moved j _ _ _ inv.within inv.drawn inv.begun c.in_err-make_room-2.ensures.moved).is;
+      full = full_within c.args.contents.now c.loop-n.contents c.loop-n.run _ inv.capacity
+          c.in_err-make_room-2.ensures.full (began_columns_all j _ c.args.count inv.within inv.drawn).is;
     })
 
 pub loop-n-preserved-then-begins_run : goal.loop-n-preserved-then-begins_run
@@ -73,46 +72,28 @@ loop-n-preserved-then-quiet-n c =
       like = c.loop-n.invariant.like;
     }
 
-pub returns-in_err-change : goal.returns-in_err-change
-returns-in_err-change c =
-    let j = row_change_of c.args.self.now in
-    let drawn = rw (sym c.in_ok-move_to.ensures.bytes) at c.loop-n.invariant.drawn in
-    let room : string_capacity c.args.contents.now ≤ string_capacity c.move_to.new.contents =
-    omega (arith, c.loop-n.invariant.capacity, c.in_ok-move_to.ensures.capacity) in
-    let before : Appended (columns j c.loop-n.n) c.args.pen.now c.args.contents.now c.loop-n.pen c.move_to.new.contents =
-    record { wrote = drawn; capacity = room } in
-    refused _ (columns j c.args.count) c.args.pen.now _ c.from_residual-in_err-change.ensures.0 refl
-    (refused_columns_at j c.loop-n.n c.args.count c.loop-n-test.true before c.in_err-change.ensures)
-
 pub loop-n-preserved : goal.loop-n-preserved
 loop-n-preserved c =
     let j = row_change_of c.args.self.now in
     let n = c.loop-n.n in
-    let u = string_bytes c.change.new.contents in
-    let drawn = rw (sym c.in_ok-move_to.ensures.bytes) at c.loop-n.invariant.drawn in
-    let next = wrote_columns_next j n drawn c.in_ok-change.ensures.wrote in
-    let all = ap (λ bs. u ++ bs) c.in_ok-move_to.ensures.empty ∙ append-nil u in
+    let inv = c.loop-n.invariant in
+    let made = c.in_ok-make_room-2.ensures in
     record {
       within = omega (arith, c.loop-n-test.true);
-      drawn = rw (sym all) at next;
-      begun = began_columns_all j (n + 1) c.args.count (omega (arith, c.loop-n-test.true)) next;
-      capacity = omega (
-        arith,
-        c.loop-n.invariant.capacity,
-        c.in_ok-move_to.ensures.capacity,
-        c.in_ok-change.ensures.capacity,
-      );
+      drawn = wrote_columns_next j n (rw (sym made.kept) at inv.drawn) (wrote_behind _ c.change.ensures);
+      begun = began_columns_moved j _ _ _ inv.within inv.drawn inv.begun made.moved;
+      capacity = omega (arith, inv.capacity, made.capacity);
       like = tt;
     }
 
-pub returns-in_err-move_to-2 : goal.returns-in_err-move_to-2
-returns-in_err-move_to-2 c =
+pub returns-in_err-move_to : goal.returns-in_err-move_to
+returns-in_err-move_to c =
     let j = row_change_of c.args.self.now in
     let inv = c.loop-n.invariant in
     refused _ {f = columns j c.args.count} (columns j c.args.count) c.args.pen.now _
-    c.from_residual-in_err-move_to-2.ensures.0 refl (record {
+    c.from_residual-in_err-move_to.ensures.0 refl (record {
       begun = subst (λ t. IsBegun (string_bytes c.args.contents.now) (bytes_of (columns j c.args.count c.args.pen.now).forms) t)
-          (sym c.in_err-move_to-2.ensures.bytes) inv.begun.is;
-      full = full_within c.args.contents.now c.loop-n.contents c.loop-n.run _ inv.capacity c.in_err-move_to-2.ensures.full
+          (sym c.in_err-move_to.ensures.bytes) inv.begun.is;
+      full = full_within c.args.contents.now c.loop-n.contents c.loop-n.run _ inv.capacity c.in_err-move_to.ensures.full
           (began_columns_all j _ c.args.count inv.within inv.drawn).is;
     })

@@ -1,9 +1,7 @@
 use Rattle.std.proofs.Common.{sym, ◌∙◌}
-use Rattle.std.specs.Prelude.{string_bytes}
-use Rattle.row_drawing.proofs.WritesLemmas.{appended_none, wrote_goto_here}
+use Rattle.row_drawing.proofs.WritesLemmas.{wrote_goto_here}
 use Rattle.row_drawing.proofs.pen.Pen.goto.Goals as goal
 
-pub returns-then-eq : goal.returns-then-eq
-returns-then-eq c =
-    appended_none _ (wrote_goto_here c.args.self.now c.args.pos (string_bytes c.args.contents.now)
-    (sym c.eq.ensures ∙ c.if-eq.true))
+pub returns-then-eq-clause-written : goal.returns-then-eq-clause-written
+returns-then-eq-clause-written c =
+    wrote_goto_here c.args.self.now c.args.pos c.args.run.now (sym c.eq.ensures ∙ c.if-eq.true)

@@ -1,21 +1,13 @@
 use Rattle.std.proofs.Common.{sym, ◌∙◌}
-use Rattle.row_drawing.specs.RowWriter.{unflag}
-use Rattle.row_drawing.proofs.RowEnd.{unflag-empty}
-use Rattle.row_drawing.proofs.WritesLemmas.{refused_first, refused, writes_last}
+use Rattle.row_drawing.proofs.RowEnd.{unflag-empty, unflag-full}
+use Rattle.row_drawing.proofs.WritesLemmas.{wrote_both, wrote_by}
 use Rattle.row_drawing.proofs.pen.Pen.unflag.Goals as goal
 
-pub returns-then-has_contents : goal.returns-then-has_contents
-unfolding unflag
-returns-then-has_contents c = rw (sym c.has_contents.ensures ∙ c.if-has_contents.true) c.erase.ensures
+pub returns-then-has_contents-clause-written : goal.returns-then-has_contents-clause-written
+returns-then-has_contents-clause-written c =
+    wrote_by (unflag-full _ _ (sym c.has_contents.ensures ∙ c.if-has_contents.true)) c.erase.ensures.written
 
-pub returns-in_err-color_as : goal.returns-in_err-color_as
-returns-in_err-color_as c =
-    refused _ (unflag c.args.cell.now) c.args.self.now _ c.from_residual.ensures.0
-    (unflag-empty _ _ (sym c.has_contents.ensures ∙ c.if-has_contents.false))
-    (refused_first _ c.in_err-color_as.ensures)
-
-pub returns : goal.returns
-returns c =
-    writes_last (unflag c.args.cell.now) c.args.self.now _ _ _ _
-    (unflag-empty _ _ (sym c.has_contents.ensures ∙ c.if-has_contents.false)) c.in_ok-color_as.ensures
-    c.erase-2.ensures
+pub returns-clause-written : goal.returns-clause-written
+returns-clause-written c =
+    wrote_by (unflag-empty _ _ (sym c.has_contents.ensures ∙ c.if-has_contents.false))
+    (wrote_both c.color.ensures.written c.erase-2.ensures.written)

@@ -4,12 +4,13 @@ use Rattle.std.specs.Prelude.{All, Some}
 use Rattle.std.proofs.lemmas.List.{length-map, take-map}
 use Rattle.std.proofs.lemmas.List.Elements.{All-take, All-map}
 use Rattle.vt100_cells.specs.Cell.{drawn_columns}
+use Rattle.vt100_cells.proofs.GlyphLemmas.{columns-fit, some-fit, few-fit}
 use Rattle.vt100_rows.specs.Row.{placed_each}
 use Rattle.vte_types.specs.Call.{Calls, input}
 use Rattle.termview.specs.Picture.{PictureView, IsPicture, Does}
 use Rattle.vt100_cells.specs.Runs.{IsShown}
 use Rattle.termview.proofs.RowTerms.{cursor_row}
-use Rattle.termview.proofs.RunSteps.{IsOne, run_at, shows-row, columns-fit, some-fit, few-fit}
+use Rattle.termview.proofs.RunSteps.{IsOne, run_at, shows-row}
 use Rattle.termview.proofs.picture.Picture.input_row.Goals as goal
 
 pub print_fitting-requires-clause-drawn : goal.print_fitting-requires-clause-drawn

@@ -30,7 +30,7 @@ replace_by_char3-requires c =
     let text : (d : ℕ) → c.args.cell.now ≡ cell_of d c.args.cell.now.attrs → c.cell.inside.text ≡ d ∷ [] =
     λ d e. ap (λ (x : CellView). x.text) (c.cell.view_is ∙ e) in
     record {
-      short = ⊎_elim
+      three = ⊎_elim
           (λ p. subst (λ (cs : List ℕ). length (encode_utf8_all cs) ≤ 3) (sym (text 32 p.0)) (omega (arith, space-len)))
           (λ p. subst (λ (cs : List ℕ). length (encode_utf8_all cs) ≤ 3) (sym (text 0x3000 p.0))
           (omega (arith, wide_space-len))) c.requires;
