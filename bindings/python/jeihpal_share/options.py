@@ -6,13 +6,15 @@ import argparse
 import re
 from dataclasses import dataclass
 
-USAGE = (
-    "share [--listen ADDRESS:PORT | --unix PATH] [--http ADDRESS:PORT] [--size RxC] [--rate N] [--] COMMAND [WORD ..]"
-)
+USAGE = """share [--listen ADDRESS:PORT | --unix PATH] [--terminals N] [--http ADDRESS:PORT] [--browsers N]
+             [--size RxC] [--rate N] [--] COMMAND [WORD ..]"""
 ABOUT = """Runs a command in a pseudo-terminal and shows its screen to whoever connects.
 
 Watch with a terminal of the same size:  socat -,raw,echo=0 tcp:ADDRESS:PORT   (or nc ADDRESS PORT)
 Ctrl-C ends the watching. Watchers can't type. Without --listen, --unix and --http a free port of 127.0.0.1 is taken."""
+
+
+MOST = 1000  # terminals, and as many browsers, unless the command line says otherwise
 
 
 @dataclass(frozen=True)
@@ -25,6 +27,8 @@ class Options:
     http: tuple[str, int] | None = None
     size: tuple[int, int] | None = None
     rate: float = 30.0
+    terminals: int = MOST
+    browsers: int = MOST
 
 
 def address(text: str) -> tuple[str, int]:
@@ -56,6 +60,13 @@ def rate(text: str) -> float:
     return number
 
 
+def count(text: str) -> int:
+    """A number of connections."""
+    if not re.fullmatch(r"\d{1,6}", text) or not int(text):
+        raise argparse.ArgumentTypeError(f"{text!r} is not 1 to 999999")
+    return int(text)
+
+
 def parsed(words: list[str]) -> Options:
     """The options that the words give. Ends the program, with status 2, where they don't."""
     parser = argparse.ArgumentParser(
@@ -69,6 +80,8 @@ def parsed(words: list[str]) -> Options:
     where.add_argument("--listen", type=address, metavar="ADDRESS:PORT", help="where terminals may connect")
     where.add_argument("--unix", metavar="PATH", help="the same, as a socket in the file system, of this user alone")
     parser.add_argument("--http", type=address, metavar="ADDRESS:PORT", help="where browsers may watch")
+    parser.add_argument("--terminals", type=count, default=MOST, metavar="N", help=f"at most N terminals ({MOST})")
+    parser.add_argument("--browsers", type=count, default=MOST, metavar="N", help=f"at most N browsers ({MOST})")
     parser.add_argument("--size", type=size, metavar="RxC", help="rows and columns (as the terminal here, else 24x80)")
     parser.add_argument("--rate", type=rate, default=30.0, metavar="N", help="at most N frames a second (30)")
     parser.add_argument("command", nargs=argparse.REMAINDER, metavar="COMMAND")

@@ -15,7 +15,7 @@ from .notices import Notices
 from .options import Options, parsed
 from .page import Browsers
 from .screen import SharedScreen
-from .terminals import Command, LocalTerminal, Outlet, window
+from .terminals import Command, LocalTerminal, Outlet, raise_descriptors, window
 from .watchers import Watchers, tcp_listener, unix_listener
 
 LINGER = 5.0  # seconds that watchers may take to read the last frame
@@ -156,33 +156,52 @@ def _place(listener: socket.socket) -> str:
     return f"[{host}]:{port}" if ":" in host else f"{host}:{port}"
 
 
+class Audiences:
+    """All who watch, at the sockets that there are."""
+
+    def __init__(self, options: Options, screen: SharedScreen, sockets: Sockets, notices: Notices) -> None:
+        name = os.path.basename(options.command[0])
+        self._watchers = Watchers(screen, options.terminals, notices)
+        self._browsers = Browsers(screen, name, options.browsers, notices)
+        if sockets.terminals:
+            self._watchers.listen(sockets.terminals)
+        if sockets.browsers:
+            self._browsers.listen(sockets.browsers)
+
+    def end(self, status: int) -> None:
+        """The command has ended, and its last screen was shown."""
+        self._watchers.end()
+        self._browsers.end(status)
+
+    def are_behind(self) -> bool:
+        """Whether somebody has still to read the last screen."""
+        return len(self._watchers) + len(self._browsers) > 0
+
+    async def close(self) -> None:
+        """Ends every connection."""
+        self._watchers.close()
+        await self._browsers.close_all()
+
+
 async def _share(
     options: Options, command: Command, size: tuple[int, int], sockets: Sockets, local: LocalTerminal | None
 ) -> int:
     """Shares the command's screen until it ends. Answers its status."""
     loop, notices = asyncio.get_running_loop(), Notices(local is not None)
     screen = SharedScreen(loop, size, options.rate, notices)
-    watchers = Watchers(loop, screen, notices)
-    browsers = Browsers(screen, os.path.basename(options.command[0]), notices) if sockets.browsers else None
+    audiences = Audiences(options, screen, sockets, notices)
     session = Session(loop, command, screen, local)
     try:
         with local or contextlib.nullcontext():
-            if sockets.terminals:
-                watchers.listen(sockets.terminals)
-            if browsers and sockets.browsers:
-                await browsers.listen(sockets.browsers)
             session.start(has_own_size=options.size is not None)
             await session.ended
             await _until(loop, lambda: not session.is_behind(), LINGER)
             session.close()
         screen.finish()
-        await _until(loop, lambda: not watchers.are_behind(), LINGER)
-        if browsers:
-            await browsers.end(command.status or 0, LINGER)
+        audiences.end(command.status or 0)
+        await _until(loop, lambda: not audiences.are_behind(), LINGER)
     finally:
-        if sockets.terminals:
-            loop.remove_reader(sockets.terminals)
-        watchers.close()
+        await audiences.close()
         notices.end()
     return command.status or 0
 
@@ -193,6 +212,7 @@ def main(words: list[str] | None = None) -> int:
     if not shutil.which(options.command[0]):
         print(f"share: {options.command[0]}: there is no such command", file=sys.stderr)
         return 127
+    descriptors = raise_descriptors()
     with contextlib.ExitStack() as stack:
         try:
             sockets = Sockets(options, stack)
@@ -202,7 +222,7 @@ def main(words: list[str] | None = None) -> int:
         local = LocalTerminal() if LocalTerminal.is_there() else None
         size = options.size or (window(local.fd) if local else (24, 80))
         sockets.announce(size)
-        command = Command(options.command, *size)
+        command = Command(options.command, *size, descriptors)
         try:
             return asyncio.run(_share(options, command, size, sockets, local))
         finally:

@@ -7,6 +7,7 @@ import contextlib
 import fcntl
 import os
 import pty
+import resource
 import signal
 import struct
 import sys
@@ -27,6 +28,14 @@ def window(fd: int) -> tuple[int, int]:
 def set_window(fd: int, rows: int, cols: int) -> None:
     """Gives a pseudo-terminal so many rows and columns."""
     fcntl.ioctl(fd, termios.TIOCSWINSZ, struct.pack("HHHH", rows, cols, 0, 0))
+
+
+def raise_descriptors() -> tuple[int, int]:
+    """Allows as many descriptors as may be. Answers the limits that there were, for the command."""
+    limits = resource.getrlimit(resource.RLIMIT_NOFILE)
+    with contextlib.suppress(OSError, ValueError):
+        resource.setrlimit(resource.RLIMIT_NOFILE, (limits[1], limits[1]))
+    return limits
 
 
 class Outlet:
@@ -74,19 +83,20 @@ class Outlet:
 class Command:
     """A command in a pseudo-terminal of its own."""
 
-    def __init__(self, words: list[str], rows: int, cols: int) -> None:
+    def __init__(self, words: list[str], rows: int, cols: int, descriptors: tuple[int, int]) -> None:
         self.pid, self.fd = pty.fork()
         if not self.pid:
-            self._become(words, rows, cols)
+            self._become(words, rows, cols, descriptors)
         os.set_blocking(self.fd, False)
         set_window(self.fd, rows, cols)
         self.status: int | None = None
 
     @staticmethod
-    def _become(words: list[str], rows: int, cols: int) -> None:
+    def _become(words: list[str], rows: int, cols: int, descriptors: tuple[int, int]) -> None:
         """In the child: becomes the command."""
         try:
             set_window(0, rows, cols)
+            resource.setrlimit(resource.RLIMIT_NOFILE, descriptors)
             for name in (signal.SIGPIPE, signal.SIGXFSZ):
                 signal.signal(name, signal.SIG_DFL)
             kept = {name: word for name, word in os.environ.items() if name not in ("LINES", "COLUMNS")}

@@ -56,7 +56,13 @@ class Page:
         self.sock.settimeout(20)
         self.sock.connect(shared.place("browsers"))
         self.sock.sendall(get("/events"))
-        self.said, self.rows, self.moments, self.ended = b"", [], 0, None
+        self.said, self.rows, self.messages, self.ended = b"", [], [], None
+        self.lost = 0  # differences that lead from a message that it doesn't have
+
+    @property
+    def moments(self) -> int:
+        """How many moments it was shown."""
+        return len(self.messages)
 
     def read(self) -> bool:
         """Reads the next event. Whether there was one."""
@@ -74,7 +80,9 @@ class Page:
 
     def take(self, moment: dict) -> None:
         """Takes an event's moment."""
-        self.moments += 1
+        before = self.messages[-1]["n"] if self.messages else 0
+        self.lost += "size" not in moment and moment["from"] != before
+        self.messages.append(moment)
         if "size" in moment:
             self.rows = [""] * moment["size"][0]
         for row, runs in moment["rows"].items():
@@ -131,8 +139,8 @@ class Refusals(unittest.TestCase):
             wait_for(lambda: "it sends more than a request" in shared.said)
 
     def test_too_many(self):
-        with Shared(READY, *HTTP) as shared:
-            pages = [Page(shared) for _ in range(60)]
+        with Shared(READY, *HTTP, "--browsers", "5") as shared:
+            pages = [Page(shared) for _ in range(5)]
             try:
                 pages[-1].read_until("ready")
                 self.assertEqual(asked(shared, get("/"))[:12], b"HTTP/1.1 503")
@@ -150,7 +158,7 @@ class Events(unittest.TestCase):
             self.assertTrue(head.startswith(b"HTTP/1.1 200 OK\r\n"))
             nonce = re.search(rb"script-src 'nonce-([\w-]+)'", head)[1]
             self.assertEqual(page.count(b'nonce="' + nonce), 2)
-            self.assertLess(len(page), 10000)
+            self.assertLess(len(page), 12000)
             self.assertNotIn(b"http", page)  # nothing comes from elsewhere
 
     def test_the_screen(self):
@@ -176,6 +184,7 @@ class Events(unittest.TestCase):
             self.assertLess(slow.moments, quick.moments)
             self.assertEqual((quick.rows, quick.ended, slow.ended), (slow.rows, 0, 0))
             self.assertIn("249" * 20, quick.rows)
+            self.assertEqual((quick.lost, slow.lost), (0, 0))
 
 
 @unittest.skipUnless(PROGRAM, "there is no Chromium")

@@ -131,13 +131,13 @@ class Refusals(unittest.TestCase):
             self.assertIsNone(shared.run.poll())
 
     def test_too_many(self):
-        with Shared("print('ready'); input()") as shared:
-            watchers = [Watching(shared) for _ in range(250)]
+        with Shared("print('ready'); input()", "--terminals", "5") as shared:
+            watchers = [Watching(shared) for _ in range(5)]
             try:
                 watchers[-1].read_until("ready")
                 with Watching(shared) as late:
                     self.assertIn(b"too many watchers", late.read_all().data)
-                wait_for(lambda: "a watcher was refused: there are 250" in shared.said)
+                wait_for(lambda: "a watcher was refused: there are 5" in shared.said)
                 watchers.pop().__exit__()
                 wait_for(lambda: self.is_let_in(shared))
             finally:
@@ -157,6 +157,8 @@ class Refusals(unittest.TestCase):
             (["--size", "0x80", "true"], 2),
             (["--listen", "here", "true"], 2),
             (["--rate", "none", "true"], 2),
+            (["--terminals", "0", "true"], 2),
+            (["--browsers", "many", "true"], 2),
             (["--listen", "1", "--unix", "x", "true"], 2),
             (["there is no such command"], 127),
             (["--listen", "192.0.2.1:1", "true"], 1),
