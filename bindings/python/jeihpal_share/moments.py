@@ -13,7 +13,10 @@ class Moment(NamedTuple):
 
     size: tuple[int, int]
     rows: list[str]
-    """Each row as JSON: runs of cells that look the same, each its text, columns, colours and attributes."""
+    """Each row as JSON: runs of cells that look the same, each its text, columns, colours and attributes.
+
+    A run has one character for each column, or is one cell. A cell of several characters has a sixth item, 1.
+    """
     cursor: list[int] | None
     """The cursor's row, first column and columns, or nothing where it is hidden."""
 
@@ -46,7 +49,7 @@ def _color(color: Color) -> int | str | None:
 
 
 def _row(cells: list[Cell]) -> str:
-    """A row. A run has one character for each column, or is one cell."""
+    """A row's text."""
     runs: list[list[Any]] = []
     before = None
     for cell in cells:
@@ -59,6 +62,8 @@ def _row(cells: list[Cell]) -> str:
         else:
             colors = _color(cell.foreground), _color(cell.background)
             runs.append([cell.text or " ", cell.width, *colors, int(cell.attributes)])
+            if len(cell.text) > 1:
+                runs[-1].append(1)
         before = look
     return json.dumps(runs, ensure_ascii=False, separators=(",", ":"))
 

@@ -14,6 +14,7 @@ Watch with a terminal of the same size:  socat -,raw,echo=0 tcp:ADDRESS:PORT   (
 Ctrl-C ends the watching. Watchers can't type. Without --listen, --unix and --http a free port of 127.0.0.1 is taken."""
 
 
+MOST_CELLS = 250_000  # of a screen
 MOST = 1000  # terminals, and as many browsers, unless the command line says otherwise
 
 
@@ -46,6 +47,8 @@ def size(text: str) -> tuple[int, int]:
     rows, cols = map(int, found.groups()) if found else (0, 0)
     if not (0 < rows < 1 << 16 and 0 < cols < 1 << 16):
         raise argparse.ArgumentTypeError(f"{text!r} is not ROWSxCOLUMNS")
+    if rows * cols > MOST_CELLS:
+        raise argparse.ArgumentTypeError(f"{text!r} has more than {MOST_CELLS} cells")
     return rows, cols
 
 

@@ -20,11 +20,11 @@ with open(os.path.join(os.path.dirname(os.path.abspath(__file__)), "page.html"),
     _PAGE = _file.read()
 
 _PAGE_FIELDS = """Content-Security-Policy: default-src 'none'; script-src 'nonce-{0}'; style-src 'nonce-{0}'; \
-connect-src 'self'; img-src data:; base-uri 'none'; frame-ancestors 'none'
+connect-src 'self'; img-src data:; base-uri 'none'; form-action 'none'; frame-ancestors 'none'
 Content-Type: text/html; charset=utf-8
 """
 _EVENT_FIELDS = "Content-Type: text/event-stream; charset=utf-8\n"
-_EVENTS = head_of("200 OK", _EVENT_FIELDS) + b"retry: 1000\n\n"
+_EVENTS = head_of("200 OK", _EVENT_FIELDS)
 
 
 class Page(Connection):
@@ -85,12 +85,16 @@ class Browsers(Crowd):
         request = parsed_request(head, self._is_local)
         if request.path == "/":
             nonce = secrets.token_urlsafe(16)
-            answer = head_of("200 OK", _PAGE_FIELDS.format(nonce)) + _PAGE.replace("NONCE", nonce).encode()
+            page = b"" if request.is_head else _PAGE.replace("NONCE", nonce).encode()
+            answer = head_of("200 OK", _PAGE_FIELDS.format(nonce)) + page
             await asyncio.wait_for(self._loop.sock_sendall(sock, answer), HEADER_SECONDS)
             return False
         if request.path != "/events":
             raise Refused("404 Not Found")
         sock.send(_EVENTS)
+        if request.is_head:
+            return False
+        sock.send(b"retry: 1000\n\n")
         page = Page(self._loop, sock, self)
         self.add(page)
         if rest:
@@ -132,9 +136,6 @@ class Browsers(Crowd):
         self._screen.show_soon()
 
     def detach(self) -> None:
-        """Browsers are no clients of the hub."""
-
-    def attach(self) -> None:
         """Browsers are no clients of the hub."""
 
     def end(self, status: int) -> None:

@@ -15,8 +15,8 @@ from .notices import Notices
 from .options import Options, parsed
 from .page import Browsers
 from .screen import SharedScreen
-from .terminals import Command, LocalTerminal, Outlet, raise_descriptors, window
-from .watchers import Watchers, tcp_listener, unix_listener
+from .terminals import Command, LocalTerminal, Outlet, raise_descriptors, undoing, window
+from .watchers import Watchers, remove_socket, tcp_listener, unix_listener
 
 LINGER = 5.0  # seconds that watchers may take to read the last frame
 _DRAIN = 0.5  # seconds that what the command has started may write on after its end
@@ -104,6 +104,11 @@ class Session:
         self._command.signal(signal.SIGCONT)
         self._loop.call_later(_KILL, self._command.signal, signal.SIGKILL)
 
+    def restore(self) -> None:
+        """The command has ended: the terminal here gets its modes back, whatever the command has left."""
+        if self._picture:
+            self._picture.write(undoing(self._screen.hub.look()))
+
     def is_behind(self) -> bool:
         """Whether the terminal here has still to show something."""
         return bool(self._picture and self._picture.is_waiting)
@@ -132,7 +137,7 @@ class Sockets:
         self.browsers: socket.socket | None = None
         if options.unix:
             self.terminals = stack.enter_context(unix_listener(options.unix))
-            stack.callback(os.unlink, options.unix)
+            stack.callback(remove_socket, options.unix, os.stat(options.unix))
         elif options.listen:
             self.terminals = stack.enter_context(tcp_listener(*options.listen))
         if options.http:
@@ -195,6 +200,7 @@ async def _share(
         with local or contextlib.nullcontext():
             session.start(has_own_size=options.size is not None)
             await session.ended
+            session.restore()
             await _until(loop, lambda: not session.is_behind(), LINGER)
             session.close()
         screen.finish()
@@ -207,7 +213,7 @@ async def _share(
 
 
 def main(words: list[str] | None = None) -> int:
-    """Runs share. Answers its status: the command's, 127 where there is no such command, 1 where it can't listen."""
+    """Runs share. Answers its status: the command's, 127 where there is no such command, 1 where it can't begin."""
     options = parsed(sys.argv[1:] if words is None else words)
     if not shutil.which(options.command[0]):
         print(f"share: {options.command[0]}: there is no such command", file=sys.stderr)
@@ -225,5 +231,8 @@ def main(words: list[str] | None = None) -> int:
         command = Command(options.command, *size, descriptors)
         try:
             return asyncio.run(_share(options, command, size, sockets, local))
+        except MemoryError:
+            print("share: out of memory", file=sys.stderr)
+            return 1
         finally:
             command.signal(signal.SIGKILL)

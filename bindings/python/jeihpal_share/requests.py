@@ -29,7 +29,9 @@ class Request(NamedTuple):
     """What is asked for."""
 
     path: str
+    query: str
     is_head: bool
+    """Only the head of the answer is wanted."""
 
 
 def head_of(status: str, fields: str) -> bytes:
@@ -39,10 +41,11 @@ def head_of(status: str, fields: str) -> bytes:
 
 def is_loopback(host: str) -> bool:
     """Whether a name or address is this machine's own. Others may lead here by a name server that lies."""
-    if host == "localhost":
+    name = host.lower().removesuffix(".")
+    if name == "localhost":
         return True
     try:
-        return ipaddress.ip_address(host.strip("[]")).is_loopback
+        return ipaddress.ip_address(name.strip("[]")).is_loopback
     except ValueError:
         return False
 
@@ -59,9 +62,10 @@ def parsed_request(head: bytes, is_local: bool) -> Request:
         raise Refused("400 Bad Request")
     if is_local and not all(is_loopback(re.sub(r":\d*$", "", host)) for host in hosts):
         raise Refused("421 Misdirected Request")
-    if asked[1] != "GET":
+    if asked[1] not in ("GET", "HEAD"):
         raise Refused("405 Method Not Allowed")
-    return Request(asked[2], False)
+    path, _, query = asked[2].partition("?")
+    return Request(path, query, asked[1] == "HEAD")
 
 
 async def read_head(loop: asyncio.AbstractEventLoop, sock: socket.socket) -> tuple[bytes, bytes]:

@@ -22,10 +22,7 @@ class Audience(Protocol):
         """Shows the screen as it is now."""
 
     def detach(self) -> None:
-        """Ends its clients of the hub."""
-
-    def attach(self) -> None:
-        """Begins anew, with new clients."""
+        """Its clients of the hub end. It begins anew when it is told to show the screen next."""
 
 
 class SharedScreen:
@@ -71,8 +68,6 @@ class SharedScreen:
             audience.detach()
         self.hub.close()
         self.hub = Hub(*self.size)
-        for audience in self._audiences:
-            audience.attach()
 
     def show_soon(self) -> None:
         """Plans to show it: after a pause of the command, at latest once the rate allows it."""
@@ -125,8 +120,6 @@ class SharedScreen:
         except MemoryError:
             self.hub.close()
             self.hub = Hub(rows, cols)
-        for audience in self._audiences:
-            audience.attach()
         self.show()
 
     def finish(self) -> None:

@@ -3,6 +3,7 @@
 from __future__ import annotations
 
 import asyncio
+import contextlib
 import os
 import socket
 import stat
@@ -129,9 +130,6 @@ class Watchers(Crowd):
         self._client, self._whole = None, b""
         self.fall_behind()
 
-    def attach(self) -> None:
-        """A new client is attached when the screen is shown next."""
-
     def end(self) -> None:
         """The last frame was made: each watcher is sent it, and then leaves."""
         if self._door:
@@ -161,6 +159,13 @@ def unix_listener(path: str) -> socket.socket:
         listener.close()
         raise
     return listener
+
+
+def remove_socket(path: str, made: os.stat_result) -> None:
+    """Removes a socket's file, unless somebody has done so, or has put another there."""
+    with contextlib.suppress(OSError):
+        if os.path.samestat(os.stat(path), made):
+            os.unlink(path)
 
 
 def _is_listened_at(path: str) -> bool:
