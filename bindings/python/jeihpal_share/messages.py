@@ -41,13 +41,16 @@ class Messages:
         self._texts.clear()
         self._made = time.time_ns() // 1000
 
+    def leads_from(self, since: int) -> int:
+        """The number from which the newest message leads on, for one that has a message; 0 where it is whole."""
+        before = self._kept.get(since)
+        return since if before and before.size == self._kept[self.number].size else 0
+
     def text(self, since: int) -> bytes:
         """The newest message, for one that has a message's number, or 0 for none."""
-        moment, before = self._kept[self.number], self._kept.get(since)
-        if before is None or before.size != moment.size:
-            since, before = 0, None
+        since = self.leads_from(since)
         if since not in self._texts:
-            self._texts[since] = self._made_text(moment, since, before)
+            self._texts[since] = self._made_text(self._kept[self.number], since, self._kept.get(since))
         return self._texts[since]
 
     def _made_text(self, moment: Moment, since: int, before: Moment | None) -> bytes:

@@ -7,11 +7,12 @@ import re
 from dataclasses import dataclass
 
 USAGE = """share [--listen ADDRESS:PORT | --unix PATH] [--terminals N] [--http ADDRESS:PORT] [--browsers N]
-             [--size RxC] [--rate N] [--] COMMAND [WORD ..]"""
+             [--publish SOCKET --as NAME] [--token FILE] [--size RxC] [--rate N] [--] COMMAND [WORD ..]"""
 ABOUT = """Runs a command in a pseudo-terminal and shows its screen to whoever connects.
 
 Watch with a terminal of the same size:  socat -,raw,echo=0 tcp:ADDRESS:PORT   (or nc ADDRESS PORT)
-Ctrl-C ends the watching. Watchers can't type. Without --listen, --unix and --http a free port of 127.0.0.1 is taken."""
+Ctrl-C ends the watching. Watchers can't type. Without --listen, --unix, --http and --publish a free port of 127.0.0.1
+is taken."""
 
 
 MOST_CELLS = 250_000  # of a screen
@@ -30,6 +31,9 @@ class Options:
     rate: float = 30.0
     terminals: int = MOST
     browsers: int = MOST
+    publish: str | None = None
+    name: str | None = None
+    token: str | None = None
 
 
 def address(text: str) -> tuple[str, int]:
@@ -70,8 +74,14 @@ def count(text: str) -> int:
     return int(text)
 
 
-def parsed(words: list[str]) -> Options:
-    """The options that the words give. Ends the program, with status 2, where they don't."""
+def name(text: str) -> str:
+    """A screen's name in addresses."""
+    if not re.fullmatch(r"[A-Za-z0-9_-]{1,64}", text):
+        raise argparse.ArgumentTypeError(f"{text!r} has other characters than A-Z a-z 0-9 _ -, or more than 64")
+    return text
+
+
+def _parser() -> argparse.ArgumentParser:
     parser = argparse.ArgumentParser(
         prog="share",
         usage=USAGE,
@@ -85,14 +95,25 @@ def parsed(words: list[str]) -> Options:
     parser.add_argument("--http", type=address, metavar="ADDRESS:PORT", help="where browsers may watch")
     parser.add_argument("--terminals", type=count, default=MOST, metavar="N", help=f"at most N terminals ({MOST})")
     parser.add_argument("--browsers", type=count, default=MOST, metavar="N", help=f"at most N browsers ({MOST})")
+    parser.add_argument("--publish", metavar="SOCKET", help="the socket of an nginx with nchan, which hands the screen on")
+    parser.add_argument("--as", type=name, dest="name", metavar="NAME", help="its name there")
+    parser.add_argument("--token", metavar="FILE", help="who watches must know its first line; made where there is none")
     parser.add_argument("--size", type=size, metavar="RxC", help="rows and columns (as the terminal here, else 24x80)")
     parser.add_argument("--rate", type=rate, default=30.0, metavar="N", help="at most N frames a second (30)")
     parser.add_argument("command", nargs=argparse.REMAINDER, metavar="COMMAND")
+    return parser
+
+
+def parsed(words: list[str]) -> Options:
+    """The options that the words give. Ends the program, with status 2, where they don't."""
+    parser = _parser()
     given = vars(parser.parse_args(words))
     if given["command"][:1] == ["--"]:
         del given["command"][0]
     if not given["command"]:
         parser.error("there is no command")
-    if not (given["listen"] or given["unix"] or given["http"]):
+    if bool(given["publish"]) != bool(given["name"]):
+        parser.error("--publish and --as need one another")
+    if not any(given[it] for it in ("listen", "unix", "http", "publish")):
         given["listen"] = ("127.0.0.1", 0)
     return Options(**given)

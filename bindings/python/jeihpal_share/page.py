@@ -12,6 +12,7 @@ from .messages import Messages
 from .notices import Notices
 from .requests import HEADER_SECONDS, Refused, head_of, is_loopback, parsed_request, read_head, refuse
 from .screen import SharedScreen
+from .tokens import Token
 
 _STILL_HERE = 15.0  # seconds after which a message is sent where nothing changes
 _MOST_REFUSED = 64  # connections past the most that are told so at the same time
@@ -43,9 +44,10 @@ class Page(Connection):
 class Browsers(Crowd):
     """All browsers, at one listening socket. A moment's message goes to each page that is level."""
 
-    def __init__(self, screen: SharedScreen, name: str, most: int, notices: Notices) -> None:
+    def __init__(self, screen: SharedScreen, name: str, most: int, token: Token, notices: Notices) -> None:
         super().__init__()
         self._loop, self._screen, self._most, self.notices = screen.loop, screen, most, notices
+        self._token = token
         self._messages = Messages(name)
         self._tasks: set[asyncio.Task[None]] = set()  # of those whose request isn't answered yet
         self._still_here: asyncio.TimerHandle | None = None
@@ -83,23 +85,26 @@ class Browsers(Crowd):
             raise Refused("503 Service Unavailable")
         head, rest = await read_head(self._loop, sock)
         request = parsed_request(head, self._is_local)
-        if request.path == "/":
-            nonce = secrets.token_urlsafe(16)
-            page = b"" if request.is_head else _PAGE.replace("NONCE", nonce).encode()
-            answer = head_of("200 OK", _PAGE_FIELDS.format(nonce)) + page
-            await asyncio.wait_for(self._loop.sock_sendall(sock, answer), HEADER_SECONDS)
-            return False
-        if request.path != "/events":
+        if request.path not in ("/", "/events"):
             raise Refused("404 Not Found")
-        sock.send(_EVENTS)
-        if request.is_head:
-            return False
-        sock.send(b"retry: 1000\n\n")
+        if not self._token.is_in(request.query):
+            raise Refused("403 Forbidden")
+        if request.path == "/":
+            await asyncio.wait_for(self._loop.sock_sendall(sock, _page(request.is_head)), HEADER_SECONDS)
+        elif request.is_head:
+            sock.send(_EVENTS)
+        else:
+            self._open(sock, rest)
+            return True
+        return False
+
+    def _open(self, sock: socket.socket, rest: bytes) -> None:
+        """A page asks for its events, and has sent some more with that."""
+        sock.send(_EVENTS + b"retry: 1000\n\n")
         page = Page(self._loop, sock, self)
         self.add(page)
         if rest:
             page.heard(rest)
-        return True
 
     def show(self) -> None:
         """Sends what has changed to each page that is level."""
@@ -152,6 +157,12 @@ class Browsers(Crowd):
         for task in list(self._tasks):
             task.cancel()
         await asyncio.gather(*self._tasks, return_exceptions=True)
+
+
+def _page(is_head: bool) -> bytes:
+    """The answer that is the page, or its head alone."""
+    nonce = secrets.token_urlsafe(16)
+    return head_of("200 OK", _PAGE_FIELDS.format(nonce)) + (b"" if is_head else _PAGE.replace("RANDOM-WORD", nonce).encode())
 
 
 def _event(message: bytes) -> bytes:

@@ -14,8 +14,10 @@ from typing import Callable
 from .notices import Notices
 from .options import Options, parsed
 from .page import Browsers
+from .publisher import Post, Publisher
 from .screen import SharedScreen
 from .terminals import Command, LocalTerminal, Outlet, raise_descriptors, undoing, window
+from .tokens import Token, kept_token
 from .watchers import Watchers, remove_socket, tcp_listener, unix_listener
 
 LINGER = 5.0  # seconds that watchers may take to read the last frame
@@ -130,7 +132,7 @@ async def _until(loop: asyncio.AbstractEventLoop, is_done: Callable[[], bool], s
 
 
 class Sockets:
-    """The sockets that the options ask for."""
+    """The sockets that the options ask for, and who may connect."""
 
     def __init__(self, options: Options, stack: contextlib.ExitStack) -> None:
         self.terminals: socket.socket | None = None
@@ -142,6 +144,8 @@ class Sockets:
             self.terminals = stack.enter_context(tcp_listener(*options.listen))
         if options.http:
             self.browsers = stack.enter_context(tcp_listener(*options.http))
+        self.token = Token(kept_token(options.token) if options.token else None)
+        self._options = options
 
     def announce(self, size: tuple[int, int]) -> None:
         """Says where to watch."""
@@ -152,6 +156,10 @@ class Sockets:
             said.append(f"terminals: socat -,raw,echo=0 tcp:{_place(self.terminals)}")
         if self.browsers:
             said.append(f"browsers: http://{_place(self.browsers)}/")
+        if self._options.publish:
+            said.append(f"published as {self._options.name} to {self._options.publish}")
+        if self._options.token:
+            said.append(f"the token in {self._options.token} is wanted: as a first line, or behind /?token= in a browser")
         for line in said:
             print(f"share: {line}", file=sys.stderr, flush=True)
 
@@ -165,22 +173,24 @@ class Audiences:
     """All who watch, at the sockets that there are."""
 
     def __init__(self, options: Options, screen: SharedScreen, sockets: Sockets, notices: Notices) -> None:
-        name = os.path.basename(options.command[0])
-        self._watchers = Watchers(screen, options.terminals, notices)
-        self._browsers = Browsers(screen, name, options.browsers, notices)
+        title = os.path.basename(options.command[0])
+        self._watchers = Watchers(screen, options.terminals, sockets.token, notices)
+        self._browsers = Browsers(screen, title, options.browsers, sockets.token, notices)
+        self._publisher: Publisher | None = None
+        if options.publish and options.name:
+            self._publisher = Publisher(screen, Post(options.publish, options.name), title, notices)
         if sockets.terminals:
             self._watchers.listen(sockets.terminals)
         if sockets.browsers:
             self._browsers.listen(sockets.browsers)
 
-    def end(self, status: int) -> None:
-        """The command has ended, and its last screen was shown."""
+    async def end(self, loop: asyncio.AbstractEventLoop, status: int) -> None:
+        """The command has ended, and its last screen was shown. Waits for those that have still to read it."""
         self._watchers.end()
         self._browsers.end(status)
-
-    def are_behind(self) -> bool:
-        """Whether somebody has still to read the last screen."""
-        return len(self._watchers) + len(self._browsers) > 0
+        reading = _until(loop, lambda: not len(self._watchers) + len(self._browsers), LINGER)
+        publishing = [self._publisher.end(status, LINGER)] if self._publisher else []
+        await asyncio.gather(reading, *publishing)
 
     async def close(self) -> None:
         """Ends every connection."""
@@ -204,8 +214,7 @@ async def _share(
             await _until(loop, lambda: not session.is_behind(), LINGER)
             session.close()
         screen.finish()
-        audiences.end(command.status or 0)
-        await _until(loop, lambda: not audiences.are_behind(), LINGER)
+        await audiences.end(loop, command.status or 0)
     finally:
         await audiences.close()
         notices.end()
@@ -223,7 +232,7 @@ def main(words: list[str] | None = None) -> int:
         try:
             sockets = Sockets(options, stack)
         except OSError as error:
-            print(f"share: can't listen: {error.strerror or error}", file=sys.stderr)
+            print(f"share: can't begin: {error.strerror or error}", file=sys.stderr)
             return 1
         local = LocalTerminal() if LocalTerminal.is_there() else None
         size = options.size or (window(local.fd) if local else (24, 80))

@@ -5,6 +5,7 @@ from __future__ import annotations
 import asyncio
 import contextlib
 import os
+import re
 import socket
 import stat
 import time
@@ -14,7 +15,10 @@ from jeihpal import Answer
 from .connections import Connection, Crowd, Door, bid_farewell
 from .notices import Notices
 from .screen import SharedScreen
+from .tokens import Token
 
+TOKEN_SECONDS = 10.0  # that somebody may take to say the token
+_MOST_LINE = 256  # bytes of the line in which it is said
 MOST_SENT = 16384  # bytes that a watcher may send in a second, as reports of the mouse; they are thrown away
 _LEAVES = (b"\x03", b"\x04")  # Ctrl-C and Ctrl-D
 _START = b"\x1b[?2026h"  # of a frame
@@ -48,9 +52,11 @@ class Watcher(Connection):
 class Watchers(Crowd):
     """All terminals, at one listening socket. The frames of one client of the hub go to each that is level."""
 
-    def __init__(self, screen: SharedScreen, most: int, notices: Notices) -> None:
+    def __init__(self, screen: SharedScreen, most: int, token: Token, notices: Notices) -> None:
         super().__init__()
         self._loop, self._screen, self._most, self.notices = screen.loop, screen, most, notices
+        self._token = token
+        self._tasks: set[asyncio.Task[None]] = set()  # of those that have still to say the token
         self._client: int | None = None
         self._whole = b""  # what draws on a fresh terminal what the client has been sent, where that was wanted
         self._door: Door | None = None
@@ -61,10 +67,34 @@ class Watchers(Crowd):
         self._door = Door(self._loop, listener, self._take, self.notices)
 
     def _take(self, sock: socket.socket) -> None:
-        if len(self) >= self._most:
+        if len(self) + len(self._tasks) >= self._most:
             self.notices.say(f"a watcher was refused: there are {self._most}")
             return bid_farewell(sock, b"share: there are too many watchers\r\n")
-        self.add(Watcher(self._loop, sock, self))
+        if not self._token.is_wanted:
+            return self.add(Watcher(self._loop, sock, self))
+        task = self._loop.create_task(self._ask(sock))
+        self._tasks.add(task)
+        task.add_done_callback(self._tasks.discard)
+
+    async def _ask(self, sock: socket.socket) -> None:
+        """Takes a connection whose first line is the token."""
+        line = b""
+        with contextlib.suppress(OSError, asyncio.TimeoutError):
+            line = await asyncio.wait_for(self._first_line(sock), TOKEN_SECONDS)
+        if self._token.is_known(line):
+            return self.add(Watcher(self._loop, sock, self))
+        self.notices.say("a watcher was refused: its first line isn't the token")
+        bid_farewell(sock, b"share: the first line must be the token\r\n")
+
+    async def _first_line(self, sock: socket.socket) -> bytes:
+        """What a connection says before it sends a line's end, which may be a terminal's key."""
+        data = b""
+        while not re.search(rb"[\r\n]", data) and len(data) < _MOST_LINE:
+            more = await self._loop.sock_recv(sock, _MOST_LINE)
+            if not more:
+                return b""
+            data += more
+        return re.split(rb"[\r\n]", data)[0]
 
     def show(self) -> None:
         """Sends the next frame to each that is level. The others get a whole one as soon as they can take it."""
@@ -134,6 +164,8 @@ class Watchers(Crowd):
         """The last frame was made: each watcher is sent it, and then leaves."""
         if self._door:
             self._door.close()
+        for task in self._tasks:
+            task.cancel()
         self.finish(_FAREWELL)
 
 

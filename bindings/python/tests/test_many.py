@@ -3,18 +3,23 @@
 from __future__ import annotations
 
 import json
+import os
 import resource
+import socket
+import stat
+import tempfile
 import time
 import unittest
 from typing import Any
 
 from jeihpal_share.messages import MOST_KEPT, Messages
 from jeihpal_share.moments import Moment
+from jeihpal_share.tokens import kept_token
 
 from .chromium import PROGRAM, Chromium
 from .scripted import Scripted
 from .sharing import END, START, Shared, Watching, wait_for
-from .test_page import HTTP, Page
+from .test_page import HTTP, Page, asked, get
 
 OFF = b"\x1b[?9;1000;1002;1003;1005;1006l\x1b[0 q"
 
@@ -117,6 +122,54 @@ w('\\x1b[?1000;1006l\\x1b[m\\x1b[H\\x1b[2Jthe end'); sys.stdout.flush(); time.sl
             self.assertFalse(slow.view.look().encoding)
             self.assertIn(START + OFF, slow.data)
             self.assertLess(slow.frames(), quick.read_all().frames())
+
+
+class Tokens(unittest.TestCase):
+    def test_made_and_kept(self):
+        with tempfile.TemporaryDirectory() as folder:
+            token = kept_token(f"{folder}/token")
+            self.assertEqual(kept_token(f"{folder}/token"), token)
+            self.assertEqual(stat.S_IMODE(os.stat(f"{folder}/token").st_mode), 0o600)
+            self.assertGreater(len(token), 30)
+            for text in ("", "short", "has a space in it", "is&more=1234", "ümläuts-in-it"):
+                with open(f"{folder}/token", "w", encoding="utf-8") as file:
+                    file.write(f"{text}\nright-token\n")
+                with self.subTest(text), self.assertRaises(OSError):
+                    kept_token(f"{folder}/token")
+
+    def test_who_may_watch(self):
+        with tempfile.TemporaryDirectory() as folder:
+            token = kept_token(f"{folder}/token")
+            words = (*HTTP, "--listen", "127.0.0.1:0", "--token", f"{folder}/token")
+            with Shared("print('ready'); input()", *words) as shared:
+                self.check_pages(shared, token)
+                self.check_terminals(shared, token)
+                self.assertNotIn(token, shared.said)
+                self.assertIn("a watcher was refused: its first line isn't the token", shared.said)
+
+    def check_pages(self, shared: Shared, token: str) -> None:
+        for query in ("", "?", "?token=", "?token", f"?token={token[:-1]}", f"?token={token}x", f"?x={token}", "?token=%00"):
+            for path in ("/", "/events"):
+                with self.subTest(path + query):
+                    self.assertEqual(asked(shared, get(path + query))[:12], b"HTTP/1.1 403")
+        self.assertEqual(asked(shared, get(f"/?x=1&token={token}"))[:12], b"HTTP/1.1 200")
+        with Page(shared, path=f"/events?token={token}") as page:
+            page.read_until("ready")
+
+    def check_terminals(self, shared: Shared, token: str) -> None:
+        for line in (token.encode() + b"\r", token.encode() + b"\nmore"):
+            with self.subTest(line), Watching(shared) as watcher:
+                watcher.sock.sendall(line)
+                watcher.read_until("ready")
+        for line in (b"\r", b"\n\n", b"wrong\r", token[:-1].encode() + b"\r", b"a" * 1000, b"\x00\xff\r"):
+            with self.subTest(line), Watching(shared) as watcher:
+                watcher.sock.sendall(line)
+                self.assertNotIn(b"ready", watcher.read_all().data)
+                self.assertIn(b"the first line must be the token", watcher.data)
+        with Watching(shared) as watcher:
+            watcher.sock.sendall(token.encode())
+            watcher.sock.shutdown(socket.SHUT_WR)
+            self.assertNotIn(b"ready", watcher.read_all().data)
 
 
 def whole(n: int, run: str = "a", **more: Any) -> dict[str, Any]:

@@ -49,13 +49,13 @@ def get(path: str, host: str = "localhost") -> bytes:
 class Page:
     """A page as its script has it: the screen that its events make."""
 
-    def __init__(self, shared: Shared, room: int | None = None) -> None:
+    def __init__(self, shared: Shared, room: int | None = None, path: str = "/events") -> None:
         self.sock = socket.socket()
         if room:
             self.sock.setsockopt(socket.SOL_SOCKET, socket.SO_RCVBUF, room)
         self.sock.settimeout(20)
         self.sock.connect(shared.place("browsers"))
-        self.sock.sendall(get("/events"))
+        self.sock.sendall(get(path))
         self.said, self.rows, self.messages, self.ended = b"", [], [], None
         self.lost = 0  # differences that lead from a message that it doesn't have
 
@@ -72,10 +72,11 @@ class Page:
                 return False
             self.said += data.replace(b"\r", b"")
         event, _, self.said = self.said.partition(b"\n\n")
-        if found := re.search(rb"^event: ended\ndata: (\d+)", event, re.M):
-            self.ended = int(found[1])
-        elif found := re.search(rb"^data: (.*)", event, re.M):
-            self.take(json.loads(found[1]))
+        if found := re.search(rb"^data: (.*)", event, re.M):
+            if re.search(rb"^event: ended$", event, re.M):
+                self.ended = int(found[1])
+            else:
+                self.take(json.loads(found[1]))
         return True
 
     def take(self, moment: dict) -> None:

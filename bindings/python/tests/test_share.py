@@ -196,6 +196,10 @@ class Refusals(unittest.TestCase):
             (["--terminals", "0", "true"], 2),
             (["--browsers", "many", "true"], 2),
             (["--listen", "1", "--unix", "x", "true"], 2),
+            (["--publish", "x", "true"], 2),
+            (["--publish", "x", "--as", "a/b", "true"], 2),
+            (["--token", "/no/such/folder/token", "true"], 1),
+            (["--token", "/dev/null", "true"], 1),
             (["there is no such command"], 127),
             (["--listen", "192.0.2.1:1", "true"], 1),
         ):
