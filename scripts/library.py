@@ -155,6 +155,12 @@ def install_python(folder):
     link(f"../../../{SHARED}", f"{folder}/jeihpal/libjeihpal.so")
 
 
+def install_configurations(folder):
+    """Copies the configurations of nginx for share."""
+    shutil.rmtree(folder, ignore_errors=True)
+    shutil.copytree(f"{HERE}/bindings/share", folder)
+
+
 def install_share(path):
     """Copies the command, which finds the module from where it lies."""
     with open(f"{HERE}/share", encoding="utf-8") as file:
@@ -179,6 +185,7 @@ def install(prefix):
         shutil.copy(f"{HERE}/bindings/include/jeihpal.h", f"{prefix}/include"),
     ]
     install_licenses(f"{prefix}/share/doc/jeihpal")
+    install_configurations(f"{prefix}/share/doc/jeihpal/nginx")
     link(SHARED, f"{prefix}/lib/libjeihpal.so")
     install_python(f"{prefix}/lib/jeihpal/python")
     install_share(f"{prefix}/bin/share")

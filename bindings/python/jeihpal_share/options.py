@@ -6,13 +6,17 @@ import argparse
 import re
 from dataclasses import dataclass
 
-USAGE = (
-    "share [--listen ADDRESS:PORT | --unix PATH] [--http ADDRESS:PORT] [--size RxC] [--rate N] [--] COMMAND [WORD ..]"
-)
+USAGE = """share [--listen ADDRESS:PORT | --unix PATH] [--terminals N] [--http ADDRESS:PORT] [--browsers N]
+             [--publish SOCKET --as NAME] [--token FILE] [--size RxC] [--rate N] [--] COMMAND [WORD ..]"""
 ABOUT = """Runs a command in a pseudo-terminal and shows its screen to whoever connects.
 
 Watch with a terminal of the same size:  socat -,raw,echo=0 tcp:ADDRESS:PORT   (or nc ADDRESS PORT)
-Ctrl-C ends the watching. Watchers can't type. Without --listen, --unix and --http a free port of 127.0.0.1 is taken."""
+Ctrl-C ends the watching. Watchers can't type. Without --listen, --unix, --http and --publish a free port of 127.0.0.1
+is taken."""
+
+
+MOST_CELLS = 250_000  # of a screen
+MOST = 1000  # terminals, and as many browsers, unless the command line says otherwise
 
 
 @dataclass(frozen=True)
@@ -25,6 +29,11 @@ class Options:
     http: tuple[str, int] | None = None
     size: tuple[int, int] | None = None
     rate: float = 30.0
+    terminals: int = MOST
+    browsers: int = MOST
+    publish: str | None = None
+    name: str | None = None
+    token: str | None = None
 
 
 def address(text: str) -> tuple[str, int]:
@@ -42,6 +51,8 @@ def size(text: str) -> tuple[int, int]:
     rows, cols = map(int, found.groups()) if found else (0, 0)
     if not (0 < rows < 1 << 16 and 0 < cols < 1 << 16):
         raise argparse.ArgumentTypeError(f"{text!r} is not ROWSxCOLUMNS")
+    if rows * cols > MOST_CELLS:
+        raise argparse.ArgumentTypeError(f"{text!r} has more than {MOST_CELLS} cells")
     return rows, cols
 
 
@@ -56,8 +67,21 @@ def rate(text: str) -> float:
     return number
 
 
-def parsed(words: list[str]) -> Options:
-    """The options that the words give. Ends the program, with status 2, where they don't."""
+def count(text: str) -> int:
+    """A number of connections."""
+    if not re.fullmatch(r"\d{1,6}", text) or not int(text):
+        raise argparse.ArgumentTypeError(f"{text!r} is not 1 to 999999")
+    return int(text)
+
+
+def name(text: str) -> str:
+    """A screen's name in addresses."""
+    if not re.fullmatch(r"[A-Za-z0-9_-]{1,64}", text):
+        raise argparse.ArgumentTypeError(f"{text!r} has other characters than A-Z a-z 0-9 _ -, or more than 64")
+    return text
+
+
+def _parser() -> argparse.ArgumentParser:
     parser = argparse.ArgumentParser(
         prog="share",
         usage=USAGE,
@@ -69,14 +93,27 @@ def parsed(words: list[str]) -> Options:
     where.add_argument("--listen", type=address, metavar="ADDRESS:PORT", help="where terminals may connect")
     where.add_argument("--unix", metavar="PATH", help="the same, as a socket in the file system, of this user alone")
     parser.add_argument("--http", type=address, metavar="ADDRESS:PORT", help="where browsers may watch")
+    parser.add_argument("--terminals", type=count, default=MOST, metavar="N", help=f"at most N terminals ({MOST})")
+    parser.add_argument("--browsers", type=count, default=MOST, metavar="N", help=f"at most N browsers ({MOST})")
+    parser.add_argument("--publish", metavar="SOCKET", help="the socket of an nginx with nchan, which hands the screen on")
+    parser.add_argument("--as", type=name, dest="name", metavar="NAME", help="its name there")
+    parser.add_argument("--token", metavar="FILE", help="who watches must know its first line; made where there is none")
     parser.add_argument("--size", type=size, metavar="RxC", help="rows and columns (as the terminal here, else 24x80)")
     parser.add_argument("--rate", type=rate, default=30.0, metavar="N", help="at most N frames a second (30)")
     parser.add_argument("command", nargs=argparse.REMAINDER, metavar="COMMAND")
+    return parser
+
+
+def parsed(words: list[str]) -> Options:
+    """The options that the words give. Ends the program, with status 2, where they don't."""
+    parser = _parser()
     given = vars(parser.parse_args(words))
     if given["command"][:1] == ["--"]:
         del given["command"][0]
     if not given["command"]:
         parser.error("there is no command")
-    if not (given["listen"] or given["unix"] or given["http"]):
+    if bool(given["publish"]) != bool(given["name"]):
+        parser.error("--publish and --as need one another")
+    if not any(given[it] for it in ("listen", "unix", "http", "publish")):
         given["listen"] = ("127.0.0.1", 0)
     return Options(**given)

@@ -1,211 +1,170 @@
-"""Browsers: one small page, and the events that keep it as the screen is."""
+"""Browsers: one small page, and the messages that keep it as the screen is."""
 
 from __future__ import annotations
 
 import asyncio
-import contextlib
-import ipaddress
 import os
-import re
 import secrets
 import socket
 
-from .moments import Moment
+from .connections import Connection, Crowd, Door, bid_farewell
+from .messages import Messages
 from .notices import Notices
+from .requests import HEADER_SECONDS, Refused, head_of, is_loopback, parsed_request, read_head, refuse
 from .screen import SharedScreen
+from .tokens import Token
 
-MOST_BROWSERS = 60  # connections, also those that have asked for nothing yet
-MOST_HEADER = 8192  # bytes
-HEADER_SECONDS = 5.0
-_FAREWELL_SECONDS = 1.0
-_STILL_HERE = 15.0  # seconds after which something is sent where nothing changes
-_SEND_BUFFER = 65536
+_STILL_HERE = 15.0  # seconds after which a message is sent where nothing changes
+_MOST_REFUSED = 64  # connections past the most that are told so at the same time
 
 with open(os.path.join(os.path.dirname(os.path.abspath(__file__)), "page.html"), encoding="utf-8") as _file:
     _PAGE = _file.read()
 
 _PAGE_FIELDS = """Content-Security-Policy: default-src 'none'; script-src 'nonce-{0}'; style-src 'nonce-{0}'; \
-connect-src 'self'; img-src data:; base-uri 'none'; frame-ancestors 'none'
+connect-src 'self'; img-src data:; base-uri 'none'; form-action 'none'; frame-ancestors 'none'
 Content-Type: text/html; charset=utf-8
 """
 _EVENT_FIELDS = "Content-Type: text/event-stream; charset=utf-8\n"
-_SAFE_FIELDS = """Cache-Control: no-store
-Connection: close
-Cross-Origin-Resource-Policy: same-origin
-Referrer-Policy: no-referrer
-X-Content-Type-Options: nosniff
-"""
+_EVENTS = head_of("200 OK", _EVENT_FIELDS)
 
 
-class Refused(Exception):
-    """A request that isn't answered as it wishes: with a status instead."""
+class Page(Connection):
+    """A page that is open in a browser."""
+
+    def __init__(self, loop: asyncio.AbstractEventLoop, sock: socket.socket, browsers: Browsers) -> None:
+        super().__init__(loop, sock, browsers)
+        self._browsers = browsers
+
+    def heard(self, data: bytes) -> None:
+        """A browser sends no more than its request."""
+        self._browsers.notices.say("a browser was refused: it sends more than a request")
+        self._browsers.leave(self)
 
 
-def _head(status: str, fields: str) -> bytes:
-    return f"HTTP/1.1 {status}\n{fields}{_SAFE_FIELDS}\n".replace("\n", "\r\n").encode()
+class Browsers(Crowd):
+    """All browsers, at one listening socket. A moment's message goes to each page that is level."""
 
-
-def _is_loopback(host: str) -> bool:
-    """Whether a name or address is this machine's own. Others may lead here by a name server that lies."""
-    if host == "localhost":
-        return True
-    try:
-        return ipaddress.ip_address(host.strip("[]")).is_loopback
-    except ValueError:
-        return False
-
-
-def asked_path(head: bytes, is_local: bool) -> str:
-    """The path that a request asks for. Raises Refused where it is none that is answered."""
-    lines = head.decode("latin-1").split("\r\n")
-    asked = re.fullmatch(r"([A-Z]+) (/[!-~]*) HTTP/1\.[01]", lines[0])
-    fields = [re.fullmatch(r"([!#$%&'*+.^_`|~0-9A-Za-z-]+):[ \t]*(.*?)[ \t]*", line) for line in lines[1:] if line]
-    if not asked or not all(fields):
-        raise Refused("400 Bad Request")
-    hosts = [field[2] for field in fields if field and field[1].lower() == "host"]
-    if len(hosts) > 1 or (not hosts and lines[0].endswith("1.1")):
-        raise Refused("400 Bad Request")
-    if is_local and not all(_is_loopback(re.sub(r":\d*$", "", host)) for host in hosts):
-        raise Refused("421 Misdirected Request")
-    if asked[1] != "GET":
-        raise Refused("405 Method Not Allowed")
-    return asked[2]
-
-
-async def read_head(reader: asyncio.StreamReader) -> bytes:
-    """The head of a request. Raises Refused where it is too long, or takes too long."""
-    try:
-        return await asyncio.wait_for(reader.readuntil(b"\r\n\r\n"), HEADER_SECONDS)
-    except asyncio.LimitOverrunError:
-        raise Refused("431 Request Header Fields Too Large") from None
-    except asyncio.IncompleteReadError as error:
-        raise (Refused("400 Bad Request") if error.partial else ConnectionResetError()) from None
-    except asyncio.TimeoutError:
-        raise Refused("408 Request Timeout") from None
-
-
-async def refuse(reader: asyncio.StreamReader, writer: asyncio.StreamWriter, status: str) -> None:
-    """Answers with a status, and reads on for a moment, without which the answer may be lost."""
-    with contextlib.suppress(OSError, asyncio.TimeoutError):
-        text = f"share: {status}\n"
-        fields = f"Content-Length: {len(text)}\nContent-Type: text/plain\n"
-        writer.write(_head(status, fields) + text.encode())
-        writer.write_eof()
-        await asyncio.wait_for(_discard(reader), _FAREWELL_SECONDS)
-
-
-async def _discard(reader: asyncio.StreamReader) -> None:
-    while await reader.read(MOST_HEADER):
-        pass
-
-
-class Browsers:
-    """All browsers, at one listening socket."""
-
-    def __init__(self, screen: SharedScreen, name: str, notices: Notices) -> None:
-        self._screen, self._name, self._notices = screen, name, notices
-        self._moment: Moment | None = None
-        self._news: dict[asyncio.Task[None], asyncio.Event] = {}  # of each page that is open
-        self._tasks: set[asyncio.Task[None]] = set()
-        self._status: int | None = None
+    def __init__(self, screen: SharedScreen, name: str, most: int, token: Token, notices: Notices) -> None:
+        super().__init__()
+        self._loop, self._screen, self._most, self.notices = screen.loop, screen, most, notices
+        self._token = token
+        self._messages = Messages(name)
+        self._tasks: set[asyncio.Task[None]] = set()  # of those whose request isn't answered yet
+        self._still_here: asyncio.TimerHandle | None = None
+        self._door: Door | None = None
+        self._is_current = False  # the newest message is of what was shown last
         screen.add(self)
 
-    async def listen(self, listener: socket.socket) -> None:
+    def listen(self, listener: socket.socket) -> None:
         """Takes connections from now on."""
-        self._is_local = _is_loopback(listener.getsockname()[0])
-        self._server = await asyncio.start_server(self._serve, sock=listener, limit=MOST_HEADER)
+        self._is_local = is_loopback(listener.getsockname()[0])
+        self._door = Door(self._loop, listener, self._take, self.notices)
+
+    def _take(self, sock: socket.socket) -> None:
+        if len(self) + len(self._tasks) >= self._most + _MOST_REFUSED:
+            return bid_farewell(sock, b"")
+        task = self._loop.create_task(self._serve(sock))
+        self._tasks.add(task)
+        task.add_done_callback(self._tasks.discard)
+
+    async def _serve(self, sock: socket.socket) -> None:
+        """A connection's request. The connection is ended, unless it becomes a page's."""
+        try:
+            if await self._answer(sock):
+                return
+        except Refused as refused:
+            self.notices.say(f"a browser was refused: {refused}")
+            await refuse(self._loop, sock, str(refused))
+        except (OSError, asyncio.TimeoutError, asyncio.CancelledError):
+            pass
+        sock.close()
+
+    async def _answer(self, sock: socket.socket) -> bool:
+        """Answers a request. Whether the connection becomes a page's."""
+        if len(self) + len(self._tasks) > self._most:
+            raise Refused("503 Service Unavailable")
+        head, rest = await read_head(self._loop, sock)
+        request = parsed_request(head, self._is_local)
+        if request.path not in ("/", "/events"):
+            raise Refused("404 Not Found")
+        if not self._token.is_in(request.query):
+            raise Refused("403 Forbidden")
+        if request.path == "/":
+            await asyncio.wait_for(self._loop.sock_sendall(sock, _page(request.is_head)), HEADER_SECONDS)
+        elif request.is_head:
+            sock.send(_EVENTS)
+        else:
+            self._open(sock, rest)
+            return True
+        return False
+
+    def _open(self, sock: socket.socket, rest: bytes) -> None:
+        """A page asks for its events, and has sent some more with that."""
+        sock.send(_EVENTS + b"retry: 1000\n\n")
+        page = Page(self._loop, sock, self)
+        self.add(page)
+        if rest:
+            page.heard(rest)
 
     def show(self) -> None:
-        """Shows the screen to each page that has read its last event."""
-        if self._news:
-            self._moment = Moment(self._screen.hub, self._moment)
-            for news in self._news.values():
-                news.set()
+        """Sends what has changed to each page that is level."""
+        self._is_current = len(self) > 0
+        if not self._is_current:
+            return
+        moment = self._screen.moment()
+        if moment != self._messages.newest:
+            self._messages.add(moment)
+            self._give_newest()
+        self.lift()
+
+    def _give_newest(self) -> None:
+        """Sends the newest message, and has another one follow where nothing changes."""
+        number = self._messages.number
+        self.give(_event(self._messages.text(number - 1)), number)
+        if self._still_here:
+            self._still_here.cancel()
+        self._still_here = self._loop.call_later(_STILL_HERE, self._say_still_here)
+
+    def _say_still_here(self) -> None:
+        """A message without a change: a page that hears nothing for long takes its connection for dead."""
+        moment = self._messages.newest
+        if moment:
+            self._messages.add(moment)
+            self._give_newest()
+
+    def lead(self, connection: Connection) -> bytes:
+        """What leads a page from the message that it has to the newest one."""
+        return _event(self._messages.text(connection.has)) if self._is_current else b""
+
+    def make_lead(self) -> None:
+        """There is a new message when the screen is shown next."""
+        self._screen.show_soon()
 
     def detach(self) -> None:
-        """Browsers are no clients."""
+        """Browsers are no clients of the hub."""
 
-    def attach(self) -> None:
-        """Browsers are no clients."""
+    def end(self, status: int) -> None:
+        """The last moment was shown: each page is sent it and the command's status, and then leaves."""
+        if self._door:
+            self._door.close()
+        if self._still_here:
+            self._still_here.cancel()
+        self.finish(b"event: ended\ndata: %d\n\n" % status)
 
-    async def end(self, status: int, seconds: float) -> None:
-        """Tells the pages that the command has ended, waits for them so long, and ends every connection."""
-        self._status = status
-        self._server.close()
-        for news in self._news.values():
-            news.set()
-        if self._news:
-            await asyncio.wait(list(self._news), timeout=seconds)
+    async def close_all(self) -> None:
+        """Ends every connection."""
+        self.close()
         for task in list(self._tasks):
             task.cancel()
         await asyncio.gather(*self._tasks, return_exceptions=True)
 
-    async def _serve(self, reader: asyncio.StreamReader, writer: asyncio.StreamWriter) -> None:
-        """One connection, which has one request."""
-        task = asyncio.current_task()
-        assert task
-        self._tasks.add(task)
-        try:
-            await self._answer(reader, writer)
-        except Refused as refused:
-            self._notices.say(f"a browser was refused: {refused}")
-            await refuse(reader, writer, str(refused))
-        except (OSError, asyncio.TimeoutError, asyncio.CancelledError):
-            pass
-        finally:
-            self._tasks.discard(task)
-            writer.close()
 
-    async def _answer(self, reader: asyncio.StreamReader, writer: asyncio.StreamWriter) -> None:
-        if len(self._tasks) > MOST_BROWSERS:
-            raise Refused("503 Service Unavailable")
-        path = asked_path(await read_head(reader), self._is_local)
-        if path == "/":
-            nonce = secrets.token_urlsafe(16)
-            writer.write(_head("200 OK", _PAGE_FIELDS.format(nonce)) + _PAGE.replace("NONCE", nonce).encode())
-            await asyncio.wait_for(writer.drain(), HEADER_SECONDS)
-        elif path == "/events":
-            await self._stream(reader, writer)
-        else:
-            raise Refused("404 Not Found")
+def _page(is_head: bool) -> bytes:
+    """The answer that is the page, or its head alone."""
+    nonce = secrets.token_urlsafe(16)
+    return head_of("200 OK", _PAGE_FIELDS.format(nonce)) + (b"" if is_head else _PAGE.replace("RANDOM-WORD", nonce).encode())
 
-    async def _stream(self, reader: asyncio.StreamReader, writer: asyncio.StreamWriter) -> None:
-        """Sends events until the browser leaves, or sends more, or the command ends."""
-        sock = writer.get_extra_info("socket")
-        sock.setsockopt(socket.SOL_SOCKET, socket.SO_SNDBUF, _SEND_BUFFER)
-        writer.transport.set_write_buffer_limits(high=0)
-        writer.write(_head("200 OK", _EVENT_FIELDS) + b"retry: 1000\n\n")
-        task, news = asyncio.current_task(), asyncio.Event()
-        assert task
-        self._news[task] = news
-        self._screen.show_soon()
-        sending = asyncio.ensure_future(self._send_events(news, writer))
-        leaving = asyncio.ensure_future(reader.read(1))
-        try:
-            await asyncio.wait((sending, leaving), return_when=asyncio.FIRST_COMPLETED)
-            if leaving.done() and leaving.result():
-                self._notices.say("a browser was refused: it sends more than a request")
-        finally:
-            del self._news[task]
-            if not sending.done():
-                writer.transport.abort()
-            sending.cancel()
-            leaving.cancel()
-            await asyncio.gather(sending, leaving, return_exceptions=True)
 
-    async def _send_events(self, news: asyncio.Event, writer: asyncio.StreamWriter) -> None:
-        """Sends the newest moment once the one before was read, and so on."""
-        shown: Moment | None = None
-        while self._status is None or shown is not self._moment:
-            try:
-                await asyncio.wait_for(news.wait(), _STILL_HERE)
-            except asyncio.TimeoutError:
-                writer.write(b": still here\n\n")
-            news.clear()
-            moment = self._moment
-            if moment and moment is not shown:
-                writer.write(moment.event(self._name, shown))
-                shown = moment
-            await writer.drain()
-        writer.write(b"event: ended\ndata: %d\n\n" % self._status)
-        await writer.drain()
+def _event(message: bytes) -> bytes:
+    """A message as a server-sent event."""
+    return b"data: %b\n\n" % message

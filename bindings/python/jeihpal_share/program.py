@@ -14,9 +14,11 @@ from typing import Callable
 from .notices import Notices
 from .options import Options, parsed
 from .page import Browsers
+from .publisher import Post, Publisher
 from .screen import SharedScreen
-from .terminals import Command, LocalTerminal, Outlet, window
-from .watchers import Watchers, tcp_listener, unix_listener
+from .terminals import Command, LocalTerminal, Outlet, raise_descriptors, undoing, window
+from .tokens import Token, kept_token
+from .watchers import Watchers, remove_socket, tcp_listener, unix_listener
 
 LINGER = 5.0  # seconds that watchers may take to read the last frame
 _DRAIN = 0.5  # seconds that what the command has started may write on after its end
@@ -104,6 +106,11 @@ class Session:
         self._command.signal(signal.SIGCONT)
         self._loop.call_later(_KILL, self._command.signal, signal.SIGKILL)
 
+    def restore(self) -> None:
+        """The command has ended: the terminal here gets its modes back, whatever the command has left."""
+        if self._picture:
+            self._picture.write(undoing(self._screen.hub.look()))
+
     def is_behind(self) -> bool:
         """Whether the terminal here has still to show something."""
         return bool(self._picture and self._picture.is_waiting)
@@ -125,18 +132,20 @@ async def _until(loop: asyncio.AbstractEventLoop, is_done: Callable[[], bool], s
 
 
 class Sockets:
-    """The sockets that the options ask for."""
+    """The sockets that the options ask for, and who may connect."""
 
     def __init__(self, options: Options, stack: contextlib.ExitStack) -> None:
         self.terminals: socket.socket | None = None
         self.browsers: socket.socket | None = None
         if options.unix:
             self.terminals = stack.enter_context(unix_listener(options.unix))
-            stack.callback(os.unlink, options.unix)
+            stack.callback(remove_socket, options.unix, os.stat(options.unix))
         elif options.listen:
             self.terminals = stack.enter_context(tcp_listener(*options.listen))
         if options.http:
             self.browsers = stack.enter_context(tcp_listener(*options.http))
+        self.token = Token(kept_token(options.token) if options.token else None)
+        self._options = options
 
     def announce(self, size: tuple[int, int]) -> None:
         """Says where to watch."""
@@ -147,6 +156,10 @@ class Sockets:
             said.append(f"terminals: socat -,raw,echo=0 tcp:{_place(self.terminals)}")
         if self.browsers:
             said.append(f"browsers: http://{_place(self.browsers)}/")
+        if self._options.publish:
+            said.append(f"published as {self._options.name} to {self._options.publish}")
+        if self._options.token:
+            said.append(f"the token in {self._options.token} is wanted: as a first line, or behind /?token= in a browser")
         for line in said:
             print(f"share: {line}", file=sys.stderr, flush=True)
 
@@ -156,54 +169,79 @@ def _place(listener: socket.socket) -> str:
     return f"[{host}]:{port}" if ":" in host else f"{host}:{port}"
 
 
+class Audiences:
+    """All who watch, at the sockets that there are."""
+
+    def __init__(self, options: Options, screen: SharedScreen, sockets: Sockets, notices: Notices) -> None:
+        title = os.path.basename(options.command[0])
+        self._watchers = Watchers(screen, options.terminals, sockets.token, notices)
+        self._browsers = Browsers(screen, title, options.browsers, sockets.token, notices)
+        self._publisher: Publisher | None = None
+        if options.publish and options.name:
+            self._publisher = Publisher(screen, Post(options.publish, options.name), title, notices)
+        if sockets.terminals:
+            self._watchers.listen(sockets.terminals)
+        if sockets.browsers:
+            self._browsers.listen(sockets.browsers)
+
+    async def end(self, loop: asyncio.AbstractEventLoop, status: int) -> None:
+        """The command has ended, and its last screen was shown. Waits for those that have still to read it."""
+        self._watchers.end()
+        self._browsers.end(status)
+        reading = _until(loop, lambda: not len(self._watchers) + len(self._browsers), LINGER)
+        publishing = [self._publisher.end(status, LINGER)] if self._publisher else []
+        await asyncio.gather(reading, *publishing)
+
+    async def close(self) -> None:
+        """Ends every connection."""
+        self._watchers.close()
+        await self._browsers.close_all()
+
+
 async def _share(
     options: Options, command: Command, size: tuple[int, int], sockets: Sockets, local: LocalTerminal | None
 ) -> int:
     """Shares the command's screen until it ends. Answers its status."""
     loop, notices = asyncio.get_running_loop(), Notices(local is not None)
     screen = SharedScreen(loop, size, options.rate, notices)
-    watchers = Watchers(loop, screen, notices)
-    browsers = Browsers(screen, os.path.basename(options.command[0]), notices) if sockets.browsers else None
+    audiences = Audiences(options, screen, sockets, notices)
     session = Session(loop, command, screen, local)
     try:
         with local or contextlib.nullcontext():
-            if sockets.terminals:
-                watchers.listen(sockets.terminals)
-            if browsers and sockets.browsers:
-                await browsers.listen(sockets.browsers)
             session.start(has_own_size=options.size is not None)
             await session.ended
+            session.restore()
             await _until(loop, lambda: not session.is_behind(), LINGER)
             session.close()
         screen.finish()
-        await _until(loop, lambda: not watchers.are_behind(), LINGER)
-        if browsers:
-            await browsers.end(command.status or 0, LINGER)
+        await audiences.end(loop, command.status or 0)
     finally:
-        if sockets.terminals:
-            loop.remove_reader(sockets.terminals)
-        watchers.close()
+        await audiences.close()
         notices.end()
     return command.status or 0
 
 
 def main(words: list[str] | None = None) -> int:
-    """Runs share. Answers its status: the command's, 127 where there is no such command, 1 where it can't listen."""
+    """Runs share. Answers its status: the command's, 127 where there is no such command, 1 where it can't begin."""
     options = parsed(sys.argv[1:] if words is None else words)
     if not shutil.which(options.command[0]):
         print(f"share: {options.command[0]}: there is no such command", file=sys.stderr)
         return 127
+    descriptors = raise_descriptors()
     with contextlib.ExitStack() as stack:
         try:
             sockets = Sockets(options, stack)
         except OSError as error:
-            print(f"share: can't listen: {error.strerror or error}", file=sys.stderr)
+            print(f"share: can't begin: {error.strerror or error}", file=sys.stderr)
             return 1
         local = LocalTerminal() if LocalTerminal.is_there() else None
         size = options.size or (window(local.fd) if local else (24, 80))
         sockets.announce(size)
-        command = Command(options.command, *size)
+        command = Command(options.command, *size, descriptors)
         try:
             return asyncio.run(_share(options, command, size, sockets, local))
+        except MemoryError:
+            print("share: out of memory", file=sys.stderr)
+            return 1
         finally:
             command.signal(signal.SIGKILL)

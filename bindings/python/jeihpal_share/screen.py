@@ -7,6 +7,7 @@ from typing import Protocol
 
 from jeihpal import Hub
 
+from .moments import Camera, Moment
 from .notices import Notices
 
 PAUSE = 0.01  # a command that is silent for so many seconds has drawn what it wanted
@@ -21,10 +22,7 @@ class Audience(Protocol):
         """Shows the screen as it is now."""
 
     def detach(self) -> None:
-        """Ends its clients of the hub."""
-
-    def attach(self) -> None:
-        """Begins anew, with new clients."""
+        """Its clients of the hub end. It begins anew when it is told to show the screen next."""
 
 
 class SharedScreen:
@@ -33,9 +31,12 @@ class SharedScreen:
     def __init__(self, loop: asyncio.AbstractEventLoop, size: tuple[int, int], rate: float, notices: Notices) -> None:
         self.hub = Hub(*size)
         self.size = size
-        self._loop, self._between, self._notices = loop, 1 / rate, notices
+        self.loop, self._between, self._notices = loop, 1 / rate, notices
         self._audiences: list[Audience] = []
         self._last = self._first = 0.0  # when it was shown, and when the first byte came after that
+        self._took = 0.0  # seconds that showing it has taken
+        self._camera = Camera()
+        self._moment: Moment | None = None
         self._tick: asyncio.TimerHandle | None = None
         self._held: asyncio.TimerHandle | None = None
 
@@ -67,20 +68,19 @@ class SharedScreen:
             audience.detach()
         self.hub.close()
         self.hub = Hub(*self.size)
-        for audience in self._audiences:
-            audience.attach()
 
     def show_soon(self) -> None:
         """Plans to show it: after a pause of the command, at latest once the rate allows it."""
-        now = self._loop.time()
+        now = self.loop.time()
         if self._tick and self._tick.when() <= now:
             return  # it is about to be shown
         if self._tick:
             self._tick.cancel()
         else:
             self._first = now
-        soonest, latest = self._last + self._between, self._first + self._between
-        self._tick = self._loop.call_at(max(soonest, min(latest, now + PAUSE)), self.show)
+        between = max(self._between, 2 * self._took)  # so that showing takes at most half of the time
+        soonest, latest = self._last + between, self._first + between
+        self._tick = self.loop.call_at(max(soonest, min(latest, now + PAUSE)), self.show)
 
     def show(self) -> None:
         """Has it shown to everybody, unless the command holds an update back."""
@@ -88,14 +88,21 @@ class SharedScreen:
             self._tick.cancel()
             self._tick = None
         if self.hub.look().updating:
-            self._held = self._held or self._loop.call_later(MOST_HELD, self._end_update)
+            self._held = self._held or self.loop.call_later(MOST_HELD, self._end_update)
             return
         if self._held:
             self._held.cancel()
             self._held = None
-        self._last = self._loop.time()
+        self._last = self.loop.time()
+        self._moment = None
         for audience in self._audiences:
             audience.show()
+        self._took = self.loop.time() - self._last
+
+    def moment(self) -> Moment:
+        """What is shown, for an audience that is just told to show it. It is made once for all of them."""
+        self._moment = self._moment or self._camera.take(self.hub)
+        return self._moment
 
     def _end_update(self) -> None:
         """The command doesn't end its update: a resize to the same size does."""
@@ -113,8 +120,6 @@ class SharedScreen:
         except MemoryError:
             self.hub.close()
             self.hub = Hub(rows, cols)
-        for audience in self._audiences:
-            audience.attach()
         self.show()
 
     def finish(self) -> None:

@@ -7,6 +7,7 @@ import contextlib
 import fcntl
 import os
 import pty
+import resource
 import signal
 import struct
 import sys
@@ -14,19 +15,48 @@ import termios
 import tty
 from typing import Callable
 
+from jeihpal import Look
+
+from .options import MOST_CELLS
+
 _MOST_WAITING = 65536  # bytes that wait for a slow terminal, until the command is held up
 _PIECE = 65536
 
 
 def window(fd: int) -> tuple[int, int]:
-    """The rows and columns of a terminal."""
+    """The rows and columns of a terminal; of one with very many cells only the first rows."""
     rows, cols, _, _ = struct.unpack("HHHH", fcntl.ioctl(fd, termios.TIOCGWINSZ, bytes(8)))
-    return rows or 24, cols or 80
+    cols = cols or 80
+    return min(rows or 24, MOST_CELLS // cols), cols
 
 
 def set_window(fd: int, rows: int, cols: int) -> None:
     """Gives a pseudo-terminal so many rows and columns."""
     fcntl.ioctl(fd, termios.TIOCSWINSZ, struct.pack("HHHH", rows, cols, 0, 0))
+
+
+def raise_descriptors() -> tuple[int, int]:
+    """Allows as many descriptors as may be. Answers the limits that there were, for the command."""
+    limits = resource.getrlimit(resource.RLIMIT_NOFILE)
+    with contextlib.suppress(OSError, ValueError):
+        resource.setrlimit(resource.RLIMIT_NOFILE, (limits[1], limits[1]))
+    return limits
+
+
+def undoing(look: Look) -> bytes:
+    """What ends the modes that a command has left on, in the terminal here. It ends colours too."""
+    left = (
+        (look.updating, b"\x1b[?2026l"),
+        (look.alternate, b"\x1b[?1049l"),
+        (look.mouse, b"\x1b[?9;1000;1002;1003l"),
+        (look.encoding, b"\x1b[?1005;1006l"),
+        (look.paste, b"\x1b[?2004l"),
+        (look.keypad, b"\x1b>"),
+        (look.cursor_keys, b"\x1b[?1l"),
+        (look.style, b"\x1b[0 q"),
+        (look.hidden, b"\x1b[?25h"),
+    )
+    return b"".join(text for is_on, text in left if is_on) + b"\x1b[m"
 
 
 class Outlet:
@@ -74,19 +104,20 @@ class Outlet:
 class Command:
     """A command in a pseudo-terminal of its own."""
 
-    def __init__(self, words: list[str], rows: int, cols: int) -> None:
+    def __init__(self, words: list[str], rows: int, cols: int, descriptors: tuple[int, int]) -> None:
         self.pid, self.fd = pty.fork()
         if not self.pid:
-            self._become(words, rows, cols)
+            self._become(words, rows, cols, descriptors)
         os.set_blocking(self.fd, False)
         set_window(self.fd, rows, cols)
         self.status: int | None = None
 
     @staticmethod
-    def _become(words: list[str], rows: int, cols: int) -> None:
+    def _become(words: list[str], rows: int, cols: int, descriptors: tuple[int, int]) -> None:
         """In the child: becomes the command."""
         try:
             set_window(0, rows, cols)
+            resource.setrlimit(resource.RLIMIT_NOFILE, descriptors)
             for name in (signal.SIGPIPE, signal.SIGXFSZ):
                 signal.signal(name, signal.SIG_DFL)
             kept = {name: word for name, word in os.environ.items() if name not in ("LINES", "COLUMNS")}

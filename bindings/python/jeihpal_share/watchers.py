@@ -5,191 +5,174 @@ from __future__ import annotations
 import asyncio
 import contextlib
 import os
+import re
 import socket
 import stat
 import time
 
-from jeihpal import Answer, JeihpalError
+from jeihpal import Answer
 
+from .connections import Connection, Crowd, Door, bid_farewell
 from .notices import Notices
 from .screen import SharedScreen
+from .tokens import Token
 
-MOST_WATCHERS = 250
+TOKEN_SECONDS = 10.0  # that somebody may take to say the token
+_MOST_LINE = 256  # bytes of the line in which it is said
 MOST_SENT = 16384  # bytes that a watcher may send in a second, as reports of the mouse; they are thrown away
-_SEND_BUFFER = 16384  # little waits in the kernel, so that what comes is new
-_PIECE = 65536
 _LEAVES = (b"\x03", b"\x04")  # Ctrl-C and Ctrl-D
+_START = b"\x1b[?2026h"  # of a frame
+# A whole frame leads from a fresh terminal. It says nothing of these where they are off.
+_OFF = b"\x1b[?9;1000;1002;1003;1005;1006l\x1b[0 q"
 # Mouse, paste, keypad and cursor keys as in a fresh terminal, a visible cursor, and no colours.
 _FAREWELL = b"\x1b[?9;1000;1002;1003;1005;1006;2004;1l\x1b>\x1b[?25h\x1b[m"
 
 
-class Watcher:
-    """A connection. What it is owed goes out as its socket takes it."""
+class Watcher(Connection):
+    """A terminal that watches."""
 
-    def __init__(self, watchers: Watchers, sock: socket.socket) -> None:
-        self._watchers, self._sock = watchers, sock
+    def __init__(self, loop: asyncio.AbstractEventLoop, sock: socket.socket, watchers: Watchers) -> None:
+        super().__init__(loop, sock, watchers)
+        self._watchers = watchers
         self._second, self._sent = 0, 0
-        self._rest = b""  # of a frame of a client that has ended
-        self.is_behind = False
-        self.client = watchers.screen.hub.attach()
-        watchers.loop.add_reader(sock, self._read)
+        self.is_fresh = True
 
-    def _read(self) -> None:
+    def heard(self, data: bytes) -> None:
         """Nothing that a watcher sends goes anywhere. It may leave."""
-        try:
-            data = self._sock.recv(4096)
-        except BlockingIOError:
-            return
-        except OSError:
-            data = b""
-        if not data or any(key in data for key in _LEAVES):
-            return self._watchers.leave(self)
+        if any(key in data for key in _LEAVES):
+            return self._watchers.leave(self, _FAREWELL)
         second = int(time.monotonic())
         self._sent = len(data) + (self._sent if second == self._second else 0)
         self._second = second
         if self._sent > MOST_SENT:
             self._watchers.notices.say("a watcher was refused: it sends too much")
-            self._watchers.leave(self, b"\r\nshare: watchers can't type\r\n")
-
-    def show(self) -> None:
-        """Asks for frames, and sends them, until the socket takes no more or there is nothing new."""
-        try:
-            while data := self._next():
-                self._went(self._sock.send(data))
-        except BlockingIOError:
-            self._wait(True)
-        except OSError:
-            self._watchers.leave(self)
-        else:
-            self._wait(False)
-
-    def _next(self) -> bytes:
-        """What is to be sent next: first all of a frame that has begun, then the newest."""
-        hub = self._watchers.screen.hub
-        if self._rest:
-            return self._rest
-        try:
-            answer = hub.frame(self.client)
-        except MemoryError:
-            self._watchers.notices.say("out of memory: a frame was left out")
-            answer = Answer.BEHIND
-        return hub.owed(self.client, most=_PIECE) if answer.is_frame or answer is Answer.BEHIND else b""
-
-    def _went(self, count: int) -> None:
-        """So many bytes of these were sent."""
-        if self._rest:
-            self._rest = self._rest[count:]
-        else:
-            self._watchers.screen.hub.sent(self.client, count)
-
-    def _wait(self, is_behind: bool) -> None:
-        """Has `show` called once the socket takes more, or not any more."""
-        if is_behind != self.is_behind:
-            self.is_behind = is_behind
-            if is_behind:
-                self._watchers.loop.add_writer(self._sock, self.show)
-            else:
-                self._watchers.loop.remove_writer(self._sock)
-
-    def detach(self) -> None:
-        """Ends its client. A frame that has begun will still be sent whole."""
-        hub = self._watchers.screen.hub
-        self._rest = self._rest or hub.owed(self.client)
-        hub.detach(self.client)
-
-    def close(self, farewell: bytes) -> None:
-        """Ends the connection."""
-        was_behind = self.is_behind
-        self._wait(False)
-        self._watchers.loop.remove_reader(self._sock)
-        bid_farewell(self._sock, b"" if was_behind else farewell)
+            self._watchers.leave(self, _FAREWELL + b"\r\nshare: watchers can't type\r\n")
 
 
-def bid_farewell(sock: socket.socket, text: bytes) -> None:
-    """Sends a last text, if the socket takes it, and closes it."""
-    with sock, contextlib.suppress(OSError):
-        sock.send(text)
-        sock.shutdown(socket.SHUT_WR)
-        # The text may be lost where the socket is closed with bytes that weren't read.
-        for _ in range(16):
-            if not sock.recv(_PIECE):
-                break
+class Watchers(Crowd):
+    """All terminals, at one listening socket. The frames of one client of the hub go to each that is level."""
 
-
-class Watchers:
-    """All connections, at one listening socket."""
-
-    def __init__(self, loop: asyncio.AbstractEventLoop, screen: SharedScreen, notices: Notices) -> None:
-        self.loop, self.screen, self.notices = loop, screen, notices
-        self._all: set[Watcher] = set()
+    def __init__(self, screen: SharedScreen, most: int, token: Token, notices: Notices) -> None:
+        super().__init__()
+        self._loop, self._screen, self._most, self.notices = screen.loop, screen, most, notices
+        self._token = token
+        self._tasks: set[asyncio.Task[None]] = set()  # of those that have still to say the token
+        self._client: int | None = None
+        self._whole = b""  # what draws on a fresh terminal what the client has been sent, where that was wanted
+        self._door: Door | None = None
         screen.add(self)
 
     def listen(self, listener: socket.socket) -> None:
         """Takes connections from now on."""
-        listener.setblocking(False)
-        self.loop.add_reader(listener, self._accept, listener)
+        self._door = Door(self._loop, listener, self._take, self.notices)
 
-    def _accept(self, listener: socket.socket) -> None:
-        try:
-            sock, _ = listener.accept()
-        except OSError:
-            return
-        sock.setblocking(False)
-        if len(self._all) >= MOST_WATCHERS:
-            self.notices.say(f"a watcher was refused: there are {MOST_WATCHERS}")
+    def _take(self, sock: socket.socket) -> None:
+        if len(self) + len(self._tasks) >= self._most:
+            self.notices.say(f"a watcher was refused: there are {self._most}")
             return bid_farewell(sock, b"share: there are too many watchers\r\n")
-        sock.setsockopt(socket.SOL_SOCKET, socket.SO_SNDBUF, _SEND_BUFFER)
-        if sock.family != socket.AF_UNIX:
-            sock.setsockopt(socket.IPPROTO_TCP, socket.TCP_NODELAY, 1)
-            sock.setsockopt(socket.SOL_SOCKET, socket.SO_KEEPALIVE, 1)
-        try:
-            watcher = Watcher(self, sock)
-        except (MemoryError, JeihpalError):
-            self.notices.say("a watcher was refused: out of memory")
-            return bid_farewell(sock, b"share: out of memory\r\n")
-        self._all.add(watcher)
-        self.screen.show_soon()
+        if not self._token.is_wanted:
+            return self.add(Watcher(self._loop, sock, self))
+        task = self._loop.create_task(self._ask(sock))
+        self._tasks.add(task)
+        task.add_done_callback(self._tasks.discard)
 
-    def leave(self, watcher: Watcher, farewell: bytes = b"") -> None:
-        """Ends a connection, and its client."""
-        if watcher in self._all:
-            self._all.remove(watcher)
-            watcher.close(_FAREWELL + farewell)
-            self.screen.hub.detach(watcher.client)
+    async def _ask(self, sock: socket.socket) -> None:
+        """Takes a connection whose first line is the token."""
+        line = b""
+        with contextlib.suppress(OSError, asyncio.TimeoutError):
+            line = await asyncio.wait_for(self._first_line(sock), TOKEN_SECONDS)
+        if self._token.is_known(line):
+            return self.add(Watcher(self._loop, sock, self))
+        self.notices.say("a watcher was refused: its first line isn't the token")
+        bid_farewell(sock, b"share: the first line must be the token\r\n")
+
+    async def _first_line(self, sock: socket.socket) -> bytes:
+        """What a connection says before it sends a line's end, which may be a terminal's key."""
+        data = b""
+        while not re.search(rb"[\r\n]", data) and len(data) < _MOST_LINE:
+            more = await self._loop.sock_recv(sock, _MOST_LINE)
+            if not more:
+                return b""
+            data += more
+        return re.split(rb"[\r\n]", data)[0]
 
     def show(self) -> None:
-        """Shows the screen to each that has read its last frame."""
-        for watcher in [it for it in self._all if not it.is_behind]:
-            watcher.show()
+        """Sends the next frame to each that is level. The others get a whole one as soon as they can take it."""
+        if not len(self):
+            return
+        try:
+            self._send_frame()
+            if self.is_lead_wanted and not self._whole:
+                self._make_whole()
+        except MemoryError:
+            self.notices.say("out of memory: a frame was left out")
+            self._begin_anew()
+        except OverflowError:
+            self.notices.say("a frame was left out: it would be longer than 2 MB")
+        if self._whole:
+            self.lift()
+
+    def _send_frame(self) -> None:
+        """Sends the shared client's next frame, if there is one."""
+        if self._client is None:
+            self._client = self._screen.hub.attach()
+        if frame := self._frame(self._client):
+            self._whole = b""
+            self.give(frame)
+
+    def _make_whole(self) -> None:
+        """Makes a whole frame: another client's, asked at the shared one's moment, so it leads to what that has."""
+        client = self._screen.hub.attach()
+        try:
+            self._whole = self._frame(client)
+        finally:
+            self._screen.hub.detach(client)
+
+    def _begin_anew(self) -> None:
+        """Takes another client in place of the shared one."""
+        if self._client is not None:
+            self._screen.hub.detach(self._client)
+        self.detach()
+
+    def _frame(self, client: int) -> bytes:
+        """A client's next frame, or nothing where it has had the last one. Raises OverflowError for one too long."""
+        hub = self._screen.hub
+        answer = hub.frame(client)
+        if answer is Answer.TOO_LONG:
+            raise OverflowError
+        frame = hub.owed(client) if answer.is_frame else b""
+        hub.sent(client, len(frame))
+        return frame
+
+    def lead(self, connection: Connection) -> bytes:
+        """A whole frame, if there is one for where the others are."""
+        assert isinstance(connection, Watcher)
+        is_fresh, whole = connection.is_fresh, self._whole
+        connection.is_fresh = is_fresh and not whole
+        return whole if is_fresh or not whole else _START + _OFF + whole[len(_START) :]
+
+    def make_lead(self) -> None:
+        """A whole frame is made when the screen is shown next."""
+        self._screen.show_soon()
 
     def detach(self) -> None:
-        """Ends every client."""
-        for watcher in self._all:
-            watcher.detach()
+        """The client ends: each watcher gets a whole frame next."""
+        self._client, self._whole = None, b""
+        self.fall_behind()
 
-    def attach(self) -> None:
-        """Each watcher becomes a new client."""
-        for watcher in list(self._all):
-            try:
-                watcher.client = self.screen.hub.attach()
-            except MemoryError:
-                self._all.remove(watcher)
-                watcher.close(b"\r\nshare: out of memory\r\n")
-
-    def are_behind(self) -> bool:
-        """Whether one has still to read."""
-        return any(watcher.is_behind for watcher in self._all)
-
-    def close(self) -> None:
-        """Ends every connection."""
-        for watcher in list(self._all):
-            self.leave(watcher)
+    def end(self) -> None:
+        """The last frame was made: each watcher is sent it, and then leaves."""
+        if self._door:
+            self._door.close()
+        for task in self._tasks:
+            task.cancel()
+        self.finish(_FAREWELL)
 
 
 def tcp_listener(host: str, port: int) -> socket.socket:
     """A socket that listens at an address."""
     family = socket.AF_INET6 if ":" in host else socket.AF_INET
-    return socket.create_server((host, port), family=family, backlog=128)
+    return socket.create_server((host, port), family=family)
 
 
 def unix_listener(path: str) -> socket.socket:
@@ -203,11 +186,18 @@ def unix_listener(path: str) -> socket.socket:
             listener.bind(path)
         finally:
             os.umask(before)
-        listener.listen(128)
+        listener.listen()
     except OSError:
         listener.close()
         raise
     return listener
+
+
+def remove_socket(path: str, made: os.stat_result) -> None:
+    """Removes a socket's file, unless somebody has done so, or has put another there."""
+    with contextlib.suppress(OSError):
+        if os.path.samestat(os.stat(path), made):
+            os.unlink(path)
 
 
 def _is_listened_at(path: str) -> bool:

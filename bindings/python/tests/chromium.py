@@ -18,9 +18,9 @@ _WORDS = ["--headless=new", "--no-sandbox", "--disable-gpu", "--no-first-run", "
 class Chromium:
     """A browser without a window, with one page."""
 
-    def __init__(self, url: str) -> None:
+    def __init__(self, url: str, *more: str) -> None:
         self._folder = tempfile.mkdtemp(prefix="chromium-")
-        words = [str(PROGRAM), *_WORDS, "--remote-debugging-pipe", f"--user-data-dir={self._folder}", "about:blank"]
+        words = [str(PROGRAM), *_WORDS, *more, "--remote-debugging-pipe", f"--user-data-dir={self._folder}", "about:blank"]
         there, self._write = os.pipe()
         self._read, back = os.pipe()
         # It reads commands at 3 and writes answers at 4.

@@ -7,14 +7,13 @@ last screen, or where what a flood wrote waits in memory.
 from __future__ import annotations
 
 import contextlib
-import os
 import random
 import selectors
 import sys
 import time
 from collections import deque
 
-from .sharing import Shared, Watching
+from .sharing import Shared, Watching, processor_seconds
 
 DRAWING = r"""
 import sys, time
@@ -101,13 +100,6 @@ class Crowd:
         self._selector.close()
         for watcher in self.watchers:
             watcher.__exit__()
-
-
-def processor_seconds(pid: int) -> float:
-    """The processor time that a process has had."""
-    with open(f"/proc/{pid}/stat", encoding="ascii") as file:
-        fields = file.read().rpartition(")")[2].split()
-    return (int(fields[11]) + int(fields[12])) / os.sysconf("SC_CLK_TCK")
 
 
 def crowd(count: int, to_kill: int) -> None:

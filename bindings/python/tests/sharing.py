@@ -28,6 +28,13 @@ def wait_for(what: Callable[[], object], seconds: float = 10.0) -> None:
         time.sleep(0.01)
 
 
+def processor_seconds(pid: int) -> float:
+    """The processor time that a process has had."""
+    with open(f"/proc/{pid}/stat", encoding="ascii") as file:
+        fields = file.read().rpartition(")")[2].split()
+    return (int(fields[11]) + int(fields[12])) / os.sysconf("SC_CLK_TCK")
+
+
 class Shared:
     """share, run with a Python program as its command."""
 
@@ -45,7 +52,7 @@ class Shared:
         self.said = ""
         self._reader = threading.Thread(target=self._read_said, daemon=True)
         self._reader.start()
-        wait_for(lambda: self.run.poll() is not None or re.search("(terminals|browsers): .*\n", self.said))
+        wait_for(lambda: self.run.poll() is not None or re.search("(terminals:|browsers:|published as) .*\n", self.said))
 
     def _read_said(self) -> None:
         assert self.run.stderr
@@ -87,15 +94,25 @@ class Shared:
 class Watching:
     """A watcher, with a view of what it has read."""
 
-    def __init__(self, shared: Shared, place: tuple[str, int] | str | None = None, room: int | None = None) -> None:
-        place = place or shared.place()
-        self.sock = socket.socket(socket.AF_UNIX if isinstance(place, str) else socket.AF_INET)
-        if room:
-            self.sock.setsockopt(socket.SOL_SOCKET, socket.SO_RCVBUF, room)
-        self.sock.settimeout(20)
-        self.sock.connect(place)
+    def __init__(
+        self,
+        shared: Shared,
+        place: tuple[str, int] | str | None = None,
+        room: int | None = None,
+        sock: socket.socket | None = None,
+    ) -> None:
+        self.sock = sock or self._connected(place or shared.place(), room)
         self.view = View(shared.rows, shared.cols)
         self.data = b""
+
+    @staticmethod
+    def _connected(place: tuple[str, int] | str, room: int | None) -> socket.socket:
+        sock = socket.socket(socket.AF_UNIX if isinstance(place, str) else socket.AF_INET)
+        if room:
+            sock.setsockopt(socket.SOL_SOCKET, socket.SO_RCVBUF, room)
+        sock.settimeout(20)
+        sock.connect(place)
+        return sock
 
     def read(self, seconds: float = 0.0) -> bytes:
         """Reads what comes in so many seconds, or what is there; nothing where the connection has ended."""

@@ -49,14 +49,20 @@ def get(path: str, host: str = "localhost") -> bytes:
 class Page:
     """A page as its script has it: the screen that its events make."""
 
-    def __init__(self, shared: Shared, room: int | None = None) -> None:
+    def __init__(self, shared: Shared, room: int | None = None, path: str = "/events") -> None:
         self.sock = socket.socket()
         if room:
             self.sock.setsockopt(socket.SOL_SOCKET, socket.SO_RCVBUF, room)
         self.sock.settimeout(20)
         self.sock.connect(shared.place("browsers"))
-        self.sock.sendall(get("/events"))
-        self.said, self.rows, self.moments, self.ended = b"", [], 0, None
+        self.sock.sendall(get(path))
+        self.said, self.rows, self.messages, self.ended = b"", [], [], None
+        self.lost = 0  # differences that lead from a message that it doesn't have
+
+    @property
+    def moments(self) -> int:
+        """How many moments it was shown."""
+        return len(self.messages)
 
     def read(self) -> bool:
         """Reads the next event. Whether there was one."""
@@ -66,15 +72,18 @@ class Page:
                 return False
             self.said += data.replace(b"\r", b"")
         event, _, self.said = self.said.partition(b"\n\n")
-        if found := re.search(rb"^event: ended\ndata: (\d+)", event, re.M):
-            self.ended = int(found[1])
-        elif found := re.search(rb"^data: (.*)", event, re.M):
-            self.take(json.loads(found[1]))
+        if found := re.search(rb"^data: (.*)", event, re.M):
+            if re.search(rb"^event: ended$", event, re.M):
+                self.ended = int(found[1])
+            else:
+                self.take(json.loads(found[1]))
         return True
 
     def take(self, moment: dict) -> None:
         """Takes an event's moment."""
-        self.moments += 1
+        before = self.messages[-1]["n"] if self.messages else 0
+        self.lost += "size" not in moment and moment["from"] != before
+        self.messages.append(moment)
         if "size" in moment:
             self.rows = [""] * moment["size"][0]
         for row, runs in moment["rows"].items():
@@ -116,6 +125,21 @@ class Refusals(unittest.TestCase):
             for status in ("400", "405", "404", "421", "431"):
                 wait_for(lambda: f"a browser was refused: {status}" in shared.said)
 
+    def test_names_of_this_machine(self):
+        with Shared(READY, *HTTP) as shared:
+            for host in ("LOCALHOST", "localhost.", "localhost:80", "127.0.0.1", "127.1.2.3:9", "[::1]:80"):
+                with self.subTest(host):
+                    self.assertEqual(asked(shared, get("/?x=1", host))[:12], b"HTTP/1.1 200")
+            for host in ("localhost.example.org", "localhost..", "127.0.0.1.example.org", "[::2]", ""):
+                with self.subTest(host):
+                    self.assertEqual(asked(shared, get("/", host))[:12], b"HTTP/1.1 421")
+
+    def test_heads_alone(self):
+        with Shared(READY, *HTTP) as shared:
+            for path in ("/", "/events", "/?x"):
+                answer = asked(shared, get(path).replace(b"GET", b"HEAD"))
+                self.assertTrue(answer.startswith(b"HTTP/1.1 200") and answer.endswith(b"\r\n\r\n"), answer)
+
     def test_a_head_without_end(self):
         with Shared(READY, *HTTP) as shared:
             begun = time.monotonic()
@@ -131,8 +155,8 @@ class Refusals(unittest.TestCase):
             wait_for(lambda: "it sends more than a request" in shared.said)
 
     def test_too_many(self):
-        with Shared(READY, *HTTP) as shared:
-            pages = [Page(shared) for _ in range(60)]
+        with Shared(READY, *HTTP, "--browsers", "5") as shared:
+            pages = [Page(shared) for _ in range(5)]
             try:
                 pages[-1].read_until("ready")
                 self.assertEqual(asked(shared, get("/"))[:12], b"HTTP/1.1 503")
@@ -148,9 +172,10 @@ class Events(unittest.TestCase):
         with Shared(READY, *HTTP) as shared:
             head, _, page = asked(shared, get("/")).partition(b"\r\n\r\n")
             self.assertTrue(head.startswith(b"HTTP/1.1 200 OK\r\n"))
+            self.assertIn(b"form-action 'none'", head)
             nonce = re.search(rb"script-src 'nonce-([\w-]+)'", head)[1]
             self.assertEqual(page.count(b'nonce="' + nonce), 2)
-            self.assertLess(len(page), 10000)
+            self.assertLess(len(page), 12000)
             self.assertNotIn(b"http", page)  # nothing comes from elsewhere
 
     def test_the_screen(self):
@@ -176,6 +201,7 @@ class Events(unittest.TestCase):
             self.assertLess(slow.moments, quick.moments)
             self.assertEqual((quick.rows, quick.ended, slow.ended), (slow.rows, 0, 0))
             self.assertIn("249" * 20, quick.rows)
+            self.assertEqual((quick.lost, slow.lost), (0, 0))
 
 
 @unittest.skipUnless(PROGRAM, "there is no Chromium")
@@ -215,6 +241,44 @@ class InChromium(unittest.TestCase):
         texts = [name for role, name in told if role == "StaticText" and "256 colours" in name]
         self.assertEqual(len(texts), 1)
         self.assertIn("256 colours and 24 bits  behind\nwide:", texts[0])
+
+    def test_text_stays_in_its_cells(self):
+        """Letters of other fonts and scripts, and marks that reorder, move nothing else."""
+        program = r"""
+for text in ("abc\u202edef", "\u05d0\u05d1\u05d2 x \u0627\u0644", "\u20ac\u2500\u2588\u1d11e\ua9c5\u0e01", "e\u0301a\u0302"):
+    print(text + "\x1b[20G|end")
+input()
+"""
+        with Shared(program, *HTTP, size="6x30") as shared:
+            with Chromium("http://%s:%d/" % shared.place("browsers")) as browser:
+                wait_for(lambda: (browser.value("document.getElementById('text')?.textContent") or "").count("|end") == 4)
+                self.assertNotIn("\u202e", browser.value("document.getElementById('text').textContent"))
+                one = browser.value("document.getElementById('rows').getBoundingClientRect().width") / 30
+                left = browser.value("document.querySelector('.row').getBoundingClientRect().left")
+                self.check_columns(browser, left, one)
+
+    def check_columns(self, browser: Chromium, left: float, one: float) -> None:
+        """Each letter is drawn in its column."""
+        script = """[...document.querySelectorAll('.row')].slice(0, 4).map((row) => {
+          const walker = document.createTreeWalker(row, NodeFilter.SHOW_TEXT), found = [];
+          while (walker.nextNode()) for (let at = 0; at < walker.currentNode.length; at++) {
+            const range = document.createRange();
+            range.setStart(walker.currentNode, at);
+            range.setEnd(walker.currentNode, at + 1);
+            const letter = walker.currentNode.data[at];
+            if (/[ -~]/.test(letter)) found.push([letter, range.getBoundingClientRect().left]);
+          }
+          return found;
+        })"""
+        for row in browser.value(script):
+            found = "".join(letter for letter, _ in row).rstrip()
+            places = dict(row)
+            self.assertTrue(found.endswith("|end"), found)
+            for at, letter in enumerate("|end", 19):
+                self.assertAlmostEqual(places[letter] - left, at * one, delta=1)
+        first = dict(browser.value(script)[0])
+        for at, letter in ((0, "a"), (1, "b"), (2, "c"), (4, "f")):
+            self.assertLess(first[letter] - left, (at + 2) * one)
 
     def test_pause(self):
         program = "import time\nfor n in range(100): print('\\x1b[H', n); time.sleep(.05)"

@@ -2,9 +2,11 @@
 
 from __future__ import annotations
 
+import contextlib
 import os
 import pty
 import re
+import resource
 import select
 import shutil
 import signal
@@ -19,7 +21,7 @@ import time
 import unittest
 
 from . import sharing
-from .sharing import END, START, Shared, Watching, wait_for
+from .sharing import END, START, Shared, Watching, processor_seconds, wait_for
 
 BUSY = r"""
 import sys, time
@@ -83,6 +85,20 @@ class Watchers(unittest.TestCase):
                 again.run.stderr.close()
             self.assertFalse(os.path.exists(path))
 
+    def test_a_socket_that_somebody_removes(self):
+        with tempfile.TemporaryDirectory() as folder:
+            for is_replaced in (False, True):
+                with self.subTest(is_replaced), Shared("print(1); input()", "--unix", f"{folder}/screen") as shared:
+                    with Watching(shared, f"{folder}/screen") as watcher:
+                        watcher.read_until("1")
+                    os.unlink(f"{folder}/screen")
+                    if is_replaced:
+                        open(f"{folder}/screen", "w").close()
+                    shared.run.send_signal(signal.SIGTERM)
+                    self.assertEqual(shared.end(), 129)
+                    self.assertNotIn("Traceback", shared.said)
+                    self.assertEqual(os.path.exists(f"{folder}/screen"), is_replaced)
+
     @unittest.skipUnless(shutil.which("tmux") and shutil.which("socat"), "there is no tmux, or no socat")
     def test_a_real_tmux(self):
         rows = r"'\x1b[31mred\x1b[m 米 and \x1b[1;4mbold\x1b[m\n' * 5"
@@ -131,18 +147,37 @@ class Refusals(unittest.TestCase):
             self.assertIsNone(shared.run.poll())
 
     def test_too_many(self):
-        with Shared("print('ready'); input()") as shared:
-            watchers = [Watching(shared) for _ in range(250)]
+        with Shared("print('ready'); input()", "--terminals", "5") as shared:
+            watchers = [Watching(shared) for _ in range(5)]
             try:
                 watchers[-1].read_until("ready")
                 with Watching(shared) as late:
                     self.assertIn(b"too many watchers", late.read_all().data)
-                wait_for(lambda: "a watcher was refused: there are 250" in shared.said)
+                wait_for(lambda: "a watcher was refused: there are 5" in shared.said)
                 watchers.pop().__exit__()
                 wait_for(lambda: self.is_let_in(shared))
             finally:
                 for watcher in watchers:
                     watcher.__exit__()
+
+    def test_descriptors_run_out(self):
+        with Shared("print('ready'); input()", "--listen", "127.0.0.1:0", "--http", "127.0.0.1:0") as shared:
+            resource.prlimit(shared.run.pid, resource.RLIMIT_NOFILE, (40, 40))
+            watchers = [Watching(shared) for _ in range(50)]
+            try:
+                watchers[0].read_until("ready")
+                wait_for(lambda: "there are no descriptors left" in shared.said)
+                with socket.create_connection(shared.place("browsers")):
+                    before = processor_seconds(shared.run.pid)
+                    time.sleep(2)
+                    self.assertLess(processor_seconds(shared.run.pid) - before, 0.2)
+                for watcher in watchers[:25]:
+                    watcher.__exit__()
+                watchers[-1].read_until("ready")  # it has waited
+            finally:
+                for watcher in watchers:
+                    watcher.__exit__()
+            self.assertNotIn("Traceback", shared.said)
 
     @staticmethod
     def is_let_in(shared: Shared) -> bool:
@@ -156,8 +191,15 @@ class Refusals(unittest.TestCase):
             ([], 2),
             (["--size", "0x80", "true"], 2),
             (["--listen", "here", "true"], 2),
+            (["--size", "65535x65535", "true"], 2),
             (["--rate", "none", "true"], 2),
+            (["--terminals", "0", "true"], 2),
+            (["--browsers", "many", "true"], 2),
             (["--listen", "1", "--unix", "x", "true"], 2),
+            (["--publish", "x", "true"], 2),
+            (["--publish", "x", "--as", "a/b", "true"], 2),
+            (["--token", "/no/such/folder/token", "true"], 1),
+            (["--token", "/dev/null", "true"], 1),
             (["there is no such command"], 127),
             (["--listen", "192.0.2.1:1", "true"], 1),
         ):
@@ -287,6 +329,20 @@ class Local(unittest.TestCase):
         status = os.waitpid(pid, 0)[1]
         self.assertEqual(os.waitstatus_to_exitcode(status), 0)
         self.assertEqual(termios.tcgetattr(fd), before)
+
+    def test_what_a_killed_command_leaves(self):
+        """The terminal here leaves the alternate screen, and has no modes of the command."""
+        left = r"\x1b[?1049h\x1b[?1003;1006;2004;1h\x1b=\x1b[5 q\x1b[?25l\x1b[31mleft"
+        pid, fd = self.start(f"import os, sys; sys.stdout.write('{left}'); sys.stdout.flush(); os.kill(os.getpid(), 9)")
+        said = b""
+        with contextlib.suppress(OSError):
+            while data := os.read(fd, 65536):
+                said += data
+        self.assertEqual(os.waitstatus_to_exitcode(os.waitpid(pid, 0)[1]), 137)
+        ended = said.partition(b"left")[2]
+        for text in (b"?1049l", b"?9;1000;1002;1003l", b"?1005;1006l", b"?2004l", b"?1l", b"0 q", b"?25h", b"m"):
+            self.assertIn(b"\x1b[" + text, ended)
+        self.assertIn(b"\x1b>", ended)
 
     @staticmethod
     def resize(fd: int, rows: int, cols: int) -> None:
