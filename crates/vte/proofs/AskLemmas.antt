@@ -28,7 +28,8 @@ all_none (e ∷ es) h = rw (one_none e (All-head IsCharacter e es h)) (all_none 
 pub text_opens_none : (past : List ℕ) (b : ℕ) → ends_in_text (past ++ b ∷ []) ≡ true → opens_in past (b ∷ []) ≡ false
 text_opens_none past b h = all_none (added past (b ∷ [])) (text-tells 1024 past b h)
 
-prefix : (past bs : List ℕ) (m : ℕ) → m < length bs → past ++ take (suc m) bs ≡ (past ++ take m bs) ++ get_or bs m 0 ∷ []
+prefix : (past bs : List ℕ) (m : ℕ) → m < length bs → past ++ take (suc m) bs ≡ (past ++ take m bs)
+    ++ get_or bs m 0 ∷ []
 prefix past bs m lt = ap (λ xs. past ++ xs) (take-suc bs m 0 lt)
     ∙ sym (append_assoc past (take m bs) (get_or bs m 0 ∷ []))
 

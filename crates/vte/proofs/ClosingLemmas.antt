@@ -72,7 +72,8 @@ closed_parsed p b = record {
       (closing [] zero [] none));
 }
 
-then_parsed : {p q r : List ℕ} {m n : ℕ} {x y : List Call} → Parses p q m x → Parses q r n y → Parses p r (m + n) (x ++ y)
+then_parsed : {p q r : List ℕ} {m n : ℕ} {x y : List Call} → Parses p q m x → Parses q r n y
+    → Parses p r (m + n) (x ++ y)
 then_parsed {p} {m = m} {n = n} {x = x} {y = y} h k = record {
   bytes = h.bytes ++ k.bytes;
   more = k.more ∙ (ap (λ s. s ++ k.bytes) h.more ∙ append_assoc p h.bytes k.bytes);
@@ -110,7 +111,8 @@ closed p b q cs ts h =
 
 settled : {parsed held piece parsed' : List ℕ} {hold' : Option (List ℕ)} {calls : List Call} {ticks : List Tick}
     → Settles parsed held piece parsed' hold' calls ticks → Parses parsed parsed' (clearings ticks) calls
-settled (keeps parsed _ _ ticks r _) = counted (renewed _ _ ticks [] r ∙ ap clearings (append-nil ticks)) (none_parsed parsed)
+settled (keeps parsed _ _ ticks r _) = counted (renewed _ _ ticks [] r ∙ ap clearings (append-nil ticks))
+    (none_parsed parsed)
 settled (replays parsed held piece first r n cut) =
     let b = take n (held ++ piece) in
     counted (sym (from_clears_none parsed b) ∙ renewed _ _ first (ticks_from parsed b) r) (bytes_parsed parsed b)
@@ -131,15 +133,15 @@ taken_parsed parsed h piece parsed' h' calls ticks (hold.settles _ held _ _ _ _ 
 taken_parsed parsed h piece parsed' h' calls ticks (hold.overflows _ held _ _ _ cs ts full t) =
     closed parsed held parsed' cs ts (taken_parsed (parsed ++ held) None piece parsed' h' cs ts t)
 
--- the same under any timeout
+-- what is parsed under any timeout
 module _ {T : Type 0} (ticking : Ticking T) where
   pub advanced_parsed : (closed : Bool) (t : T) (parsed held piece : List ℕ) (t' : T) (parsed' held' : List ℕ)
       (calls : List Call)
       → Advances ticking closed t parsed held piece t' parsed' held' calls → (ticks : List Tick)
       × Ticked ticking t ticks t' × Parses parsed parsed' (clearings ticks) calls
-  advanced_parsed shut t parsed held piece t' parsed' held' calls (any.parses _ _ _ _ plain _) =
+  advanced_parsed shut t parsed held piece t' parsed' held' calls (any.parses _ _ _ _ free _) =
       ([], refl, bytes_parsed parsed piece)
-  advanced_parsed shut t parsed held piece t' parsed' held' calls (any.begins _ _ _ _ n u _ _ _ cs plain at y f) =
+  advanced_parsed shut t parsed held piece t' parsed' held' calls (any.begins _ _ _ _ n u _ _ _ cs free at y f) =
       let b = take n piece in
       let (ts, z, more) = advanced_parsed false u (parsed ++ b) [] (drop n piece) t' parsed' held' cs f in (
         ticks_from parsed b ++ ts,

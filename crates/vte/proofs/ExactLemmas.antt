@@ -9,7 +9,7 @@ use Rattle.vte.specs.Stretch.{added, calls_from, ticks_from}
 use Rattle.vte.specs.Closings.{clearings}
 use Rattle.vte.specs.Hold as hold
 use Rattle.vte.specs.Hold.{closing, held_of, Settles, keeps, replays, closes, Takes}
-use Rattle.vte.specs.Advances.{Plainly, Advances, parses, begins, settles, empties}
+use Rattle.vte.specs.Advances.{IsIdle, Advances, parses, begins, settles, empties}
 use Rattle.vte.specs.Standing.{IsStateAfter, HoldsAt, Advanced, Taken}
 use Rattle.vte.proofs.RunLemmas.{Ticked-append}
 use Rattle.vte.proofs.SetLemmas.{from_clears_none, renewed, sets_some, any_openers, sets_keep, some_set, cleared_last}
@@ -30,10 +30,10 @@ module _ {T : Type 0} (ticking : Ticking T) (exact : IsExact ticking) where
       (subst (λ (ts : List Tick). Ticked ticking t ts t') (sym (append_assoc first from (Clears ∷ []))) y)
 
   -- a piece is parsed without the hold only if no update is open
-  never_plain : (closed : Bool) (t : T) (k : List ℕ) → Plainly ticking closed t → Awaits ticking t true
+  never_idle : (closed : Bool) (t : T) (k : List ℕ) → IsIdle ticking closed t → Awaits ticking t true
       → (closed ≡ true → Some k ≡ None) → ⊥
-  never_plain true t k plain a c = let no : Some k ≡ None = c refl in cc
-  never_plain false t k plain a c = let no : false ≡ true = a false plain in cc
+  never_idle true t k free a c = let no : Some k ≡ None = c refl in cc
+  never_idle false t k free a c = let no : false ≡ true = a false free in cc
 
   record Exactly (t : T) (parsed : List ℕ) (hold : Option (List ℕ)) (piece : List ℕ) (t' : T) (parsed' held' : List ℕ)
       (calls : List Call) : Type 0 where
@@ -48,10 +48,10 @@ module _ {T : Type 0} (ticking : Ticking T) (exact : IsExact ticking) where
       → Advances ticking closed t parsed held piece t' parsed' held' calls
       → (hold : Option (List ℕ)) → held ≡ held_of hold → Awaits ticking t (is_some hold)
       → (closed ≡ true → hold ≡ None) → Exactly t parsed hold piece t' parsed' held' calls
-  exactly (parses closed t parsed piece plain none) None e a c =
+  exactly (parses closed t parsed piece free none) None e a c =
       record { hold' = None; ticks = []; takes = hold.parses parsed piece none; ticked = refl; held_is = e; awaits = a }
-  exactly (parses closed t parsed piece plain none) (Some k) e a c = absurd (never_plain closed t k plain a c)
-  exactly (begins closed t parsed piece n u t' parsed' held' more plain at y f) None e a c =
+  exactly (parses closed t parsed piece free none) (Some k) e a c = absurd (never_idle closed t k free a c)
+  exactly (begins closed t parsed piece n u t' parsed' held' more free at y f) None e a c =
       let new = added parsed (take n piece) in
       let some = some_set ticking exact t (ticks_from parsed (take n piece)) u
       (sets_some (openers_of_all new) (any_openers new ∙ at.opened)) (from_clears_none parsed _) y in
@@ -64,8 +64,8 @@ module _ {T : Type 0} (ticking : Ticking T) (exact : IsExact ticking) where
         held_is = r.held_is;
         awaits = r.awaits;
       }
-  exactly (begins closed t parsed piece n u t' parsed' held' more plain at y f) (Some k) e a c =
-      absurd (never_plain closed t k plain a c)
+  exactly (begins closed t parsed piece n u t' parsed' held' more free at y f) (Some k) e a c =
+      absurd (never_idle closed t k free a c)
   exactly (settles t parsed held piece t' parsed' hold' calls ticks open_ fits s y) None e a c =
       absurd (let no : true ≡ false = a true open_ in cc)
   exactly (settles t parsed held piece t' parsed' hold' calls ticks open_ fits s y) (Some k) e a c = record {

@@ -19,8 +19,9 @@ use Rattle.vte.proofs.FrameMarks.{opens_in-parts, opens_in-later, opens_in-soone
 use Rattle.vte.proofs.HoldLemmas.{opens_in-none}
 use Rattle.vte.proofs.LawLemmas.{contradiction}
 use Rattle.vte.proofs.MarkLemmas.{none_in_empty}
-use Rattle.vte.proofs.FrameMarks.{begun_none, prefix_none as begun_prefix, start_opens, end_none, ground_start, at_later, at_cuts}
-use Rattle.vte.proofs.FrameMarks.{contrary, end_state_after, start_inside, last_is, first_is, no_first, start_state_after}
+use Rattle.vte.proofs.FrameMarks.{begun_none, prefix_none as begun_prefix, start_opens, end_none, ground_start}
+use Rattle.vte.proofs.FrameMarks.{at_later, at_cuts, contrary, end_state_after, start_inside, last_is, first_is}
+use Rattle.vte.proofs.FrameMarks.{no_first, start_state_after}
 
 -- ---- one step of the hold
 
@@ -30,15 +31,15 @@ Taking parsed hold piece parsed' hold' = (calls : List Call) × (ticks : List Ti
     × Takes parsed hold piece parsed' hold' calls ticks
 
 -- with no update open
-abbrev pub Plain : List ℕ → List ℕ → List ℕ → Option (List ℕ) → Type 0
-Plain parsed piece parsed' hold' =
+abbrev pub Unheld : List ℕ → List ℕ → List ℕ → Option (List ℕ) → Type 0
+Unheld parsed piece parsed' hold' =
     ((opens_in parsed piece ≡ false) × (parsed' ≡ parsed ++ piece) × (hold' ≡ None))
     ⊎ ((n : ℕ) × OpensAt parsed piece n × Taking (parsed ++ take n piece) (Some []) (drop n piece) parsed' hold')
 
-plainly : {parsed piece parsed' : List ℕ} {hold' : Option (List ℕ)} {calls : List Call} {ticks : List Tick}
-    → Takes parsed None piece parsed' hold' calls ticks → Plain parsed piece parsed' hold'
-plainly (parses _ _ none) = inl (none, refl, refl)
-plainly (begins _ _ n _ _ cs ts at t) = inr (n, at, (cs, ts, t))
+unheld : {parsed piece parsed' : List ℕ} {hold' : Option (List ℕ)} {calls : List Call} {ticks : List Tick}
+    → Takes parsed None piece parsed' hold' calls ticks → Unheld parsed piece parsed' hold'
+unheld (parses _ _ none) = inl (none, refl, refl)
+unheld (begins _ _ n _ _ cs ts at t) = inr (n, at, (cs, ts, t))
 
 -- an update is open, and the held bytes and the piece together stay below the limit
 data Settled (parsed all parsed' : List ℕ) (hold' : Option (List ℕ)) : Type 0 where
@@ -56,20 +57,20 @@ settled (closes _ _ _ _ r c) = emptied c refl refl
 abbrev Open : List ℕ → List ℕ → List ℕ → List ℕ → Option (List ℕ) → Type 0
 Open parsed held piece parsed' hold' =
     ((length (held ++ piece) < limit) × Settled parsed (held ++ piece) parsed' hold')
-    ⊎ ((limit ≤ length (held ++ piece)) × Plain (parsed ++ held) piece parsed' hold')
+    ⊎ ((limit ≤ length (held ++ piece)) × Unheld (parsed ++ held) piece parsed' hold')
 
 opened : {parsed held piece parsed' : List ℕ} {hold' : Option (List ℕ)} {calls : List Call} {ticks : List Tick}
     → Takes parsed (Some held) piece parsed' hold' calls ticks → Open parsed held piece parsed' hold'
 opened (settles _ _ _ _ _ _ _ fits s) = inl (fits, settled s)
-opened (overflows _ _ _ _ _ cs ts full t) = inr (full, plainly t)
+opened (overflows _ _ _ _ _ cs ts full t) = inr (full, unheld t)
 
 -- ---- no update open
 
 -- a piece that opens nothing is parsed
-plain_none : (q piece q' : List ℕ) (h' : Option (List ℕ)) → opens_in q piece ≡ false → Plain q piece q' h'
+unheld_none : (q piece q' : List ℕ) (h' : Option (List ℕ)) → opens_in q piece ≡ false → Unheld q piece q' h'
     → (q' ≡ q ++ piece) × (h' ≡ None)
-plain_none q piece q' h' none (inl u) = (u.1, u.2)
-plain_none q piece q' h' none (inr o) = absurd (contrary _ o.1.opened (opens_in-prefix q piece o.0 none))
+unheld_none q piece q' h' none (inl u) = (u.1, u.2)
+unheld_none q piece q' h' none (inr o) = absurd (contrary _ o.1.opened (opens_in-prefix q piece o.0 none))
 
 prefix_none : (q a b : List ℕ) (n : ℕ) → opens_in q a ≡ false → n ≤ length a → opens_in q (take n (a ++ b)) ≡ false
 prefix_none q a b n none short = ap (opens_in q) (take-append-le n a b short) ∙ opens_in-prefix q a n none
@@ -112,15 +113,15 @@ prefix_is : (q a b : List ℕ) (m : ℕ) → q ++ take (length a + m) (a ++ b) �
 prefix_is q a b m = ap (λ xs. q ++ xs) (take-append-add a b m) ∙ sym (append_assoc q a (take m b))
 
 -- bytes that open nothing may be in the piece, or be parsed before it
-skip : (q a b q' : List ℕ) (h' : Option (List ℕ)) → opens_in q a ≡ false → Plain q (a ++ b) q' h'
-    → Plain (q ++ a) b q' h'
+skip : (q a b q' : List ℕ) (h' : Option (List ℕ)) → opens_in q a ≡ false → Unheld q (a ++ b) q' h'
+    → Unheld (q ++ a) b q' h'
 skip q a b q' h' none (inl u) = inl ((opens_in-parts q a b u.0).1, u.1 ∙ sym (append_assoc q a b), u.2)
 skip q a b q' h' none (inr o) =
     let (m, is, at) = opens_later q a b o.0 none o.1 in
     inr (m, at, rw (is, prefix_is q a b m, drop-append-add a b m) at o.2)
 
-unskip : (q a b q' : List ℕ) (h' : Option (List ℕ)) → opens_in q a ≡ false → Plain (q ++ a) b q' h'
-    → Plain q (a ++ b) q' h'
+unskip : (q a b q' : List ℕ) (h' : Option (List ℕ)) → opens_in q a ≡ false → Unheld (q ++ a) b q' h'
+    → Unheld q (a ++ b) q' h'
 unskip q a b q' h' none (inl u) = inl (opens_in-later q a b none ∙ u.0, u.1 ∙ append_assoc q a b, u.2)
 unskip q a b q' h' none (inr o) = inr (
   length a + o.0,
@@ -129,7 +130,7 @@ unskip q a b q' h' none (inr o) = inr (
 )
 
 -- a start mark opens an update
-start : (q rest q' : List ℕ) (h' : Option (List ℕ)) → Plain q (start_mark ++ rest) q' h'
+start : (q rest q' : List ℕ) (h' : Option (List ℕ)) → Unheld q (start_mark ++ rest) q' h'
     → Taking (q ++ start_mark) (Some []) rest q' h'
 start q rest q' h' (inl u) = absurd (contrary _ (opens_in-sooner q start_mark rest (start_opens q)) u.0)
 start q rest q' h' (inr o) =
@@ -168,7 +169,8 @@ settled_cut q prefix back q' h' none (cut n is e f) =
     let last = last_is prefix (start_mark ++ back) is.0 is.1 none in
     let n_is : n ≡ length (prefix ++ end_mark) = first_is prefix back n
     (subst (λ (k : ℕ). IsFirstFrom start_mark text (k + 1) n) last is.2) in
-    let split : (prefix ++ end_mark) ++ (start_mark ++ back) ≡ text = append_assoc prefix end_mark (start_mark ++ back) in
+    let split : (prefix ++ end_mark) ++ (start_mark ++ back)
+    ≡ text = append_assoc prefix end_mark (start_mark ++ back) in
     let taken = ap (take n) (sym split) ∙ take_at (prefix ++ end_mark) (start_mark ++ back) n (sym n_is) in
     let left = ap (drop n) (sym split) ∙ drop_at (prefix ++ end_mark) (start_mark ++ back) n (sym n_is) in
     (e ∙ ap (λ xs. q ++ xs) taken, f ∙ ap Some left)
@@ -376,7 +378,7 @@ module _ (T : Type 0) (p q' : List ℕ) (h' : Option (List ℕ)) (rest : List (L
       let ends = joined_ends T f fs (frames_prefix T (f ∷ fs) rest h) in
       settle_ends q start_mark ends.0 all (concat (f ∷ fs)) ends.1 e st
 
-  -- the same where the start mark is held too
+  -- an update settles also where its start mark is held
   settle_from_start : (q all : List ℕ) (frames : List (List ℕ)) → Frames T (frames ++ rest)
       → all ≡ concat frames ++ p → 8 ≤ length all → Settled q all q' h' → RestsBy T (q ++ concat frames) p q' h'
   settle_from_start q all [] h e long st =
@@ -390,19 +392,19 @@ module _ (T : Type 0) (p q' : List ℕ) (h' : Option (List ℕ)) (rest : List (L
   -- no update is open, after the first of the frames
   abbrev Goes : List ℕ → List (List ℕ) → Type 0
   Goes q [] = Unit {0}
-  Goes q (f ∷ frames) = Plain (q ++ f) (concat frames ++ p) q' h' → RestsBy T ((q ++ f) ++ concat frames) p q' h'
+  Goes q (f ∷ frames) = Unheld (q ++ f) (concat frames ++ p) q' h' → RestsBy T ((q ++ f) ++ concat frames) p q' h'
 
   -- from inside a frame
-  plain_past : (q part piece : List ℕ) (frames : List (List ℕ)) → Frames T (frames ++ rest)
+  unheld_past : (q part piece : List ℕ) (frames : List (List ℕ)) → Frames T (frames ++ rest)
       → IsPart part (frames ++ rest) → 8 ≤ length part
       → part ++ piece ≡ concat frames ++ p → (limit ≤ length (part ++ piece)) ⊎ T
-      → Goes q frames → Plain (q ++ part) piece q' h' → RestsBy T (q ++ concat frames) p q' h'
-  plain_past q part piece [] h is_part long e why next pl =
+      → Goes q frames → Unheld (q ++ part) piece q' h' → RestsBy T (q ++ concat frames) p q' h'
+  unheld_past q part piece [] h is_part long e why next pl =
       let (t, none) = inner T q part piece p rest hr is_part last long e why in
-      let s = plain_none (q ++ part) piece q' h' none pl in
+      let s = unheld_none (q ++ part) piece q' h' none pl in
       let all = append_assoc q part piece ∙ (ap (λ xs. q ++ xs) e ∙ ap (λ xs. xs ++ p) (sym (append-nil q))) in
       outside (inr t) (s.0 ∙ all) s.1
-  plain_past q part piece (f ∷ frames) h is_part long e why next pl =
+  unheld_past q part piece (f ∷ frames) h is_part long e why next pl =
       let left = is_part.0 in
       let more = concat frames ++ p in
       let piece_is = append_cancel_left part piece (left ++ more) (e
@@ -414,51 +416,51 @@ module _ (T : Type 0) (p q' : List ℕ) (h' : Option (List ℕ)) (rest : List (L
       (next (rw whole at past))
 
   -- from a frame's start
-  plain_started : (q all : List ℕ) (frames : List (List ℕ)) → Frames T (frames ++ rest)
+  unheld_started : (q all : List ℕ) (frames : List (List ℕ)) → Frames T (frames ++ rest)
       → IsPart start_mark (frames ++ rest) → start_mark ++ all ≡ concat frames ++ p
-      → Goes q frames → Plain q (concat frames ++ p) q' h' → RestsBy T (q ++ concat frames) p q' h'
-  plain_started q all frames h begun e next pl =
+      → Goes q frames → Unheld q (concat frames ++ p) q' h' → RestsBy T (q ++ concat frames) p q' h'
+  unheld_started q all frames h begun e next pl =
       let t = start q all q' h' (rw e pl) in
       elim (opened t.2) [
         | inl fits ↦ settle_after_start q all frames h e fits.1
-        | inr full ↦ plain_past q start_mark all frames h begun (omega arith) e (inl (omega (arith, full.0))) next
+        | inr full ↦ unheld_past q start_mark all frames h begun (omega arith) e (inl (omega (arith, full.0))) next
             (rw (append-nil (q ++ start_mark)) at full.1)
       ]
 
-  plain_frames : (q : List ℕ) (frames : List (List ℕ)) → Frames T (frames ++ rest)
-      → Plain q (concat frames ++ p) q' h' → RestsBy T (q ++ concat frames) p q' h'
-  plain_frames q [] h pl =
+  unheld_frames : (q : List ℕ) (frames : List (List ℕ)) → Frames T (frames ++ rest)
+      → Unheld q (concat frames ++ p) q' h' → RestsBy T (q ++ concat frames) p q' h'
+  unheld_frames q [] h pl =
       elim (cases_lt (length p) 8) [
         | inl short ↦
-            let s = plain_none q p q' h' (part_opens_none T q p rest h last short) pl in
+            let s = unheld_none q p q' h' (part_opens_none T q p rest h last short) pl in
             outside (inl short) (s.0 ∙ ap (λ xs. xs ++ p) (sym (append-nil q))) s.1
         | inr long ↦
-            let at = part_starts T p rest h last long in plain_started q at.0 [] h at.2 (sym at.1) tt pl
+            let at = part_starts T p rest h last long in unheld_started q at.0 [] h at.2 (sym at.1) tt pl
       ]
-  plain_frames q (f ∷ frames) h pl =
+  unheld_frames q (f ∷ frames) h pl =
       let tail = h.0.frame.body ++ end_mark in
       let more = concat frames ++ p in
       let all_is = append_assoc f (concat frames) p
       ∙ (ap (λ xs. xs ++ more) h.0.frame.is ∙ append_assoc start_mark tail more) in
-      plain_started q (tail ++ more) (f ∷ frames) h (mark_begins f (frames ++ rest) h.0.frame) (sym all_is)
-      (plain_frames (q ++ f) frames h.1) pl
+      unheld_started q (tail ++ more) (f ∷ frames) h (mark_begins f (frames ++ rest) h.0.frame) (sym all_is)
+      (unheld_frames (q ++ f) frames h.1) pl
 
-  plain_next : (q : List ℕ) (frames : List (List ℕ)) → Frames T (frames ++ rest) → Goes q frames
-  plain_next q [] h = tt
-  plain_next q (f ∷ frames) h = plain_frames (q ++ f) frames h.1
+  unheld_next : (q : List ℕ) (frames : List (List ℕ)) → Frames T (frames ++ rest) → Goes q frames
+  unheld_next q [] h = tt
+  unheld_next q (f ∷ frames) h = unheld_frames (q ++ f) frames h.1
 
   -- from inside a start mark, or from after it if T is true or the hold was full
-  plain_on : (q part piece : List ℕ) (frames : List (List ℕ)) → Frames T (frames ++ rest)
+  unheld_on : (q part piece : List ℕ) (frames : List (List ℕ)) → Frames T (frames ++ rest)
       → IsPart part (frames ++ rest) → part ++ piece ≡ concat frames ++ p
-      → (length part < 8) ⊎ ((limit ≤ length (part ++ piece)) ⊎ T) → Plain (q ++ part) piece q' h'
+      → (length part < 8) ⊎ ((limit ≤ length (part ++ piece)) ⊎ T) → Unheld (q ++ part) piece q' h'
       → RestsBy T (q ++ concat frames) p q' h'
-  plain_on q part piece frames h is_part e why pl =
+  unheld_on q part piece frames h is_part e why pl =
       elim (cases_lt (length part) 8) [
-        | inl short ↦ plain_frames q frames h (rw e at (unskip q part piece q' h'
+        | inl short ↦ unheld_frames q frames h (rw e at (unskip q part piece q' h'
             (part_opens_none T q part (frames ++ rest) h is_part short) pl))
-        | inr long ↦ plain_past q part piece frames h is_part long e
+        | inr long ↦ unheld_past q part piece frames h is_part long e
             (elim why [ inl short ↦ absurd (omega (arith, short, long)) | inr other ↦ other ])
-            (plain_next q frames h) pl
+            (unheld_next q frames h) pl
       ]
 
 hold_is : {q r piece q' : List ℕ} {h h' k : Option (List ℕ)} {calls : List Call} {ticks : List Tick} → q ≡ r → h ≡ k
@@ -471,8 +473,8 @@ pub piece_rests : (T : Type 0) (q part p piece parsed parsed' : List ℕ) {hold 
     → Frames T (frames ++ rest) → IsPart part (frames ++ rest) → part ++ piece ≡ concat frames ++ p → IsPart p rest
     → Takes parsed hold piece parsed' hold' calls ticks → RestsBy T (q ++ concat frames) p parsed' hold'
 piece_rests T q part p piece parsed parsed' {hold' = h'} frames rest (outside why at shut) h is_part e last t =
-    plain_on T p parsed' h' rest (frames_back T frames rest h) last q part piece frames h is_part e
-    (elim why [ inl short ↦ inl short | inr t' ↦ inr (inr t') ]) (plainly (hold_is at shut t))
+    unheld_on T p parsed' h' rest (frames_back T frames rest h) last q part piece frames h is_part e
+    (elim why [ inl short ↦ inl short | inr t' ↦ inr (inr t') ]) (unheld (hold_is at shut t))
 piece_rests T q part p piece parsed parsed' {hold' = h'} frames rest (inside held starts at is) h is_part e last t =
     let hr = frames_back T frames rest h in
     let all_is = sym (append_assoc start_mark held piece) ∙ (ap (λ xs. xs ++ piece) (sym starts) ∙ e) in
@@ -482,7 +484,7 @@ piece_rests T q part p piece parsed parsed' {hold' = h'} frames rest (inside hel
       | inr full ↦
           let big : limit ≤ length (part ++ piece) =
           omega (arith, full.0, ap length starts, length-append held piece, length-append part piece) in
-          plain_on T p parsed' h' rest hr last q part piece frames h is_part e (inr (inl big))
+          unheld_on T p parsed' h' rest hr last q part piece frames h is_part e (inr (inl big))
           (rw whole at full.1)
     ]
 piece_rests T q part p piece parsed parsed' {hold' = h'} frames rest (before long at is) h is_part e last t =
@@ -490,5 +492,5 @@ piece_rests T q part p piece parsed parsed' {hold' = h'} frames rest (before lon
     elim (opened (hold_is at is t)) [
       | inl fits ↦ settle_from_start T p parsed' h' rest hr last q (part ++ piece) frames h e
           (omega (arith, long, length-append part piece)) fits.1
-      | inr full ↦ plain_on T p parsed' h' rest hr last q part piece frames h is_part e (inr (inl full.0)) full.1
+      | inr full ↦ unheld_on T p parsed' h' rest hr last q part piece frames h is_part e (inr (inl full.0)) full.1
     ]

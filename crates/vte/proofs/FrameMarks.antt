@@ -1,7 +1,7 @@
 -- Marks as the parser reads them, and their places in a text.
-use Rattle.std.proofs.Common.{◌≡◌, ℕ, zero, suc, ◌+◌, ◌-◌, ◌<◌, ◌≤◌, Bool, true, false, ◌&&◌, ◌||◌, ◌==◌, List, [], ◌∷◌, ◌++◌}
-use Rattle.std.proofs.Common.{length, take, drop, nat_eq, refl, sym, ◌∙◌, ap, inl, inr, arith, length-append, append_assoc}
-use Rattle.std.proofs.Common.{length-drop}
+use Rattle.std.proofs.Common.{◌≡◌, ℕ, zero, suc, ◌+◌, ◌-◌, ◌<◌, ◌≤◌, Bool, true, false, ◌&&◌, ◌||◌, ◌==◌, List, [], ◌∷◌}
+use Rattle.std.proofs.Common.{◌++◌, length, take, drop, nat_eq, refl, sym, ◌∙◌, ap, inl, inr, arith, length-append}
+use Rattle.std.proofs.Common.{append_assoc, length-drop}
 use Rattle.std.specs.List.{list_any, starts_with}
 use Rattle.std.proofs.lemmas.Bool.{cases_Bool, cases_lt, eqb-true, or_parts, and_right, agree_below_at}
 use Rattle.std.proofs.lemmas.List.{take-append-drop, take_at, nil_from_length}
@@ -105,7 +105,8 @@ start_opens_at past = record { within = omega arith; opened = start_opens past; 
 -- after a mark nothing is unfinished
 mark_ends : (final : ℕ) → is_in_range 0x40 0x7E final ≡ true
     → AtGround 1024 (27 ∷ 91 ∷ (63 ∷ 50 ∷ 48 ∷ 50 ∷ 54 ∷ final ∷ []))
-mark_ends final h = ground-sequence 1024 (63 ∷ 50 ∷ 48 ∷ 50 ∷ 54 ∷ []) final ((refl, (refl, (refl, (refl, (refl, tt))))), h)
+mark_ends final h = ground-sequence 1024 (63 ∷ 50 ∷ 48 ∷ 50 ∷ 54 ∷ []) final
+    ((refl, (refl, (refl, (refl, (refl, tt))))), h)
 
 pub ground_start : (past : List ℕ) → AtGround 1024 (past ++ start_mark)
 ground_start past = ground-esc 1024 past start_tail (mark_ends 104 refl)
@@ -135,7 +136,8 @@ end_calls past g = calls_alone past end_mark g
 
 -- places
 
-pub at_later : (mark prefix back : List ℕ) (k : ℕ) → is_found_at mark (prefix ++ back) (length prefix + k) ≡ is_found_at mark back k
+pub at_later : (mark prefix back : List ℕ) (k : ℕ) → is_found_at mark (prefix ++ back) (length prefix + k)
+    ≡ is_found_at mark back k
 at_later mark prefix back k = ap (λ text. starts_with nat_eq text mark) (drop-append-add prefix back k)
 
 starts_short : (mark text : List ℕ) → length text < length mark → starts_with nat_eq text mark ≡ false
@@ -180,7 +182,8 @@ start_inside back k h = agree_below_at (is_found_at end_mark (start_mark ++ back
 pub contrary : (b : Bool) → b ≡ true → b ≡ false → ⊥
 contrary b h k = let e : true ≡ false = sym h ∙ k in cc
 
-pub end_state_after : (prefix back : List ℕ) → is_found_at end_mark (prefix ++ (end_mark ++ back)) (length prefix) ≡ true
+pub end_state_after : (prefix back : List ℕ) → is_found_at end_mark (prefix ++ (end_mark ++ back)) (length prefix)
+    ≡ true
 end_state_after prefix back = ap (λ text. starts_with nat_eq text end_mark) (drop-append_seam prefix (end_mark ++ back))
 
 -- a place after the end mark's first byte is after its last, for a mark that doesn't begin inside it
@@ -225,7 +228,8 @@ pub first_is : (prefix back : List ℕ) (n : ℕ) → IsFirstFrom start_mark (pr
 first_is prefix back n first =
     let rest = start_mark ++ back in
     let text = prefix ++ (end_mark ++ rest) in
-    let here : is_found_at start_mark text (length prefix + 8) ≡ true = at_later start_mark prefix (end_mark ++ rest) 8 in
+    let here : is_found_at start_mark text (length prefix + 8)
+    ≡ true = at_later start_mark prefix (end_mark ++ rest) 8 in
     let size : length (prefix ++ end_mark) ≡ length prefix + 8 = length-append prefix end_mark in
     elim (cases_lt n (length prefix + 8)) [
       | inl sooner ↦

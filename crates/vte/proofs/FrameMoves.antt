@@ -12,7 +12,8 @@ use Rattle.vte.specs.Timeout.{Tick}
 use Rattle.vte.specs.Marks.{start_mark, end_mark}
 use Rattle.vte.specs.Hold.{limit, held_of, Takes}
 use Rattle.vte.specs.Moves.{Move, Gives, Stops, given}
-use Rattle.vte.specs.Frames.{IsFrame, IsPart, IsPrefix, Drives, ends, gives, stops, Rests, closed, opened, kept, IsUntorn}
+use Rattle.vte.specs.Frames.{IsFrame, IsPart, IsPrefix, Drives, ends, gives, stops, Rests, closed, opened, kept}
+use Rattle.vte.specs.Frames.{IsUntorn}
 use Rattle.vte.proofs.FrameMarks.{ground_end}
 use Rattle.vte.proofs.FrameLemmas.{cut_later, Frames, frames_back, prefix_short, RestsBy, outside, inside}
 use Rattle.vte.proofs.FrameLemmas.{before, piece_rests}
@@ -63,7 +64,8 @@ more : {T : Type 0} {frames : List (List ℕ)} {past bytes piece parsed parsed' 
 more {T} {frames} {past} {bytes} {piece} {parsed} {parsed'} {hold} {hold'} beyond fs e r t =
     let at = ap (λ zs. zs ++ piece) r.prefix.bytes_are ∙ append_assoc (concat r.prefix.whole) r.prefix.part piece in
     let all = sym (append_assoc (concat r.prefix.whole) (r.prefix.part ++ piece) beyond)
-    ∙ (ap (λ zs. zs ++ beyond) (sym at) ∙ (e ∙ (ap concat r.prefix.frames_are ∙ concat-append r.prefix.whole r.prefix.rest))) in
+    ∙ (ap (λ zs. zs ++ beyond) (sym at) ∙ (e ∙
+    (ap concat r.prefix.frames_are ∙ concat-append r.prefix.whole r.prefix.rest))) in
     let (prefix, rest, part, are, is, is_part) = cut_frames r.prefix.rest (r.prefix.part ++ piece) beyond
     (append_cancel_left (concat r.prefix.whole) ((r.prefix.part ++ piece) ++ beyond) (concat r.prefix.rest) all) in
     let here : Frames T r.prefix.rest = frames_back T r.prefix.whole r.prefix.rest
@@ -71,13 +73,15 @@ more {T} {frames} {past} {bytes} {piece} {parsed} {parsed'} {hold} {hold'} beyon
     let next = piece_rests T (past ++ concat r.prefix.whole) r.prefix.part part piece parsed parsed' prefix rest r.rests
     (subst (λ (gs : List (List ℕ)). Frames T gs) are here)
     (subst (λ (gs : List (List ℕ)). IsPart r.prefix.part gs) are r.prefix.is_part) is is_part t in
-    let whole : concat (r.prefix.whole ++ prefix) ≡ concat r.prefix.whole ++ concat prefix = concat-append r.prefix.whole prefix in
+    let whole : concat (r.prefix.whole ++ prefix) ≡ concat r.prefix.whole
+    ++ concat prefix = concat-append r.prefix.whole prefix in
     record {
       prefix = record {
         whole = r.prefix.whole ++ prefix;
         rest = rest;
         part = part;
-        frames_are = r.prefix.frames_are ∙ (ap (λ zs. r.prefix.whole ++ zs) are ∙ sym (append_assoc r.prefix.whole prefix rest));
+        frames_are = r.prefix.frames_are ∙ (ap (λ zs. r.prefix.whole ++ zs) are
+            ∙ sym (append_assoc r.prefix.whole prefix rest));
         bytes_are = at ∙ (ap (λ zs. concat r.prefix.whole ++ zs) is
             ∙ (sym (append_assoc (concat r.prefix.whole) (concat prefix) part) ∙ ap (λ zs. zs ++ part) (sym whole)));
         is_part = is_part;
@@ -115,7 +119,8 @@ follow : {T : Type 0} {frames : List (List ℕ)} {past bytes : List ℕ} {moves 
 follow {T} {frames} {past} {bytes} beyond fs why e r (ends parsed hold) =
     subst (λ (xs : List ℕ). Untorn T frames past xs parsed hold) (sym (append-nil bytes)) r
 follow {T} {frames} {past} {bytes} beyond fs why e r (gives piece rest _ _ mid _ calls ticks parsed' hold' t l) =
-    let same : (bytes ++ piece) ++ given rest ≡ bytes ++ (piece ++ given rest) = append_assoc bytes piece (given rest) in
+    let same : (bytes ++ piece) ++ given rest ≡ bytes
+    ++ (piece ++ given rest) = append_assoc bytes piece (given rest) in
     let all : ((bytes ++ piece) ++ given rest) ++ beyond ≡ concat frames = ap (λ xs. xs ++ beyond) same ∙ e in
     let next = more (given rest ++ beyond) fs (sym (append_assoc (bytes ++ piece) (given rest) beyond) ∙ all) r t in
     subst (λ (xs : List ℕ). Untorn T frames past xs parsed' hold') same (follow beyond fs why all next l)
@@ -189,7 +194,8 @@ whole_are_parsed frames moves past parsed hold all e l =
     let r = follow [] fs (any_stops moves) (append-nil (given moves) ∙ e) (at_first (Unit {0}) frames past fs) l in
     let here : Frames (Unit {0}) r.prefix.rest = frames_back (Unit {0}) r.prefix.whole r.prefix.rest
     (subst (λ (gs : List (List ℕ)). Frames (Unit {0}) gs) r.prefix.frames_are fs) in
-    let left = nothing_left (Unit {0}) r.prefix.whole r.prefix.rest r.prefix.part here r.prefix.is_part (ap concat (sym r.prefix.frames_are)
+    let left = nothing_left (Unit {0}) r.prefix.whole r.prefix.rest r.prefix.part here r.prefix.is_part
+    (ap concat (sym r.prefix.frames_are)
     ∙ (sym e ∙ r.prefix.bytes_are)) in
     let s = whole_rests left.1 r.rests in
     let whole : r.prefix.whole ≡ frames = sym (append-nil r.prefix.whole)

@@ -32,8 +32,8 @@ pub conserve_any : {T : Type 0} {ticking : Ticking T} {closed : Bool} {t : T} {p
     {parsed' held' : List ℕ} {calls : List Call}
     → Advances ticking closed t parsed held piece t' parsed' held' calls
     → parsed ++ (held ++ piece) ≡ parsed' ++ held'
-conserve_any (any.parses _ _ parsed piece plain none) = sym (append-nil (parsed ++ piece))
-conserve_any (any.begins _ _ parsed piece n u _ _ _ cs plain at y f) = cut parsed piece n ∙ conserve_any f
+conserve_any (any.parses _ _ parsed piece free none) = sym (append-nil (parsed ++ piece))
+conserve_any (any.begins _ _ parsed piece n u _ _ _ cs free at y f) = cut parsed piece n ∙ conserve_any f
 conserve_any (any.settles _ _ _ _ _ _ hold' _ ticks open_ fits s y) = settle s
 conserve_any (any.empties _ parsed held piece is_open u _ _ _ cs asked must y f) =
     sym (append_assoc parsed held piece) ∙ conserve_any f

@@ -56,7 +56,7 @@ not_sought mark text k some other =
     (λ h e. other (omega (arith, length-drop k text, h))
     (eq-eqb (slice_index text (k + 2)) (slice_index mark 2) (sym (get_or-drop k text 2 0) ∙ e)))
 
--- the same of a stretch of a part of the text, `n` bytes from `from` on
+-- no mark stands in a stretch of a part of the text, `n` bytes from `from` on
 pub none_in_part : (mark text : List ℕ) (from n i j : ℕ) → 2 < length mark → from + n ≤ length text → j ≤ n
     → Nowhere (Passes (is_byte (slice_index mark 2)) (take n (drop from text))) i j → (k : ℕ) → from + i ≤ k + 2
     → k + 2 < from + j → is_found_at mark text k ≡ false
@@ -72,7 +72,8 @@ pub none_at_end : (mark text : List ℕ) (k : ℕ) → 2 < length mark → lengt
 none_at_end mark text k some late = not_sought mark text k some (λ inside. absurd (omega arith))
 
 -- a byte of a part of the text is a byte of the text
-pub part_in : (text : List ℕ) (from n at : ℕ) → at < length (take n (drop from text)) → (at < n) × (from + at < length text)
+pub part_in : (text : List ℕ) (from n at : ℕ) → at < length (take n (drop from text)) → (at < n)
+    × (from + at < length text)
 part_in text from n at h =
     let size = length-take n (drop from text) in
     (omega (arith, h, size), omega (arith, h, size, length-drop from text))

@@ -18,16 +18,15 @@ use Rattle.vte_types.specs.declared.rgb.Rgb.{Rgb}
 use Rattle.vte_types.specs.declared.scp.ScpCharPath.{ScpCharPath}
 use Rattle.vte_types.specs.declared.scp.ScpUpdateMode.{ScpUpdateMode}
 use Rattle.vte.specs.Sgr.{first}
-use Rattle.vte.specs.Escape.{calls_at, execute_rows, plain_escape_rows, hash_escape_rows, charset_index, charset_rows}
-use Rattle.vte.specs.Escape.{charset_calls, escape_calls}
+use Rattle.vte.specs.Escape.{calls_at, execute_rows, unmarked_escape_rows, hash_escape_rows, charset_index}
+use Rattle.vte.specs.Escape.{charset_rows, charset_calls, escape_calls}
 use Rattle.vte.specs.Csi.{number_or, identify_calls, counted_rows, repeat_calls, uncounted_rows, placing_rows}
-use Rattle.vte.specs.Csi.{uncounted_calls, counted_calls, plain_calls, question_rows, other_keys_rows}
+use Rattle.vte.specs.Csi.{uncounted_calls, counted_calls, unmarked_calls, question_rows, other_keys_rows}
 use Rattle.vte.specs.Csi.{scp_calls, style_rows, question_dollar_rows, calls_by, marked_rows, csi_calls}
 use Rattle.vte.specs.Csi.{opens_group, opening_groups, placing_calls}
-use Rattle.vte.specs.Osc.{named, end_text, title_calls, color_of_text, set_or_ask, color_calls, byte_number}
-use Rattle.vte.specs.Osc.{pair_calls, pairs_calls, palette_calls, link_calls, two_digits, dynamic_calls, icon_calls}
-use Rattle.vte.specs.Osc.{shape_rows, shape_calls, cursor_calls, clipboard_calls, index_resets, reset_calls}
-use Rattle.vte.specs.Osc.{osc_rows, osc_calls}
+use Rattle.vte.specs.Osc.{named, end_text, title_calls, color_of_text, set_or_ask, color_calls, byte_number, pair_calls}
+use Rattle.vte.specs.Osc.{pairs_calls, palette_calls, link_calls, two_digits, dynamic_calls, icon_calls, shape_rows}
+use Rattle.vte.specs.Osc.{shape_calls, cursor_calls, clipboard_calls, index_resets, reset_calls, osc_rows, osc_calls}
 use Rattle.vte.specs.Table.{calls_of, last_after, opens, is_opening}
 use Rattle.vte.specs.Performed.{calls_of_all}
 use Rattle.vte.specs.Laws.{IsStart}
@@ -95,7 +94,7 @@ charset_quiet None b = refl
 charset_quiet (Some g) b = quiet_at b (charset_rows g) search
 
 escape_quiet : (ms : List ℕ) (b : ℕ) → Quiet (escape_calls ms b)
-escape_quiet [] b = quiet_at b plain_escape_rows search
+escape_quiet [] b = quiet_at b unmarked_escape_rows search
 escape_quiet (x ∷ []) b = quiet_if (nat_eq x 35) (calls_at b hash_escape_rows) (charset_calls (charset_index x) b)
     (quiet_at b hash_escape_rows search) (charset_quiet (charset_index x) b)
 escape_quiet (x ∷ y ∷ ms) b = refl
@@ -123,8 +122,8 @@ counted_quiet None last gs f h = uncounted_quiet (lookup f uncounted_rows) last 
     (found (λ k c. Quiet (c last gs)) f uncounted_rows (search (quiet_at, quiet_map, repeat_quiet)))
 counted_quiet (Some c) last gs f h = rw h refl
 
-plain_quiet : (last : Option ℕ) (gs : List (List ℕ)) (f : ℕ) → Quiet (plain_calls last gs f)
-plain_quiet last gs f = counted_quiet (lookup f counted_rows) last gs f
+unmarked_quiet : (last : Option ℕ) (gs : List (List ℕ)) (f : ℕ) → Quiet (unmarked_calls last gs f)
+unmarked_quiet last gs f = counted_quiet (lookup f counted_rows) last gs f
     (found (λ k c. is_opening (c (number_or 1 gs)) ≡ false) f counted_rows search)
 
 -- with intermediates
@@ -154,7 +153,8 @@ question_quiet f gs = found_or (λ k c. nat_eq k 104 ≡ false
 marked_quiet : (x f : ℕ) (gs : List (List ℕ)) → nat_eq x 63 ≡ false
     → Quiet (calls_by f (unwrap_or (lookup x marked_rows) []) gs)
 marked_quiet x f gs = found_or (λ k rows. nat_eq k 63 ≡ false
-    → Quiet (calls_by f rows gs)) x marked_rows [] (search (not_so, quiet_by, quiet_if, other_keys_quiet, scp_quiet, style_quiet)) (λ e. refl)
+    → Quiet (calls_by f rows gs)) x marked_rows []
+    (search (not_so, quiet_by, quiet_if, other_keys_quiet, scp_quiet, style_quiet)) (λ e. refl)
 
 -- ? h
 
@@ -255,7 +255,7 @@ other_sequence last gs x f h = elim (cases_Bool (nat_eq x 63)) [
 
 sequence_opens : (last : Option ℕ) (gs : List (List ℕ)) (ms : List ℕ) (f : ℕ)
     → list_any is_opening (csi_calls last gs ms f) ≡ list_any opens_group (opening_groups gs ms f)
-sequence_opens last gs [] f = quiet_if (nat_eq f 99) _ _ (identify_quiet gs []) (plain_quiet last gs f)
+sequence_opens last gs [] f = quiet_if (nat_eq f 99) _ _ (identify_quiet gs []) (unmarked_quiet last gs f)
 sequence_opens last gs (x ∷ []) f = elim (cases_Bool (nat_eq x 63 && nat_eq f 104)) [
   | inl e ↦
       let both = and_parts (nat_eq x 63) (nat_eq f 104) e in

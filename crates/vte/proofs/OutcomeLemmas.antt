@@ -143,7 +143,8 @@ begins-only (parses parsed piece none) e n at p h c s rest =
     absurd (contrary _ at.opened (opens_in-prefix parsed piece n none))
 begins-only (begins parsed piece m q k d t at' y) e n at p h c s rest =
     let same : m ≡ n = opening-one parsed piece m n at' at in
-    let more = rest q k d t (subst (λ (i : ℕ). Takes (parsed ++ take i piece) (Some []) (drop i piece) q k d t) same y) in (
+    let more = rest q k d t (subst (λ (i : ℕ). Takes (parsed ++ take i piece) (Some [])
+    (drop i piece) q k d t) same y) in (
       more.0,
       more.1,
       rw (same, more.2) refl,
@@ -193,7 +194,8 @@ one_way : {parsed : List ℕ} {hold : Option (List ℕ)} {piece p q : List ℕ} 
 one_way (parses parsed piece none) y = parses-only y refl none
 one_way (begins parsed piece n p h c s at x) y = begins-only y refl n at p h c s (λ q k d t z. one_way x z)
 one_way (settles parsed held piece p h c s fits x) y = settles-only y held refl fits p h c s x
-one_way (overflows parsed held piece p h c s full x) y = overflows-only y held refl full p h c s (λ q k d t z. one_way x z)
+one_way (overflows parsed held piece p h c s full x) y = overflows-only y held refl full p h c s
+    (λ q k d t z. one_way x z)
 
 pub takes-one_way : TakesOneWay
 takes-one_way parsed hold piece p q h k c d s t x y = one_way x y

@@ -7,8 +7,8 @@ use Rattle.std.specs.Str.{IsUtf8, chars}
 use Rattle.std.proofs.Math.Seq.{take-append_seam}
 use Rattle.std.specs.Prelude.{encode_utf8}
 use Rattle.std.proofs.lemmas.List.{take_all, take_more}
-use Rattle.std.proofs.lemmas.Str.{IsUtf8-encode, IsUtf8-take, IsCharBoundary-at_seam, chars-append, chars_past_char, chars-nil}
-use Rattle.std.proofs.lemmas.Str.{chars-IsAscii}
+use Rattle.std.proofs.lemmas.Str.{IsUtf8-encode, IsUtf8-take, IsCharBoundary-at_seam, chars-append, chars_past_char}
+use Rattle.std.proofs.lemmas.Str.{chars-nil, chars-IsAscii}
 use Rattle.std.proofs.Math.Bool.{or-false}
 use Rattle.vte_core.specs.Event.{Event, Print, Performs}
 use Rattle.printable.specs.Printable.{IsPrintable}
@@ -42,7 +42,12 @@ printed-all step ticking p [] h last calls is =
 printed-all step ticking p (c ∷ cs) h last calls is = (
   printed p calls.0 (Some c),
   (
-    record { calls = λ fits. (calls.0, calls.1, refl); printed = refl; ticked = refl; ends = sym (or-false p.terminated) },
+    record {
+      calls = λ fits. (calls.0, calls.1, refl);
+      printed = refl;
+      ticked = refl;
+      ends = sym (or-false p.terminated);
+    },
     refl,
     refl,
   ),

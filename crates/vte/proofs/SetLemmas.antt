@@ -15,12 +15,14 @@ use Rattle.vte.specs.Closings.{clearings}
 
 pub any_openers : (es : List Event) → list_any opens_group (openers_of_all es) ≡ list_any opens es
 any_openers [] = refl
-any_openers (e ∷ es) = list_any-append opens_group (openers e) (openers_of_all es) ∙ ap (λ v. opens e || v) (any_openers es)
+any_openers (e ∷ es) = list_any-append opens_group (openers e) (openers_of_all es)
+    ∙ ap (λ v. opens e || v) (any_openers es)
 
 -- if no group opens an update, nothing is set
 pub sets_none : (gs : List (List ℕ)) → list_any opens_group gs ≡ false → sets_of gs ≡ []
 sets_none [] h = refl
-sets_none (g ∷ gs) h = let both = or_parts (opens_group g) (list_any opens_group gs) h in rw both.0 (sets_none gs both.1)
+sets_none (g ∷ gs) h = let both = or_parts (opens_group g) (list_any opens_group gs) h in rw both.0
+    (sets_none gs both.1)
 
 -- how often the timeout was cleared
 

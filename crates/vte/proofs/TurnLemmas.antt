@@ -6,20 +6,20 @@ use Rattle.vte.specs.Timeout.{Ticking}
 use Rattle.vte.specs.declared.processor.Processor.{Processor}
 use Rattle.vte.specs.Stretch.{calls_from}
 use Rattle.vte.specs.Hold.{limit, closing, held_of}
-use Rattle.vte.specs.Advances.{Plainly, IsEmptied, parses, begins, settles, empties}
+use Rattle.vte.specs.Advances.{IsIdle, IsEmptied, parses, begins, settles, empties}
 use Rattle.vte.specs.Standing.{timeout_of, IsStateAfter, Advanced, Emptied, Held, Begun, Unopened, GoesOn}
 use Rattle.vte_types.proofs.CallLemmas.{Calls-append}
 
 module _ {T A H : Type 0} {ticking : Ticking T} {step : H → Call → H → Type 0} where
   -- nothing was opened
   unopened : {closed : Bool} {old : Processor T A} {parsed piece : List ℕ} {h : H} {new : Processor T A} {h' : H}
-      → Plainly ticking closed (timeout_of old) → Unopened ticking step old parsed [] piece h new h'
+      → IsIdle ticking closed (timeout_of old) → Unopened ticking step old parsed [] piece h new h'
       → Advanced ticking step closed old parsed [] piece h new h'
-  unopened {closed} {old} {parsed} {piece} plain u = record {
+  unopened {closed} {old} {parsed} {piece} free u = record {
     parsed' = parsed ++ piece;
     held' = [];
     calls = calls_from parsed piece;
-    advances = rw (u.same) (parses closed (timeout_of old) parsed piece plain u.none);
+    advances = rw (u.same) (parses closed (timeout_of old) parsed piece free u.none);
     state_after = u.state_after;
     goes = u.goes;
   }
@@ -28,13 +28,13 @@ module _ {T A H : Type 0} {ticking : Ticking T} {step : H → Call → H → Typ
   begun : {old : Processor T A} {parsed piece : List ℕ} {n : ℕ} {h : H} {new : Processor T A} {h' : H}
       → ticking.answers (timeout_of old) false → Begun ticking step old parsed [] piece n h new h'
       → GoesOn ticking step old parsed [] piece (drop n piece) h new h'
-  begun {old} {parsed} {piece} {n} {new = new} plain b = record {
+  begun {old} {parsed} {piece} {n} {new = new} free b = record {
     parsed' = parsed ++ take n piece;
     held' = [];
     calls = calls_from parsed (take n piece);
     state_after = b.parsed_so.state_after;
     goes = b.parsed_so.goes;
-    further = λ t q k cs. begins false (timeout_of old) parsed piece n (timeout_of new) t q k cs plain b.opens
+    further = λ t q k cs. begins false (timeout_of old) parsed piece n (timeout_of new) t q k cs free b.opens
         b.parsed_so.ticked;
   }
 
@@ -88,14 +88,14 @@ module _ {T A H : Type 0} {ticking : Ticking T} {step : H → Call → H → Typ
 
 module _ {T A H : Type 0} (ticking : Ticking T) (step : H → Call → H → Type 0) where
   -- a turn with nothing held
-  pub plain_turn : (r : Option ℕ) (old : Processor T A) (parsed held piece : List ℕ) (h : H) (new : Processor T A)
+  pub idle_turn : (r : Option ℕ) (old : Processor T A) (parsed held piece : List ℕ) (h : H) (new : Processor T A)
       (h' : H) → held ≡ [] → ticking.answers (timeout_of old) false
       → MatchOption r (Unopened ticking step old parsed held piece h new h')
       (λ n. Begun ticking step old parsed held piece n h new h')
       → MatchOption r (Advanced ticking step false old parsed held piece h new h')
       (λ n. GoesOn ticking step old parsed held piece (drop n piece) h new h')
-  plain_turn None old parsed held piece h new h' none plain m = rw none (unopened plain (rw none at m))
-  plain_turn (Some n) old parsed held piece h new h' none plain m = rw none (begun plain (rw none at m))
+  idle_turn None old parsed held piece h new h' none free m = rw none (unopened free (rw none at m))
+  idle_turn (Some n) old parsed held piece h new h' none free m = rw none (begun free (rw none at m))
 
   -- a turn before which the hold was emptied
   pub turn_after : (old mid : Processor T A) (parsed held piece : List ℕ) (h h1 : H) (is_open : Bool)

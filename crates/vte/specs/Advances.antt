@@ -6,9 +6,9 @@ use Rattle.vte.specs.Stretch.{calls_from, ticks_from, opens_in, OpensAt}
 use Rattle.vte.specs.Hold.{limit, closing, held_of, Settles}
 
 -- no update is open: one was just closed, or the timeout says that none is
-abbrev pub Plainly : {T : Type 0} → Ticking T → Bool → T → Type 0
-Plainly ticking true t = Unit {0}
-Plainly ticking false t = ticking.answers t false
+abbrev pub IsIdle : {T : Type 0} → Ticking T → Bool → T → Type 0
+IsIdle ticking true t = Unit {0}
+IsIdle ticking false t = ticking.answers t false
 
 -- All held bytes are parsed before the piece is. So it is if an update is open and the piece doesn't fit, and if bytes
 -- are held and the timeout says that no update is open.
@@ -21,12 +21,12 @@ IsEmptied false held piece = 0 < length held
 pub data Advances {T : Type 0} (ticking : Ticking T)
     : Bool → T → List ℕ → List ℕ → List ℕ → T → List ℕ → List ℕ → List Call → Type 0 where
   -- nothing is held, and nothing in the piece opens an update
-  parses : (closed : Bool) (t : T) (parsed piece : List ℕ) → Plainly ticking closed t → opens_in parsed piece ≡ false
+  parses : (closed : Bool) (t : T) (parsed piece : List ℕ) → IsIdle ticking closed t → opens_in parsed piece ≡ false
       → Advances ticking closed t parsed [] piece t (parsed ++ piece) [] (calls_from parsed piece)
   -- nothing is held, a byte opens an update, and the rest is read as a piece
   begins : (closed : Bool) (t : T) (parsed piece : List ℕ) (n : ℕ) (u : T) (t' : T) (parsed' held' : List ℕ)
       (calls : List Call)
-      → Plainly ticking closed t → OpensAt parsed piece n → Ticked ticking t (ticks_from parsed (take n piece)) u
+      → IsIdle ticking closed t → OpensAt parsed piece n → Ticked ticking t (ticks_from parsed (take n piece)) u
       → Advances ticking false u (parsed ++ take n piece) [] (drop n piece) t' parsed' held' calls
       → Advances ticking closed t parsed [] piece t' parsed' held' (calls_from parsed (take n piece)
       ++ calls)

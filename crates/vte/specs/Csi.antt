@@ -111,8 +111,8 @@ counted_calls None last gs f = uncounted_calls (lookup f uncounted_rows) last gs
 counted_calls (Some counted) last gs f = counted (number_or 1 gs) ∷ []
 
 -- without intermediates
-abbrev pub plain_calls : Option ℕ → List (List ℕ) → ℕ → List Call
-plain_calls last gs f = counted_calls (lookup f counted_rows) last gs f
+abbrev pub unmarked_calls : Option ℕ → List (List ℕ) → ℕ → List Call
+unmarked_calls last gs f = counted_calls (lookup f counted_rows) last gs f
 
 -- the keyboard modes of a number's low 8 bits; bits without a mode are dropped
 abbrev pub keyboard_modes : ℕ → KeyboardModes
@@ -206,7 +206,7 @@ marked_rows =
     ∷ (36, dollar_rows) ∷ []
 
 abbrev pub marked_calls : Option ℕ → List (List ℕ) → List ℕ → ℕ → List Call
-marked_calls last gs [] f = plain_calls last gs f
+marked_calls last gs [] f = unmarked_calls last gs f
 marked_calls last gs (x ∷ []) f = calls_by f (unwrap_or (lookup x marked_rows) []) gs
 marked_calls last gs (x ∷ y ∷ []) f = if nat_eq x 63 && nat_eq y 36 then calls_by f question_dollar_rows gs else []
 marked_calls last gs (x ∷ y ∷ z ∷ ms) f = []

@@ -23,8 +23,8 @@ abbrev pub execute_calls : ℕ → List Call
 execute_calls b = calls_at b execute_rows
 
 -- without intermediates: D E H M Z c 7 8 = >
-abbrev pub plain_escape_rows : List (ℕ × List Call)
-plain_escape_rows =
+abbrev pub unmarked_escape_rows : List (ℕ × List Call)
+unmarked_escape_rows =
     (68, call.linefeed ∷ []) ∷ (69, call.linefeed ∷ call.carriage_return ∷ []) ∷ (72, call.set_horizontal_tabstop ∷ [])
     ∷ (77, call.reverse_index ∷ [])
     ∷ (90, call.identify_terminal None ∷ []) ∷ (99, call.reset_state ∷ []) ∷ (55, call.save_cursor_position ∷ [])
@@ -49,6 +49,6 @@ charset_calls None b = []
 charset_calls (Some g) b = calls_at b (charset_rows g)
 
 abbrev pub escape_calls : List ℕ → ℕ → List Call
-escape_calls [] b = calls_at b plain_escape_rows
+escape_calls [] b = calls_at b unmarked_escape_rows
 escape_calls (x ∷ []) b = if nat_eq x 35 then calls_at b hash_escape_rows else charset_calls (charset_index x) b
 escape_calls (x ∷ y ∷ ms) b = []

@@ -1,6 +1,5 @@
 -- Laws of the table and of the hold.
-use Rattle.std.specs.Prelude.{ℕ, ◌||◌, ◌≡◌, ◌<◌, ◌+◌, ◌↔◌, true, false, List, [], ◌∷◌, ◌++◌, Option, None, Some}
-use Rattle.std.specs.Prelude.{length}
+use Rattle.std.specs.Prelude.{ℕ, ◌||◌, ◌≡◌, ◌<◌, ◌+◌, ◌↔◌, true, false, List, [], ◌∷◌, ◌++◌, Option, None, Some, length}
 use Rattle.std.specs.List.{list_any}
 use Rattle.vte_core.specs.Event.{Event, Csi}
 use Rattle.vte_core.specs.Stopping.{asks_after}
@@ -36,7 +35,7 @@ ConservesBytes = (parsed : List ℕ) (hold : Option (List ℕ)) (piece parsed' :
     (calls : List Call) (ticks : List Tick)
     → Takes parsed hold piece parsed' hold' calls ticks → parsed ++ (held_of hold ++ piece) ≡ parsed' ++ held_of hold'
 
--- the same under any timeout
+-- the bytes given are conserved under any timeout
 abbrev pub ConservesUnderAny : {T : Type 0} → Ticking T → Type 0
 ConservesUnderAny {T} ticking = (t : T) (parsed held piece : List ℕ) (t' : T) (parsed' held' : List ℕ)
     (calls : List Call)
@@ -62,7 +61,7 @@ CallsAreOfParsed = (parsed : List ℕ) (hold : Option (List ℕ)) (piece parsed'
     (calls : List Call) (ticks : List Tick)
     → Takes parsed hold piece parsed' hold' calls ticks → Parses parsed parsed' (clearings ticks) calls
 
--- the same under any timeout
+-- the calls are those of what was parsed, under any timeout
 abbrev pub CallsAreOfParsedUnderAny : {T : Type 0} → Ticking T → Type 0
 CallsAreOfParsedUnderAny {T} ticking =
     (t : T) (parsed held piece : List ℕ) (t' : T) (parsed' held' : List ℕ) (calls : List Call)
@@ -99,7 +98,7 @@ NeverTears = (parsed held piece parsed' : List ℕ) (hold' : Option (List ℕ)) 
 abbrev pub OpensAsCalled : Type 0
 OpensAsCalled = (last : Option ℕ) (e : Event) → list_any is_opening (calls_of last e) ≡ opens e
 
--- the same of the calls of several events
+-- several events' calls contain it exactly when one of the events opens an update
 abbrev pub OpensAsAllCalled : Type 0
 OpensAsAllCalled = (last : Option ℕ) (es : List Event) → list_any is_opening (calls_of_all last es) ≡ list_any opens es
 

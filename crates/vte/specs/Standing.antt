@@ -20,7 +20,7 @@ pub record IsStateAfter {T A : Type 0} (p : Processor T A) (parsed held : List �
   pub holds : p.held.items ≡ held
   pub no_end : NoneFrom end_mark held 0
 
--- the same, and the timeout says whether an update is open
+-- the processor is in such a state, and the timeout says whether an update is open
 pub record HoldsAt {T A : Type 0} (ticking : Ticking T) (p : Processor T A) (parsed : List ℕ) (hold : Option (List ℕ))
     : Type 0 where
   pub state_after : IsStateAfter p parsed (held_of hold)

@@ -9,10 +9,9 @@ ghost use Rattle.vte_types.specs.Mode.{mode_of, private_mode_of};
 ghost use Rattle.vte.specs.Escape.{calls_at};
 ghost use Rattle.vte.specs.Sgr.{first};
 ghost use Rattle.vte.specs.Csi.{number_or, rest, nonzero, identify_calls, clear_screen_rows, clear_line_rows};
-ghost use Rattle.vte.specs.Csi.{clear_tabs_rows};
-ghost use Rattle.vte.specs.Csi.{repeat_calls, window_rows, keyboard_modes, behaviour_of, asks_four, calls_by};
-ghost use Rattle.vte.specs.Csi.{equals_rows, less_rows, space_rows, dollar_rows, question_dollar_rows, question_rows};
-ghost use Rattle.vte.specs.Csi.{char_path, update_mode, style_rows, csi_calls, opens_group};
+ghost use Rattle.vte.specs.Csi.{clear_tabs_rows, repeat_calls, window_rows, keyboard_modes, behaviour_of, asks_four};
+ghost use Rattle.vte.specs.Csi.{calls_by, equals_rows, less_rows, space_rows, dollar_rows, question_dollar_rows};
+ghost use Rattle.vte.specs.Csi.{question_rows, char_path, update_mode, style_rows, csi_calls, opens_group};
 ghost use Rattle.vte.specs.Csi.{opening_groups, greater_rows};
 ghost use Rattle.vte.specs.Timeout.{Ticked, sets_of};
 
@@ -59,7 +58,8 @@ fn first_or(params: &Params, default: u16) -> u16
     }
 }
 
-/// The first number where a group has several numbers, or the default if it is 0. That is rare, so it isn't inlined.
+/// The first number where a group has several numbers, or the default if it is 0.
+// It isn't inlined, since it is rare.
 #[inline(never)]
 fn first_of_groups(params: &Params, default: u16) -> u16
     ensures number { result ≡ number_or default params.now }
@@ -92,14 +92,14 @@ pub fn csi<H: Handler, T: Timeout>(
     ensures opened { result ≡ list_any opens_group (opening_groups params.now intermediates.now action) }
 {
     if intermediates.is_empty() {
-        plain(handler, last, params, action);
+        unmarked(handler, last, params, action);
         return false;
     }
     marked(handler, timeout, params, intermediates, action)
 }
 
-/// Makes the calls of a control sequence with intermediates, and returns whether it opened an update. It isn't inlined,
-/// so that sequences without intermediates need no stack for its borrows.
+/// Makes the calls of a control sequence with intermediates, and returns whether it opened an update.
+// It isn't inlined, so that sequences without intermediates need no stack for its borrows.
 #[inline(never)]
 fn marked<H: Handler, T: Timeout>(
     handler: &mut H,
@@ -145,21 +145,21 @@ fn identify_terminal<H: Handler>(handler: &mut H, params: &Params, intermediates
 /// Sequences without intermediates: those that most streams have most of, and any other. They are compared one by one,
 /// since a jump by a table is often mispredicted.
 #[inline(always)]
-fn plain<H: Handler>(handler: &mut H, last: Option<char>, params: &Params, action: char)
+fn unmarked<H: Handler>(handler: &mut H, last: Option<char>, params: &Params, action: char)
     ensures { Calls H.step handler.old (csi_calls last params.now [] action) handler.new }
 {
     match action {
         'm' => sgr(handler, params),
         'H' => goto(handler, params),
         'K' => clear_line(handler, first_or(params, 0)),
-        _ => any_plain(handler, last, params, action),
+        _ => any_unmarked(handler, last, params, action),
     }
 }
 
 /// Any sequence without intermediates, by the whole table.
 // It isn't inlined, so that the frequent sequences need no stack for its calls.
 #[inline(never)]
-fn any_plain<H: Handler>(handler: &mut H, last: Option<char>, params: &Params, action: char)
+fn any_unmarked<H: Handler>(handler: &mut H, last: Option<char>, params: &Params, action: char)
     ensures { Calls H.step handler.old (csi_calls last params.now [] action) handler.new }
 {
     match action {
@@ -222,8 +222,8 @@ fn place_in(params: &Params) -> (u16, u16)
     place_in_groups(params)
 }
 
-/// The first two numbers where there are fewer, or a group has several, each 1 if there is none or it is 0. That is rare,
-/// so it isn't inlined.
+/// The first two numbers where there are fewer, or a group has several, each 1 if there is none or it is 0.
+// It isn't inlined, since it is rare.
 #[inline(never)]
 fn place_in_groups(params: &Params) -> (u16, u16)
     ensures first { result.0 ≡ number_or 1 params.now }
@@ -237,6 +237,7 @@ fn place_in_groups(params: &Params) -> (u16, u16)
 }
 
 /// DECSTBM (`r`).
+// It isn't inlined, so that the other sequences need no stack for its groups.
 #[inline(never)]
 fn set_scrolling_region<H: Handler>(handler: &mut H, params: &Params)
     ensures { H.step handler.old (set_scrolling_region_call (number_or 1 params.now)
@@ -303,6 +304,7 @@ fn window<H: Handler>(handler: &mut H, number: u16)
 }
 
 /// REP (`b`): prints the last printed character `count` times.
+// It isn't inlined, so that the other sequences need no stack for its loop.
 #[inline(never)]
 fn repeat<H: Handler>(handler: &mut H, last: Option<char>, count: u16)
     ensures { Calls H.step handler.old (repeat_calls last count) handler.new }
@@ -315,6 +317,7 @@ fn repeat<H: Handler>(handler: &mut H, last: Option<char>, count: u16)
 }
 
 /// SM (`h`).
+// It isn't inlined, so that the other sequences need no stack for its groups.
 #[inline(never)]
 fn set_modes<H: Handler>(handler: &mut H, params: &Params)
     ensures { Calls H.step handler.old (map (λ g. set_mode_call (mode_of (first g))) params.now) handler.new }
@@ -326,6 +329,7 @@ fn set_modes<H: Handler>(handler: &mut H, params: &Params)
 }
 
 /// RM (`l`).
+// It isn't inlined, so that the other sequences need no stack for its groups.
 #[inline(never)]
 fn unset_modes<H: Handler>(handler: &mut H, params: &Params)
     ensures { Calls H.step handler.old (map (λ g. unset_mode_call (mode_of (first g))) params.now) handler.new }

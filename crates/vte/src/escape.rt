@@ -1,15 +1,15 @@
 //! Control characters and escape sequences (ECMA-48, the DEC terminals).
 ghost use Rattle.std.specs.Prelude.{◌≡◌};
 ghost use Rattle.vte_types.specs.Call.{Calls};
-ghost use Rattle.vte.specs.Escape.{calls_at, execute_calls, escape_calls, plain_escape_rows, charset_calls};
+ghost use Rattle.vte.specs.Escape.{calls_at, execute_calls, escape_calls, unmarked_escape_rows, charset_calls};
 ghost use Rattle.vte.specs.Escape.{charset_index};
 
 use vte_types::C0;
 use vte_types::charset::{CharsetIndex, StandardCharset};
 use vte_types::handler::Handler;
 
-/// Makes the call of a control character, if it has one. The frequent ones are compared first, since a jump by a table is
-/// often mispredicted.
+/// Makes the call of a control character, if it has one. The frequent ones are compared first, since a jump by a table
+/// is often mispredicted.
 #[inline(always)]
 pub fn execute<H: Handler>(handler: &mut H, byte: u8)
     ensures { Calls H.step handler.old (execute_calls byte) handler.new }
@@ -47,7 +47,7 @@ pub fn escape<H: Handler>(handler: &mut H, intermediates: &[u8], byte: u8)
     ensures { Calls H.step handler.old (escape_calls intermediates.now byte) handler.new }
 {
     match intermediates {
-        [] => plain_escape(handler, byte),
+        [] => unmarked_escape(handler, byte),
         [b'#'] => {
             if byte == b'8' {
                 handler.decaln();
@@ -59,8 +59,8 @@ pub fn escape<H: Handler>(handler: &mut H, intermediates: &[u8], byte: u8)
 }
 
 /// Makes the calls of an escape sequence without intermediates.
-fn plain_escape<H: Handler>(handler: &mut H, byte: u8)
-    ensures { Calls H.step handler.old (calls_at byte plain_escape_rows) handler.new }
+fn unmarked_escape<H: Handler>(handler: &mut H, byte: u8)
+    ensures { Calls H.step handler.old (calls_at byte unmarked_escape_rows) handler.new }
 {
     match byte {
         b'D' => handler.linefeed(),

@@ -35,8 +35,8 @@ impl<T: Timeout + Drop, A: Allocator> Processor<T, A> {
     ghost use Rattle.vte_core.specs.Standing.{IsAfter};
     ghost use Rattle.vte.specs.Marks.{end_mark, NoneFrom};
     ghost use Rattle.vte.specs.Stretch.{last_of};
-    ghost use Rattle.vte.specs.Standing.{timeout_of, IsStateAfter, HoldsAt, Advanced, Taken, Emptied, Held, Parsed, Begun};
-    ghost use Rattle.vte.specs.Standing.{Unopened, GoesOn};
+    ghost use Rattle.vte.specs.Standing.{timeout_of, IsStateAfter, HoldsAt, Advanced, Taken, Emptied, Held, Parsed};
+    ghost use Rattle.vte.specs.Standing.{Begun, Unopened, GoesOn};
     ghost use Rattle.std.specs.Prelude.{None, Some, true, false, take};
 
     /// A processor that has read nothing. It reserves 2,097,150 bytes for held bytes, so that no later call needs

@@ -17,8 +17,8 @@ use vte_types::color::{Color, NamedColor};
 use vte_types::handler::Handler;
 use vte_types::rgb::Rgb;
 
-/// The colour of SGR 30 + n and 40 + n.
-fn plain(number: u16) -> NamedColor
+/// The normal colour of SGR 30 + n and 40 + n.
+fn normal(number: u16) -> NamedColor
     requires { number < 8 }
     ensures text { lookup (30 + number) singles ≡ Some (said.Foreground (Named result)) }
     ensures ground { lookup (40 + number) singles ≡ Some (said.Background (Named result)) }
@@ -35,7 +35,7 @@ fn plain(number: u16) -> NamedColor
     }
 }
 
-/// The colour of SGR 90 + n and 100 + n.
+/// The bright colour of SGR 90 + n and 100 + n.
 fn bright(number: u16) -> NamedColor
     requires { number < 8 }
     ensures text { lookup (90 + number) singles ≡ Some (said.Foreground (Named result)) }
@@ -53,16 +53,16 @@ fn bright(number: u16) -> NamedColor
     }
 }
 
-/// Makes the call of a group of one number, if that sets an attribute by itself. The numbers that most streams have most of
-/// are compared first, since a jump by a table is often mispredicted.
+/// Makes the call of a group of one number, if that sets an attribute by itself. The numbers that most streams have
+/// most of are compared first, since a jump by a table is often mispredicted.
 #[inline(always)]
 fn set_single<H: Handler>(handler: &mut H, code: u16)
     ensures { Calls H.step handler.old (map terminal_attribute (option_to_list (lookup code singles))) handler.new }
 {
     match code {
         0 => handler.terminal_attribute(Attr::Reset),
-        30..=37 => set_foreground(handler, plain(code - 30)),
-        40..=47 => set_background(handler, plain(code - 40)),
+        30..=37 => set_foreground(handler, normal(code - 30)),
+        40..=47 => set_background(handler, normal(code - 40)),
         39 => set_foreground(handler, NamedColor::Foreground),
         _ => set_any_single(handler, code),
     }
@@ -93,9 +93,9 @@ fn set_any_single<H: Handler>(handler: &mut H, code: u16)
         27 => handler.terminal_attribute(Attr::CancelReverse),
         28 => handler.terminal_attribute(Attr::CancelHidden),
         29 => handler.terminal_attribute(Attr::CancelStrike),
-        30..=37 => set_foreground(handler, plain(code - 30)),
+        30..=37 => set_foreground(handler, normal(code - 30)),
         39 => set_foreground(handler, NamedColor::Foreground),
-        40..=47 => set_background(handler, plain(code - 40)),
+        40..=47 => set_background(handler, normal(code - 40)),
         49 => set_background(handler, NamedColor::Background),
         59 => handler.terminal_attribute(Attr::UnderlineColor(None)),
         90..=97 => set_foreground(handler, bright(code - 90)),
@@ -285,6 +285,7 @@ fn attribute(group: &[u16]) -> Option<Attr>
 }
 
 /// Makes the calls of groups.
+// It isn't inlined, since it would stand at each call of `sgr`.
 #[inline(never)]
 fn set_groups<H: Handler>(handler: &mut H, params: &Params)
     ensures { Calls H.step handler.old (map terminal_attribute (attributes nothing params.now)) handler.new }
@@ -320,8 +321,8 @@ fn color_in_numbers(numbers: &[u16]) -> (Option<Color>, usize)
     }
 }
 
-/// Makes the call of a number in a group of its own. A colour also takes the numbers after it. Returns how many of those
-/// it takes. The numbers that most streams have most of are told apart here, and any other by the table.
+/// Makes the call of a number in a group of its own. A colour also takes the numbers after it. Returns how many of
+/// those it takes. The numbers that most streams have most of are told apart here, and any other by the table.
 #[inline(always)]
 fn set_number<H: Handler>(handler: &mut H, code: u16, others: &[u16]) -> usize
     ensures calls { SetsFirst H.step (code ∷ []) handler.old (each_alone others.now) handler.new
@@ -358,9 +359,11 @@ fn set_number<H: Handler>(handler: &mut H, code: u16, others: &[u16]) -> usize
 }
 
 /// Makes the calls of groups of one number each.
+// It isn't inlined, since it would stand at each call of `sgr`.
 #[inline(never)]
 fn set_numbers<H: Handler>(handler: &mut H, numbers: &[u16])
-    ensures { Calls H.step handler.old (map terminal_attribute (attributes nothing (each_alone numbers.now))) handler.new }
+    ensures { Calls H.step handler.old (map terminal_attribute (attributes nothing (each_alone numbers.now)))
+        handler.new }
 {
     let mut rest = numbers;
     while let [code, others @ ..] = rest {

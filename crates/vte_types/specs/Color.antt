@@ -3,7 +3,7 @@ use Rattle.std.specs.Prelude.{◌≡◌, Bool, true, false}
 use Rattle.vte_types.specs.declared.color.NamedColor.{NamedColor}
 use Rattle.vte_types.specs.declared.color.NamedColor.TheVariants as c
 
--- bright for plain, plain for dim; others stay
+-- bright for normal, normal for dim; others stay
 abbrev pub bright_of : NamedColor → NamedColor
 bright_of c.Black = c.BrightBlack
 bright_of c.Red = c.BrightRed
@@ -25,7 +25,7 @@ bright_of c.Foreground = c.BrightForeground
 bright_of c.DimForeground = c.Foreground
 bright_of x = x
 
--- dim for plain, plain for bright; others stay
+-- dim for normal, normal for bright; others stay
 abbrev pub dim_of : NamedColor → NamedColor
 dim_of c.BrightBlack = c.Black
 dim_of c.BrightRed = c.Red

@@ -106,7 +106,7 @@ const _: () = prove!(
 );
 
 impl NamedColor {
-    /// The next brighter colour: bright for plain, plain for dim. A colour without one stays.
+    /// The next brighter colour: bright for normal, normal for dim. A colour without one stays.
     pub fn to_bright(self) -> Self
         ensures { result ≡ bright_of self }
     {
@@ -133,7 +133,7 @@ impl NamedColor {
         }
     }
 
-    /// The next dimmer colour: dim for plain, plain for bright. A colour without one stays.
+    /// The next dimmer colour: dim for normal, normal for bright. A colour without one stays.
     pub fn to_dim(self) -> Self
         ensures { result ≡ dim_of self }
     {

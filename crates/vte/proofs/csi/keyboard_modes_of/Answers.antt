@@ -5,7 +5,8 @@ use Rattle.vte.proofs.csi.keyboard_modes_of.Goals as goal
 
 low_bits : (n : ℕ) → bit_and (bit_and n 255) 31 ≡ n % 32
 low_bits n =
-    let drop : n % 256 % 32 ≡ n % 32 = omega arith in ap (λ k. bit_and k 31) (and_mask n 8) ∙ (and_mask (n % 256) 5 ∙ drop)
+    let drop : n % 256 % 32 ≡ n % 32 = omega arith in ap (λ k. bit_and k 31) (and_mask n 8)
+    ∙ (and_mask (n % 256) 5 ∙ drop)
 
 pub returns : goal.returns
 unfolding bitflags_on_literals

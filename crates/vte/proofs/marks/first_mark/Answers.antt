@@ -26,7 +26,8 @@ returns-in-Some-mark_around c =
       here.0,
       omega (arith, inside, here.1),
       here.2,
-      λ k low below. none_before c.args.mark.now text c.args.from c.loop-at.next c.in-Some.at (omega (arith, c.told-mark))
+      λ k low below. none_before c.args.mark.now text c.args.from c.loop-at.next c.in-Some.at
+          (omega (arith, c.told-mark))
           (omega (arith, inside)) c.loop-at.invariant.none found.before k low (omega (arith, below, here.1)),
     )
 

@@ -10,7 +10,8 @@ use Rattle.vte.proofs.marks.last_mark.Goals as goal
 -- that place
 none_behind : (mark text : List ℕ) (from end i : ℕ) → 2 < length mark → from ≤ end → end ≤ length text
     → ((k : ℕ) → from ≤ k → end ≤ k + 2 → is_found_at mark text k ≡ false)
-    → (let part = take (end - from) (drop from text) in Nowhere (Passes (is_byte (slice_index mark 2)) part) i (length part))
+    → (let part = take (end - from) (drop from text) in Nowhere (Passes (is_byte (slice_index mark 2)) part) i
+    (length part))
     → (k : ℕ) → from ≤ k → from + i ≤ k + 2 → is_found_at mark text k ≡ false
 none_behind mark text from end i some above within behind nowhere k low after =
     let part : length (take (end - from) (drop from text)) ≡ end - from =

@@ -1,5 +1,5 @@
-use Rattle.std.proofs.Common.{◌≡◌, ◌∙◌, ◌∷◌, [], ap, sym, List, ℕ, Some, None, length, map, option_map, ◌==◌, true, false}
-use Rattle.std.proofs.Common.{refl}
+use Rattle.std.proofs.Common.{◌≡◌, ◌∙◌, ◌∷◌, [], ap, sym, List, ℕ, Some, None, length, map, option_map, ◌==◌, true}
+use Rattle.std.proofs.Common.{false, refl}
 use Rattle.std.specs.List.{join_with_byte}
 use Rattle.vte_types.specs.Call as call
 use Rattle.vte_types.specs.Call.{Link}

@@ -20,7 +20,8 @@ returns-clause-performed g c past state_after =
     let is = added-is 1024 past bytes reported.reported (reported.added past state_after) in
     performs_all g.H.Handler.step g.T.Timeout.ticking (λ p. p.handler.now) (λ p. p.state.now)
     (λ p. p.terminated) _ (λ p e q s. s.0) _
-    (added past bytes) _ (added-fits 1024 past bytes) (same_events _ _ _ reported.reported (added past bytes) is reported.performed)
+    (added past bytes) _ (added-fits 1024 past bytes)
+    (same_events _ _ _ reported.reported (added past bytes) is reported.performed)
 
 positive : (n : ℕ) → (n ≡ 0 → ⊥) → 0 < n
 positive n h = omega (arith, h)

@@ -7,5 +7,6 @@ use Rattle.vte.proofs.sgr.set_number.Goals as goal
 pub returns-in_default-clause-calls : goal.returns-in_default-clause-calls
 returns-in_default-clause-calls g c =
     let none : target_of c.args.code ≡ None = search rules in
-    sets-single g.H.Handler.step c.args.code c.args.handler.now (each_alone c.args.others.now) c.set_single.new.handler none
+    sets-single g.H.Handler.step c.args.code c.args.handler.now
+    (each_alone c.args.others.now) c.set_single.new.handler none
     c.set_single.ensures

@@ -1,11 +1,10 @@
-use Rattle.std.proofs.Common.{◌≡◌, ◌<◌, ◌≤◌, ◌==◌, ◌∙◌, sym, ℕ, [], ◌++◌, length, length-append, ap, arith}
-use Rattle.std.proofs.Common.{false}
+use Rattle.std.proofs.Common.{◌≡◌, ◌<◌, ◌≤◌, ◌==◌, ◌∙◌, sym, ℕ, [], ◌++◌, length, length-append, ap, arith, false}
 use Rattle.std.proofs.lemmas.Bool.{eqb-true}
 use Rattle.std.proofs.lemmas.List.{nil_from_length}
 use Rattle.std.proofs.lemmas.Bool.Decides.{nat_tests}
 use Rattle.vte.specs.Hold.{limit}
 use Rattle.vte.specs.Advances.{IsEmptied}
-use Rattle.vte.proofs.TurnLemmas.{plain_turn, turn_after, held_advances}
+use Rattle.vte.proofs.TurnLemmas.{idle_turn, turn_after, held_advances}
 use Rattle.vte.proofs.processor.Processor.turn.Goals as goal
 use Rattle.vte.proofs.processor.Processor.turn.Goals.{then-pending_timeout+else-piece-len}
 use Rattle.vte.proofs.processor.Processor.turn.Goals.{else-pending_timeout+else-is_empty}
@@ -15,11 +14,11 @@ positive n h = grind (arith, nat_tests)
 
 pub returns-then-is_empty-clause-led : goal.returns-then-is_empty-clause-led
 returns-then-is_empty-clause-led g c parsed held at =
-    let plain = rw c.if-pending_timeout.false at c.pending_timeout.ensures in
+    let free = rw c.if-pending_timeout.false at c.pending_timeout.ensures in
     let none = eqb-true _ 0 (sym c.is_empty.ensures ∙ c.if-is_empty.true) in
     let empty : held ≡ [] = nil_from_length held (omega (arith, ap length at.holds, c.args.self.now.held.ok.0, none)) in
-    plain_turn g.T.Timeout.ticking g.H.Handler.step c.begin.result _ parsed held
-    c.args.piece.now _ _ _ empty plain (c.begin.ensures.led parsed held at)
+    idle_turn g.T.Timeout.ticking g.H.Handler.step c.begin.result _ parsed held
+    c.args.piece.now _ _ _ empty free (c.begin.ensures.led parsed held at)
 
 pub returns-then-piece-len-clause-led : goal.returns-then-piece-len-clause-led
 returns-then-piece-len-clause-led g c parsed held at =
