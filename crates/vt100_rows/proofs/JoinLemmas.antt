@@ -160,10 +160,10 @@ IsRow-joined_in_place v col c r s z h l =
     (plain-continuation (f i) c ∙ whole) (plain-wide (f i) c) (IsCell-plain (f i) c (r.cells i) s z whole)
     (plain-filled (f i) c)
 
-pub joins-in_place : (v : RowView) (xs ys : List CellView) (col n i c : ℕ) (x y : CellView) → xs ≡ v.cells
+pub joins-unwidened : (v : RowView) (xs ys : List CellView) (col n i c : ℕ) (x y : CellView) → xs ≡ v.cells
     → ys ≡ v.cells → n ≡ col → i ≡ base_col (cell_at xs) n → y ≡ cell_at ys i → x ≡ appended_in_place y c → 0 < col
     → col ≤ length v.cells → record { cells = set v.cells i x; wrapped = v.wrapped } ≡ joined_in_place v col c
-joins-in_place v xs ys col n i c x y exs eys en ei ey ex h l =
+joins-unwidened v xs ys col n i c x y exs eys en ei ey ex h l =
     let both = joins-cells (λ z. appended_in_place z c) v xs ys col n i x y exs eys en ei ey ex h l in
     λ k. record { cells = both.1 k; wrapped = v.wrapped }
 

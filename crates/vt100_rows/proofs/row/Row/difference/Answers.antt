@@ -15,8 +15,8 @@ returns-then-is_drawn c =
     c.args.place.was_above c.args.pen.now (string_bytes c.args.contents.now) (drawn.row yes) (drawn.above yes)
     (drawn.closed yes) (drawn.kept yes))
 
-pub returns-then-cols-start : goal.returns-then-cols-start
-returns-then-cols-start c =
+pub returns-then-cols-place : goal.returns-then-cols-place
+returns-then-cols-place c =
     let v = c.args.self.now in
     let earlier = c.args.prev.now in
     let outside : min (length v.cells) (length earlier.cells) ≤ c.args.place.start =

@@ -5,7 +5,7 @@ use Rattle.vt100_cells.specs.Cells.{cell_at}
 use Rattle.vt100_cells.specs.Line.{base_col}
 use Rattle.vt100_cells.proofs.JoinedCells.{base_col-whole}
 use Rattle.vt100_rows.specs.Row.{RowView, joined_in_place}
-use Rattle.vt100_rows.proofs.JoinLemmas.{IsRow-joined_in_place, joins-in_place}
+use Rattle.vt100_rows.proofs.JoinLemmas.{IsRow-joined_in_place, joins-unwidened}
 use Rattle.vt100_rows.proofs.RowLemmas.{IsRow-at}
 use Rattle.vt100_rows.proofs.BlankLemmas.{blank-set, base-before}
 use Rattle.vt100_rows.proofs.row.Row.join_in_place.Goals as goal
@@ -42,7 +42,7 @@ returns c =
       c.from.ensures,
       base-before (cell_at c.deref.result.now) c.from.result (omega (arith, c.from.ensures, c.requires.after_some)),
     )) c.index_mut.ensures.value in
-    joins-in_place (record { cells = c.self.inside.cells.items; wrapped = c.self.inside.wrapped }) c.deref.result.now
+    joins-unwidened (record { cells = c.self.inside.cells.items; wrapped = c.self.inside.wrapped }) c.deref.result.now
     c.self.inside.cells.items c.args.col c.from.result c.base_col-base.result c.args.c c.join_in_place.new.self
     c.index_mut.result.now c.deref.ensures.value refl c.from.ensures c.base_col-base.ensures
     cell c.join_in_place.ensures c.requires.after_some within

@@ -7,8 +7,8 @@ use Rattle.row_drawing.proofs.WritesLemmas.{appended_none}
 use Rattle.vt100_rows.proofs.FormsLemmas.{wrote_row_none}
 use Rattle.vt100_rows.proofs.row.Row.redraw.Goals as goal
 
-pub returns-then-cols-start : goal.returns-then-cols-start
-returns-then-cols-start c =
+pub returns-then-cols-place : goal.returns-then-cols-place
+returns-then-cols-place c =
     let outside : length c.args.self.now.cells ≤ c.args.place.start = omega (arith, c.cols-cols.ensures) in
     appended_none _ (wrote_row_none c.args.self.now c.args.place.start c.args.place.width c.args.place.row c.args.place.above c.args.pen.now
     (string_bytes c.args.contents.now) outside)
