@@ -6,13 +6,12 @@ import os
 import re
 import shutil
 import socket
-import ssl
 import sys
 import time
 import unittest
 
 from . import chromium
-from .nginx import Nginx, free_port, has
+from .nginx import Nginx, has
 from .sharing import Shared, Watching, wait_for
 from .test_page import Page
 
@@ -20,7 +19,8 @@ TOKEN, OTHER = "KzT4h0u2bGx7mWq1RjYc", "aaaaaaaaaaaaaaaaaaaa"
 PUBLISHED = f"/demo/events?token={TOKEN}"
 COUNTING = """
 import itertools, os, sys, time
-for n in itertools.takewhile(lambda n: n < %d and not os.path.exists('%s'), itertools.count()): print('\\x1b[H' + '\\n'.join(f'{n} ' * 9 for _ in range(9))); time.sleep(.05)
+for n in itertools.takewhile(lambda n: n < %d and not os.path.exists('%s'), itertools.count()):
+    print('\\x1b[H' + '\\n'.join(f'{n} ' * 9 for _ in range(9))); time.sleep(.05)
 print('\\x1b[H\\x1b[Jthe end'); time.sleep(.3); sys.exit(3)
 """
 
@@ -35,7 +35,7 @@ class Published(Page):
         if room:
             self.sock.setsockopt(socket.SOL_SOCKET, socket.SO_RCVBUF, room)
 
-    def join(self) -> ssl.SSLSocket:
+    def join(self) -> socket.socket:
         """A new connection."""
         self.joins += 1
         sock = self.nginx.connect()
@@ -259,8 +259,8 @@ class Stream(unittest.TestCase):
             host, port = first.place()
             command = f"import os; os.execvp('socat', ['socat', '-u', 'tcp:{host}:{port}', '-'])"
             with Shared(command) as second:
-                ports = {"7001": str(port), "7002": str(second.place()[1])}
-                with Nginx("stream.conf", **{f"127.0.0.1:{old}": f"127.0.0.1:{new}" for old, new in ports.items()}) as nginx:
+                places = {"127.0.0.1:7001": "%s:%d" % first.place(), "127.0.0.1:7002": "%s:%d" % second.place()}
+                with Nginx("stream.conf", **places) as nginx:
                     nginx.start()
                     watchers = [Watching(first, sock=nginx.connect()) for _ in range(6)]
                     for watcher in watchers:
