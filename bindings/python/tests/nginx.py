@@ -30,6 +30,12 @@ def free_port() -> int:
         return sock.getsockname()[1]
 
 
+def is_taken(port: int) -> bool:
+    """Whether somebody listens at a port of the loopback."""
+    with socket.socket() as sock:
+        return not sock.connect_ex(("127.0.0.1", port))
+
+
 class Nginx:
     """nginx, from a shipped file. Its folders are replaced by one, and its port by a free one."""
 

@@ -6,12 +6,13 @@ import os
 import re
 import shutil
 import socket
+import subprocess
 import sys
 import time
 import unittest
 
 from . import chromium
-from .nginx import Nginx, has
+from .nginx import Nginx, free_port, has, is_taken
 from .sharing import Shared, Watching, wait_for
 from .test_page import Page
 
@@ -234,6 +235,34 @@ class WithNchan(unittest.TestCase):
             shared.end()
             self.publish(nginx, "print('another run'); input()")
             wait_for(lambda: value("state") == "live" and value("text").strip() == "another run", 30)
+
+
+@unittest.skipUnless(has("nchan") and shutil.which("redis-server"), "there is no nginx with nchan, or no redis")
+class WithRedis(unittest.TestCase):
+    def test_two_servers(self):
+        """What is posted to one is read from both, from the last whole message on."""
+        port = free_port()
+        words = ["redis-server", "--port", str(port), "--bind", "127.0.0.1", "--save", "", "--appendonly", "no"]
+        redis = subprocess.Popen(words, stdin=subprocess.DEVNULL, stdout=subprocess.DEVNULL)
+        self.addCleanup(redis.wait)
+        self.addCleanup(redis.terminate)
+        wait_for(lambda: is_taken(port))
+        store = {"# upstream": "upstream", "# nchan_redis_pass": "nchan_redis_pass", ":6379": f":{port}"}
+        with Nginx("nginx.conf", **store) as one, Nginx("nginx.conf", **store) as other:
+            for nginx in (one, other):
+                nginx.write("tokens.conf", f'"demo:{TOKEN}" 1;\n')
+                nginx.start()
+            words = ("--publish", f"{one.folder}/pub.sock", "--as", "demo")
+            with Shared(COUNTING % (120, ""), *words) as shared:
+                pages = [Published(one), Published(other)]
+                pages[0].read_until("1")
+                pages.append(Published(other))  # it comes late
+                for page in pages:
+                    page.read_to_the_end()
+                    page.sock.close()
+                    self.assertEqual((page.lost, page.rows[0], page.ended), (0, "the end", 3))
+                    self.assertIn("size", page.messages[0])
+                self.assertEqual(shared.end(), 3)
 
 
 @unittest.skipUnless(has() and shutil.which("openssl"), "there is no nginx or openssl")
