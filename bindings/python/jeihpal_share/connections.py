@@ -11,7 +11,7 @@ from typing import Callable
 from .notices import Notices
 
 _SEND_BUFFER = 16384  # bytes that the kernel keeps for a slow one at most, so that what comes is new
-_MOST_UNSENT = 4096  # of these, bytes that it may keep without having sent them
+_UNSENT = 1  # with fewer bytes than so many that it hasn't sent yet it takes more
 _PIECE = 65536
 _AT_ONCE = 100  # connections that are taken before others have their turn
 _BACKLOG = 4096  # connections that wait in the kernel to be taken
@@ -132,11 +132,12 @@ class Crowd:
     def __init__(self) -> None:
         self._level: set[Connection] = set()
         self._late: set[Connection] = set()
+        self._parting: set[Connection] = set()  # those that are sent the farewell
         self._mark = 0
         self._farewell: bytes | None = None
 
     def __len__(self) -> int:
-        return len(self._level) + len(self._late)
+        return len(self._level) + len(self._late) + len(self._parting)
 
     def lead(self, connection: Connection) -> bytes:
         """What leads a connection from what it has to where the others are; nothing where that must be made first."""
@@ -186,32 +187,43 @@ class Crowd:
         self._late.discard(connection)
         self._level.add(connection)
         connection.give(data)
-        if self._farewell is not None and not connection.is_sending:
-            self.leave(connection, self._farewell)
+        if not connection.is_sending:
+            self._part(connection)
 
     def has_room(self, connection: Connection) -> None:
         """A connection has taken what it was sent, later than the others."""
         if connection in self._late:
             self._lift(connection)
-        elif self._farewell is not None:
-            self.leave(connection, self._farewell)
+        elif connection in self._parting:
+            self.leave(connection)
+        else:
+            self._part(connection)
+
+    def _part(self, connection: Connection) -> None:
+        """Where nothing new comes, sends a connection that has the last the farewell, and ends it."""
+        if self._farewell is not None and connection in self._level:
+            self._level.discard(connection)
+            self._parting.add(connection)
+            connection.give(self._farewell)
+            if not connection.is_sending:
+                self.leave(connection)
 
     def leave(self, connection: Connection, farewell: bytes = b"") -> None:
         """Ends a connection."""
-        if connection in self._level or connection in self._late:
-            self._level.discard(connection)
-            self._late.discard(connection)
-            connection.close(farewell)
+        for group in (self._level, self._late, self._parting):
+            if connection in group:
+                group.discard(connection)
+                connection.close(farewell)
 
     def finish(self, farewell: bytes) -> None:
-        """Nothing new comes: each gets the last, and with it a farewell, as soon as it takes it."""
+        """Nothing new comes: each gets the last, and then a farewell, as soon as it takes them."""
         self._farewell = farewell
         for it in [it for it in self._level if not it.is_sending]:
-            self.leave(it, farewell)
+            self._part(it)
 
     def close(self) -> None:
         """Ends every connection."""
-        for it in [*self._level, *self._late]:
+        for it in [*self._level, *self._late, *self._parting]:
             self.leave(it)
 
 
@@ -223,7 +235,7 @@ def keep_little(sock: socket.socket) -> None:
             sock.setsockopt(socket.IPPROTO_TCP, socket.TCP_NODELAY, 1)
             sock.setsockopt(socket.SOL_SOCKET, socket.SO_KEEPALIVE, 1)
             if hasattr(socket, "TCP_NOTSENT_LOWAT"):
-                sock.setsockopt(socket.IPPROTO_TCP, socket.TCP_NOTSENT_LOWAT, _MOST_UNSENT)
+                sock.setsockopt(socket.IPPROTO_TCP, socket.TCP_NOTSENT_LOWAT, _UNSENT)
 
 
 def bid_farewell(sock: socket.socket, text: bytes) -> None:

@@ -6,6 +6,7 @@ import json
 import secrets
 import time
 from collections import OrderedDict
+from typing import Any
 
 from .moments import Moment
 
@@ -55,7 +56,7 @@ class Messages:
 
     def _made_text(self, moment: Moment, since: int, before: Moment | None) -> bytes:
         """A message's JSON."""
-        start = {"from": since} if before else {"k": 1, "name": self._name, "size": moment.size}
+        start: dict[str, Any] = {"from": since} if before else {"k": 1, "name": self._name, "size": moment.size}
         head = {"n": self.number, "run": self._run, "t": self._made, **start, "cursor": moment.cursor}
         shown = before.rows if before else [""] * len(moment.rows)
         rows = ",".join(f'"{at}":{row}' for at, row in enumerate(moment.rows) if row != shown[at])

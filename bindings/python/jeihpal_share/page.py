@@ -162,7 +162,8 @@ class Browsers(Crowd):
 def _page(is_head: bool) -> bytes:
     """The answer that is the page, or its head alone."""
     nonce = secrets.token_urlsafe(16)
-    return head_of("200 OK", _PAGE_FIELDS.format(nonce)) + (b"" if is_head else _PAGE.replace("RANDOM-WORD", nonce).encode())
+    head = head_of("200 OK", _PAGE_FIELDS.format(nonce))
+    return head if is_head else head + _PAGE.replace("RANDOM-WORD", nonce).encode()
 
 
 def _event(message: bytes) -> bytes:

@@ -159,7 +159,7 @@ class Sockets:
         if self._options.publish:
             said.append(f"published as {self._options.name} to {self._options.publish}")
         if self._options.token:
-            said.append(f"the token in {self._options.token} is wanted: as a first line, or behind /?token= in a browser")
+            said.append(f"the token in {self._options.token} is wanted: as a first line, by a browser behind /?token=")
         for line in said:
             print(f"share: {line}", file=sys.stderr, flush=True)
 
@@ -221,6 +221,11 @@ async def _share(
     return command.status or 0
 
 
+def _reason(error: OSError) -> str:
+    """What failed, and with which file."""
+    return ": ".join(filter(None, (error.filename, error.strerror or str(error))))
+
+
 def main(words: list[str] | None = None) -> int:
     """Runs share. Answers its status: the command's, 127 where there is no such command, 1 where it can't begin."""
     options = parsed(sys.argv[1:] if words is None else words)
@@ -232,7 +237,7 @@ def main(words: list[str] | None = None) -> int:
         try:
             sockets = Sockets(options, stack)
         except OSError as error:
-            print(f"share: can't begin: {error.strerror or error}", file=sys.stderr)
+            print(f"share: can't begin: {_reason(error)}", file=sys.stderr)
             return 1
         local = LocalTerminal() if LocalTerminal.is_there() else None
         size = options.size or (window(local.fd) if local else (24, 80))

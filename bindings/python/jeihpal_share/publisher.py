@@ -1,4 +1,4 @@
-"""The screen for an nginx with nchan, which hands it on to browsers: one message after the other, over a Unix socket."""
+"""The screen for an nginx with nchan, which hands it on to browsers. It is posted over a Unix socket."""
 
 from __future__ import annotations
 

@@ -83,7 +83,7 @@ async def _read_head(loop: asyncio.AbstractEventLoop, sock: socket.socket) -> tu
             raise Refused("431 Request Header Fields Too Large")
         more = await loop.sock_recv(sock, MOST_HEADER)
         if not more:
-            raise Refused("400 Bad Request") if data else ConnectionResetError
+            raise Refused("400 Bad Request") if data else ConnectionResetError()
         data += more
     head, _, rest = data.partition(b"\r\n\r\n")
     if len(head) > MOST_HEADER:

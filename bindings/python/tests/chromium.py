@@ -20,7 +20,8 @@ class Chromium:
 
     def __init__(self, url: str, *more: str) -> None:
         self._folder = tempfile.mkdtemp(prefix="chromium-")
-        words = [str(PROGRAM), *_WORDS, *more, "--remote-debugging-pipe", f"--user-data-dir={self._folder}", "about:blank"]
+        more = (*more, "--remote-debugging-pipe", f"--user-data-dir={self._folder}")
+        words = [str(PROGRAM), *_WORDS, *more, "about:blank"]
         there, self._write = os.pipe()
         self._read, back = os.pipe()
         # It reads commands at 3 and writes answers at 4.

@@ -30,10 +30,16 @@ def free_port() -> int:
         return sock.getsockname()[1]
 
 
+def is_taken(port: int) -> bool:
+    """Whether somebody listens at a port of the loopback."""
+    with socket.socket() as sock:
+        return not sock.connect_ex(("127.0.0.1", port))
+
+
 class Nginx:
     """nginx, from a shipped file. Its folders are replaced by one, and its port by a free one."""
 
-    def __init__(self, name: str, **changes: str) -> None:
+    def __init__(self, name: str, is_plain: bool = False, **changes: str) -> None:
         self.folder = tempfile.mkdtemp(prefix="nginx-")
         os.chmod(self.folder, 0o755)
         self.port = free_port()
@@ -42,7 +48,10 @@ class Nginx:
         folders = ("/run/share", "/etc/share", "/usr/local/lib/jeihpal/python")
         for before, after in zip(folders, (self.folder, self.folder, PYTHON)):
             text = text.replace(before, after)
-        text = re.sub(r"listen (443|8443)", f"listen 127.0.0.1:{self.port}", text)
+        text = re.sub(r"listen (443|8443)( ssl( http2)?)", rf"listen 127.0.0.1:{self.port}\2", text)
+        if is_plain:
+            text = text.replace(" ssl http2", "")
+        self._is_plain = is_plain
         for before, after in changes.items():
             assert before in text, before
             text = text.replace(before, after)
@@ -97,10 +106,12 @@ class Nginx:
         assert self._run
         self._run.send_signal(signal.SIGHUP)
 
-    def connect(self) -> ssl.SSLSocket:
-        """A connection over TLS, with its certificate checked."""
+    def connect(self) -> socket.socket:
+        """A connection over TLS, with its certificate checked, or a plain one."""
         context = ssl.create_default_context(cafile=f"{self.folder}/cert.pem")
         sock = socket.create_connection(("127.0.0.1", self.port), timeout=20)
+        if self._is_plain:
+            return sock
         try:
             return context.wrap_socket(sock, server_hostname="localhost")
         except OSError:

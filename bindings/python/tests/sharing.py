@@ -38,21 +38,21 @@ def processor_seconds(pid: int) -> float:
 class Shared:
     """share, run with a Python program as its command."""
 
+    ENVIRONMENT = {**os.environ, "PYTHONDONTWRITEBYTECODE": "1"}
+
     def __init__(self, program: str, *options: str, size: str = "24x80") -> None:
         words = ["-m", "jeihpal_share", "--size", size, *options, "--", sys.executable, "-u", "-c", program]
-        self.run = subprocess.Popen(
-            [sys.executable, *words],
-            cwd=PYTHON,
-            stdin=subprocess.DEVNULL,
-            stdout=subprocess.DEVNULL,
-            stderr=subprocess.PIPE,
-            env={**os.environ, "PYTHONDONTWRITEBYTECODE": "1"},
-        )
+        self.run = self._start([sys.executable, *words])
         self.rows, self.cols = map(int, size.split("x"))
         self.said = ""
         self._reader = threading.Thread(target=self._read_said, daemon=True)
         self._reader.start()
-        wait_for(lambda: self.run.poll() is not None or re.search("(terminals:|browsers:|published as) .*\n", self.said))
+        begun = "(terminals:|browsers:|published as) .*\n"
+        wait_for(lambda: self.run.poll() is not None or re.search(begun, self.said), 20)
+
+    def _start(self, words: list[str]) -> subprocess.Popen[bytes]:
+        nothing, said = subprocess.DEVNULL, subprocess.PIPE
+        return subprocess.Popen(words, cwd=PYTHON, stdin=nothing, stdout=nothing, stderr=said, env=self.ENVIRONMENT)
 
     def _read_said(self) -> None:
         assert self.run.stderr

@@ -6,13 +6,13 @@ import os
 import re
 import shutil
 import socket
-import ssl
+import subprocess
 import sys
 import time
 import unittest
 
 from . import chromium
-from .nginx import Nginx, free_port, has
+from .nginx import Nginx, free_port, has, is_taken
 from .sharing import Shared, Watching, wait_for
 from .test_page import Page
 
@@ -20,7 +20,8 @@ TOKEN, OTHER = "KzT4h0u2bGx7mWq1RjYc", "aaaaaaaaaaaaaaaaaaaa"
 PUBLISHED = f"/demo/events?token={TOKEN}"
 COUNTING = """
 import itertools, os, sys, time
-for n in itertools.takewhile(lambda n: n < %d and not os.path.exists('%s'), itertools.count()): print('\\x1b[H' + '\\n'.join(f'{n} ' * 9 for _ in range(9))); time.sleep(.05)
+for n in itertools.takewhile(lambda n: n < %d and not os.path.exists('%s'), itertools.count()):
+    print('\\x1b[H' + '\\n'.join(f'{n} ' * 9 for _ in range(9))); time.sleep(.05)
 print('\\x1b[H\\x1b[Jthe end'); time.sleep(.3); sys.exit(3)
 """
 
@@ -35,7 +36,7 @@ class Published(Page):
         if room:
             self.sock.setsockopt(socket.SOL_SOCKET, socket.SO_RCVBUF, room)
 
-    def join(self) -> ssl.SSLSocket:
+    def join(self) -> socket.socket:
         """A new connection."""
         self.joins += 1
         sock = self.nginx.connect()
@@ -236,6 +237,34 @@ class WithNchan(unittest.TestCase):
             wait_for(lambda: value("state") == "live" and value("text").strip() == "another run", 30)
 
 
+@unittest.skipUnless(has("nchan") and shutil.which("redis-server"), "there is no nginx with nchan, or no redis")
+class WithRedis(unittest.TestCase):
+    def test_two_servers(self):
+        """What is posted to one is read from both, from the last whole message on."""
+        port = free_port()
+        words = ["redis-server", "--port", str(port), "--bind", "127.0.0.1", "--save", "", "--appendonly", "no"]
+        redis = subprocess.Popen(words, stdin=subprocess.DEVNULL, stdout=subprocess.DEVNULL)
+        self.addCleanup(redis.wait)
+        self.addCleanup(redis.terminate)
+        wait_for(lambda: is_taken(port))
+        store = {"# upstream": "upstream", "# nchan_redis_pass": "nchan_redis_pass", ":6379": f":{port}"}
+        with Nginx("nginx.conf", **store) as one, Nginx("nginx.conf", **store) as other:
+            for nginx in (one, other):
+                nginx.write("tokens.conf", f'"demo:{TOKEN}" 1;\n')
+                nginx.start()
+            words = ("--publish", f"{one.folder}/pub.sock", "--as", "demo")
+            with Shared(COUNTING % (120, ""), *words) as shared:
+                pages = [Published(one), Published(other)]
+                pages[0].read_until("1")
+                pages.append(Published(other))  # it comes late
+                for page in pages:
+                    page.read_to_the_end()
+                    page.sock.close()
+                    self.assertEqual((page.lost, page.rows[0], page.ended), (0, "the end", 3))
+                    self.assertIn("size", page.messages[0])
+                self.assertEqual(shared.end(), 3)
+
+
 @unittest.skipUnless(has() and shutil.which("openssl"), "there is no nginx or openssl")
 class Front(unittest.TestCase):
     def test_names_and_passwords(self):
@@ -259,8 +288,8 @@ class Stream(unittest.TestCase):
             host, port = first.place()
             command = f"import os; os.execvp('socat', ['socat', '-u', 'tcp:{host}:{port}', '-'])"
             with Shared(command) as second:
-                ports = {"7001": str(port), "7002": str(second.place()[1])}
-                with Nginx("stream.conf", **{f"127.0.0.1:{old}": f"127.0.0.1:{new}" for old, new in ports.items()}) as nginx:
+                places = {"127.0.0.1:7001": "%s:%d" % first.place(), "127.0.0.1:7002": "%s:%d" % second.place()}
+                with Nginx("stream.conf", **places) as nginx:
                     nginx.start()
                     watchers = [Watching(first, sock=nginx.connect()) for _ in range(6)]
                     for watcher in watchers:

@@ -9,6 +9,7 @@ import socket
 import time
 import unittest
 
+from . import hostile
 from .chromium import PROGRAM, Chromium
 from .sharing import Shared, wait_for
 
@@ -124,6 +125,15 @@ class Refusals(unittest.TestCase):
                     self.assertEqual(asked(shared, request)[:12], b"HTTP/1.1 " + status)
             for status in ("400", "405", "404", "421", "431"):
                 wait_for(lambda: f"a browser was refused: {status}" in shared.said)
+
+    def test_hostile_requests(self):
+        with Shared(READY, *HTTP) as shared:
+            for request, status in hostile.REQUESTS:
+                with self.subTest(request[:60]):
+                    answer = asked(shared, request)
+                    self.assertEqual(answer[:12], b"HTTP/1.1 " + status)
+                    self.assertEqual(answer.count(b"HTTP/1.1 "), 1)
+            self.assertNotIn("Traceback", shared.said)
 
     def test_names_of_this_machine(self):
         with Shared(READY, *HTTP) as shared:
@@ -251,8 +261,9 @@ input()
 """
         with Shared(program, *HTTP, size="6x30") as shared:
             with Chromium("http://%s:%d/" % shared.place("browsers")) as browser:
-                wait_for(lambda: (browser.value("document.getElementById('text')?.textContent") or "").count("|end") == 4)
-                self.assertNotIn("\u202e", browser.value("document.getElementById('text').textContent"))
+                text = lambda: browser.value("document.getElementById('text')?.textContent") or ""
+                wait_for(lambda: text().count("|end") == 4)
+                self.assertNotIn("\u202e", text())
                 one = browser.value("document.getElementById('rows').getBoundingClientRect().width") / 30
                 left = browser.value("document.querySelector('.row').getBoundingClientRect().left")
                 self.check_columns(browser, left, one)

@@ -21,7 +21,7 @@ import time
 import unittest
 
 from . import sharing
-from .sharing import END, START, Shared, Watching, processor_seconds, wait_for
+from .sharing import START, Shared, Watching, processor_seconds, wait_for
 
 BUSY = r"""
 import sys, time
