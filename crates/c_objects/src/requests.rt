@@ -48,7 +48,7 @@ pub struct Requests {
 }
 
 impl Model for Requests {
-    ghost use Rattle.std.specs.Prelude.{◌≤◌, ◌×◌, vec_len, vec_capacity};
+    ghost use Rattle.std.specs.Prelude.{◌≤◌, vec_len, vec_capacity};
     ghost use Rattle.c_objects.specs.Requests.{RequestsView};
 
     ghost Value = { RequestsView };

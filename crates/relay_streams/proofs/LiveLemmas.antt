@@ -88,7 +88,7 @@ module _ {S : Type 0} {step : S → ℕ → Result (List ℕ) Error → S → Ty
   }
 
 -- the count of a fault doesn't depend on what else could be answered
-counts-as : (e : RelayError) (count : ℕ) → CountsReads {ℕ} (Err e) count → CountsReads {Unit {0}} (Err e) count
+counts-as : (e : RelayError) (count : ℕ) → CountsReads {A = ℕ} (Err e) count → CountsReads {A = Unit {0}} (Err e) count
 counts-as Read count h = h
 counts-as Write count h = h
 counts-as Memory count h = h
@@ -124,9 +124,9 @@ module _ {S : Type 0} {step : S → ℕ → Result (List ℕ) Error → S → Ty
       (live.more old listens (tried-gave n is) got)
 
   -- the reads made in all
-  pub tried-counts : (e : RelayError) → answer ≡ Err e → CountsReads {Unit {0}} (Err e) (before + r.made)
+  pub tried-counts : (e : RelayError) → answer ≡ Err e → CountsReads {A = Unit {0}} (Err e) (before + r.made)
   tried-counts e is =
-      subst (λ (k : ℕ). CountsReads {Unit {0}} (Err e) k) r.counted
+      subst (λ (k : ℕ). CountsReads {A = Unit {0}} (Err e) k) r.counted
       (counts-as e after (subst (λ (a : Result ℕ RelayError). CountsReads a after) is r.most))
 
   pub tried-most : (n : ℕ) → answer ≡ Ok n → after ≤ max_reads

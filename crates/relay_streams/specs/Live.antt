@@ -86,7 +86,7 @@ pub data StreamsThrough (lines : LineDrawing) {S W : Type 0} (gives : S → ℕ 
   unread : {t : S} {v : W} {n k : ℕ} (m : S) (pieces frames : List (List ℕ)) (e : RelayError)
       → Listens gives live_len s n pieces m → Tries gives live_len m k (Err e) t
       → AreRelayed rows cols (all_passed lines pieces) frames → SendsFlushed takes flushes w frames (Ok tt) v
-      → CountsReads {Unit {0}} (Err e) (n + k) → StreamsThrough lines gives takes flushes rows cols s w (Err e) t v
+      → CountsReads {A = Unit {0}} (Err e) (n + k) → StreamsThrough lines gives takes flushes rows cols s w (Err e) t v
   -- there was no memory for a piece or its frame: the frames before it were sent
   unmade : {t : S} {v : W} {n : ℕ} (pieces frames : List (List ℕ)) (piece : List ℕ)
       → Listens gives live_len s n (pieces ++ piece ∷ []) t → AreRelayed rows cols (all_passed lines pieces) frames
