@@ -16,7 +16,7 @@ use Rattle.vte_types.specs.declared.charset.StandardCharset.TheVariants.{Ascii}
 use Rattle.vte_types.specs.declared.charset.CharsetIndex.{CharsetIndex}
 use Rattle.vte_types.specs.declared.charset.CharsetIndex.TheVariants.{G0, G1, G2, G3}
 use Rattle.charset_filter.specs.Sets.{ascii, set_at, set_for, set_of, first_sets, locking, designating, drawing_set}
-use Rattle.charset_filter.specs.Sets.{after_event, after_events, after_escape, after_plain_escape}
+use Rattle.charset_filter.specs.Sets.{after_event, after_events, after_escape, after_unmarked_escape}
 use Rattle.charset_filter.specs.Given.{is_drawable, given_for, given_from}
 use Rattle.charset_filter.specs.Laws.{names_lines, names_none, KeepsAscii}
 use Rattle.charset_filter.specs.declared.sets.Designations.{Designations}
@@ -76,8 +76,8 @@ ascii-designating s G3 x e h = ascii-with (designating s G3 x)
 either : (v : Bool) (x y : CharacterSets) → AreAscii x → AreAscii y → AreAscii (if v then x else y)
 either v x y h k = if_holds AreAscii v x y h k
 
-ascii-plain : (s : CharacterSets) (f : ℕ) → AreAscii s → AreAscii (after_plain_escape s f)
-ascii-plain s f h =
+ascii-unmarked : (s : CharacterSets) (f : ℕ) → AreAscii s → AreAscii (after_unmarked_escape s f)
+ascii-unmarked s f h =
     either (f == 0x37) _ _ (holds-saved IsAscii IsAny s h)
     (either (f == 0x38) _ _ (holds-restored IsAscii IsAny s h)
     (either (f == 0x63) _ _ ascii-first
@@ -107,7 +107,7 @@ ascii-designation s j g rest i is many f k h a r =
 
 ascii-escape : (s : CharacterSets) (is : List ℕ) (many : Bool) (f : ℕ) → names_lines (Esc is many f) ≡ false
     → AreAscii s → AreAscii (after_escape s is f)
-ascii-escape s [] many f h a = ascii-plain s f a
+ascii-escape s [] many f h a = ascii-unmarked s f a
 ascii-escape s (i ∷ is) many f h a =
     ascii-designation s 0x28 G0 _ i is many f refl h a
     (ascii-designation s 0x29 G1 _ i is many f refl h a

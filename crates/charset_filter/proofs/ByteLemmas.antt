@@ -1,7 +1,6 @@
 -- What is given for one byte.
-use Rattle.std.proofs.Common.{◌≡◌, ℕ, ◌+◌, ◌≤◌, Bool, true, false, ◌&&◌, ◌||◌, List, [], ◌∷◌, ◌++◌}
-use Rattle.std.proofs.Common.{length, ◌==◌, nat_lt, Some, None, refl, sym, ◌∙◌, ap, inl, inr}
-use Rattle.std.proofs.Common.{arith, append-nil}
+use Rattle.std.proofs.Common.{◌≡◌, ℕ, ◌+◌, ◌≤◌, Bool, true, false, ◌&&◌, ◌||◌, List, [], ◌∷◌, ◌++◌, length, ◌==◌}
+use Rattle.std.proofs.Common.{nat_lt, Some, None, refl, sym, ◌∙◌, ap, inl, inr, arith, append-nil}
 use Rattle.std.proofs.lemmas.Bool.Decides.{nat_tests}
 use Rattle.std.specs.Char.{encode_utf8}
 use Rattle.std.specs.Int.{is_in_range}
@@ -20,7 +19,7 @@ use Rattle.charset_filter.specs.Given.{is_drawable, last_drawn, given_for}
 use Rattle.charset_filter.specs.declared.sets.CharacterSets.{CharacterSets}
 use Rattle.charset_filter.proofs.Codes.{high-joined}
 use Rattle.charset_filter.proofs.EventLemmas.{prints_nothing, silent-events, silent-last}
-use Rattle.charset_filter.proofs.Drawings.{begun-one, drawable-plain, mapped-same, off-drawable, printed-mapped}
+use Rattle.charset_filter.proofs.Drawings.{begun-one, drawable-printed, mapped-same, off-drawable, printed-mapped}
 
 -- only text prints
 
@@ -107,7 +106,8 @@ fixed-text (a ∷ t) b k h =
       | inl e ↦ rw e (elim (bool_cases (length t + 2 == char_len a)) [
         | inl f ↦
             let high = high-joined a t b k e (is-len (length t + 2) (char_len a) f) in
-            rw f (fixed-one (char_event (joined (first_bits a) (t ++ b ∷ []))) (steady-char (joined (first_bits a) (t ++ b ∷ []))
+            rw f (fixed-one (char_event (joined (first_bits a) (t ++ b ∷ [])))
+            (steady-char (joined (first_bits a) (t ++ b ∷ []))
             (high-undrawn (joined (first_bits a) (t ++ b ∷ [])) high)))
         | inr f ↦ rw f fixed-none
       ])
@@ -125,14 +125,14 @@ drawable-esc b h = grind (arith, nat_tests)
 
 drawn-text : (n : ℕ) (u : List ℕ) (b : ℕ) → is_drawable b ≡ true
     → events_of_byte n (InText u) b ≡ closed n (InText u) ++ Print b ∷ []
-drawn-text n [] b h = rw (drawable-esc b h, (begun-one b (drawable-plain b h)).0) refl
+drawn-text n [] b h = rw (drawable-esc b h, (begun-one b (drawable-printed b h)).0) refl
 drawn-text n (a ∷ t) b h =
-    rw (drawable-esc b h, off-drawable a t b h, (begun-one b (drawable-plain b h)).0) refl
+    rw (drawable-esc b h, off-drawable a t b h, (begun-one b (drawable-printed b h)).0) refl
 
 drawn-rest : (u : List ℕ) (b : ℕ) → is_drawable b ≡ true → after_byte (InText u) b ≡ InText []
-drawn-rest [] b h = rw (drawable-esc b h, (begun-one b (drawable-plain b h)).1) refl
+drawn-rest [] b h = rw (drawable-esc b h, (begun-one b (drawable-printed b h)).1) refl
 drawn-rest (a ∷ t) b h =
-    rw (drawable-esc b h, off-drawable a t b h, (begun-one b (drawable-plain b h)).1) refl
+    rw (drawable-esc b h, off-drawable a t b h, (begun-one b (drawable-printed b h)).1) refl
 
 -- the set that draws it
 abbrev pub set_behind : CharacterSets → List ℕ → CharacterSets

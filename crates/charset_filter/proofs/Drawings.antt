@@ -8,8 +8,7 @@ use Rattle.std.specs.Int.{is_in_range}
 use Rattle.vte_core.specs.Event.{Event, Print}
 use Rattle.vte_core.specs.Bytes.{is_esc}
 use Rattle.vte_core.specs.Text.{char_len, second_min, second_max, first_bits, joined, char_event}
-use Rattle.vte_core.specs.Pending.{InText, goes_on, begun, begun_rest, closed}
-use Rattle.vte_core.specs.Pending.{events_from, after_bytes}
+use Rattle.vte_core.specs.Pending.{InText, goes_on, begun, begun_rest, closed, events_from, after_bytes}
 use Rattle.vte_core.proofs.Characters.{bool_cases}
 use Rattle.vte_types.specs.Charset.{drawings, mapped}
 use Rattle.vte_types.specs.Lookup.{lookup}
@@ -54,8 +53,8 @@ one-esc c h = grind (arith, nat_tests)
 pub begun-one : (c : ℕ) → is_in_range 0x20 0x7F c ≡ true → (begun c ≡ Print c ∷ []) × (begun_rest c ≡ [])
 begun-one c h = rw (one-len c h, one-bits c h, one-event c h) (refl, refl)
 
-pub drawable-plain : (c : ℕ) → is_drawable c ≡ true → is_in_range 0x20 0x7F c ≡ true
-drawable-plain c h = grind (arith, nat_tests)
+pub drawable-printed : (c : ℕ) → is_drawable c ≡ true → is_in_range 0x20 0x7F c ≡ true
+drawable-printed c h = grind (arith, nat_tests)
 
 printed-one : (c : ℕ) → is_in_range 0x20 0x7F c ≡ true → Printed c (c ∷ [])
 printed-one c h n [] = rw (one-esc c h, (begun-one c h).0, (begun-one c h).1) (refl, refl)
@@ -160,9 +159,10 @@ looked-up key (row ∷ rows) h own =
 own-printed : (c : ℕ) → is_drawable c ≡ true → Printed c (encode_utf8 c)
 own-printed c h =
     let is : encode_utf8 c ≡ c ∷ [] = encode_ascii c (grind (arith, nat_tests)) in
-    subst (λ (bytes : List ℕ). Printed c bytes) (sym is) (printed-one c (drawable-plain c h))
+    subst (λ (bytes : List ℕ). Printed c bytes) (sym is) (printed-one c (drawable-printed c h))
 
-pub printed-mapped : (x : StandardCharset) (c : ℕ) → is_drawable c ≡ true → Printed (mapped x c) (encode_utf8 (mapped x c))
+pub printed-mapped : (x : StandardCharset) (c : ℕ) → is_drawable c ≡ true
+    → Printed (mapped x c) (encode_utf8 (mapped x c))
 printed-mapped Ascii c h = own-printed c h
 printed-mapped SpecialCharacterAndLineDrawing c h = looked-up c drawings drawings-good (own-printed c h)
 

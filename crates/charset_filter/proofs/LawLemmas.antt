@@ -1,7 +1,8 @@
 -- What is given for bytes.
 use Rattle.std.proofs.Common.{◌≡◌, ℕ, List, [], ◌∷◌, ◌++◌, refl, sym, ◌∙◌, ap, append_assoc}
 use Rattle.vte_core.specs.Event.{Event}
-use Rattle.vte_core.specs.Pending.{Pending, InText, IsSound, events_of_byte, after_byte, events_from, after_bytes, pending}
+use Rattle.vte_core.specs.Pending.{Pending, InText, IsSound, events_of_byte, after_byte, events_from, after_bytes}
+use Rattle.vte_core.specs.Pending.{pending}
 use Rattle.vte_core.proofs.Machine.{IsSound-byte, events-reported, events_from-append, after_bytes-append}
 use Rattle.charset_filter.specs.Sets.{after_events, drawn_events, first_sets}
 use Rattle.charset_filter.specs.Given.{given_for, given_from, given_after, filtered, sets_of}

@@ -4,7 +4,7 @@ pub mod SavedLemmas
 pub mod Drawings
 pub mod ByteLemmas
 pub mod LawLemmas
-pub mod PlainLemmas
+pub mod SteadyLemmas
 pub mod Telling
 pub mod AsciiLemmas
 pub mod LineLemmas

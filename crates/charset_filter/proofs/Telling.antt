@@ -14,12 +14,12 @@ use Rattle.vte_core.proofs.Machine.{after_bytes-append}
 use Rattle.charset_filter.specs.Sets.{after_event, after_events}
 use Rattle.charset_filter.specs.Given.{drawn_by, last_drawn, given_after, given_byte, given_for, sets_of}
 use Rattle.charset_filter.specs.Filter.{HasRead, Gives, is_escape}
-use Rattle.charset_filter.specs.Plain.{IsPlain, is_plain_run}
+use Rattle.charset_filter.specs.Steady.{IsSteady, is_steady_run}
 use Rattle.charset_filter.specs.declared.sets.CharacterSets.{CharacterSets}
 use Rattle.charset_filter.specs.declared.listener.Listener.{Listener}
 use Rattle.charset_filter.specs.declared.filter.CharsetFilter.{CharsetFilter}
 use Rattle.charset_filter.proofs.LawLemmas.{sound-after, given-past, sets-past}
-use Rattle.charset_filter.proofs.PlainLemmas.{escape-after, run-unchanged}
+use Rattle.charset_filter.proofs.SteadyLemmas.{escape-after, run-unchanged}
 
 -- what the performers have gone through
 
@@ -50,7 +50,8 @@ reported-is step parser old new past bytes h state_after =
     added-is 0 past bytes h.reported (h.added past state_after) ∙ added-from 0 past bytes
 
 pub sets-reported : (parser : Parser 0) (old new : CharacterSets) (past bytes : List ℕ)
-    → Reported SetsStep 0 parser old bytes new → IsAfter 0 parser past → old ≡ sets_of past → new ≡ sets_of (past ++ bytes)
+    → Reported SetsStep 0 parser old bytes new → IsAfter 0 parser past → old ≡ sets_of past → new
+    ≡ sets_of (past ++ bytes)
 sets-reported parser old new past bytes h state_after is =
     sets-performed old new h.reported h.performed
     ∙ (ap (after_events old) (reported-is SetsStep parser old new past bytes h state_after)
@@ -69,17 +70,18 @@ listener-reported parser old new past bytes h state_after is =
       p.1 ∙ ap (last_drawn old.sets old.drawn) reported,
     )
 
--- a plain run
+-- a steady run
 
-pub plain-run : (old new : CharsetFilter) (bytes prefix : List ℕ) (k : ℕ) (before after : List ℕ) → k ≤ length bytes
-    → IsPlain old.sets → old.in_escape ≡ false → is_plain_run false (take k bytes) ≡ true → prefix ≡ take k bytes
+pub steady-run : (old new : CharsetFilter) (bytes prefix : List ℕ) (k : ℕ) (before after : List ℕ) → k ≤ length bytes
+    → IsSteady old.sets → old.in_escape ≡ false → is_steady_run false (take k bytes) ≡ true → prefix ≡ take k bytes
     → ((past : List ℕ) → IsAfter 0 old.parser past → IsAfter 0 new.parser (past ++ prefix))
     → Reported SetsStep 0 old.parser old.sets prefix new.sets → new.in_escape ≡ old.in_escape → after ≡ before ++ prefix
     → Gives old bytes k new before after
-plain-run old new bytes prefix k before after within plain escape run all state_after reported kept is =
+steady-run old new bytes prefix k before after within steady escape run all state_after reported kept is =
     let unchanged = λ (past : List ℕ) (h : HasRead old past).
-    run-unchanged false (pending past) (sets_of past) prefix (sound-after (InText []) past tt) (subst IsPlain h.sets plain)
-    (sym h.escape ∙ escape) (ap (is_plain_run false) all ∙ run) in
+    run-unchanged false (pending past) (sets_of past) prefix (sound-after (InText []) past tt)
+    (subst IsSteady h.sets steady)
+    (sym h.escape ∙ escape) (ap (is_steady_run false) all ∙ run) in
     record {
       within = within;
       reads = λ past h. subst (λ (xs : List ℕ). HasRead new (past ++ xs)) all (record {

@@ -1,7 +1,7 @@
 pub mod Sets
 pub mod Given
 pub mod Filter
-pub mod Plain
+pub mod Steady
 pub mod Laws
 pub mod Lines
 pub use Rattle.vte_core.specs.Event

@@ -75,8 +75,8 @@ set_of [] f = if f == 0x30 then SpecialCharacterAndLineDrawing else Ascii
 set_of (i ∷ is) f = Ascii
 
 -- an escape without intermediates: DECSC, DECRC, RIS, SS2, SS3, LS2, LS3
-abbrev pub after_plain_escape : CharacterSets → ℕ → CharacterSets
-after_plain_escape s f =
+abbrev pub after_unmarked_escape : CharacterSets → ℕ → CharacterSets
+after_unmarked_escape s f =
     if f == 0x37 then saved s
     else (if f == 0x38 then restored s
     else (if f == 0x63 then first_sets
@@ -87,7 +87,7 @@ after_plain_escape s f =
 
 -- an escape with intermediates: SCS
 abbrev pub after_escape : CharacterSets → List ℕ → ℕ → CharacterSets
-after_escape s [] f = after_plain_escape s f
+after_escape s [] f = after_unmarked_escape s f
 after_escape s (i ∷ is) f =
     if i == 0x28 then designating s G0 (set_of is f)
     else (if i == 0x29 then designating s G1 (set_of is f)

@@ -5,13 +5,13 @@ ghost use Rattle.std.specs.Prelude.{if◌then◌else◌, take, ◌+◌, ◌≤�
 ghost use Rattle.std.specs.Result.{OnOk, OnErr, IfOk};
 ghost use Rattle.charset_filter.specs.Filter.{Gives, GivesPrefix, HasRead};
 ghost use Rattle.charset_filter.specs.Given.{given_byte, is_drawable, last_drawn};
-ghost use Rattle.charset_filter.specs.Plain.{IsPlain, is_plain_run};
+ghost use Rattle.charset_filter.specs.Steady.{IsSteady, is_steady_run};
 ghost use Rattle.vte_core.specs.Bytes.{ends_escape, is_esc};
 ghost use Rattle.vte_core.specs.Pending.{events_of_byte, pending};
 
 use crate::listener::Listener;
-use crate::plain::plain_len;
 use crate::sets::CharacterSets;
+use crate::steady::steady_len;
 use std::alloc::AllocError;
 use vte_core::{Parser, Perform};
 
@@ -62,10 +62,10 @@ impl CharsetFilter {
         ensures given { IfOk result (λ k. Gives self.old bytes.now k self.new output.old.items output.new.items) }
         ensures same { OnErr result ((self.new ≡ self.old) × (output.new.items ≡ output.old.items)) }
     {
-        if !self.in_escape && self.sets.is_plain() {
-            let len = plain_len(bytes);
+        if !self.in_escape && self.sets.is_steady() {
+            let len = steady_len(bytes);
             if len > 0 {
-                self.read_plain(bytes, len, output)?;
+                self.read_steady(bytes, len, output)?;
                 return Ok(len);
             }
         }
@@ -74,16 +74,16 @@ impl CharsetFilter {
     }
 
     /// Reads a run in which no set can change, as many bytes at the start, and gives it as it is.
-    fn read_plain(
+    fn read_steady(
         &mut self,
         bytes: &[u8],
         len: usize,
         output: &mut Vec<u8>,
     ) -> Result<(), AllocError>
         requires within { len ≤ length bytes.now }
-        requires plain { IsPlain self.old.sets }
+        requires steady { IsSteady self.old.sets }
         requires escape { self.old.in_escape ≡ false }
-        requires run { is_plain_run false (take len bytes.now) ≡ true }
+        requires run { is_steady_run false (take len bytes.now) ≡ true }
         ensures given { OnOk result (Gives self.old bytes.now len self.new output.old.items output.new.items) }
         ensures same { OnErr result ((self.new ≡ self.old) × (output.new.items ≡ output.old.items)) }
     {

@@ -38,10 +38,12 @@ impl PieceFilter {
         }
     }
 
-    /// Reads the next piece. Then [`given`](PieceFilter::given) answers what it gives. Fails only if an allocation fails.
+    /// Reads the next piece. Then [`given`](PieceFilter::given) answers what it gives. Fails only if an allocation
+    /// fails.
     pub fn pass(&mut self, piece: &[u8]) -> Result<(), AllocError>
         ensures { OnOk result ((lines : LineDrawing) (past : List ℕ) → HasPassed self.old lines past
-            → HasPassed self.new lines (past ++ piece.now) × (piece_of self.new piece.now ≡ passed lines past piece.now)) }
+            → HasPassed self.new lines (past ++ piece.now)
+            × (piece_of self.new piece.now ≡ passed lines past piece.now)) }
     {
         match self.lines {
             LineDrawing::Kept => Ok(()),

@@ -1,10 +1,10 @@
 //! The character sets, and which of them draws.
 
 ghost use Rattle.std.specs.Prelude.{◌≡◌, ◌==◌, ◌&&◌, IsTrue};
-ghost use Rattle.charset_filter.specs.Plain.{IsPlain};
+ghost use Rattle.charset_filter.specs.Steady.{IsSteady};
 ghost use Rattle.charset_filter.specs.Sets as sets;
 ghost use Rattle.charset_filter.specs.Sets.{after_control, after_csi, after_escape, after_mode, after_modes};
-ghost use Rattle.charset_filter.specs.Sets.{after_plain_escape, ascii, designated, drawing_set, first_sets};
+ghost use Rattle.charset_filter.specs.Sets.{after_unmarked_escape, ascii, designated, drawing_set, first_sets};
 ghost use Rattle.charset_filter.specs.Sets.{locked_set, reset_softly, restored, saved, set_at};
 
 use vte_core::{Event, Params, Perform};
@@ -105,8 +105,8 @@ impl CharacterSets {
     }
 
     /// Whether ASCII is drawn, and no single shift is pending; and so it is where saved sets are brought back.
-    pub fn is_plain(&self) -> bool
-        ensures { IsTrue result → IsPlain self.now }
+    pub fn is_steady(&self) -> bool
+        ensures { IsTrue result → IsSteady self.now }
     {
         self.single.is_none()
             && self.current.locked_set() == StandardCharset::Ascii
@@ -199,8 +199,8 @@ impl CharacterSets {
     }
 
     /// An escape sequence without intermediates.
-    fn plain_escape(&mut self, last: u8)
-        ensures { self.new ≡ after_plain_escape self.old last }
+    fn unmarked_escape(&mut self, last: u8)
+        ensures { self.new ≡ after_unmarked_escape self.old last }
     {
         match last {
             b'7' => self.save(),
@@ -219,7 +219,7 @@ impl CharacterSets {
         ensures { self.new ≡ after_escape self.old intermediates.now last }
     {
         let Some((first, others)) = intermediates.split_first() else {
-            return self.plain_escape(last);
+            return self.unmarked_escape(last);
         };
         let set = if others.is_empty() && last == b'0' {
             StandardCharset::SpecialCharacterAndLineDrawing

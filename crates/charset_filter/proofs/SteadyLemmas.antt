@@ -1,7 +1,7 @@
 -- Runs in which no set can change are given as they are.
-use Rattle.std.proofs.Common.{◌≡◌, ◌≢◌, ℕ, suc, ◌+◌, ◌≤◌, ◌<◌, Bool, true, false, not, ◌&&◌, ◌||◌, List, [], ◌∷◌, ◌++◌, length, take}
-use Rattle.std.proofs.Common.{◌==◌, nat_lt, if◌then◌else◌, ◌⊎◌, Option, None, refl, sym, ◌∙◌, ap, subst, inl, inr, arith}
-use Rattle.std.proofs.Common.{get_or, drop-cons, add-one}
+use Rattle.std.proofs.Common.{◌≡◌, ◌≢◌, ℕ, suc, ◌+◌, ◌≤◌, ◌<◌, Bool, true, false, not, ◌&&◌, ◌||◌, List, [], ◌∷◌, ◌++◌}
+use Rattle.std.proofs.Common.{length, take, ◌==◌, nat_lt, if◌then◌else◌, ◌⊎◌, Option, None, refl, sym, ◌∙◌, ap, subst}
+use Rattle.std.proofs.Common.{inl, inr, arith, get_or, drop-cons, add-one}
 use Rattle.std.proofs.Math.Seq.{take-add}
 use Rattle.std.proofs.lemmas.Bool.Decides.{nat_tests}
 use Rattle.std.proofs.lemmas.Str.{encode_ascii}
@@ -23,7 +23,7 @@ use Rattle.vte_types.specs.declared.charset.CharsetIndex.{CharsetIndex}
 use Rattle.charset_filter.specs.Sets.{set_for, locked_set, after_csi, after_event, after_events, drawing_set}
 use Rattle.charset_filter.specs.Given.{is_drawable, given_for, given_from}
 use Rattle.charset_filter.specs.Filter.{is_escape}
-use Rattle.charset_filter.specs.Plain.{IsPlain, is_plain_run}
+use Rattle.charset_filter.specs.Steady.{IsSteady, is_steady_run}
 use Rattle.charset_filter.specs.declared.sets.Designations.{Designations}
 use Rattle.charset_filter.specs.declared.sets.CharacterSets.{CharacterSets}
 use Rattle.charset_filter.proofs.Codes.{high-joined}
@@ -103,9 +103,9 @@ DrawsAscii d = locked_set d ≡ Ascii
 abbrev IsNone : Option CharsetIndex → Type 0
 IsNone o = o ≡ None
 
-plain-csi : (s : CharacterSets) (groups : List (List ℕ)) (is : List ℕ) (f : ℕ) → IsPlain s
-    → IsPlain (after_csi s groups is f)
-plain-csi s groups is f k =
+steady-csi : (s : CharacterSets) (groups : List (List ℕ)) (is : List ℕ) (f : ℕ) → IsSteady s
+    → IsSteady (after_csi s groups is f)
+steady-csi s groups is f k =
     let h = holds-csi DrawsAscii IsNone s groups is f refl refl
     (record { current = k.current; single = k.single; main = k.main; alternate = k.alternate }) in
     record { current = h.current; single = h.single; main = h.main; alternate = h.alternate }
@@ -115,26 +115,26 @@ not-or true y h = absurd (let no : false ≡ true = h in cc)
 not-or false true h = absurd (let no : false ≡ true = h in cc)
 not-or false false h = (refl, refl)
 
-plain-event : (s : CharacterSets) (e : Event) → is_quiet e ≡ true → IsPlain s → IsPlain (after_event s e)
-plain-event s (Print c) h k =
+steady-event : (s : CharacterSets) (e : Event) → is_quiet e ≡ true → IsSteady s → IsSteady (after_event s e)
+steady-event s (Print c) h k =
     record { single = refl; current = k.current; main = k.main; alternate = k.alternate }
-plain-event s (Execute b) h k = let p = not-or (b == 0x0E) (b == 0x0F) h in rw (p.0, p.1) k
-plain-event s (Hook ps is many f) h k = k
-plain-event s (Put b) h k = k
-plain-event s Unhook h k = k
-plain-event s (Osc ps bell) h k = k
-plain-event s (Csi ps is many f) h k = plain-csi s ps is f k
-plain-event s (Esc is many f) h k = absurd (let no : false ≡ true = h in cc)
+steady-event s (Execute b) h k = let p = not-or (b == 0x0E) (b == 0x0F) h in rw (p.0, p.1) k
+steady-event s (Hook ps is many f) h k = k
+steady-event s (Put b) h k = k
+steady-event s Unhook h k = k
+steady-event s (Osc ps bell) h k = k
+steady-event s (Csi ps is many f) h k = steady-csi s ps is f k
+steady-event s (Esc is many f) h k = absurd (let no : false ≡ true = h in cc)
 
 both : (x y : Bool) → (x && y) ≡ true → (x ≡ true) × (y ≡ true)
 both true y h = (refl, h)
 both false y h = absurd (let no : false ≡ true = h in cc)
 
-plain-events : (s : CharacterSets) (es : List Event) → are_quiet es ≡ true → IsPlain s → IsPlain (after_events s es)
-plain-events s [] h k = k
-plain-events s (e ∷ es) h k =
+steady-events : (s : CharacterSets) (es : List Event) → are_quiet es ≡ true → IsSteady s → IsSteady (after_events s es)
+steady-events s [] h k = k
+steady-events s (e ∷ es) h k =
     let p = both (is_quiet e) (are_quiet es) h in
-    plain-events (after_event s e) es p.1 (plain-event s e p.0 k)
+    steady-events (after_event s e) es p.1 (steady-event s e p.0 k)
 
 -- the events of a byte that is neither SO nor SI, where no escape is pending
 
@@ -204,30 +204,30 @@ quiet-byte InSwallowed b k e h = if_holds Quiet (is_esc b) _ _ refl (quiet-repor
 
 -- such a byte is given as it is
 
-plain-set : (s : CharacterSets) → IsPlain s → drawing_set s ≡ Ascii
-plain-set s k = ap (set_for s.current) k.single ∙ k.current
+steady-set : (s : CharacterSets) → IsSteady s → drawing_set s ≡ Ascii
+steady-set s k = ap (set_for s.current) k.single ∙ k.current
 
 ascii-bytes : (b : ℕ) → is_drawable b ≡ true → encode_utf8 b ≡ b ∷ []
 ascii-bytes b h = encode_ascii b (grind (arith, nat_tests))
 
-plain-text : (u : List ℕ) (s : CharacterSets) (b : ℕ) → IsPlain s → given_for (InText u) s b ≡ b ∷ []
-plain-text u s b k =
+steady-text : (u : List ℕ) (s : CharacterSets) (b : ℕ) → IsSteady s → given_for (InText u) s b ≡ b ∷ []
+steady-text u s b k =
     elim (bool_cases (is_drawable b)) [
       | inl e ↦
           let t = set_behind s u in
-          let set = plain-set t (plain-events s (closed 0 (InText u)) (quiet-closed u) k) in
+          let set = steady-set t (steady-events s (closed 0 (InText u)) (quiet-closed u) k) in
           given-drawn u s b e ∙ (ap (λ (x : StandardCharset). encode_utf8 (mapped x b)) set ∙ ascii-bytes b e)
       | inr e ↦ rw e refl
     ]
 
-plain-given : (q : Pending) (s : CharacterSets) (b : ℕ) → IsPlain s → given_for q s b ≡ b ∷ []
-plain-given (InText u) s b k = plain-text u s b k
-plain-given (InEscape is) s b k = silent-given (InEscape is) s b refl
-plain-given (InCsi x) s b k = silent-given (InCsi x) s b refl
-plain-given (InOsc d) s b k = silent-given (InOsc d) s b refl
-plain-given (InHook x) s b k = silent-given (InHook x) s b refl
-plain-given InDevice s b k = silent-given InDevice s b refl
-plain-given InSwallowed s b k = silent-given InSwallowed s b refl
+steady-given : (q : Pending) (s : CharacterSets) (b : ℕ) → IsSteady s → given_for q s b ≡ b ∷ []
+steady-given (InText u) s b k = steady-text u s b k
+steady-given (InEscape is) s b k = silent-given (InEscape is) s b refl
+steady-given (InCsi x) s b k = silent-given (InCsi x) s b refl
+steady-given (InOsc d) s b k = silent-given (InOsc d) s b refl
+steady-given (InHook x) s b k = silent-given (InHook x) s b refl
+steady-given InDevice s b k = silent-given InDevice s b refl
+steady-given InSwallowed s b k = silent-given InSwallowed s b refl
 
 -- runs
 
@@ -258,12 +258,12 @@ unchanged-cons q s b bs given more = record {
   escape = more.escape;
 }
 
-pub run-unchanged : (after_esc : Bool) (q : Pending) (s : CharacterSets) (bs : List ℕ) → IsSound q → IsPlain s
-    → Before after_esc q → is_plain_run after_esc bs ≡ true → Unchanged q s bs
+pub run-unchanged : (after_esc : Bool) (q : Pending) (s : CharacterSets) (bs : List ℕ) → IsSound q → IsSteady s
+    → Before after_esc q → is_steady_run after_esc bs ≡ true → Unchanged q s bs
 run-unchanged true q s [] k p e h = absurd (let no : false ≡ true = h in cc)
 run-unchanged false q s [] k p e h = record { given = refl; escape = e }
 run-unchanged true q s (b ∷ bs) k p e h =
-    let parts = both (b == 0x5B || b == 0x5D) (is_plain_run false bs) h in
+    let parts = both (b == 0x5B || b == 0x5D) (is_steady_run false bs) h in
     subst (λ (x : Pending). Unchanged x s (b ∷ bs)) (sym e) (elim (introduced b parts.0) [
       | inl is ↦ subst (λ (x : ℕ). Unchanged (InEscape []) s (x ∷ bs)) (sym is)
           (unchanged-cons (InEscape []) s 0x5B bs refl (run-unchanged false (InCsi []) s bs tt p refl parts.1))
@@ -271,23 +271,23 @@ run-unchanged true q s (b ∷ bs) k p e h =
           (unchanged-cons (InEscape []) s 0x5D bs refl (run-unchanged false (InOsc []) s bs tt p refl parts.1))
     ])
 run-unchanged false q s (b ∷ bs) k p e h =
-    let parts = both (not (b == 0x0E || b == 0x0F)) (is_plain_run (is_esc b) bs) h in
+    let parts = both (not (b == 0x0E || b == 0x0F)) (is_steady_run (is_esc b) bs) h in
     let quiet = quiet-byte q b k e parts.0 in
-    unchanged-cons q s b bs (plain-given q s b p)
+    unchanged-cons q s b bs (steady-given q s b p)
     (run-unchanged (is_esc b) (after_byte q b) (after_events s (events_of_byte 0 q b)) bs (IsSound-byte q b k)
-    (plain-events s (events_of_byte 0 q b) quiet p) (before-next q b e) parts.1)
+    (steady-events s (events_of_byte 0 q b) quiet p) (before-next q b e) parts.1)
 
 -- more bytes behind a run
 
-pub run-append : (after_esc : Bool) (xs ys : List ℕ) → is_plain_run after_esc xs ≡ true → is_plain_run false ys ≡ true
-    → is_plain_run after_esc (xs ++ ys) ≡ true
+pub run-append : (after_esc : Bool) (xs ys : List ℕ) → is_steady_run after_esc xs ≡ true → is_steady_run false ys ≡ true
+    → is_steady_run after_esc (xs ++ ys) ≡ true
 run-append true [] ys h k = absurd (let no : false ≡ true = h in cc)
 run-append false [] ys h k = k
 run-append true (x ∷ xs) ys h k =
-    let p = both (x == 0x5B || x == 0x5D) (is_plain_run false xs) h in
+    let p = both (x == 0x5B || x == 0x5D) (is_steady_run false xs) h in
     rw p.0 (run-append false xs ys p.1 k)
 run-append false (x ∷ xs) ys h k =
-    let p = both (not (x == 0x0E || x == 0x0F)) (is_plain_run (is_esc x) xs) h in
+    let p = both (not (x == 0x0E || x == 0x0F)) (is_steady_run (is_esc x) xs) h in
     rw p.0 (run-append (is_esc x) xs ys p.1 k)
 
 -- one byte more, and two
@@ -300,23 +300,23 @@ two-more : (bs : List ℕ) (k : ℕ) → suc k < length bs
 two-more bs k l = take-add k 2 bs ∙ (ap (λ (xs : List ℕ). take k bs ++ take 2 xs) (drop-cons bs k 0 (omega (arith, l)))
     ∙ ap (λ (xs : List ℕ). take k bs ++ get_or bs k 0 ∷ take 1 xs) (drop-cons bs (suc k) 0 l))
 
-pub run_byte_is : (bs : List ℕ) (k b : ℕ) → k < length bs → is_plain_run false (take k bs) ≡ true → get_or bs k 0 ≡ b
-    → is_esc b ≡ false → not (b == 0x0E || b == 0x0F) ≡ true → is_plain_run false (take (k + 1) bs) ≡ true
+pub run_byte_is : (bs : List ℕ) (k b : ℕ) → k < length bs → is_steady_run false (take k bs) ≡ true → get_or bs k 0 ≡ b
+    → is_esc b ≡ false → not (b == 0x0E || b == 0x0F) ≡ true → is_steady_run false (take (k + 1) bs) ≡ true
 run_byte_is bs k b l h is e o = rw (one-more bs k l, is) (run-append false (take k bs) (b ∷ []) h (rw (o, e) refl))
 
-pub run_introducer : (bs : List ℕ) (k a b : ℕ) → k + 1 < length bs → is_plain_run false (take k bs) ≡ true
+pub run_introducer : (bs : List ℕ) (k a b : ℕ) → k + 1 < length bs → is_steady_run false (take k bs) ≡ true
     → get_or bs k 0 ≡ a → a ≡ 0x1B → get_or bs (k + 1) 0 ≡ b → (b == 0x5B || b == 0x5D) ≡ true
-    → is_plain_run false (take (k + 2) bs) ≡ true
+    → is_steady_run false (take (k + 2) bs) ≡ true
 run_introducer bs k a b l h is esc next o =
     let at : get_or bs (suc k) 0 ≡ b = ap (λ (m : ℕ). get_or bs m 0) (sym (add-one k)) ∙ next in
     rw (two-more bs k (omega (arith, l)), is, esc, at) (run-append false (take k bs) (0x1B ∷ b ∷ []) h (rw o refl))
 
-pub run_byte : (bs : List ℕ) (k : ℕ) → k < length bs → is_plain_run false (take k bs) ≡ true → get_or bs k 0 ≢ 0x1B
-    → get_or bs k 0 ≢ 0x0E → get_or bs k 0 ≢ 0x0F → is_plain_run false (take (k + 1) bs) ≡ true
+pub run_byte : (bs : List ℕ) (k : ℕ) → k < length bs → is_steady_run false (take k bs) ≡ true → get_or bs k 0 ≢ 0x1B
+    → get_or bs k 0 ≢ 0x0E → get_or bs k 0 ≢ 0x0F → is_steady_run false (take (k + 1) bs) ≡ true
 run_byte bs k l h e o i =
     run_byte_is bs k (get_or bs k 0) l h refl (grind (arith, nat_tests)) (grind (arith, nat_tests))
 
-pub run_sequence : (bs : List ℕ) (k : ℕ) → k + 1 < length bs → is_plain_run false (take k bs) ≡ true
+pub run_sequence : (bs : List ℕ) (k : ℕ) → k + 1 < length bs → is_steady_run false (take k bs) ≡ true
     → get_or bs k 0 ≡ 0x1B → (get_or bs (k + 1) 0 == 0x5B || get_or bs (k + 1) 0 == 0x5D) ≡ true
-    → is_plain_run false (take (k + 2) bs) ≡ true
+    → is_steady_run false (take (k + 2) bs) ≡ true
 run_sequence bs k l h e o = run_introducer bs k 0x1B (get_or bs (k + 1) 0) l h e refl refl o

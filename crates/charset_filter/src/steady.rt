@@ -1,13 +1,13 @@
 //! Runs in which no set can change.
 
 ghost use Rattle.std.specs.Prelude.{◌≡◌, ◌≤◌, length, take, true, false, ◌==◌, ◌||◌};
-ghost use Rattle.charset_filter.specs.Plain.{is_plain_run};
+ghost use Rattle.charset_filter.specs.Steady.{is_steady_run};
 
 /// How many bytes at the start have neither SO nor SI, and only `[` or `]` directly behind each ESC.
-#[tactic(auto, using(crate::proofs::PlainLemmas::run_byte, crate::proofs::PlainLemmas::run_sequence))]
-pub fn plain_len(bytes: &[u8]) -> usize
+#[tactic(auto, using(crate::proofs::SteadyLemmas::run_byte, crate::proofs::SteadyLemmas::run_sequence))]
+pub fn steady_len(bytes: &[u8]) -> usize
     ensures within { result ≤ length bytes.now }
-    ensures plain { is_plain_run false (take result bytes.now) ≡ true }
+    ensures steady { is_steady_run false (take result bytes.now) ≡ true }
 {
     let mut len = 0;
     while len < bytes.len() {

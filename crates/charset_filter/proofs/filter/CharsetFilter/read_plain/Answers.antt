@@ -1,8 +1,0 @@
-use Rattle.std.proofs.Common.{refl}
-use Rattle.charset_filter.proofs.Telling.{plain-run}
-use Rattle.charset_filter.proofs.filter.CharsetFilter.read_plain.Goals as goal
-
-pub returns-clause-given : goal.returns-clause-given
-returns-clause-given c = plain-run _ _ c.args.bytes.now _ c.args.len _ _ c.requires.within c.requires.plain
-    c.requires.escape c.requires.run refl c.advance.ensures.state_after c.advance.ensures.reported refl
-    c.in_ok-extend_from_slice.ensures.items
