@@ -2,6 +2,7 @@
 
 use crate::input::InputReader;
 use crate::outputs::Outputs;
+use relay_commands::Program as Relayer;
 use relay_streams::RelayError;
 use screentext_command::Files;
 use scripted_io::LimitedWriter;
@@ -10,12 +11,8 @@ use std::alloc::Global;
 /// A program.
 #[derive(Clone, Copy)]
 pub enum Program {
-    /// Relays a stream, or shows what was relayed.
-    Screenrelay,
-    /// Relays a stream after each read.
-    Screenlive,
-    /// Prints the screen that a stream leaves.
-    Screencat,
+    /// Relays a stream, or shows what comes of that.
+    Relayer(Relayer),
     /// Prints what a recording shows.
     Screentext,
     /// Prints the whole state of a screen.
@@ -26,9 +23,9 @@ impl Program {
     /// The program of this name.
     pub fn named(name: &str) -> Option<Program> {
         match name {
-            "screenrelay" => Some(Program::Screenrelay),
-            "screenlive" => Some(Program::Screenlive),
-            "screencat" => Some(Program::Screencat),
+            "screenrelay" => Some(Program::Relayer(Relayer::Screenrelay)),
+            "screenlive" => Some(Program::Relayer(Relayer::Screenlive)),
+            "screencat" => Some(Program::Relayer(Relayer::Screencat)),
             "screentext" => Some(Program::Screentext),
             "screen_probe" => Some(Program::ScreenProbe),
             _ => None,
@@ -46,11 +43,7 @@ impl Program {
     ) -> u8 {
         let Outputs { output, errors, .. } = outputs;
         match self {
-            Program::Screenrelay => {
-                screenrelay_command::command(alloc, words, input, output, errors)
-            }
-            Program::Screenlive => screenlive_command::command(alloc, words, input, output, errors),
-            Program::Screencat => screencat_command::command(alloc, words, input, output, errors),
+            Program::Relayer(program) => program.command(alloc, words, input, output, errors),
             Program::Screentext => {
                 screentext_command::command_with(alloc, words, files, input, output, errors)
             }
@@ -64,18 +57,9 @@ impl Program {
     /// the program has such a fault of its own.
     pub fn report_too_many_reads(self, errors: &mut LimitedWriter) -> Option<u8> {
         match self {
-            Program::Screenrelay => Some(screenrelay_command::report_fault(
-                errors,
-                RelayError::TooManyReads,
-            )),
-            Program::Screenlive => Some(screenlive_command::report_fault(
-                errors,
-                RelayError::TooManyReads,
-            )),
-            Program::Screencat => Some(screencat_command::report_fault(
-                errors,
-                RelayError::TooManyReads,
-            )),
+            Program::Relayer(program) => {
+                Some(program.report_fault(errors, RelayError::TooManyReads))
+            }
             Program::Screentext | Program::ScreenProbe => None,
         }
     }

@@ -2,8 +2,8 @@
 #![tactic(auto)]
 
 use command_line::run;
+use relay_commands::Program;
 use relay_streams::RelayError;
-use screencat_command::{command, report_fault};
 use std::env;
 use std::process::ExitCode;
 
@@ -12,7 +12,13 @@ fn main(rt: HostRuntime) -> ExitCode {
         rt.alloc(),
         env::args(&rt),
         &mut (rt.stdin(), rt.stdout(), rt.stderr()),
-        |(input, output, errors), words| command(rt.alloc(), words, input, output, errors),
-        |(_, _, errors)| report_fault(errors, RelayError::Memory),
+        |(input, output, errors), words| Program::Screencat.command(
+            rt.alloc(),
+            words,
+            input,
+            output,
+            errors,
+        ),
+        |(_, _, errors)| Program::Screencat.report_fault(errors, RelayError::Memory),
     )
 }

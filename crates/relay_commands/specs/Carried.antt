@@ -1,0 +1,110 @@
+-- A program's screen that is carried to a view and printed.
+use Rattle.std.specs.Prelude.{◌≡◌, ℕ, false, true, List, [], ◌∷◌, ◌++◌, Option, Ok, Err, Result, OnOk, ⊤}
+use Rattle.std.specs.List.{concat}
+use Rattle.std.specs.declared.io.Error.{Error}
+use Rattle.terminal_model.specs.Term.{Shown}
+use Rattle.termview.specs.declared.view.View.{View}
+use Rattle.termview.specs.declared.until_cleared.UntilCleared.{UntilCleared}
+use Rattle.termrelay.specs.Hub.{HubState, as_kept}
+use Rattle.relay_theorem.specs.History.{Story}
+use Rattle.relay_streams.specs.declared.error.RelayError.{RelayError}
+use Rattle.relay_streams.specs.declared.error.RelayError.TheVariants.{Read, Write, Memory, TooManyReads, FrameTooLong}
+use Rattle.charset_filter.specs.declared.lines.LineDrawing.{LineDrawing}
+use Rattle.charset_filter.specs.declared.lines.LineDrawing.TheVariants.{Kept, Drawn}
+use Rattle.relay_streams.specs.Frames.{answered, asked, is_overlong}
+use Rattle.relay_streams.specs.Led.{Led}
+use Rattle.charset_filter.specs.Lines.{HasPassed, all_passed, drawn_after, passed}
+use Rattle.relay_streams.specs.Pieces.{Begun, Drained, piece_len, pieces_of}
+use Rattle.relay_streams.specs.Sessions.{AreRelayed, EndsOverlong, IsRelayed, IsRelayText, has_overlong}
+use Rattle.relay_streams.specs.Shown.{IsTextShown, Prints, sized}
+use Rattle.relay_streams.specs.Turns.{Relaying}
+use Rattle.relay_commands.specs.Ends.{Sink, Source}
+use Rattle.relay_commands.specs.declared.far_screen.FilteredHub.{FilteredHub}
+
+-- the view was given these bytes, in some pieces
+pub record Carries (old : View UntilCleared) (bytes : List ℕ) (new : View UntilCleared) : Type 0 where
+  pub pieces : List (List ℕ)
+  pub joined : concat pieces ≡ bytes
+  pub led : Led old pieces new
+
+-- this is what is pumped to a client, where these pieces are fed
+pub record IsPumped (rows cols : ℕ) (pieces : List (List ℕ)) (text : List ℕ) : Type 0 where
+  pub key : ℕ
+  pub story : Story
+  pub is : IsRelayed rows cols key pieces story
+  pub fits : has_overlong story ≡ false
+  pub pumped : story.session.pumped ≡ text
+
+-- This is what is relayed of a program's output: a frame after each 4,096 bytes, and one at the end. Either the bytes
+-- are fed as they are, or what the filter gives of each piece.
+abbrev pub IsRelayedThrough : LineDrawing → ℕ → ℕ → List ℕ → List ℕ → Type 0
+IsRelayedThrough Kept rows cols input text = IsRelayText rows cols input text
+IsRelayedThrough Drawn rows cols input text = IsPumped rows cols (drawn_after [] (pieces_of input)) text
+
+-- A fresh view of this size was given, in some pieces, what is relayed of a program's output. This is the text of what
+-- it shows.
+pub record IsFarText (lines : LineDrawing) (rows cols : ℕ) (input text : List ℕ) : Type 0 where
+  pub pieces : List (List ℕ)
+  pub relayed : IsRelayedThrough lines rows cols input (concat pieces)
+  pub shown : IsTextShown (sized rows cols) pieces text
+
+-- These pieces have been fed, the last one by this turn, and the client had this base: so the turn is answered. The
+-- frame reached the view, or there was no memory for it, or it would be too long.
+abbrev pub Carried : ℕ → ℕ → List (List ℕ) → Option Shown → ℕ → View UntilCleared → Result (Unit {0}) RelayError
+    → View UntilCleared → HubState as_kept → Type 0
+Carried rows cols pieces base key old (Ok u) new g =
+    (is_overlong (answered rows cols (concat pieces) base) ≡ false)
+    × Carries old (asked rows cols (concat pieces) base).owed new
+    × Relaying rows cols pieces (asked rows cols (concat pieces) base).base g key
+Carried rows cols pieces base key old (Err Memory) new g = ⊤
+Carried rows cols pieces base key old (Err FrameTooLong) new g =
+    is_overlong (answered rows cols (concat pieces) base) ≡ true
+Carried rows cols pieces base key old (Err Read) new g = ⊥
+Carried rows cols pieces base key old (Err Write) new g = ⊥
+Carried rows cols pieces base key old (Err TooManyReads) new g = ⊥
+
+-- A piece passes the filter and is fed to the hub, and the frame that is then due is carried to the view: the hub and
+-- the view, before and after.
+abbrev pub CarriesPiece : FilteredHub → View UntilCleared → List ℕ → Result (Unit {0}) RelayError → FilteredHub
+    → View UntilCleared → Type 0
+CarriesPiece h old piece answer g new = (g.client ≡ h.client)
+    × OnOk answer ((lines : LineDrawing) (past : List ℕ) → HasPassed h.filter lines past
+    → HasPassed g.filter lines (past ++ piece))
+    × ((rows cols : ℕ) (lines : LineDrawing) (past : List ℕ) (fed : List (List ℕ)) (base : Option Shown)
+    → Relaying rows cols fed base h.hub h.client → HasPassed h.filter lines past
+    → Carried rows cols (fed ++ passed lines past piece ∷ []) base h.client old answer new g.hub)
+
+-- From a source pieces are read and pass, and these frames are made of them: so it is answered, and so the source is
+-- left.
+pub data Follows (lines : LineDrawing) {S : Type 0} (gives : S → ℕ → Result (List ℕ) Error → S → Type 0)
+    (rows cols : ℕ) (s : S) : List (List ℕ) → Result (Unit {0}) RelayError → S → Type 0 where
+  -- a read failed, or as many were made as may be
+  unread : {t : S} {frames : List (List ℕ)} (pieces : List (List ℕ)) (rest : List ℕ) (e : RelayError)
+      → Drained gives piece_len s (pieces ++ rest ∷ []) (Err e) t
+      → AreRelayed rows cols (all_passed lines pieces) frames → Follows lines gives rows cols s frames (Err e) t
+  -- there was no memory for the last piece or its frame
+  unmade : {t : S} {frames : List (List ℕ)} (pieces : List (List ℕ)) (piece : List ℕ)
+      → Begun gives piece_len s (pieces ++ piece ∷ []) t → AreRelayed rows cols (all_passed lines pieces) frames
+      → Follows lines gives rows cols s frames (Err Memory) t
+  -- the frame of the last piece would be too long
+  overlong : {t : S} {frames : List (List ℕ)} (pieces : List (List ℕ)) (piece : List ℕ)
+      → Begun gives piece_len s (pieces ++ piece ∷ []) t → AreRelayed rows cols (all_passed lines pieces) frames
+      → EndsOverlong rows cols (all_passed lines (pieces ++ piece ∷ []))
+      → Follows lines gives rows cols s frames (Err FrameTooLong) t
+  -- the input was read to its end
+  followed : {t : S} {frames : List (List ℕ)} (pieces : List (List ℕ)) → Drained gives piece_len s pieces (Ok tt) t
+      → AreRelayed rows cols (all_passed lines pieces) frames → Follows lines gives rows cols s frames (Ok tt) t
+
+-- From a source and a writer it answers so, and leaves both so. Nothing is written before the input has ended.
+pub data PrintsFar (lines : LineDrawing) {S W : Type 0} (i : Source S) (o : Sink W)
+    (flushes : W → Result (Unit {0}) Error → W → Type 0) (rows cols : ℕ) : Result (Unit {0}) RelayError → Type 0 where
+  -- there was no memory for the hub, its client or the view: nothing is read
+  refused : i.new ≡ i.old → o.new ≡ o.old → PrintsFar lines i o flushes rows cols (Err Memory)
+  -- a fault came before the input had ended
+  broken : (frames : List (List ℕ)) (e : RelayError) → Follows lines i.gives rows cols i.old frames (Err e) i.new
+      → o.new ≡ o.old → PrintsFar lines i o flushes rows cols (Err e)
+  -- a fresh view was given all frames, in some pieces, and what it shows was printed
+  printed : {answer : Result (Unit {0}) RelayError} (frames pieces : List (List ℕ)) (text : List ℕ)
+      → Follows lines i.gives rows cols i.old frames (Ok tt) i.new → concat pieces ≡ concat frames
+      → IsTextShown (sized rows cols) pieces text → Prints o.takes flushes o.old text answer o.new
+      → PrintsFar lines i o flushes rows cols answer

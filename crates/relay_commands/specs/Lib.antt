@@ -1,0 +1,5 @@
+pub mod Carried
+pub mod Command
+pub mod Ends
+pub mod Programs
+pub mod Words

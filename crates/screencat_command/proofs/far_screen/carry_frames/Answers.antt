@@ -1,6 +1,0 @@
-use Rattle.screencat_command.proofs.CarryLemmas.{follows-of}
-use Rattle.screencat_command.proofs.far_screen.carry_frames.Goals as goal
-
-pub returns : goal.returns
-returns g c = λ rows cols lines at passes.
-    follows-of g.row.S.Denot g.S.Source.gives rows cols lines _ _ _ _ _ _ _ at passes c.each_piece.ensures
