@@ -14,7 +14,7 @@ pub use packed::PackedAttrs;
 use std::marker::Model;
 use std::mem::size_of;
 use vt100_forms::attrs::Attrs;
-use vt100_forms::{Color, CHAR_BYTES, TextRun};
+use vt100_forms::{CHAR_BYTES, Color, TextRun};
 
 /// How a cell stands in its row.
 #[derive(Clone, Copy, Debug, Eq, PartialEq)]

@@ -10,13 +10,13 @@
 mod cell;
 mod cell_color;
 mod cell_text;
+mod char3;
 pub mod laws;
 pub mod line;
 mod runs;
-mod char3;
 mod width;
 
 pub use cell::{Cell, Glyph, PackedAttrs};
-pub use runs::{RUN_LEN, TextGlyph, take_run};
 pub use char3::Char3;
+pub use runs::{RUN_LEN, TextGlyph, take_run};
 pub use width::columns;

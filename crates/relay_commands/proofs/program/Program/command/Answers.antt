@@ -1,7 +1,7 @@
 use Rattle.std.proofs.Common.{Option, IfSome, subst}
 use Rattle.relay_commands.specs.Words.{Invocation}
 use Rattle.relay_commands.specs.Command.{HasWritten}
-use Rattle.relay_commands.proofs.commands.Program.command.Goals as goal
+use Rattle.relay_commands.proofs.program.Program.command.Goals as goal
 
 pub returns-in-Ok-clause-done : goal.returns-in-Ok-clause-done
 returns-in-Ok-clause-done g c = λ is.
