@@ -1,7 +1,0 @@
-use Rattle.jeihpal_c.proofs.Words.{on_some}
-use Rattle.jeihpal_c.proofs.screen.jeihpal_screen_process.Goals as goal
-
-pub returns-in-Some : goal.returns-in-Some
-returns-in-Some c =
-    on_some _ _ _ _ _ _ _ _ c.process-code.type_inv c.take.ensures.held c.in-Some.is c.deref_mut.ensures.value c.process-code.ensures
-    c.put.ensures
