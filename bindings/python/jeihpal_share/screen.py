@@ -3,6 +3,7 @@
 from __future__ import annotations
 
 import asyncio
+import time
 from typing import Protocol
 
 from jeihpal import Hub
@@ -34,7 +35,7 @@ class SharedScreen:
         self.loop, self._between, self._notices = loop, 1 / rate, notices
         self._audiences: list[Audience] = []
         self._last = self._first = 0.0  # when it was shown, and when the first byte came after that
-        self._took = 0.0  # seconds that showing it has taken
+        self._took = 0.0  # seconds of a processor that showing it has taken
         self._camera = Camera()
         self._moment: Moment | None = None
         self._tick: asyncio.TimerHandle | None = None
@@ -78,7 +79,7 @@ class SharedScreen:
             self._tick.cancel()
         else:
             self._first = now
-        between = max(self._between, 2 * self._took)  # so that showing takes at most half of the time
+        between = max(self._between, 2 * self._took)  # so that showing takes at most half of a processor
         soonest, latest = self._last + between, self._first + between
         self._tick = self.loop.call_at(max(soonest, min(latest, now + PAUSE)), self.show)
 
@@ -93,11 +94,11 @@ class SharedScreen:
         if self._held:
             self._held.cancel()
             self._held = None
-        self._last = self.loop.time()
+        self._last, begun = self.loop.time(), time.thread_time()
         self._moment = None
         for audience in self._audiences:
             audience.show()
-        self._took = self.loop.time() - self._last
+        self._took = time.thread_time() - begun
 
     def moment(self) -> Moment:
         """What is shown, for an audience that is just told to show it. It is made once for all of them."""

@@ -193,7 +193,7 @@ class InChromium(unittest.TestCase):
         value = lambda name: browser.value(f"document.getElementById('{name}')?.textContent") or ""
         seen = lambda: (value("state"), value("text").split("\n")[0])
         try:
-            wait_for(lambda: seen() == (state, text))
+            wait_for(lambda: seen() == (state, text), 30)
         except AssertionError:
             self.assertEqual(seen(), (state, text))
 

@@ -201,10 +201,8 @@ class Events(unittest.TestCase):
         rows = "'\\r\\n'.join(str(n) * 20 for _ in range(23))"
         program = f"import time\nfor n in range(250): print('\\x1b[H' + {rows}); time.sleep(.01)"
         with Shared(program, *HTTP) as shared, Page(shared) as quick, Page(shared, room=4096) as slow:
-            while quick.moments < 40:
-                quick.read()
             while quick.read():
-                if quick.moments % 10 == 0:
+                if quick.moments > 20 and quick.moments % 10 == 0:
                     slow.read()
             while slow.read():
                 pass
@@ -219,7 +217,7 @@ class InChromium(unittest.TestCase):
     def test_the_page(self):
         with Shared(COLOURS, *HTTP, size="16x60") as shared:
             with Chromium("http://%s:%d/" % shared.place("browsers")) as browser:
-                wait_for(lambda: "make" in (browser.value("document.getElementById('text')?.textContent") or ""))
+                wait_for(lambda: "make" in (browser.value("document.getElementById('text')?.textContent") or ""), 30)
                 self.assertEqual(browser.value("document.getElementById('state').textContent"), "live")
                 text = browser.value("document.getElementById('text').textContent")
                 self.assertIn('wide: 米日本語 thé e\u0301 |end\n<script>alert(1)</script> & "quotes"', text)
@@ -262,7 +260,7 @@ input()
         with Shared(program, *HTTP, size="6x30") as shared:
             with Chromium("http://%s:%d/" % shared.place("browsers")) as browser:
                 text = lambda: browser.value("document.getElementById('text')?.textContent") or ""
-                wait_for(lambda: text().count("|end") == 4)
+                wait_for(lambda: text().count("|end") == 4, 30)
                 self.assertNotIn("\u202e", text())
                 one = browser.value("document.getElementById('rows').getBoundingClientRect().width") / 30
                 left = browser.value("document.querySelector('.row').getBoundingClientRect().left")
@@ -292,18 +290,19 @@ input()
             self.assertLess(first[letter] - left, (at + 2) * one)
 
     def test_pause(self):
-        program = "import time\nfor n in range(100): print('\\x1b[H', n); time.sleep(.05)"
+        program = "import time\nfor n in range(300): print('\\x1b[H', n); time.sleep(.05)"
         with Shared(program, *HTTP) as shared:
             with Chromium("http://%s:%d/" % shared.place("browsers")) as browser:
                 shown = lambda: browser.value("document.getElementById('text').textContent")
-                wait_for(lambda: (shown() or "").strip())
+                wait_for(lambda: (shown() or "").strip(), 30)
                 browser.value("document.getElementById('pause').click()")
                 before = shown()
                 time.sleep(0.5)
                 self.assertEqual(shown(), before)
                 browser.value("document.getElementById('pause').click()")
                 wait_for(lambda: shown() != before)
-                wait_for(lambda: browser.value("document.getElementById('state').textContent") == "ended with status 0")
+                state = "document.getElementById('state').textContent"
+                wait_for(lambda: browser.value(state) == "ended with status 0", 30)
 
 
 if __name__ == "__main__":

@@ -54,7 +54,7 @@ class Watchers(unittest.TestCase):
             for watcher in (quick, slow):
                 self.assertEqual(watcher.view.text().strip(), "the end")
                 self.assertTrue(watcher.data.startswith(START + b"\x1b[?25h\x1b[m\x1b[H\x1b[J"))
-            self.assertLess(2 * slow.frames(), quick.frames())
+            self.assertLess(slow.frames() + 30, quick.frames())  # it has skipped what came meanwhile
 
     def test_one_that_comes_back_gets_all(self):
         with Shared("print('first'); input()") as shared:
