@@ -17,6 +17,7 @@ LINE = 64  # bytes of a line of the processor's cache
 VERSION = "0.1.0"
 SHARED = f"libjeihpal.so.{ABI}"
 PYTHON = f"{HERE}/bindings/python"
+COMMANDS = ("share", "jeihpal-test")
 PKG_CONFIG = f"""prefix=${{pcfiledir}}/../..
 includedir=${{prefix}}/include
 libdir=${{prefix}}/lib
@@ -155,9 +156,9 @@ def install_python(folder):
     link(f"../../../{SHARED}", f"{folder}/jeihpal/libjeihpal.so")
 
 
-def install_share(path):
-    """Copies the command, which finds the module from where it lies."""
-    with open(f"{HERE}/share", encoding="utf-8") as file:
+def install_command(name, path):
+    """Copies a command, which finds the module from where it lies."""
+    with open(f"{HERE}/{name}", encoding="utf-8") as file:
         text = file.read()
     text = text.replace('"bindings", "python"', '"..", "lib", "jeihpal", "python"')
     ours = "from a checkout, over the library that ./build --library has made"
@@ -181,5 +182,7 @@ def install(prefix):
     install_licenses(f"{prefix}/share/doc/jeihpal")
     link(SHARED, f"{prefix}/lib/libjeihpal.so")
     install_python(f"{prefix}/lib/jeihpal/python")
-    install_share(f"{prefix}/bin/share")
-    return [*copied, f"{prefix}/lib/libjeihpal.so", f"{prefix}/lib/jeihpal/python", f"{prefix}/bin/share"]
+    for name in COMMANDS:
+        install_command(name, f"{prefix}/bin/{name}")
+    commands = [f"{prefix}/bin/{name}" for name in COMMANDS]
+    return [*copied, f"{prefix}/lib/libjeihpal.so", f"{prefix}/lib/jeihpal/python", *commands]

@@ -378,6 +378,8 @@ class Programs(unittest.TestCase):
             Terminal("true", cwd="/no/such/folder")
         with self.assertRaises(ValueError):
             Terminal("")
+        with self.assertRaises(ValueError):
+            Terminal("true", rows=0)
         with tempfile.TemporaryDirectory() as folder:
             path = os.path.join(folder, "no program")
             with open(path, "wb") as file:
@@ -412,7 +414,13 @@ class Programs(unittest.TestCase):
                 terminal.wait_for("there", timeout=0.3)
             self.assertLess(time.monotonic() - begun, 3)
             told = str(failure.exception)
-            for part in ("in vain for 'there', 0.3 s", "runs, and wrote last", "│here", "cursor 1 ", "type 'ab'"):
+            for part in (
+                "in vain for 'there', 0.3 s",
+                "waits for something, and wrote last",
+                "│here",
+                "cursor 1 ",
+                "type 'ab'",
+            ):
                 self.assertIn(part, told)
             self.assertIn("b'here\\r\\n", told)
             self.assertIn("here", failure.exception.screen)

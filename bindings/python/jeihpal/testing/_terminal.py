@@ -8,7 +8,7 @@ import shlex
 import signal as signals
 import time
 import warnings
-from typing import Callable, Mapping, Optional, Pattern, Sequence, Union
+from typing import Callable, Mapping, NoReturn, Optional, Pattern, Sequence, Union
 
 from jeihpal import Look
 
@@ -56,6 +56,8 @@ class Terminal:
         self.command = shlex.split(command) if isinstance(command, str) else [str(word) for word in command]
         if not self.command:
             raise ValueError("there is no command")
+        if not (0 < rows < 1 << 16 and 0 < cols < 1 << 16):
+            raise ValueError("a size is 1 to 65,535 rows and columns")
         self.timeout = timeout
         self._sent: list[str] = []
         folder = None if cwd is None else os.fspath(cwd)
@@ -261,7 +263,7 @@ class Terminal:
         if self._session.fault:
             raise RuntimeError("the terminal has failed") from self._session.fault
 
-    def _fail(self, words: str, timeout: Optional[float]) -> None:
+    def _fail(self, words: str, timeout: Optional[float]) -> NoReturn:
         """A wait is over in vain."""
         __tracebackhide__ = True
         seconds = self.timeout if timeout is None else timeout
@@ -283,7 +285,9 @@ class Terminal:
             assert session.process.status is not None
             said = f"{shlex.join(self.command)} has ended {status_words(session.process.status)}"
         else:
-            said = f"{shlex.join(self.command)} runs, and wrote last {ago:.1f} s ago"
+            how = "runs" if session.process.activity().is_busy else "waits for something"
+            when = f"wrote last {ago:.1f} s ago" if session.written else "has written nothing"
+            said = f"{shlex.join(self.command)} {how}, and {when}"
         told = [said, framed(session.moments[-1])]
         if session.live.look.updating:
             told.append("it is in a synchronized update, which isn't shown before its end")
