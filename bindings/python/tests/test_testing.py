@@ -448,7 +448,7 @@ class Programs(unittest.TestCase):
             "import time; end = time.time() + .6\nwhile time.time() < end: pass\nprint('done', flush=True); input()"
         )
         with python(program) as terminal:
-            self.assertIn("done", terminal.wait_until_quiet(0.05))
+            self.assertIn("done", terminal.wait_until_quiet(0.3))
 
     def test_much_is_sent(self):
         program = (

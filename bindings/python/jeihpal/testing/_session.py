@@ -54,6 +54,8 @@ class Session:
         """How many bytes were written."""
         self.written_at = time.monotonic()
         """When the last of them came."""
+        self.sent_at = self.written_at
+        """When something was sent last."""
         self.is_fresh = False
         """Whether nothing was written since the newest moment."""
         self.is_done = False
@@ -80,6 +82,7 @@ class Session:
         with self.changed:
             self.recording.input(data)
             self._outgoing += data
+            self.sent_at = time.monotonic()
             self.forget()
         self._wake()
 

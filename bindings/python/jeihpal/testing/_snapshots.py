@@ -113,8 +113,9 @@ def _found(picture: Picture, mask: Union[str, Pattern[str]]) -> list[tuple[int, 
     places = []
     for row, line in enumerate(picture.lines):
         for found in pattern.finditer(line):
-            first, last = picture.column(row, found.start()), picture.column(row, found.end() - 1)
-            places += [(row, col) for col in range(first, last + 1)] if found.end() > found.start() else []
+            if found.end() > found.start():
+                first, last = picture.column(row, found.start()), picture.column(row, found.end() - 1)
+                places += [(row, col) for col in range(first, last + picture.cell(row, last).width)]
     return places
 
 

@@ -5,7 +5,7 @@ from __future__ import annotations
 from html import escape
 from typing import Iterator
 
-from ._colors import BACKGROUND, FOREGROUND, hex_of_name
+from ._colors import BACKGROUND, FOREGROUND, NAMES, hex_of_name
 from ._picture import Cell, Picture, Style
 
 _WIDTH, _HEIGHT, _BASE = 8.4, 17, 13  # pixels of a cell, and from its top to the line that letters stand on
@@ -55,7 +55,9 @@ def _row(row: int, cells: tuple[Cell, ...]) -> list[str]:
     """A row: what is behind the texts, and the texts."""
     behind, texts = [], []
     for start, cols, text, style in _runs(cells):
-        front, back = hex_of_name(style.foreground, FOREGROUND), hex_of_name(style.background, BACKGROUND)
+        bright = f"bright-{style.foreground}"
+        name = bright if "bold" in style.attributes and bright in NAMES else style.foreground  # as terminals do
+        front, back = hex_of_name(name, FOREGROUND), hex_of_name(style.background, BACKGROUND)
         if "inverse" in style.attributes:
             front, back = back, front
         place, wide = f'x="{_x(start)}" y="{row * _HEIGHT}"', _x(cols)

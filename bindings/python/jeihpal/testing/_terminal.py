@@ -21,6 +21,7 @@ from ._session import Session
 
 Condition = Union[str, Pattern[str], Callable[[Picture], object]]
 TIMEOUT = 10.0
+_MOST_NAME = 100  # characters of the command
 _MOST_TOLD = 400  # bytes of what was written last, in what a failed wait says
 
 
@@ -190,21 +191,27 @@ class Terminal:
         return self._waited(lambda screen: not test(screen), f"{_words_of(what)} to be gone", timeout)
 
     def wait_until_quiet(self, seconds: float = 0.1, timeout: Optional[float] = None) -> Picture:
-        """Waits until the program has written nothing for so many seconds, and doesn't run. Answers the screen."""
+        """Waits until the program has written nothing for so many seconds, and hasn't run. Answers the screen.
+
+        The seconds count from the last thing that was sent, too.
+        """
         __tracebackhide__ = True
         session, end = self._session, self._end(timeout)
+        before, ran_at = session.process.activity(), 0.0
         while True:
+            activity, now = session.process.activity(), time.monotonic()
+            if activity.is_busy or activity != before:
+                before, ran_at = activity, now
             with session.changed:
-                now = time.monotonic()
-                silent = now - session.written_at
-                is_fresh = session.is_fresh and not session.live.look.updating
-                if session.is_done or (is_fresh and silent >= seconds and not session.process.activity().is_busy):
+                self._raise_fault()
+                silent = now - max(session.written_at, session.sent_at, ran_at)
+                is_shown = session.is_fresh and not session.live.look.updating
+                if session.is_done or (is_shown and silent >= seconds):
                     session.forget()
                     return session.moments[-1]
-                self._raise_fault()
                 if now >= end:
                     self._fail(f"{seconds} s without a byte", timeout)
-                session.changed.wait(max(0.005, min(seconds - silent, end - now)))
+            time.sleep(0.005)
 
     def wait_for_exit(self, timeout: Optional[float] = None) -> int:
         """Waits until the program has ended. Answers its status; less than 0 is a signal's number."""
@@ -283,11 +290,11 @@ class Terminal:
         ago = time.monotonic() - session.written_at
         if session.is_done:
             assert session.process.status is not None
-            said = f"{shlex.join(self.command)} has ended {status_words(session.process.status)}"
+            said = f"{self._name} has ended {status_words(session.process.status)}"
         else:
             how = "runs" if session.process.activity().is_busy else "waits for something"
             when = f"wrote last {ago:.1f} s ago" if session.written else "has written nothing"
-            said = f"{shlex.join(self.command)} {how}, and {when}"
+            said = f"{self._name} {how}, and {when}"
         told = [said, framed(session.moments[-1])]
         if session.live.look.updating:
             told.append("it is in a synchronized update, which isn't shown before its end")
@@ -323,9 +330,15 @@ class Terminal:
             warnings.warn(f"the terminal of {self.command[0]} wasn't closed", ResourceWarning, source=self)
             session.close()
 
+    @property
+    def _name(self) -> str:
+        """The command in a line that isn't long."""
+        line = shlex.join(self.command).replace("\n", "\\n")
+        return line if len(line) <= _MOST_NAME else line[: _MOST_NAME - 3] + "..."
+
     def __repr__(self) -> str:
         state = "runs" if self.status is None else f"has ended {status_words(self.status)}"
-        return f"<Terminal {shlex.join(self.command)!r} {state}>"
+        return f"<Terminal {self._name!r} {state}>"
 
 
 def _test_of(what: Condition) -> Callable[[Picture], object]:
