@@ -156,9 +156,9 @@ def install_python(folder):
     link(f"../../../{SHARED}", f"{folder}/jeihpal/libjeihpal.so")
 
 
-def install_command(name, path):
-    """Copies a command, which finds the module from where it lies."""
-    with open(f"{HERE}/{name}", encoding="utf-8") as file:
+def install_share(path):
+    """Copies the command, which finds the module from where it lies."""
+    with open(f"{HERE}/{os.path.basename(path)}", encoding="utf-8") as file:
         text = file.read()
     text = text.replace('"bindings", "python"', '"..", "lib", "jeihpal", "python"')
     ours = "from a checkout, over the library that ./build --library has made"
@@ -182,7 +182,7 @@ def install(prefix):
     install_licenses(f"{prefix}/share/doc/jeihpal")
     link(SHARED, f"{prefix}/lib/libjeihpal.so")
     install_python(f"{prefix}/lib/jeihpal/python")
-    for name in COMMANDS:
-        install_command(name, f"{prefix}/bin/{name}")
     commands = [f"{prefix}/bin/{name}" for name in COMMANDS]
+    for path in commands:
+        install_share(path)
     return [*copied, f"{prefix}/lib/libjeihpal.so", f"{prefix}/lib/jeihpal/python", *commands]
