@@ -4,7 +4,7 @@ use crate::sums::Sum;
 use termrelay::{Client, Hub, Log};
 
 /// Which of the two hubs is meant.
-#[derive(Clone, Copy, Debug, Eq, PartialEq)]
+#[derive(Clone, Copy)]
 pub enum Side {
     /// The one whose calls are made one by one.
     Called,

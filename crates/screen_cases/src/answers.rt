@@ -3,19 +3,16 @@ use case_player::{Answer, StepError};
 use vt100::{GridError, ScreenError};
 
 /// Appends a text as a line in quotes.
-pub fn tell_text(answer: &mut Answer, text: &str) -> Result<(), StepError> {
-    answer.quoted(text.as_bytes())?;
-    answer.end_line()?;
-    Ok(())
+pub fn tell_text(answer: &mut Answer, text: &str) {
+    answer.quoted_line(text.as_bytes());
 }
 
 /// Appends the lines of a text, each with escapes.
-pub fn tell_lines(answer: &mut Answer, text: &str) -> Result<(), StepError> {
+pub fn tell_lines(answer: &mut Answer, text: &str) {
     for line in text.lines() {
-        answer.escaped(line.as_bytes())?;
-        answer.end_line()?;
+        answer.escaped(line.as_bytes());
+        answer.end_line();
     }
-    Ok(())
 }
 
 /// The step's error for a reading call's.
