@@ -30,6 +30,15 @@ impl Answer {
         })
     }
 
+    /// An empty answer, which has no room yet.
+    pub(crate) fn without_room(alloc: Global) -> Answer {
+        Answer {
+            text: String::new(alloc),
+            refused: false,
+            compared: 0,
+        }
+    }
+
     /// Appends a text as it is.
     pub fn push(&mut self, text: &str) {
         self.refused |= self.text.push_str(text).is_err();

@@ -72,8 +72,7 @@ pub(crate) fn push_unescaped<'a>(
 fn push_escape<'a>(bytes: &mut Vec<u8>, escape: &'a [u8]) -> Result<&'a [u8], StepError> {
     match escape {
         [b'x', high, low, rest @ ..] => {
-            let code = digit(*high)?.saturating_mul(16);
-            bytes.push(code.saturating_add(digit(*low)?) as u8)?;
+            push_byte_of(bytes, *high, *low)?;
             Ok(rest)
         }
         [b'u', b'{', rest @ ..] => push_character(bytes, rest),
@@ -83,6 +82,16 @@ fn push_escape<'a>(bytes: &mut Vec<u8>, escape: &'a [u8]) -> Result<&'a [u8], St
         }
         [] => Err(ESCAPES),
     }
+}
+
+// Appends the byte of two hexadecimal digits.
+fn push_byte_of(bytes: &mut Vec<u8>, high: u8, low: u8) -> Result<(), StepError> {
+    let code = digit(high)?.saturating_mul(16).saturating_add(digit(low)?);
+    let Ok(byte) = u8::try_from(code) else {
+        return Err(ESCAPES);
+    };
+    bytes.push(byte)?;
+    Ok(())
 }
 
 fn control(letter: u8) -> Result<u8, StepError> {

@@ -56,7 +56,7 @@ impl Play {
             cases: 0,
             steps: 0,
             faults: 0,
-            report: Answer::new(alloc)?,
+            report: Answer::without_room(alloc),
         })
     }
 

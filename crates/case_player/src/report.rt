@@ -79,15 +79,20 @@ fn push_line(report: &mut Answer, place: &Place<'_>) {
 }
 
 fn push_place(report: &mut Answer, place: &Place<'_>) {
-    let (name, words) = place.step;
     push_line(report, place);
+    push_title(report, place.title);
+    push_step(report, place.step);
+}
+
+fn push_title(report: &mut Answer, title: &str) {
     report.push("case \"");
-    report.push(place.title);
+    report.push(title);
     report.push("\": ");
+}
+
+fn push_step(report: &mut Answer, (name, words): (&str, &str)) {
     report.push(name);
-    if !words.is_empty() {
-        report.push(" ");
-    }
+    report.push(if words.is_empty() { "" } else { " " });
     report.push(words);
     report.push(": ");
 }

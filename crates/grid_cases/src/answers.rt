@@ -33,11 +33,25 @@ fn push_color(answer: &mut Answer, name: &str, color: Color) {
     }
 }
 
-/// Appends the word if it applies.
-fn push_if(answer: &mut Answer, applies: bool, word: &str) {
-    if applies {
-        answer.push(word);
+/// Appends each word that applies.
+fn push_words(answer: &mut Answer, words: &[(bool, &str)]) {
+    for (applies, word) in words {
+        if *applies {
+            answer.push(word);
+        }
     }
+}
+
+/// Appends the modes that a cell is drawn in.
+fn push_modes(answer: &mut Answer, cell: &Cell) {
+    let words = [
+        (cell.bold(), " bold"),
+        (cell.dim(), " dim"),
+        (cell.italic(), " italic"),
+        (cell.underline(), " underline"),
+        (cell.inverse(), " inverse"),
+    ];
+    push_words(answer, &words);
 }
 
 /// The attributes that the single calls tell.
@@ -62,14 +76,10 @@ fn told_attrs(cell: &Cell) -> Attrs {
 /// Appends a cell's text, whether it is wide, and its attributes where they aren't the default ones.
 pub fn push_cell(answer: &mut Answer, cell: &Cell) -> Result<(), StepError> {
     answer.escaped(text_of(cell).as_bytes());
-    push_if(answer, cell.is_wide(), " wide");
+    push_words(answer, &[(cell.is_wide(), " wide")]);
     push_color(answer, "fg", cell.fgcolor());
     push_color(answer, "bg", cell.bgcolor());
-    push_if(answer, cell.bold(), " bold");
-    push_if(answer, cell.dim(), " dim");
-    push_if(answer, cell.italic(), " italic");
-    push_if(answer, cell.underline(), " underline");
-    push_if(answer, cell.inverse(), " inverse");
+    push_modes(answer, cell);
     answer.end_line();
     if cell.attrs() != told_attrs(cell) {
         return Err(StepError::Wrong("attrs() tells other attributes than the single calls"));

@@ -66,6 +66,12 @@ fn push_set(answer: &mut Answer, letters: &[(bool, &str)]) {
 /// cursor, bracketed paste), the mouse's mode and encoding, the cursor's style, the two colours, and the letters of the
 /// attributes (bold, dim, italic, underlined, inverse).
 pub fn push_settings(answer: &mut Answer, view: &View<UntilCleared>) {
+    push_modes(answer, view);
+    push_mouse_and_colors(answer, view);
+    push_attributes(answer, view);
+}
+
+fn push_modes(answer: &mut Answer, view: &View<UntilCleared>) {
     let modes = [
         (view.application_keypad(), "k"),
         (view.application_cursor(), "c"),
@@ -73,7 +79,9 @@ pub fn push_settings(answer: &mut Answer, view: &View<UntilCleared>) {
         (view.bracketed_paste(), "p"),
     ];
     push_set(answer, &modes);
-    push_mouse_and_colors(answer, view);
+}
+
+fn push_attributes(answer: &mut Answer, view: &View<UntilCleared>) {
     let attributes = [
         (view.bold(), "b"),
         (view.dim(), "d"),
