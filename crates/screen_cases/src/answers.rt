@@ -1,5 +1,6 @@
 //! Lines of answers, and the errors of steps.
 use case_player::{Answer, StepError};
+use std::fmt;
 use vt100::{GridError, ScreenError};
 
 /// Appends a text as a line in quotes.
@@ -20,6 +21,14 @@ pub fn refused(error: ScreenError) -> StepError {
     match error {
         ScreenError::Memory => StepError::Memory,
         ScreenError::Failed => StepError::Wrong("the screen has failed"),
+    }
+}
+
+/// The step's answer for a writer's, which fails where memory is refused.
+pub fn written(answer: fmt::Result) -> Result<(), StepError> {
+    match answer {
+        Ok(()) => Ok(()),
+        Err(_) => Err(StepError::Memory),
     }
 }
 

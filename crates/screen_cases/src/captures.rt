@@ -1,5 +1,5 @@
 //! Captures: what is written of rows, and what is read of it.
-use crate::answers::{tell_lines, tell_text};
+use crate::answers::{tell_lines, tell_text, written};
 use crate::log::Log;
 use case_player::{Answer, StepError, Words};
 use std::alloc::Global;
@@ -35,9 +35,8 @@ pub fn tell_capture(
     if whole {
         let mut state = log.state.clone()?;
         let range = BasicFormattedCaptureRange::Full(&mut state);
-        parser
-            .screen()
-            .write_contents_formatted_basic(&mut text, range)?;
+        let screen = parser.screen();
+        written(screen.write_contents_formatted_basic(&mut text, range))?;
     }
     tell_text(answer, text.as_str());
     Ok(())
