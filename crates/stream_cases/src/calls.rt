@@ -52,13 +52,17 @@ pub struct Processors(pub Global);
 impl Reader for Processors {
     fn read(&self, log: &mut Log, pieces: &[&[u8]]) -> Result<(), StepError> {
         let mut processor = new_processor(self.0)?;
-        for piece in pieces {
-            processor.advance(&mut log.calls, piece);
-        }
-        if processor.sync_bytes_count() > 0 {
-            log.push("(bytes are held) ");
-        }
+        read_pieces(&mut processor, log, pieces);
         Ok(())
+    }
+}
+
+fn read_pieces(processor: &mut Processor, log: &mut Log, pieces: &[&[u8]]) {
+    for piece in pieces {
+        processor.advance(&mut log.calls, piece);
+    }
+    if processor.sync_bytes_count() > 0 {
+        log.push("(bytes are held) ");
     }
 }
 
@@ -69,17 +73,20 @@ pub fn tell_byte_by_byte(
     bytes: &[u8],
     answer: &mut Answer,
 ) -> Result<(), StepError> {
-    let mut processor = new_processor(alloc)?;
     log.restart(Until::Never)?;
-    for byte in bytes {
-        processor.advance(&mut log.calls, &[*byte]);
-    }
+    read_bytes(&mut new_processor(alloc)?, log, bytes);
     log.check()?;
     let told = log.told();
     if answer.as_str().strip_suffix('\n') != Some(told) {
         writeln!(answer, "byte by byte: {told}");
     }
     Ok(())
+}
+
+fn read_bytes(processor: &mut Processor, log: &mut Log, bytes: &[u8]) {
+    for byte in bytes {
+        processor.advance(&mut log.calls, &[*byte]);
+    }
 }
 
 /// Answers the calls since the log was restarted, and how many bytes are held.

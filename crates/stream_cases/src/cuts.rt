@@ -21,8 +21,7 @@ pub fn tell_cut<R: Reader>(
     for cut in 0..=bytes.len() {
         read(reader, log, &[&bytes[..cut], &bytes[cut..]])?;
         if log.told() != answer.as_str() {
-            let told = log.told();
-            writeln!(answer, " (cut at {cut}: {told})");
+            tell_difference(log, cut, answer);
             return Ok(());
         }
     }
@@ -47,4 +46,10 @@ pub fn read<R: Reader>(reader: &R, log: &mut Log, pieces: &[&[u8]]) -> Result<()
     log.restart(Until::Never)?;
     reader.read(log, pieces)?;
     log.check()
+}
+
+// Appends what is said where the stream is cut.
+fn tell_difference(log: &Log, cut: usize, answer: &mut Answer) {
+    let told = log.told();
+    writeln!(answer, " (cut at {cut}: {told})");
 }
