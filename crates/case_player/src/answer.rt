@@ -2,14 +2,17 @@
 
 use crate::escapes::push_escaped;
 use std::alloc::{AllocError, Global};
-use std::fmt;
+use std::fmt::Display;
 
 /// What a step answers: some lines.
 ///
-/// There is room for 65,536 bytes before the step begins. So appending to an answer that fits takes no memory.
+/// There is room for 65,536 bytes before the step begins. So appending to an answer that fits takes no memory. Where
+/// memory is refused to what is appended, the step is one that memory was refused to.
 #[derive(Drop)]
 pub struct Answer {
     text: String,
+    // Whether memory was refused to something that was appended.
+    refused: bool,
     // How many bytes at the start are lines that were compared.
     compared: usize,
 }
@@ -22,41 +25,62 @@ impl Answer {
     pub fn new(alloc: Global) -> Result<Answer, AllocError> {
         Ok(Answer {
             text: String::with_capacity(alloc, ROOM)?,
+            refused: false,
             compared: 0,
         })
     }
 
+    /// An empty answer, which has no room yet.
+    pub(crate) fn without_room(alloc: Global) -> Answer {
+        Answer {
+            text: String::new(alloc),
+            refused: false,
+            compared: 0,
+        }
+    }
+
     /// Appends a text as it is.
-    pub fn push(&mut self, text: &str) -> Result<(), AllocError> {
-        self.text.push_str(text)
+    pub fn push(&mut self, text: &str) {
+        self.refused |= self.text.push_str(text).is_err();
+    }
+
+    /// Appends what is written by `write!` and `writeln!`.
+    pub fn write_fmt<D: Display + Drop>(&mut self, value: D) {
+        self.refused |= self.text.write_fmt(value).is_err();
     }
 
     /// Appends a number.
-    pub fn number(&mut self, number: u64) -> Result<(), AllocError> {
-        write!(self.text, "{number}")
+    pub fn number(&mut self, number: u64) {
+        write!(self, "{number}");
     }
 
     /// Appends bytes with escapes: as a quoted word of a step, but without its quotes.
-    pub fn escaped(&mut self, bytes: &[u8]) -> Result<(), AllocError> {
-        push_escaped(&mut self.text, bytes)
+    pub fn escaped(&mut self, bytes: &[u8]) {
+        self.refused |= push_escaped(&mut self.text, bytes).is_err();
     }
 
     /// Appends bytes as a quoted word.
-    pub fn quoted(&mut self, bytes: &[u8]) -> Result<(), AllocError> {
-        self.text.push('"')?;
-        self.escaped(bytes)?;
-        self.text.push('"')
+    pub fn quoted(&mut self, bytes: &[u8]) {
+        self.push("\"");
+        self.escaped(bytes);
+        self.push("\"");
+    }
+
+    /// Appends bytes as a quoted word, and ends the line.
+    pub fn quoted_line(&mut self, bytes: &[u8]) {
+        self.quoted(bytes);
+        self.end_line();
     }
 
     /// Appends a text, and ends the line.
-    pub fn line(&mut self, text: &str) -> Result<(), AllocError> {
-        self.push(text)?;
-        self.end_line()
+    pub fn line(&mut self, text: &str) {
+        self.push(text);
+        self.end_line();
     }
 
     /// Ends the line.
-    pub fn end_line(&mut self) -> Result<(), AllocError> {
-        self.text.push('\n')
+    pub fn end_line(&mut self) {
+        self.push("\n");
     }
 
     /// Whether nothing was appended yet.
@@ -69,9 +93,15 @@ impl Answer {
         self.text.as_str()
     }
 
+    /// Whether memory was refused to something that was appended.
+    pub fn is_refused(&self) -> bool {
+        self.refused
+    }
+
     /// Takes everything back.
-    pub(crate) fn clear(&mut self) {
+    pub fn clear(&mut self) {
         self.text.clear();
+        self.refused = false;
         self.compared = 0;
     }
 
@@ -92,15 +122,5 @@ fn first_line(text: &str) -> &str {
     match text.split_once('\n') {
         Some((line, _)) => line,
         None => text,
-    }
-}
-
-/// Text that is written is appended as it is.
-impl fmt::Write for Answer {
-    fn write_str(&mut self, s: &str) -> fmt::Result {
-        match self.text.push_str(s) {
-            Ok(()) => Ok(()),
-            Err(_) => Err(fmt::Error),
-        }
     }
 }

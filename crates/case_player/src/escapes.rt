@@ -48,28 +48,31 @@ const ESCAPES: StepError = StepError::Word(
     "one of the escapes \\e \\n \\r \\t \\\\ \\\" \\xHH \\u{H..} behind a backslash",
 );
 
-/// Appends the bytes of a quoted word, which is given without its quotes.
-pub(crate) fn push_unescaped(bytes: &mut Vec<u8>, quoted: &[u8]) -> Result<(), StepError> {
+/// Appends the bytes of a quoted word, whose first quote is taken already. Answers what follows its last quote.
+pub(crate) fn push_unescaped<'a>(
+    bytes: &mut Vec<u8>,
+    quoted: &'a [u8],
+) -> Result<&'a [u8], StepError> {
     let mut rest = quoted;
     for _ in 0..quoted.len() {
-        let [first, after @ ..] = rest else {
-            break;
+        rest = match rest {
+            [b'"', after @ ..] => return Ok(after),
+            [b'\\', escape @ ..] => push_escape(bytes, escape)?,
+            [byte, after @ ..] => {
+                bytes.push(*byte)?;
+                after
+            }
+            [] => break,
         };
-        if *first == b'\\' {
-            rest = push_escape(bytes, after)?;
-        } else {
-            bytes.push(*first)?;
-            rest = after;
-        }
     }
-    Ok(())
+    Err(StepError::Word("a quote at the end of a quoted word"))
 }
 
 // Appends what an escape is, which is given without its backslash. Answers what follows it.
 fn push_escape<'a>(bytes: &mut Vec<u8>, escape: &'a [u8]) -> Result<&'a [u8], StepError> {
     match escape {
         [b'x', high, low, rest @ ..] => {
-            bytes.push(byte_of(&[*high, *low])?)?;
+            push_byte_of(bytes, *high, *low)?;
             Ok(rest)
         }
         [b'u', b'{', rest @ ..] => push_character(bytes, rest),
@@ -79,6 +82,16 @@ fn push_escape<'a>(bytes: &mut Vec<u8>, escape: &'a [u8]) -> Result<&'a [u8], St
         }
         [] => Err(ESCAPES),
     }
+}
+
+// Appends the byte of two hexadecimal digits.
+fn push_byte_of(bytes: &mut Vec<u8>, high: u8, low: u8) -> Result<(), StepError> {
+    let code = digit(high)?.saturating_mul(16).saturating_add(digit(low)?);
+    let Ok(byte) = u8::try_from(code) else {
+        return Err(ESCAPES);
+    };
+    bytes.push(byte)?;
+    Ok(())
 }
 
 fn control(letter: u8) -> Result<u8, StepError> {
@@ -92,32 +105,37 @@ fn control(letter: u8) -> Result<u8, StepError> {
     }
 }
 
-// Appends a character, given by its digits and a closing brace.
+// Appends a character, given by its digits and a closing brace. Answers what follows the brace.
 fn push_character<'a>(bytes: &mut Vec<u8>, escape: &'a [u8]) -> Result<&'a [u8], StepError> {
-    let mut parts = escape.splitn(2, |b| *b == b'}');
-    let (Some(digits), Some(rest)) = (parts.next(), parts.next()) else {
-        return Err(ESCAPES);
-    };
-    let Some(c) = char::from_u32(number_of(digits)?) else {
-        return Err(ESCAPES);
-    };
-    bytes.extend_from_slice(c.encode_utf8(&mut [0; 4]).as_bytes())?;
-    Ok(rest)
-}
-
-// The byte of two hexadecimal digits.
-fn byte_of(digits: &[u8]) -> Result<u8, StepError> {
-    u8::from_str_radix(hexadecimal(digits)?, 16).map_err(|_| ESCAPES)
-}
-
-// The number of hexadecimal digits.
-fn number_of(digits: &[u8]) -> Result<u32, StepError> {
-    u32::from_str_radix(hexadecimal(digits)?, 16).map_err(|_| ESCAPES)
-}
-
-fn hexadecimal(digits: &[u8]) -> Result<&str, StepError> {
-    if !digits.iter().all(|digit| digit.is_ascii_hexdigit()) {
-        return Err(ESCAPES);
+    let mut rest = escape;
+    let mut code = 0_u32;
+    for _ in 0..escape.len() {
+        match rest {
+            [b'}', after @ ..] => {
+                push_code_point(bytes, code)?;
+                return Ok(after);
+            }
+            [first, after @ ..] => {
+                code = code.saturating_mul(16).saturating_add(digit(*first)?);
+                rest = after;
+            }
+            [] => break,
+        }
     }
-    str::from_utf8(digits).map_err(|_| ESCAPES)
+    Err(ESCAPES)
+}
+
+fn push_code_point(bytes: &mut Vec<u8>, code: u32) -> Result<(), StepError> {
+    match char::from_u32(code) {
+        Some(c) => Ok(bytes.extend_from_slice(c.encode_utf8(&mut [0; 4]).as_bytes())?),
+        None => Err(ESCAPES),
+    }
+}
+
+// The value of a hexadecimal digit.
+fn digit(byte: u8) -> Result<u32, StepError> {
+    match char::from(byte).to_digit(16) {
+        Some(value) => Ok(value),
+        None => Err(ESCAPES),
+    }
 }

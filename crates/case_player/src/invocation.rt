@@ -3,7 +3,7 @@
 use command_line::parse_count;
 
 /// What a player is asked to do.
-#[derive(Clone, Copy, Debug, PartialEq, Eq)]
+#[derive(Clone, Copy)]
 pub(crate) struct Invocation<'a> {
     /// Whether a step that memory was refused to is taken once more.
     pub may_refuse: bool,

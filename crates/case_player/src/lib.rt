@@ -1,6 +1,6 @@
 //! Plays files of cases: steps, each with the lines that it has to answer.
 //!
-//! A crate of tests has a [`Player`] that takes the steps, a program that calls [`run_cases`] with it, and the cases in
+//! A crate of tests has a [`Player`] that takes the steps, a program that calls [`play`] with it, and the cases in
 //! files. What a file looks like is told in this crate's README.
 #![tactic(auto)]
 
@@ -18,5 +18,5 @@ mod words;
 pub use answer::Answer;
 pub use files::{Disk, Files};
 pub use player::{Player, StepError};
-pub use running::{NO_MEMORY, run_cases};
+pub use running::play;
 pub use words::Words;

@@ -1,7 +1,7 @@
 //! The lines of a file of cases.
 
 /// A line of a file of cases.
-#[derive(Clone, Copy, Debug, PartialEq, Eq)]
+#[derive(Clone, Copy)]
 pub(crate) enum Line<'a> {
     /// An empty line or a comment.
     Nothing,

@@ -6,12 +6,11 @@ ghost use Rattle.case_player.specs.declared.player.StepError.TheVariants.{Memory
 use crate::answer::Answer;
 use crate::words::Words;
 use std::alloc::{AllocError, AllocFailed};
-use std::fmt;
 
 /// Plays the steps of cases.
 pub trait Player {
     /// Begins a case: what earlier ones left is gone.
-    fn begin(&mut self) -> Result<(), StepError>;
+    fn begin(&mut self);
 
     /// Takes a step, and appends to the answer a line for each thing that it answers.
     ///
@@ -25,7 +24,7 @@ pub trait Player {
 }
 
 /// Why a step isn't done.
-#[derive(Clone, Copy, Debug, PartialEq, Eq)]
+#[derive(Clone, Copy)]
 pub enum StepError {
     /// No step has this name.
     Unknown,
@@ -51,14 +50,6 @@ impl<T: Drop> From<AllocFailed<T>> for StepError {
     ghost from_gives = { λ _ e. e ≡ Memory };
 
     fn from(_error: AllocFailed<T>) -> Self {
-        StepError::Memory
-    }
-}
-
-impl From<fmt::Error> for StepError {
-    ghost from_gives = { λ _ e. e ≡ Memory };
-
-    fn from(_error: fmt::Error) -> Self {
         StepError::Memory
     }
 }

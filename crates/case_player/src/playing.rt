@@ -4,12 +4,12 @@ use crate::answer::Answer;
 use crate::invocation::Invocation;
 use crate::lines::{Line, parse_line};
 use crate::player::{Player, StepError};
-use crate::report::{Fault, Place, push_fault};
+use crate::report::{Fault, Place, push_fault, push_listed};
 use crate::words::Words;
 use std::alloc::{AllocError, Global};
 
 /// What becomes of the next line.
-#[derive(Clone, Copy, Debug, PartialEq, Eq)]
+#[derive(Clone, Copy)]
 enum Stage {
     /// No case has begun in this file.
     Outside,
@@ -40,7 +40,7 @@ pub(crate) struct Play {
     /// How many lines aren't as wanted.
     pub faults: usize,
     /// What isn't told yet.
-    pub report: String,
+    pub report: Answer,
 }
 
 impl Play {
@@ -56,17 +56,12 @@ impl Play {
             cases: 0,
             steps: 0,
             faults: 0,
-            report: String::new(alloc),
+            report: Answer::without_room(alloc),
         })
     }
 
     /// Plays the cases of a file.
-    pub fn play_text<P: Player>(
-        &mut self,
-        player: &mut P,
-        file: &str,
-        text: &str,
-    ) -> Result<(), AllocError> {
+    pub fn play_text<P: Player>(&mut self, player: &mut P, file: &str, text: &str) {
         self.stage = Stage::Outside;
         let mut place = Place {
             file,
@@ -77,9 +72,9 @@ impl Play {
         let mut number: usize = 0;
         for line in text.lines() {
             number = number.saturating_add(1);
-            self.play_line(player, &mut place, number, parse_line(line))?;
+            self.play_line(player, &mut place, number, parse_line(line));
         }
-        self.end_step(&place)
+        self.end_step(&place);
     }
 
     fn play_line<'a, P: Player>(
@@ -88,18 +83,18 @@ impl Play {
         place: &mut Place<'a>,
         number: usize,
         line: Line<'a>,
-    ) -> Result<(), AllocError> {
+    ) {
         match line {
-            Line::Nothing => Ok(()),
+            Line::Nothing => {}
             Line::Case(title) => {
-                self.end_step(place)?;
+                self.end_step(place);
                 *place = Place {
                     line: number,
                     title,
                     step: ("", ""),
                     ..*place
                 };
-                self.begin(player, place)
+                self.begin(player, place);
             }
             Line::Wanted(wanted) => self.compare(
                 &Place {
@@ -109,58 +104,43 @@ impl Play {
                 wanted,
             ),
             Line::Step(name, words) => {
-                self.end_step(place)?;
+                self.end_step(place);
                 *place = Place {
                     line: number,
                     step: (name, words),
                     ..*place
                 };
-                self.take(player, place)
+                self.take(player, place);
             }
         }
     }
 
     // Tells what isn't as wanted.
-    fn fault(&mut self, place: &Place<'_>, fault: Fault<'_>) -> Result<(), AllocError> {
+    fn fault(&mut self, place: &Place<'_>, fault: Fault<'_>) {
         self.faults = self.faults.saturating_add(1);
-        push_fault(&mut self.report, place, fault)
+        push_fault(&mut self.report, place, fault);
     }
 
     // The case that begins is played, unless another one alone is.
-    fn begin<P: Player>(&mut self, player: &mut P, place: &Place<'_>) -> Result<(), AllocError> {
+    fn begin<P: Player>(&mut self, player: &mut P, place: &Place<'_>) {
         self.begun = self.begun.saturating_add(1);
         self.stage = Stage::Passed;
         if self.lists {
-            return self.list(place);
+            return push_listed(&mut self.report, self.begun, place);
         }
-        if self.only.is_some_and(|only| only != self.begun) {
-            return Ok(());
+        match self.only {
+            Some(only) if only != self.begun => return,
+            _ => {}
         }
         self.cases = self.cases.saturating_add(1);
-        match begun(player, self.may_refuse) {
-            Ok(()) => {
-                self.stage = Stage::Begun;
-                Ok(())
-            }
-            Err(error) => self.fault(place, Fault::Begin(error)),
-        }
+        self.stage = Stage::Begun;
+        player.begin();
     }
 
-    fn list(&mut self, place: &Place<'_>) -> Result<(), AllocError> {
-        let Place {
-            file,
-            line,
-            title,
-            ..
-        } = *place;
-        let number = self.begun;
-        writeln!(self.report, "{number} {file}:{line}: {title}")
-    }
-
-    fn take<P: Player>(&mut self, player: &mut P, place: &Place<'_>) -> Result<(), AllocError> {
+    fn take<P: Player>(&mut self, player: &mut P, place: &Place<'_>) {
         match self.stage {
             Stage::Outside => return self.fault(place, Fault::Stray),
-            Stage::Passed => return Ok(()),
+            Stage::Passed => return,
             Stage::Begun | Stage::Answered | Stage::Undone => {}
         }
         self.stage = Stage::Undone;
@@ -168,50 +148,37 @@ impl Play {
             Ok(()) => {
                 self.stage = Stage::Answered;
                 self.steps = self.steps.saturating_add(1);
-                Ok(())
             }
-            Err(StepError::Ended) if self.may_refuse => {
-                self.stage = Stage::Passed;
-                Ok(())
-            }
+            Err(StepError::Ended) if self.may_refuse => self.stage = Stage::Passed,
             Err(error) => self.fault(place, Fault::Step(error)),
         }
     }
 
     // The next line of the answer is to be this one.
-    fn compare(&mut self, place: &Place<'_>, wanted: &str) -> Result<(), AllocError> {
+    fn compare(&mut self, place: &Place<'_>, wanted: &str) {
         match self.stage {
             Stage::Outside | Stage::Begun => return self.fault(place, Fault::Stray),
-            Stage::Passed | Stage::Undone => return Ok(()),
+            Stage::Passed | Stage::Undone => return,
             Stage::Answered => {}
         }
         let fault = match self.answer.next_line() {
-            Some(answered) if answered == wanted => return Ok(()),
+            Some(answered) if answered == wanted => return,
             Some(answered) => Fault::Other { wanted, answered },
             None => Fault::Missing(wanted),
         };
         self.faults = self.faults.saturating_add(1);
-        push_fault(&mut self.report, place, fault)
+        push_fault(&mut self.report, place, fault);
     }
 
     // Nothing more of the step before is wanted.
-    fn end_step(&mut self, place: &Place<'_>) -> Result<(), AllocError> {
-        if self.stage != Stage::Answered {
-            return Ok(());
+    fn end_step(&mut self, place: &Place<'_>) {
+        match (self.stage, self.answer.next_line()) {
+            (Stage::Answered, Some(line)) => {
+                self.faults = self.faults.saturating_add(1);
+                push_fault(&mut self.report, place, Fault::Unwanted(line));
+            }
+            _ => {}
         }
-        let Some(line) = self.answer.next_line() else {
-            return Ok(());
-        };
-        self.faults = self.faults.saturating_add(1);
-        push_fault(&mut self.report, place, Fault::Unwanted(line))
-    }
-}
-
-// Begins a case, once more where memory was refused and may be.
-fn begun<P: Player>(player: &mut P, may_refuse: bool) -> Result<(), StepError> {
-    match player.begin() {
-        Err(StepError::Memory) if may_refuse => player.begin(),
-        outcome => outcome,
     }
 }
 
@@ -236,5 +203,8 @@ fn take_once<P: Player>(
     answer.clear();
     let mut words = Words::new(step.1);
     player.take(step.0, &mut words, answer)?;
+    if answer.is_refused() {
+        return Err(StepError::Memory);
+    }
     words.end()
 }

@@ -1,7 +1,7 @@
 //! What is told of lines that aren't as wanted.
 
+use crate::answer::Answer;
 use crate::player::StepError;
-use std::alloc::AllocError;
 
 /// Where a player is.
 #[derive(Clone, Copy)]
@@ -32,63 +32,77 @@ pub(crate) enum Fault<'a> {
     Unwanted(&'a str),
     /// The step isn't done.
     Step(StepError),
-    /// The case can't begin.
-    Begin(StepError),
     /// A step or a wanted line has nothing before it that it belongs to.
     Stray,
 }
 
+/// Appends a case with its number, for a list of them.
+pub(crate) fn push_listed(report: &mut Answer, number: usize, place: &Place<'_>) {
+    report.number(number as u64);
+    report.push(" ");
+    push_line(report, place);
+    report.line(place.title);
+}
+
 /// Appends what isn't as wanted there.
-pub(crate) fn push_fault(
-    report: &mut String,
-    place: &Place<'_>,
-    fault: Fault<'_>,
-) -> Result<(), AllocError> {
-    push_place(report, place)?;
+pub(crate) fn push_fault(report: &mut Answer, place: &Place<'_>, fault: Fault<'_>) {
+    push_place(report, place);
     match fault {
-        Fault::Other { wanted, answered } => push_other(report, wanted, answered),
+        Fault::Other { wanted, answered } => {
+            report.line("another line is answered");
+            push_pair(report, "    wanted:   ", wanted);
+            push_pair(report, "    answered: ", answered);
+        }
         Fault::Missing(wanted) => {
-            writeln!(report, "nothing more is answered\n    wanted:   {wanted}")
+            report.line("nothing more is answered");
+            push_pair(report, "    wanted:   ", wanted);
         }
         Fault::Unwanted(answered) => {
-            writeln!(report, "nothing more is wanted\n    answered: {answered}")
+            report.line("nothing more is wanted");
+            push_pair(report, "    answered: ", answered);
         }
         Fault::Step(error) => push_error(report, error),
-        Fault::Begin(error) => {
-            report.push_str("the case can't begin: ")?;
-            push_error(report, error)
-        }
-        Fault::Stray => report.push_str("no case or no step stands before this line\n"),
+        Fault::Stray => report.line("no case or no step stands before this line"),
     }
 }
 
-fn push_other(report: &mut String, wanted: &str, answered: &str) -> Result<(), AllocError> {
-    writeln!(report, "another line is answered")?;
-    writeln!(report, "    wanted:   {wanted}")?;
-    writeln!(report, "    answered: {answered}")
+fn push_pair(report: &mut Answer, name: &str, text: &str) {
+    report.push(name);
+    report.line(text);
 }
 
-fn push_place(report: &mut String, place: &Place<'_>) -> Result<(), AllocError> {
-    let Place {
-        file,
-        line,
-        title,
-        step: (name, words),
-    } = *place;
-    write!(report, "{file}:{line}: case \"{title}\": ")?;
-    if words.is_empty() {
-        write!(report, "{name}: ")
-    } else {
-        write!(report, "{name} {words}: ")
-    }
+fn push_line(report: &mut Answer, place: &Place<'_>) {
+    report.push(place.file);
+    report.push(":");
+    report.number(place.line as u64);
+    report.push(": ");
 }
 
-fn push_error(report: &mut String, error: StepError) -> Result<(), AllocError> {
+fn push_place(report: &mut Answer, place: &Place<'_>) {
+    push_line(report, place);
+    push_title(report, place.title);
+    push_step(report, place.step);
+}
+
+fn push_title(report: &mut Answer, title: &str) {
+    report.push("case \"");
+    report.push(title);
+    report.push("\": ");
+}
+
+fn push_step(report: &mut Answer, (name, words): (&str, &str)) {
+    report.push(name);
+    report.push(if words.is_empty() { "" } else { " " });
+    report.push(words);
+    report.push(": ");
+}
+
+fn push_error(report: &mut Answer, error: StepError) {
     match error {
-        StepError::Unknown => report.push_str("no step has this name\n"),
-        StepError::Word(wanted) => writeln!(report, "{wanted} is wanted"),
-        StepError::Memory => report.push_str("memory was refused\n"),
-        StepError::Ended => report.push_str("it has failed, since memory was refused\n"),
-        StepError::Wrong(words) => writeln!(report, "{words}"),
+        StepError::Unknown => report.line("no step has this name"),
+        StepError::Word(wanted) => push_pair(report, wanted, " is wanted"),
+        StepError::Memory => report.line("memory was refused"),
+        StepError::Ended => report.line("it has failed, since memory was refused"),
+        StepError::Wrong(words) => report.line(words),
     }
 }

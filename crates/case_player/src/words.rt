@@ -1,7 +1,5 @@
 //! The words of a step.
 
-ghost use Rattle.std.specs.Prelude.{◌≤◌, IfOk, length};
-
 use crate::escapes::push_unescaped;
 use crate::player::StepError;
 use command_line::parse_size;
@@ -15,23 +13,13 @@ use std::num::NonZeroU16;
 #[derive(Clone, Copy)]
 pub struct Words<'a> {
     // What is left of the line, from the next word on.
-    rest: &'a [u8],
-}
-
-// A word as it stands.
-#[derive(Clone, Copy)]
-enum Word<'a> {
-    Bare(&'a [u8]),
-    // Without its quotes.
-    Quoted(&'a [u8]),
+    rest: &'a str,
 }
 
 impl<'a> Words<'a> {
     /// The words of a line.
     pub fn new(line: &'a str) -> Words<'a> {
-        Words {
-            rest: line.as_bytes().trim_ascii_start(),
-        }
+        Words { rest: line }
     }
 
     /// Whether all words are taken.
@@ -55,15 +43,12 @@ impl<'a> Words<'a> {
 
     /// Takes a number.
     pub fn number(&mut self) -> Result<u64, StepError> {
-        match self.bare("a number")?.parse::<u64>() {
-            Ok(number) => Ok(number),
-            Err(_) => Err(StepError::Word("a number")),
-        }
+        self.whole("a number")
     }
 
     /// Takes a count.
     pub fn count(&mut self) -> Result<usize, StepError> {
-        match self.bare("a count")?.parse::<usize>() {
+        match usize::try_from(self.whole("a count")?) {
             Ok(count) => Ok(count),
             Err(_) => Err(StepError::Word("a count")),
         }
@@ -71,7 +56,7 @@ impl<'a> Words<'a> {
 
     /// Takes a row, a column, or a number of them.
     pub fn place(&mut self) -> Result<u16, StepError> {
-        match self.bare("a number up to 65535")?.parse::<u16>() {
+        match u16::try_from(self.whole("a number up to 65535")?) {
             Ok(place) => Ok(place),
             Err(_) => Err(StepError::Word("a number up to 65535")),
         }
@@ -88,10 +73,7 @@ impl<'a> Words<'a> {
     /// Takes the bytes of a word: of a quoted one with its escapes resolved.
     pub fn bytes(&mut self, alloc: Global) -> Result<Vec<u8>, StepError> {
         let mut bytes = Vec::new(alloc);
-        match self.next("bytes")? {
-            Word::Bare(word) => bytes.extend_from_slice(word)?,
-            Word::Quoted(quoted) => push_unescaped(&mut bytes, quoted)?,
-        }
+        self.push_bytes(&mut bytes)?;
         Ok(bytes)
     }
 
@@ -103,52 +85,40 @@ impl<'a> Words<'a> {
         }
     }
 
-    fn bare(&mut self, wanted: &'static str) -> Result<&'a str, StepError> {
-        match self.next(wanted)? {
-            Word::Bare(word) => str::from_utf8(word).map_err(|_| StepError::Word(wanted)),
-            Word::Quoted(_) => Err(StepError::Word(wanted)),
+    fn whole(&mut self, wanted: &'static str) -> Result<u64, StepError> {
+        match self.bare(wanted)?.parse::<u64>() {
+            Ok(number) => Ok(number),
+            Err(_) => Err(StepError::Word(wanted)),
         }
     }
 
-    fn next(&mut self, wanted: &'static str) -> Result<Word<'a>, StepError> {
-        let (word, rest) = match self.rest {
-            [] => return Err(StepError::Word(wanted)),
-            [b'"', quoted @ ..] => split_quoted(quoted)?,
-            bare => split_bare(bare),
+    fn push_bytes(&mut self, bytes: &mut Vec<u8>) -> Result<(), StepError> {
+        let Some(quoted) = self.rest.strip_prefix('"') else {
+            return Ok(bytes.extend_from_slice(self.bare("bytes")?.as_bytes())?);
         };
-        self.rest = rest.trim_ascii_start();
+        let after = str::from_utf8(push_unescaped(bytes, quoted.as_bytes())?);
+        self.rest = match after {
+            Ok("") => "",
+            Ok(after) => after_space(after)?,
+            Err(_) => return Err(StepError::Word("text in UTF-8")),
+        };
+        Ok(())
+    }
+
+    fn bare(&mut self, wanted: &'static str) -> Result<&'a str, StepError> {
+        let (word, rest) = self.rest.split_once(' ').unwrap_or((self.rest, ""));
+        if word.is_empty() || word.starts_with('"') {
+            return Err(StepError::Word(wanted));
+        }
+        self.rest = rest;
         Ok(word)
     }
 }
 
-// A bare word, and what follows it.
-fn split_bare(line: &[u8]) -> (Word<'_>, &[u8]) {
-    let mut parts = line.splitn(2, |b| *b == b' ');
-    let word = parts.next().unwrap_or(&[]);
-    (Word::Bare(word), parts.next().unwrap_or(&[]))
-}
-
-// A quoted word, whose first quote is taken already, and what follows it.
-fn split_quoted(line: &[u8]) -> Result<(Word<'_>, &[u8]), StepError> {
-    let (word, after) = line.split_at(quoted_len(line)?);
-    match after {
-        [_] => Ok((Word::Quoted(word), &[])),
-        [_, b' ', rest @ ..] => Ok((Word::Quoted(word), rest)),
-        _ => Err(StepError::Word("a space behind a quoted word")),
+// What follows the space behind a quoted word.
+fn after_space(text: &str) -> Result<&str, StepError> {
+    match text.strip_prefix(' ') {
+        Some(rest) => Ok(rest),
+        None => Err(StepError::Word("a space behind a quoted word")),
     }
-}
-
-// How many bytes come before the first quote that no backslash stands before.
-fn quoted_len(line: &[u8]) -> Result<usize, StepError>
-    ensures { IfOk result (λ n. n ≤ length line.now) }
-{
-    let mut escaped = false;
-    for (i, byte) in line.iter().enumerate() {
-        match byte {
-            b'"' if !escaped => return Ok(i),
-            b'\\' => escaped = !escaped,
-            _ => escaped = false,
-        }
-    }
-    Err(StepError::Word("a quote at the end of a quoted word"))
 }

@@ -1,8 +1,8 @@
 //! What a program writes, and how it is answered.
 
+use crate::limited::LimitedWriter;
 use crate::named_files::NamedFile;
 use case_player::{Answer, StepError, Words};
-use scripted_io::LimitedWriter;
 use std::alloc::{AllocError, Global};
 
 /// How much a program's writers take, and how much of its output is answered.
@@ -29,6 +29,22 @@ impl Limits {
         errors_room: 4_096,
         lines: usize::MAX,
     };
+
+    // A writer with this room.
+    fn writer(
+        &self,
+        alloc: Global,
+        room: usize,
+        flushes: bool,
+    ) -> Result<LimitedWriter, AllocError> {
+        Ok(LimitedWriter {
+            kept: Vec::with_capacity(alloc, room)?,
+            room,
+            step: self.step,
+            flushes,
+            flushed: 0,
+        })
+    }
 
     /// Takes a step that changes a limit.
     pub fn take(&mut self, name: &str, words: &mut Words<'_>) -> Result<(), StepError> {
@@ -58,16 +74,9 @@ pub struct Outputs {
 impl Outputs {
     /// Writers with these limits. They have their memory from the start, so that no write asks for any.
     pub fn new(alloc: Global, limits: Limits) -> Result<Outputs, AllocError> {
-        let mut output = LimitedWriter::new(alloc, limits.room);
-        output.kept = Vec::with_capacity(alloc, limits.room)?;
-        output.step = limits.step;
-        output.flushes = limits.flushes;
-        let mut errors = LimitedWriter::new(alloc, limits.errors_room);
-        errors.kept = Vec::with_capacity(alloc, limits.errors_room)?;
-        errors.step = limits.step;
         Ok(Outputs {
-            output,
-            errors,
+            output: limits.writer(alloc, limits.room, limits.flushes)?,
+            errors: limits.writer(alloc, limits.errors_room, true)?,
             lines: limits.lines,
         })
     }
@@ -78,34 +87,25 @@ impl Outputs {
     }
 
     /// Appends the output: each line of it quoted and in a line of its own, or the name of the known file that it is.
-    pub fn push_output(
-        &self,
-        known: Option<&NamedFile>,
-        answer: &mut Answer,
-    ) -> Result<(), AllocError> {
-        if let Some(name) = name_of(&self.output.kept, known) {
-            answer.push("output as ")?;
-            return answer.line(name);
+    pub fn push_output(&self, known: Option<&NamedFile>, answer: &mut Answer) {
+        match name_of(&self.output.kept, known) {
+            Some(name) => writeln!(answer, "output as {name}"),
+            None => push_lines(&self.output.kept, self.lines, answer),
         }
-        push_lines(&self.output.kept, self.lines, answer)
     }
 
     /// Appends the error output, if there is any: quoted, or the name of the known file that it is.
-    pub fn push_errors(
-        &self,
-        known: Option<&NamedFile>,
-        answer: &mut Answer,
-    ) -> Result<(), AllocError> {
+    pub fn push_errors(&self, known: Option<&NamedFile>, answer: &mut Answer) {
         if self.errors.kept.is_empty() {
-            return Ok(());
+            return;
         }
-        if let Some(name) = name_of(&self.errors.kept, known) {
-            answer.push("errors as ")?;
-            return answer.line(name);
+        match name_of(&self.errors.kept, known) {
+            Some(name) => writeln!(answer, "errors as {name}"),
+            None => {
+                answer.push("errors ");
+                answer.quoted_line(&self.errors.kept);
+            }
         }
-        answer.push("errors ")?;
-        answer.quoted(&self.errors.kept)?;
-        answer.end_line()
     }
 }
 
@@ -120,13 +120,12 @@ fn name_of<'a>(bytes: &[u8], file: Option<&'a NamedFile>) -> Option<&'a str> {
 }
 
 // Appends the first lines of a text, and dots if there are more.
-fn push_lines(text: &[u8], count: usize, answer: &mut Answer) -> Result<(), AllocError> {
+fn push_lines(text: &[u8], count: usize, answer: &mut Answer) {
     for (i, line) in text.split_inclusive(|byte| *byte == b'\n').enumerate() {
         if i >= count {
-            return answer.line("..");
+            answer.line("..");
+            return;
         }
-        answer.quoted(line)?;
-        answer.end_line()?;
+        answer.quoted_line(line);
     }
-    Ok(())
 }

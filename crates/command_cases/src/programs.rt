@@ -1,11 +1,11 @@
 //! The programs, by their command lines.
 
 use crate::input::InputReader;
+use crate::limited::LimitedWriter;
 use crate::outputs::Outputs;
 use relay_commands::Program as Relayer;
 use relay_streams::RelayError;
 use screentext_command::Files;
-use scripted_io::LimitedWriter;
 use std::alloc::Global;
 
 /// A program.

@@ -1,12 +1,12 @@
 //! The steps of a case.
 
 use crate::input::Input;
+use crate::limited::LimitedWriter;
 use crate::named_files::{NamedFile, NamedFiles};
 use crate::outputs::{Limits, Outputs};
 use crate::programs::Program;
 use case_player::{Answer, Disk, Files, Player, StepError, Words};
 use command_line::lend;
-use scripted_io::LimitedWriter;
 use std::alloc::{AllocError, Global};
 use std::io::ErrorKind;
 
@@ -124,9 +124,10 @@ impl<'a> Stage<'a> {
     ) -> Result<(), StepError> {
         let mut outputs = Outputs::new(self.alloc, self.limits)?;
         let status = self.run(program, words, &mut outputs)?;
-        push_status(status, self.reads, answer)?;
-        outputs.push_output(self.known.as_ref(), answer)?;
-        Ok(outputs.push_errors(self.known.as_ref(), answer)?)
+        push_status(status, self.reads, answer);
+        outputs.push_output(self.known.as_ref(), answer);
+        outputs.push_errors(self.known.as_ref(), answer);
+        Ok(())
     }
 
     // Runs a program whose output is the input from here on.
@@ -134,8 +135,8 @@ impl<'a> Stage<'a> {
         let program = program_of(words)?;
         let mut outputs = Outputs::new(self.alloc, self.limits)?;
         let status = self.run(program, words, &mut outputs)?;
-        push_status(status, self.reads, answer)?;
-        outputs.push_errors(self.known.as_ref(), answer)?;
+        push_status(status, self.reads, answer);
+        outputs.push_errors(self.known.as_ref(), answer);
         let LimitedWriter { kept, .. } = outputs.output;
         Ok(self.input.set(self.alloc, kept)?)
     }
@@ -151,15 +152,15 @@ impl<'a> Stage<'a> {
         let Some(status) = program.report_too_many_reads(&mut outputs.errors) else {
             return Err(StepError::Wrong("this program has no such fault"));
         };
-        push_status(status, u64::MAX, answer)?;
-        Ok(outputs.push_errors(self.known.as_ref(), answer)?)
+        push_status(status, u64::MAX, answer);
+        outputs.push_errors(self.known.as_ref(), answer);
+        Ok(())
     }
 }
 
 impl Player for Stage<'_> {
-    fn begin(&mut self) -> Result<(), StepError> {
+    fn begin(&mut self) {
         *self = Stage::new(self.alloc, self.data);
-        Ok(())
     }
 
     fn take(
@@ -181,8 +182,14 @@ impl Player for Stage<'_> {
             "file" => self.add_file(words),
             "known" => self.know_file(words),
             "pipe" => self.pipe(words, answer),
-            "reads" => push_number(self.reads, answer),
-            "flushes" => push_number(self.flushes, answer),
+            "reads" => {
+                writeln!(answer, "{}", self.reads);
+                Ok(())
+            }
+            "flushes" => {
+                writeln!(answer, "{}", self.flushes);
+                Ok(())
+            }
             "too-many-reads" => self.too_many_reads(words, answer),
             _ => match Program::named(name) {
                 Some(program) => self.show(program, words, answer),
@@ -230,13 +237,8 @@ fn repeated(alloc: Global, times: usize, bytes: &[u8]) -> Result<Vec<u8>, AllocE
     Ok(all)
 }
 
-fn push_status(status: u8, reads: u64, answer: &mut Answer) -> Result<(), AllocError> {
-    answer.push("status ")?;
-    answer.number(u64::from(status))?;
-    answer.line(if reads == 0 { ", nothing read" } else { "" })
-}
-
-fn push_number(number: u64, answer: &mut Answer) -> Result<(), StepError> {
-    answer.number(number)?;
-    Ok(answer.end_line()?)
+fn push_status(status: u8, reads: u64, answer: &mut Answer) {
+    answer.push("status ");
+    answer.number(u64::from(status));
+    answer.line(if reads == 0 { ", nothing read" } else { "" });
 }

@@ -1,6 +1,5 @@
 //! Rows, cells and texts in answers.
 use case_player::{Answer, StepError};
-use std::fmt::Write;
 use vt100_core::attrs::Attrs;
 use vt100_core::{Cell, Color, Row};
 
@@ -16,32 +15,43 @@ fn text_of(cell: &Cell) -> &str {
 }
 
 /// Appends a row's cells, and `>` where the row is wrapped.
-pub fn push_row(answer: &mut Answer, row: &Row) -> Result<(), StepError> {
+pub fn push_row(answer: &mut Answer, row: &Row) {
     for cell in row.cells() {
-        answer.escaped(text_of(cell).as_bytes())?;
+        answer.escaped(text_of(cell).as_bytes());
     }
     if row.wrapped() {
-        answer.push(">")?;
+        answer.push(">");
     }
-    Ok(())
 }
 
 /// Appends a colour after its name, if it isn't the terminal's own.
-fn push_color(answer: &mut Answer, name: &str, color: Color) -> Result<(), StepError> {
+fn push_color(answer: &mut Answer, name: &str, color: Color) {
     match color {
         Color::Default => {}
-        Color::Idx(index) => write!(answer, " {name} idx {index}")?,
-        Color::Rgb(red, green, blue) => write!(answer, " {name} rgb {red} {green} {blue}")?,
+        Color::Idx(index) => write!(answer, " {name} idx {index}"),
+        Color::Rgb(red, green, blue) => write!(answer, " {name} rgb {red} {green} {blue}"),
     }
-    Ok(())
 }
 
-/// Appends the word if it applies.
-fn push_if(answer: &mut Answer, applies: bool, word: &str) -> Result<(), StepError> {
-    if applies {
-        answer.push(word)?;
+/// Appends each word that applies.
+fn push_words(answer: &mut Answer, words: &[(bool, &str)]) {
+    for (applies, word) in words {
+        if *applies {
+            answer.push(word);
+        }
     }
-    Ok(())
+}
+
+/// Appends the modes that a cell is drawn in.
+fn push_modes(answer: &mut Answer, cell: &Cell) {
+    let words = [
+        (cell.bold(), " bold"),
+        (cell.dim(), " dim"),
+        (cell.italic(), " italic"),
+        (cell.underline(), " underline"),
+        (cell.inverse(), " inverse"),
+    ];
+    push_words(answer, &words);
 }
 
 /// The attributes that the single calls tell.
@@ -65,16 +75,12 @@ fn told_attrs(cell: &Cell) -> Attrs {
 
 /// Appends a cell's text, whether it is wide, and its attributes where they aren't the default ones.
 pub fn push_cell(answer: &mut Answer, cell: &Cell) -> Result<(), StepError> {
-    answer.escaped(text_of(cell).as_bytes())?;
-    push_if(answer, cell.is_wide(), " wide")?;
-    push_color(answer, "fg", cell.fgcolor())?;
-    push_color(answer, "bg", cell.bgcolor())?;
-    push_if(answer, cell.bold(), " bold")?;
-    push_if(answer, cell.dim(), " dim")?;
-    push_if(answer, cell.italic(), " italic")?;
-    push_if(answer, cell.underline(), " underline")?;
-    push_if(answer, cell.inverse(), " inverse")?;
-    answer.end_line()?;
+    answer.escaped(text_of(cell).as_bytes());
+    push_words(answer, &[(cell.is_wide(), " wide")]);
+    push_color(answer, "fg", cell.fgcolor());
+    push_color(answer, "bg", cell.bgcolor());
+    push_modes(answer, cell);
+    answer.end_line();
     if cell.attrs() != told_attrs(cell) {
         return Err(StepError::Wrong("attrs() tells other attributes than the single calls"));
     }
@@ -82,10 +88,8 @@ pub fn push_cell(answer: &mut Answer, cell: &Cell) -> Result<(), StepError> {
 }
 
 /// Appends a text as a quoted line.
-pub fn tell_text(answer: &mut Answer, text: &str) -> Result<(), StepError> {
-    answer.quoted(text.as_bytes())?;
-    answer.end_line()?;
-    Ok(())
+pub fn tell_text(answer: &mut Answer, text: &str) {
+    answer.quoted_line(text.as_bytes());
 }
 
 /// Whether something draws with the default attributes.

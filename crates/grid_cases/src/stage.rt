@@ -59,9 +59,8 @@ impl Stage {
 }
 
 impl Player for Stage {
-    fn begin(&mut self) -> Result<(), StepError> {
+    fn begin(&mut self) {
         self.subject = Subject::Nothing;
-        Ok(())
     }
 
     fn take(

@@ -4,7 +4,6 @@ use crate::hubs::Hubs;
 use crate::told::{Told, told_in};
 use crate::wordings::push_text;
 use case_player::{Answer, StepError, Words};
-use std::fmt::Write;
 use termrelay::Screen;
 
 impl Hubs {
@@ -17,34 +16,34 @@ impl Hubs {
     ) -> Result<(), StepError> {
         match name {
             "owed" => push_text(answer, self.owed(words.count()?)),
-            "writes" => Ok(write!(answer, "{}", self.pumped.writes)?),
-            "screen" => self.push_screen(answer),
+            "writes" => write!(answer, "{}", self.pumped.writes),
+            "screen" => self.push_screen(answer)?,
             "color" => self.push_color(words.place()?, words.place()?, answer),
-            "session" => self.push_session(words.count()?, answer),
+            "session" => self.push_session(words.count()?, answer)?,
             "replies" => self.push_replies(answer),
-            _ => Err(StepError::Unknown),
+            _ => return Err(StepError::Unknown),
         }
+        Ok(())
     }
 
     // The text that both screens show, and where the cursor is.
     fn push_screen(&self, answer: &mut Answer) -> Result<(), StepError> {
         let screen = self.hub.screen();
-        if !self.is_alone && !shows_the_same(screen, self.logged.screen())? {
+        if !shows_the_same(screen, self.logged.screen())? {
             return Err(StepError::Wrong("the logged hub shows something else"));
         }
         push_contents(answer, screen)?;
         let (row, col) = screen.cursor_position();
-        write!(answer, " {row} {col}")?;
+        write!(answer, " {row} {col}");
         Ok(())
     }
 
     // The colour in which a cell's text is drawn.
-    fn push_color(&self, row: u16, col: u16, answer: &mut Answer) -> Result<(), StepError> {
+    fn push_color(&self, row: u16, col: u16, answer: &mut Answer) {
         match self.hub.screen().cell(row, col) {
-            Some(cell) => write!(answer, "{:?}", cell.fgcolor())?,
-            None => answer.push("no cell")?,
+            Some(cell) => write!(answer, "{:?}", cell.fgcolor()),
+            None => answer.push("no cell"),
         }
-        Ok(())
     }
 
     // A client's size, how many bytes were pumped to it, and whether it has ended.
@@ -53,29 +52,28 @@ impl Hubs {
             return Err(StepError::Wrong("there is no such session"));
         };
         let (rows, cols) = (session.rows(), session.cols());
-        write!(answer, "{rows} {cols} {}", session.pumped().len())?;
+        write!(answer, "{rows} {cols} {}", session.pumped().len());
         if session.ended() {
-            answer.push(" ended")?;
+            answer.push(" ended");
         }
         Ok(())
     }
 
     // What the log replied, but for calls that were refused memory.
-    fn push_replies(&self, answer: &mut Answer) -> Result<(), StepError> {
+    fn push_replies(&self, answer: &mut Answer) {
         for reply in self.log.replies() {
             let told = told_in(reply);
             if told != Told::Memory {
-                told.push(answer)?;
-                answer.end_line()?;
+                told.push(answer);
+                answer.end_line();
             }
         }
-        Ok(())
     }
 }
 
 fn push_contents(answer: &mut Answer, screen: &Screen) -> Result<(), StepError> {
     let contents = screen.contents().map_err(|_| StepError::Memory)?;
-    answer.quoted(contents.as_bytes())?;
+    answer.quoted(contents.as_bytes());
     Ok(())
 }
 

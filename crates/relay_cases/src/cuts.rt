@@ -2,8 +2,8 @@
 
 use crate::drawn::{push_cell, push_cursor, push_shown};
 use case_player::{Answer, StepError, Words};
-use std::alloc::Global;
-use std::fmt::Write;
+use std::alloc::{AllocError, Global};
+use std::mem;
 use std::num::NonZeroU16;
 use termview::{UntilCleared, View};
 
@@ -19,24 +19,27 @@ pub fn new_view(
 #[derive(Drop)]
 pub struct Turns {
     last: Answer,
+    /// What is told at this cut.
+    pub told: Answer,
 }
 
 impl Turns {
     /// Nothing was told yet.
-    pub fn new(alloc: Global) -> Result<Turns, StepError> {
+    pub fn new(alloc: Global) -> Result<Turns, AllocError> {
         Ok(Turns {
             last: Answer::new(alloc)?,
+            told: Answer::new(alloc)?,
         })
     }
 
-    /// Appends what is told at a cut, unless the cut before told the same.
-    pub fn push(&mut self, cut: usize, told: Answer, answer: &mut Answer) -> Result<(), StepError> {
-        if told.as_str() != self.last.as_str() {
-            write!(answer, "{cut}: ")?;
-            answer.line(told.as_str())?;
-            self.last = told;
+    /// Ends a cut: appends what is told there, unless the cut before told the same.
+    pub fn end(&mut self, cut: usize, answer: &mut Answer) {
+        if self.told.as_str() != self.last.as_str() {
+            write!(answer, "{cut}: ");
+            answer.line(self.told.as_str());
+            mem::swap(&mut self.last, &mut self.told);
         }
-        Ok(())
+        self.told.clear();
     }
 }
 
@@ -47,13 +50,19 @@ pub fn take(
     words: &mut Words<'_>,
     answer: &mut Answer,
 ) -> Result<(), StepError> {
+    let mut turns = Turns::new(alloc)?;
     let size = (words.size()?, words.size()?);
     match name {
-        "cuts" => each_cut(alloc, size, &words.bytes(alloc)?, answer),
-        "stops" => each_stop(alloc, size, &words.bytes(alloc)?, answer),
+        "cuts" => each_cut(alloc, size, &words.bytes(alloc)?, &mut turns, answer),
+        "stops" => each_stop(alloc, size, &words.bytes(alloc)?, &mut turns, answer),
         _ => {
             let place = (words.place()?, words.place()?);
-            each_two_cuts(alloc, size, place, &words.bytes(alloc)?, answer)
+            each_two_cuts(
+                (alloc, size, place),
+                &words.bytes(alloc)?,
+                &mut turns,
+                answer,
+            )
         }
     }
 }
@@ -61,12 +70,17 @@ pub fn take(
 type Size = (NonZeroU16, NonZeroU16);
 
 // What is shown before each cut, and after all bytes.
-fn each_cut(alloc: Global, size: Size, bytes: &[u8], answer: &mut Answer) -> Result<(), StepError> {
-    let mut turns = Turns::new(alloc)?;
+fn each_cut(
+    alloc: Global,
+    size: Size,
+    bytes: &[u8],
+    turns: &mut Turns,
+    answer: &mut Answer,
+) -> Result<(), StepError> {
     for cut in 0..bytes.len() {
-        let mut told = Answer::new(alloc)?;
-        tell_cut(&mut new_view(alloc, size)?, bytes.split_at(cut), &mut told)?;
-        turns.push(cut, told, answer)?;
+        let pieces = bytes.split_at(cut);
+        tell_cut(&mut new_view(alloc, size)?, pieces, &mut turns.told)?;
+        turns.end(cut, answer);
     }
     Ok(())
 }
@@ -84,8 +98,8 @@ fn tell_cut(
     if view.sync_bytes_count() != prefix.len().saturating_sub(START_LEN) {
         return Err(StepError::Wrong("other bytes are held than those behind the mark"));
     }
-    push_shown(told, view)?;
-    told.push(", then ")?;
+    push_shown(told, view);
+    told.push(", then ");
     view.advance(rest);
     tell_end(view, told)
 }
@@ -95,7 +109,8 @@ fn tell_end(view: &View<UntilCleared>, told: &mut Answer) -> Result<(), StepErro
     if view.sync_bytes_count() != 0 {
         return Err(StepError::Wrong("bytes are held in the end"));
     }
-    push_shown(told, view)
+    push_shown(told, view);
+    Ok(())
 }
 
 // What is shown in the end where updates are stopped after each byte.
@@ -103,22 +118,20 @@ fn each_stop(
     alloc: Global,
     size: Size,
     bytes: &[u8],
+    turns: &mut Turns,
     answer: &mut Answer,
 ) -> Result<(), StepError> {
-    let mut turns = Turns::new(alloc)?;
     for cut in 0..bytes.len() {
-        let mut told = Answer::new(alloc)?;
-        let (prefix, rest) = bytes.split_at(cut + 1);
-        tell_stop(&mut new_view(alloc, size)?, prefix, rest, &mut told)?;
-        turns.push(cut + 1, told, answer)?;
+        let pieces = bytes.split_at(cut + 1);
+        tell_stop(&mut new_view(alloc, size)?, pieces, &mut turns.told)?;
+        turns.end(cut + 1, answer);
     }
     Ok(())
 }
 
 fn tell_stop(
     view: &mut View<UntilCleared>,
-    prefix: &[u8],
-    rest: &[u8],
+    (prefix, rest): (&[u8], &[u8]),
     told: &mut Answer,
 ) -> Result<(), StepError> {
     view.advance(prefix);
@@ -128,46 +141,30 @@ fn tell_stop(
 }
 
 /// Appends a cell, and the cursor's row and column.
-pub fn push_drawn(
-    told: &mut Answer,
-    view: &View<UntilCleared>,
-    (row, col): (u16, u16),
-) -> Result<(), StepError> {
-    push_cell(told, view, row, col)?;
-    told.push(" ")?;
-    push_cursor(told, view)
+pub fn push_drawn(told: &mut Answer, view: &View<UntilCleared>, (row, col): (u16, u16)) {
+    push_cell(told, view, row, col);
+    told.push(" ");
+    push_cursor(told, view);
 }
 
 // A cell and the cursor, where the bytes come in three pieces.
 fn each_two_cuts(
-    alloc: Global,
-    size: Size,
-    place: (u16, u16),
+    (alloc, size, place): (Global, Size, (u16, u16)),
     bytes: &[u8],
+    turns: &mut Turns,
     answer: &mut Answer,
 ) -> Result<(), StepError> {
-    let mut turns = Turns::new(alloc)?;
     for cut in 0..bytes.len() + 1 {
         let (prefix, rest) = bytes.split_at(cut);
         for earlier in 0..cut + 1 {
             let (first, second) = prefix.split_at(earlier);
-            let mut told = Answer::new(alloc)?;
-            let pieces = [first, second, rest];
-            tell_pieces(&mut new_view(alloc, size)?, pieces, place, &mut told)?;
-            turns.push(cut, told, answer)?;
+            let mut view = new_view(alloc, size)?;
+            view.advance(first);
+            view.advance(second);
+            view.advance(rest);
+            push_drawn(&mut turns.told, &view, place);
+            turns.end(cut, answer);
         }
     }
     Ok(())
-}
-
-fn tell_pieces(
-    view: &mut View<UntilCleared>,
-    pieces: [&[u8]; 3],
-    place: (u16, u16),
-    told: &mut Answer,
-) -> Result<(), StepError> {
-    for piece in pieces {
-        view.advance(piece);
-    }
-    push_drawn(told, view, place)
 }

@@ -2,7 +2,6 @@
 
 use case_player::{Answer, StepError};
 use std::alloc::Global;
-use std::fmt::Write;
 use termview::{UntilCleared, View, ViewCell};
 
 fn text_of(cell: Option<&ViewCell>) -> &str {
@@ -13,77 +12,76 @@ fn text_of(cell: Option<&ViewCell>) -> &str {
     }
 }
 
-fn push_row(answer: &mut Answer, view: &View<UntilCleared>, row: u16) -> Result<(), StepError> {
+fn push_row(answer: &mut Answer, view: &View<UntilCleared>, row: u16) {
     let (_, cols) = view.size();
     for col in 0..cols.get() {
-        answer.escaped(text_of(view.cell(row, col)).as_bytes())?;
+        answer.escaped(text_of(view.cell(row, col)).as_bytes());
     }
-    answer.push(if view.row_wrapped(row) { ">/" } else { "/" })?;
-    Ok(())
+    answer.push(if view.row_wrapped(row) { ">/" } else { "/" });
 }
 
 /// Appends a view's rows, `.` for an empty cell, `_` for the second half of a wide one, `>` where the row is wrapped and
 /// `/` after each; then the cursor's row and column, as in `"ab>/c./" 1 1`.
-pub fn push_shown(answer: &mut Answer, view: &View<UntilCleared>) -> Result<(), StepError> {
-    answer.push("\"")?;
+pub fn push_shown(answer: &mut Answer, view: &View<UntilCleared>) {
+    answer.push("\"");
     let (rows, _) = view.size();
     for row in 0..rows.get() {
-        push_row(answer, view, row)?;
+        push_row(answer, view, row);
     }
-    answer.push("\" ")?;
-    push_cursor(answer, view)
+    answer.push("\" ");
+    push_cursor(answer, view);
 }
 
 /// Appends the cursor's row and column.
-pub fn push_cursor(answer: &mut Answer, view: &View<UntilCleared>) -> Result<(), StepError> {
+pub fn push_cursor(answer: &mut Answer, view: &View<UntilCleared>) {
     let (row, col) = view.cursor_position();
-    write!(answer, "{row} {col}")?;
-    Ok(())
+    write!(answer, "{row} {col}");
 }
 
 /// Appends a cell's text and its two colours.
-pub fn push_cell(
-    answer: &mut Answer,
-    view: &View<UntilCleared>,
-    row: u16,
-    col: u16,
-) -> Result<(), StepError> {
+pub fn push_cell(answer: &mut Answer, view: &View<UntilCleared>, row: u16, col: u16) {
     let Some(cell) = view.cell(row, col) else {
-        answer.push("no cell")?;
-        return Ok(());
+        answer.push("no cell");
+        return;
     };
-    answer.quoted(cell.contents().as_bytes())?;
-    write!(answer, " {:?} {:?}", cell.fgcolor(), cell.bgcolor())?;
-    Ok(())
+    answer.quoted(cell.contents().as_bytes());
+    write!(answer, " {:?} {:?}", cell.fgcolor(), cell.bgcolor());
 }
 
 // Appends the letters that are set, or `-` where none is.
-fn push_set(answer: &mut Answer, letters: &[(bool, &str)]) -> Result<(), StepError> {
+fn push_set(answer: &mut Answer, letters: &[(bool, &str)]) {
     let mut is_empty = true;
     for (is_set, letter) in letters {
         if *is_set {
-            answer.push(letter)?;
+            answer.push(letter);
             is_empty = false;
         }
     }
     if is_empty {
-        answer.push("-")?;
+        answer.push("-");
     }
-    Ok(())
 }
 
 /// Appends a view's modes and drawing attributes: the letters of the modes that are set (keypad, cursor keys, hidden
 /// cursor, bracketed paste), the mouse's mode and encoding, the cursor's style, the two colours, and the letters of the
 /// attributes (bold, dim, italic, underlined, inverse).
-pub fn push_settings(answer: &mut Answer, view: &View<UntilCleared>) -> Result<(), StepError> {
+pub fn push_settings(answer: &mut Answer, view: &View<UntilCleared>) {
+    push_modes(answer, view);
+    push_mouse_and_colors(answer, view);
+    push_attributes(answer, view);
+}
+
+fn push_modes(answer: &mut Answer, view: &View<UntilCleared>) {
     let modes = [
         (view.application_keypad(), "k"),
         (view.application_cursor(), "c"),
         (view.hide_cursor(), "h"),
         (view.bracketed_paste(), "p"),
     ];
-    push_set(answer, &modes)?;
-    push_mouse_and_colors(answer, view)?;
+    push_set(answer, &modes);
+}
+
+fn push_attributes(answer: &mut Answer, view: &View<UntilCleared>) {
     let attributes = [
         (view.bold(), "b"),
         (view.dim(), "d"),
@@ -91,14 +89,13 @@ pub fn push_settings(answer: &mut Answer, view: &View<UntilCleared>) -> Result<(
         (view.underline(), "u"),
         (view.inverse(), "v"),
     ];
-    push_set(answer, &attributes)
+    push_set(answer, &attributes);
 }
 
-fn push_mouse_and_colors(answer: &mut Answer, view: &View<UntilCleared>) -> Result<(), StepError> {
+fn push_mouse_and_colors(answer: &mut Answer, view: &View<UntilCleared>) {
     let (mode, encoding) = (view.mouse_protocol_mode(), view.mouse_protocol_encoding());
-    write!(answer, " {mode:?} {encoding:?} {:?} ", view.cursor_style())?;
-    write!(answer, "{:?} {:?} ", view.fgcolor(), view.bgcolor())?;
-    Ok(())
+    write!(answer, " {mode:?} {encoding:?} {:?} ", view.cursor_style());
+    write!(answer, "{:?} {:?} ", view.fgcolor(), view.bgcolor());
 }
 
 // The text of a row.
@@ -117,7 +114,7 @@ pub fn push_row_text(
     view: &View<UntilCleared>,
     row: u16,
 ) -> Result<(), StepError> {
-    answer.quoted(&text_of_row(alloc, view, row)?)?;
+    answer.quoted(&text_of_row(alloc, view, row)?);
     Ok(())
 }
 
@@ -129,21 +126,20 @@ pub fn push_runs(
 ) -> Result<(), StepError> {
     let (rows, _) = view.size();
     for row in 0..rows.get() {
-        push_row_runs(answer, &text_of_row(alloc, view, row)?)?;
-        answer.end_line()?;
+        push_row_runs(answer, &text_of_row(alloc, view, row)?);
+        answer.end_line();
     }
     Ok(())
 }
 
-fn push_row_runs(answer: &mut Answer, text: &[u8]) -> Result<(), StepError> {
+fn push_row_runs(answer: &mut Answer, text: &[u8]) {
     let mut is_first = true;
     for run in text.chunk_by(|byte, next| byte == next) {
         if !is_first {
-            answer.push(" ")?;
+            answer.push(" ");
         }
         is_first = false;
-        write!(answer, "{} ", run.len())?;
-        answer.quoted(run.get(..1).unwrap_or(run))?;
+        write!(answer, "{} ", run.len());
+        answer.quoted(run.get(..1).unwrap_or(run));
     }
-    Ok(())
 }

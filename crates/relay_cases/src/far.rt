@@ -69,26 +69,25 @@ impl Hubs {
         let part = (words.count()?, words.count()?);
         let place = (words.place()?, words.place()?);
         let mut turns = Turns::new(alloc)?;
-        for cut in 0..part.1 {
-            let told = self.told_far(alloc, part, cut, place)?;
-            turns.push(cut, told, answer)?;
+        for cut in 0..=part.1 {
+            self.tell_far(alloc, part, cut, place, &mut turns.told)?;
+            turns.end(cut, answer);
         }
-        let told = self.told_far(alloc, part, part.1, place)?;
-        turns.push(part.1, told, answer)
+        Ok(())
     }
 
-    fn told_far(
+    fn tell_far(
         &self,
         alloc: Global,
         part: (usize, usize),
         cut: usize,
         place: (u16, u16),
-    ) -> Result<Answer, StepError> {
-        let mut told = Answer::new(alloc)?;
+        told: &mut Answer,
+    ) -> Result<(), StepError> {
         match self.far(alloc, part, &[cut])? {
-            Some(view) => push_drawn(&mut told, &view, place)?,
-            None => told.push("no view")?,
+            Some(view) => push_drawn(told, &view, place),
+            None => told.push("no view"),
         }
-        Ok(told)
+        Ok(())
     }
 }

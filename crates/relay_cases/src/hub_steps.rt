@@ -9,7 +9,6 @@ use crate::told::Told;
 use crate::wordings::{MOST_WORDS, count_or, push_text};
 use case_player::{Answer, StepError, Words};
 use std::alloc::Global;
-use std::fmt::Write;
 use std::io::ErrorKind;
 use termrelay::Client;
 use termrelay::runs::Take;
@@ -117,25 +116,20 @@ impl Hubs {
     }
 
     /// Appends what a client that asks for a frame is answered, and what it is owed then if that is a frame.
-    pub fn push_frame(
-        &self,
-        index: usize,
-        told: Told,
-        answer: &mut Answer,
-    ) -> Result<(), StepError> {
-        told.push(answer)?;
+    pub fn push_frame(&self, index: usize, told: Told, answer: &mut Answer) {
+        told.push(answer);
         if told.is_frame() {
-            answer.push(" ")?;
-            push_text(answer, self.owed(index))?;
+            answer.push(" ");
+            push_text(answer, self.owed(index));
         }
-        answer.end_line()?;
-        Ok(())
+        answer.end_line();
     }
 
     fn frame(&mut self, words: &mut Words<'_>, answer: &mut Answer) -> Result<(), StepError> {
         let index = words.count()?;
         let told = self.ask_frame(index)?;
-        self.push_frame(index, told, answer)
+        self.push_frame(index, told, answer);
+        Ok(())
     }
 
     /// Pumps a client. What was taken and what it is owed then are what it was owed before.
@@ -162,12 +156,12 @@ impl Hubs {
     ) -> Result<(), StepError> {
         let pumping = self.pumping(alloc, words)?;
         let told = self.make_pump(pumping)?;
-        write!(answer, "{}", self.pumped.taken.length())?;
+        write!(answer, "{}", self.pumped.taken.length());
         if told != Told::Done {
-            answer.push(" ")?;
-            told.push(answer)?;
+            answer.push(" ");
+            told.push(answer);
         }
-        answer.end_line()?;
+        answer.end_line();
         Ok(())
     }
 

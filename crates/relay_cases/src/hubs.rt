@@ -33,8 +33,6 @@ pub struct Hubs {
     told: Option<Told>,
     /// How many calls a step has made whose next one was refused memory.
     made: usize,
-    /// Calls are made on the first hub alone.
-    pub is_alone: bool,
 }
 
 fn new_hub(alloc: Global, rows: NonZeroU16, cols: NonZeroU16) -> Result<Hub, StepError> {
@@ -44,26 +42,9 @@ fn new_hub(alloc: Global, rows: NonZeroU16, cols: NonZeroU16) -> Result<Hub, Ste
 impl Hubs {
     /// Hubs of this size, without clients.
     pub fn new(alloc: Global, rows: NonZeroU16, cols: NonZeroU16) -> Result<Hubs, StepError> {
-        let logged = new_hub(alloc, rows, cols)?;
-        Hubs::with(alloc, rows, cols, logged, false)
-    }
-
-    /// One hub of this size, on which alone calls are made.
-    pub fn alone(alloc: Global, rows: NonZeroU16, cols: NonZeroU16) -> Result<Hubs, StepError> {
-        let unused = new_hub(alloc, NonZeroU16::MIN, NonZeroU16::MIN)?;
-        Hubs::with(alloc, rows, cols, unused, true)
-    }
-
-    fn with(
-        alloc: Global,
-        rows: NonZeroU16,
-        cols: NonZeroU16,
-        logged: Hub,
-        is_alone: bool,
-    ) -> Result<Hubs, StepError> {
         Ok(Hubs {
             hub: new_hub(alloc, rows, cols)?,
-            logged,
+            logged: new_hub(alloc, rows, cols)?,
             log: Log::new(alloc),
             size: (rows, cols),
             seats: Vec::new(alloc),
@@ -71,7 +52,6 @@ impl Hubs {
             pumped: Pumped::after(Sum::NONE),
             told: None,
             made: 0,
-            is_alone,
         })
     }
 
@@ -101,11 +81,7 @@ impl Hubs {
             Some(told) => told,
             None => self.make_directly(deed)?,
         };
-        let other = if self.is_alone {
-            told
-        } else {
-            self.make_by_run(deed)
-        };
+        let other = self.make_by_run(deed);
         if other == Told::Memory {
             self.told = Some(told);
             return Err(refusal(&mut self.logged, Side::Logged, &self.seats, deed));
@@ -157,9 +133,6 @@ impl Hubs {
             if !self.is_pending() && !seat.is_owed(&self.hub, Side::Called) {
                 return Err(StepError::Wrong("a client is owed something else than before"));
             }
-            if self.is_alone {
-                continue;
-            }
             if !seat.is_owed(&self.logged, Side::Logged) {
                 return Err(StepError::Wrong("a client of the logged hub is owed something else"));
             }
@@ -179,8 +152,8 @@ fn refusal(hub: &mut Hub, side: Side, seats: &[Seat], deed: Deed) -> StepError {
             Err(error) => error,
         };
     }
-    match deed {
-        Deed::Feed(_) if side == Side::Called => {
+    match (deed, side) {
+        (Deed::Feed(_), Side::Called) => {
             StepError::Wrong("a feed was refused memory, and the hub goes on")
         }
         _ => StepError::Memory,

@@ -23,18 +23,10 @@ mod views;
 mod wordings;
 mod writers;
 
-use case_player::{Disk, NO_MEMORY, run_cases};
-use command_line::run;
+use case_player::play;
 use stage::Stage;
-use std::env;
 use std::process::ExitCode;
 
 fn main(rt: HostRuntime) -> ExitCode {
-    run(
-        rt.alloc(),
-        env::args(&rt),
-        &mut (Stage::new(rt.alloc()), rt.stdout()),
-        |(stage, output), words| run_cases(rt.alloc(), words, &Disk(&rt), stage, output),
-        |_| NO_MEMORY,
-    )
+    play(&rt, Stage::new(rt.alloc()))
 }

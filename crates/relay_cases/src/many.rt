@@ -36,7 +36,7 @@ impl Hubs {
                 }
                 Some(_) => (),
                 None => {
-                    self.push_frame(index, told, answer)?;
+                    self.push_frame(index, told, answer);
                     first = Some(found);
                 }
             }
@@ -48,7 +48,7 @@ impl Hubs {
     /// A client asks for a frame and is sent it. Its answer is told.
     pub fn take_frame(&mut self, index: usize, answer: &mut Answer) -> Result<(), StepError> {
         let told = self.ask_frame(index)?;
-        told.push(answer)?;
+        told.push(answer);
         self.send(index).map_err(ended)
     }
 

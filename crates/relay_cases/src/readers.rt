@@ -1,10 +1,32 @@
-//! A reader that is interrupted, and the reads that are counted.
+//! Readers that give little or are interrupted, and the reads that are counted.
 
 use case_player::{Answer, StepError, Words};
 use relay_streams::fill;
-use std::fmt::Write;
 use std::io;
 use std::io::{ErrorKind, Read};
+
+/// A reader that gives a fixed number of bytes a read at most.
+#[derive(Drop)]
+pub struct SmallReader<'a> {
+    left: &'a [u8],
+    most: usize,
+}
+
+impl<'a> SmallReader<'a> {
+    /// A reader of the bytes `left`, which gives at most `most` of them a read.
+    pub fn new(left: &'a [u8], most: usize) -> Self {
+        SmallReader { left, most }
+    }
+}
+
+impl Read for SmallReader<'_> {
+    fn read(&mut self, buf: &mut [u8]) -> io::Result<usize> {
+        let n = self.left.len().min(buf.len()).min(self.most);
+        buf[..n].copy_from_slice(&self.left[..n]);
+        self.left = &self.left[n..];
+        Ok(n)
+    }
+}
 
 /// A reader that is interrupted first, and then gives a byte a read, which tells how much room there was.
 #[derive(Drop)]
@@ -34,10 +56,10 @@ pub fn fill_piece(words: &mut Words<'_>, answer: &mut Answer) -> Result<(), Step
     let mut input = Rooms { reads: 0 };
     let mut piece = [0; 4];
     match fill(&mut input, &mut piece, &mut reads) {
-        Ok(length) => write!(answer, "{length}")?,
-        Err(error) => write!(answer, "{error}")?,
+        Ok(length) => write!(answer, "{length}"),
+        Err(error) => write!(answer, "{error}"),
     }
-    write!(answer, ", {} reads, {reads} counted, ", input.reads)?;
-    answer.quoted(&piece)?;
+    write!(answer, ", {} reads, {reads} counted, ", input.reads);
+    answer.quoted(&piece);
     Ok(())
 }

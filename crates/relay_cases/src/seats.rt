@@ -5,7 +5,7 @@ use termrelay::runs::Log;
 use termrelay::{Client, Hub};
 
 /// Which of the two hubs is meant.
-#[derive(Clone, Copy, Debug, Eq, PartialEq)]
+#[derive(Clone, Copy)]
 pub enum Side {
     /// The one whose calls are made one by one.
     Called,

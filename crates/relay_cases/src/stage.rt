@@ -40,11 +40,6 @@ impl Stage {
         Ok(())
     }
 
-    fn make_hub_alone(&mut self, words: &mut Words<'_>) -> Result<(), StepError> {
-        self.hubs = Some(Hubs::alone(self.alloc, words.size()?, words.size()?)?);
-        Ok(())
-    }
-
     fn make_view(&mut self, words: &mut Words<'_>) -> Result<(), StepError> {
         let size = (words.size()?, words.size()?);
         self.view = Some(new_view(self.alloc, size)?);
@@ -63,7 +58,7 @@ impl Stage {
         };
         self.view = hubs.find_far(self.alloc, words)?;
         if self.view.is_none() {
-            answer.push("none")?;
+            answer.push("none");
         }
         Ok(())
     }
@@ -84,10 +79,13 @@ impl Stage {
             "letters" => hubs.letters(words, &mut self.streams.input),
             _ => hubs.take(self.alloc, name, words, answer),
         };
-        if outcome != Err(StepError::Ended) {
-            hubs.check()?;
+        match outcome {
+            Err(StepError::Ended) => outcome,
+            _ => {
+                hubs.check()?;
+                outcome
+            }
         }
-        outcome
     }
 
     // A step on a view alone, or on a view and what is read.
@@ -111,11 +109,10 @@ impl Stage {
 }
 
 impl Player for Stage {
-    fn begin(&mut self) -> Result<(), StepError> {
+    fn begin(&mut self) {
         self.hubs = None;
         self.view = None;
         self.streams.clear();
-        Ok(())
     }
 
     fn take(
@@ -126,7 +123,6 @@ impl Player for Stage {
     ) -> Result<(), StepError> {
         match name {
             "hub" => self.make_hubs(words),
-            "hub_alone" => self.make_hub_alone(words),
             "view" => self.make_view(words),
             "view_of" => self.make_view_of(words),
             "far" => self.find_far(words, answer),

@@ -1,14 +1,13 @@
 //! Steps on streams: what is read, and what relays of it and views show.
 
 use crate::pieces::{check_pieces, made_of_parts};
+use crate::readers::SmallReader;
 use crate::sums::Sum;
 use crate::wordings::{count_or, push_text};
 use crate::writers::Narrow;
 use case_player::{Answer, StepError, Words};
 use relay_streams::{RelayError, relay, relay_live, show};
-use scripted_io::SmallReader;
 use std::alloc::Global;
-use std::fmt::Write;
 use std::mem;
 use std::num::NonZeroU16;
 use termview::{UntilCleared, View};
@@ -172,10 +171,11 @@ impl Streams {
         }
         match outcome {
             Ok(()) => {
-                answer.push("done ")?;
-                push_text(answer, &self.output)
+                answer.push("done ");
+                push_text(answer, &self.output);
             }
-            Err(error) => Ok(write!(answer, "{error}")?),
+            Err(error) => write!(answer, "{error}"),
         }
+        Ok(())
     }
 }

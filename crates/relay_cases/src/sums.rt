@@ -1,7 +1,7 @@
 //! Sums of bytes, by which texts are known again that nobody keeps.
 
 /// How many bytes there were, and a number that other bytes hardly give (the hash of Fowler, Noll and Vo).
-#[derive(Clone, Copy, Debug, Eq, PartialEq)]
+#[derive(Clone, Copy, Eq, PartialEq)]
 pub struct Sum {
     length: usize,
     hash: u64,

@@ -1,15 +1,14 @@
 //! What a call on a hub tells.
 
 use crate::writers::Writer;
-use case_player::{Answer as Line, StepError};
-use std::fmt::Write;
+use case_player::Answer as Line;
 use std::io::ErrorKind;
 use std::slice;
 use termrelay::runs::{Call, Log, Reply, run};
 use termrelay::{Answer, Client, Hub, HubError};
 
 /// What a call told.
-#[derive(Clone, Copy, Debug, Eq, PartialEq)]
+#[derive(Clone, Copy, Eq, PartialEq)]
 pub enum Told {
     Done,
     /// A client came, with this key.
@@ -42,17 +41,16 @@ impl Told {
     }
 
     /// Appends it in words.
-    pub fn push(&self, line: &mut Line) -> Result<(), StepError> {
+    pub fn push(&self, line: &mut Line) {
         match self {
-            Told::Done => line.push("done")?,
-            Told::Attached(_) => line.push("attached")?,
-            Told::Answered(answer) => write!(line, "{answer:?}")?,
-            Told::Fault(kind) => write!(line, "{kind:?}")?,
-            Told::Unknown => line.push("unknown client")?,
-            Told::Failed => line.push("failed")?,
-            Told::Memory => line.push("no memory")?,
+            Told::Done => line.push("done"),
+            Told::Attached(_) => line.push("attached"),
+            Told::Answered(answer) => write!(line, "{answer:?}"),
+            Told::Fault(kind) => write!(line, "{kind:?}"),
+            Told::Unknown => line.push("unknown client"),
+            Told::Failed => line.push("failed"),
+            Told::Memory => line.push("no memory"),
         }
-        Ok(())
     }
 }
 

@@ -6,7 +6,6 @@ use crate::writers::Narrow;
 use case_player::{Answer, StepError, Words};
 use relay_streams::{view_of, write_view};
 use std::alloc::Global;
-use std::fmt::Write;
 use std::io::ErrorKind;
 use termview::{UntilCleared, View};
 
@@ -70,9 +69,11 @@ fn tell(
         "cursor" => push_cursor(answer, view),
         "settings" => push_settings(answer, view),
         "cell" => push_cell(answer, view, words.place()?, words.place()?),
-        "held" => Ok(write!(answer, "{}", view.sync_bytes_count())?),
-        _ => tell_text(alloc, view, name, words, answer),
+        "held" => write!(answer, "{}", view.sync_bytes_count()),
+        "wrapped" => push_wrapped(answer, view, words.place()?),
+        _ => return tell_text(alloc, view, name, words, answer),
     }
+    Ok(())
 }
 
 // A step that tells texts.
@@ -85,7 +86,6 @@ fn tell_text(
 ) -> Result<(), StepError> {
     match name {
         "text" => push_text(alloc, answer, view),
-        "wrapped" => push_wrapped(answer, view, words.place()?),
         "row" => push_row_text(alloc, answer, view, words.place()?),
         "row_to" => row_to(alloc, view, words, answer),
         "runs" => push_runs(alloc, answer, view),
@@ -93,9 +93,8 @@ fn tell_text(
     }
 }
 
-fn push_wrapped(answer: &mut Answer, view: &View<UntilCleared>, row: u16) -> Result<(), StepError> {
-    answer.push(if view.row_wrapped(row) { "yes" } else { "no" })?;
-    Ok(())
+fn push_wrapped(answer: &mut Answer, view: &View<UntilCleared>, row: u16) {
+    answer.push(if view.row_wrapped(row) { "yes" } else { "no" });
 }
 
 // The text of all rows, and where the cursor is.
@@ -106,9 +105,10 @@ fn push_text(
 ) -> Result<(), StepError> {
     let mut text = Vec::new(alloc);
     write_view(view, &mut text).map_err(|_| StepError::Memory)?;
-    answer.quoted(&text)?;
-    answer.push(" ")?;
-    push_cursor(answer, view)
+    answer.quoted(&text);
+    answer.push(" ");
+    push_cursor(answer, view);
+    Ok(())
 }
 
 // A row's text to a writer that takes a byte a write, has this room, and is at fault then or takes nothing.
@@ -127,9 +127,9 @@ fn row_to(
         fault,
     };
     let written = view.row_text(row, &mut writer);
-    answer.quoted(&writer.kept)?;
+    answer.quoted(&writer.kept);
     if let Err(error) = written {
-        write!(answer, " {:?}", error.kind())?;
+        write!(answer, " {:?}", error.kind());
     }
     Ok(())
 }

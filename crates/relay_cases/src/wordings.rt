@@ -2,7 +2,6 @@
 
 use case_player::{Answer, StepError, Words};
 use std::alloc::Global;
-use std::fmt::Write;
 
 /// How many words of one kind a step has at most.
 pub const MOST_WORDS: usize = 64;
@@ -40,11 +39,10 @@ pub fn counts(alloc: Global, words: &mut Words<'_>) -> Result<Vec<usize>, StepEr
 const TOLD_LEN: usize = 400;
 
 /// Appends a text, or of a longer one how many bytes it has.
-pub fn push_text(answer: &mut Answer, text: &[u8]) -> Result<(), StepError> {
+pub fn push_text(answer: &mut Answer, text: &[u8]) {
     if text.len() <= TOLD_LEN {
-        answer.quoted(text)?;
+        answer.quoted(text);
     } else {
-        write!(answer, "{} bytes", text.len())?;
+        write!(answer, "{} bytes", text.len());
     }
-    Ok(())
 }

@@ -1,21 +1,19 @@
 //! Lines of answers, and the errors of steps.
 use case_player::{Answer, StepError};
+use std::fmt;
 use vt100::{GridError, ScreenError};
 
 /// Appends a text as a line in quotes.
-pub fn tell_text(answer: &mut Answer, text: &str) -> Result<(), StepError> {
-    answer.quoted(text.as_bytes())?;
-    answer.end_line()?;
-    Ok(())
+pub fn tell_text(answer: &mut Answer, text: &str) {
+    answer.quoted_line(text.as_bytes());
 }
 
 /// Appends the lines of a text, each with escapes.
-pub fn tell_lines(answer: &mut Answer, text: &str) -> Result<(), StepError> {
+pub fn tell_lines(answer: &mut Answer, text: &str) {
     for line in text.lines() {
-        answer.escaped(line.as_bytes())?;
-        answer.end_line()?;
+        answer.escaped(line.as_bytes());
+        answer.end_line();
     }
-    Ok(())
 }
 
 /// The step's error for a reading call's.
@@ -23,6 +21,14 @@ pub fn refused(error: ScreenError) -> StepError {
     match error {
         ScreenError::Memory => StepError::Memory,
         ScreenError::Failed => StepError::Wrong("the screen has failed"),
+    }
+}
+
+/// The step's answer for a writer's, which fails where memory is refused.
+pub fn written(answer: fmt::Result) -> Result<(), StepError> {
+    match answer {
+        Ok(()) => Ok(()),
+        Err(_) => Err(StepError::Memory),
     }
 }
 

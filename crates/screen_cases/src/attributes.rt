@@ -64,7 +64,8 @@ pub fn tell_change(alloc: Global, change: &Change, answer: &mut Answer) -> Resul
     let written = change.new.write_escape_code_diff(&mut text, &change.old);
     let form = appended(text.as_str(), written)?;
     check_writes(alloc, form, |writer| change.write(writer))?;
-    tell_text(answer, form)
+    tell_text(answer, form);
+    Ok(())
 }
 
 /// The attributes that are named, in the order of the words: both colours, the intensity, and whether text is in

@@ -1,5 +1,5 @@
 //! Captures: what is written of rows, and what is read of it.
-use crate::answers::{tell_lines, tell_text};
+use crate::answers::{tell_lines, tell_text, written};
 use crate::log::Log;
 use case_player::{Answer, StepError, Words};
 use std::alloc::Global;
@@ -15,7 +15,7 @@ pub fn tell_calls(parser: &mut Parser<Log>, answer: &mut Answer) -> Result<(), S
     if log.is_cut {
         return Err(StepError::Ended);
     }
-    tell_lines(answer, log.calls.as_str())?;
+    tell_lines(answer, log.calls.as_str());
     log.calls.clear();
     Ok(())
 }
@@ -35,11 +35,11 @@ pub fn tell_capture(
     if whole {
         let mut state = log.state.clone()?;
         let range = BasicFormattedCaptureRange::Full(&mut state);
-        parser
-            .screen()
-            .write_contents_formatted_basic(&mut text, range)?;
+        let screen = parser.screen();
+        written(screen.write_contents_formatted_basic(&mut text, range))?;
     }
-    tell_text(answer, text.as_str())
+    tell_text(answer, text.as_str());
+    Ok(())
 }
 
 /// Reads a capture: its rows, its plain pieces, or these with their places.
@@ -55,27 +55,25 @@ pub fn read_capture(
         "plain" => tell_plain(capture.as_str(), answer),
         _ => tell_pieces(capture.as_str(), answer),
     }
+    Ok(())
 }
 
-fn tell_cut(capture: &str, width: u16, answer: &mut Answer) -> Result<(), StepError> {
+fn tell_cut(capture: &str, width: u16, answer: &mut Answer) {
     for row in basic_formatted_rows(capture, width) {
-        tell_text(answer, row)?;
+        tell_text(answer, row);
     }
-    Ok(())
 }
 
-fn tell_plain(capture: &str, answer: &mut Answer) -> Result<(), StepError> {
+fn tell_plain(capture: &str, answer: &mut Answer) {
     for piece in basic_formatted_to_plain(capture) {
-        tell_text(answer, piece)?;
+        tell_text(answer, piece);
     }
-    Ok(())
 }
 
-fn tell_pieces(capture: &str, answer: &mut Answer) -> Result<(), StepError> {
+fn tell_pieces(capture: &str, answer: &mut Answer) {
     for (place, piece) in basic_formatted_to_plain_indexed(capture) {
-        answer.number(place as u64)?;
-        answer.push(" ")?;
-        tell_text(answer, piece)?;
+        answer.number(place as u64);
+        answer.push(" ");
+        tell_text(answer, piece);
     }
-    Ok(())
 }

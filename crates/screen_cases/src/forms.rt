@@ -14,7 +14,8 @@ fn tell<B: BufWrite>(alloc: Global, form: &B, answer: &mut Answer) -> Result<(),
     let written = form.write_buf(&mut text);
     let form_text = appended(text.as_str(), written)?;
     check_writes(alloc, form_text, |writer| form.write_fmt(writer))?;
-    tell_text(answer, form_text)
+    tell_text(answer, form_text);
+    Ok(())
 }
 
 /// Tells the form that the words say. One without the words that it may have is the default one.

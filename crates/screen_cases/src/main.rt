@@ -18,18 +18,10 @@ mod stage;
 mod states;
 mod texts;
 
-use case_player::{Disk, NO_MEMORY, run_cases};
-use command_line::run;
+use case_player::play;
 use player::ScreenPlayer;
-use std::env;
 use std::process::ExitCode;
 
 fn main(rt: HostRuntime) -> ExitCode {
-    run(
-        rt.alloc(),
-        env::args(&rt),
-        &mut (ScreenPlayer::new(rt.alloc()), rt.stdout()),
-        |(player, output), words| run_cases(rt.alloc(), words, &Disk(&rt), player, output),
-        |_| NO_MEMORY,
-    )
+    play(&rt, ScreenPlayer::new(rt.alloc()))
 }

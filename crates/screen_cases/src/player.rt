@@ -50,10 +50,9 @@ impl ScreenPlayer {
 }
 
 impl Player for ScreenPlayer {
-    fn begin(&mut self) -> Result<(), StepError> {
+    fn begin(&mut self) {
         self.stage = None;
         self.old = Attrs::new();
-        Ok(())
     }
 
     fn take(

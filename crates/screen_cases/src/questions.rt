@@ -32,46 +32,46 @@ fn answer_of(
     answer: &mut Answer,
 ) -> Result<(), StepError> {
     match name {
-        "is" => tell_state(answer, screen, words.word()?),
+        "is" => return tell_state(answer, screen, words.word()?),
         "shows_same" => tell_bool(answer, screen.shows_same(prev)),
-        "appended" => tell_appended(alloc, screen, prev, words.word()?, answer),
+        "appended" => return tell_appended(alloc, screen, prev, words.word()?, answer),
         "length" | "ends" => {
             let text = parse_text(words.word()?, words)?;
-            tell_measure(answer, text_of(alloc, screen, prev, text)?.as_str(), name)
+            tell_measure(answer, text_of(alloc, screen, prev, text)?.as_str(), name);
         }
         _ => {
             let text = parse_text(name, words)?;
-            tell(answer, text_of(alloc, screen, prev, text)?.as_str(), text)
+            tell(answer, text_of(alloc, screen, prev, text)?.as_str(), text);
         }
     }
-}
-
-fn tell_bool(answer: &mut Answer, is_true: bool) -> Result<(), StepError> {
-    answer.line(if is_true { "true" } else { "false" })?;
     Ok(())
 }
 
+fn tell_bool(answer: &mut Answer, is_true: bool) {
+    answer.line(if is_true { "true" } else { "false" });
+}
+
 /// Tells a text as one line, or as a line for each row.
-fn tell(answer: &mut Answer, made: &str, text: Text) -> Result<(), StepError> {
+fn tell(answer: &mut Answer, made: &str, text: Text) {
     if text.has_lines() {
-        tell_lines(answer, made)
+        tell_lines(answer, made);
     } else {
-        tell_text(answer, made)
+        tell_text(answer, made);
     }
 }
 
 /// How long a text is, or its first two bytes and its last two.
-fn tell_measure(answer: &mut Answer, text: &str, measure: &str) -> Result<(), StepError> {
+fn tell_measure(answer: &mut Answer, text: &str, measure: &str) {
     if measure == "length" {
-        answer.number(text.len() as u64)?;
-        answer.end_line()?;
-        return Ok(());
+        answer.number(text.len() as u64);
+        answer.end_line();
+        return;
     }
-    tell_text(answer, text.get(..2).unwrap_or(""))?;
+    tell_text(answer, text.get(..2).unwrap_or(""));
     tell_text(
         answer,
         text.get(text.len().saturating_sub(2)..).unwrap_or(""),
-    )
+    );
 }
 
 /// Tells what a text that holds something before holds after a call that appends to it.
@@ -93,5 +93,6 @@ fn tell_appended(
         "a text has lost what it held before",
     )?;
     appended.map_err(refused)?;
-    tell_text(answer, text.as_str())
+    tell_text(answer, text.as_str());
+    Ok(())
 }

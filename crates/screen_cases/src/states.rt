@@ -1,8 +1,7 @@
 //! What a screen is like, in words and numbers.
 use crate::answers::check;
 use case_player::{Answer, StepError};
-use std::fmt::Write;
-use vt100::{Color, CursorStyle, GridError, MouseProtocolEncoding, MouseProtocolMode, Screen};
+use vt100::{Color, CursorStyle, MouseProtocolEncoding, MouseProtocolMode, Screen};
 
 /// Rows and columns, the cursor's row and column, how many rows are kept, how many at most, and how many are shown.
 type Places = ((u16, u16), (u16, u16), [usize; 3]);
@@ -61,12 +60,12 @@ pub fn choices(screen: &Screen) -> Choices {
 pub fn tell_state(answer: &mut Answer, screen: &Screen, name: &str) -> Result<(), StepError> {
     let (size, cursor, kept) = places(screen);
     match name {
-        "size" => writeln!(answer, "{size:?}")?,
-        "cursor" => writeln!(answer, "{cursor:?}")?,
-        "kept" => writeln!(answer, "{kept:?}")?,
-        "failed" => writeln!(answer, "{}", screen.failed())?,
-        "alternate_screen" => writeln!(answer, "{}", screen.alternate_screen())?,
-        "updating" => writeln!(answer, "{}", screen.synchronized_update())?,
+        "size" => writeln!(answer, "{size:?}"),
+        "cursor" => writeln!(answer, "{cursor:?}"),
+        "kept" => writeln!(answer, "{kept:?}"),
+        "failed" => writeln!(answer, "{}", screen.failed()),
+        "alternate_screen" => writeln!(answer, "{}", screen.alternate_screen()),
+        "updating" => writeln!(answer, "{}", screen.synchronized_update()),
         _ => return Err(StepError::Word(
             "size, cursor, kept, failed, alternate_screen or updating",
         )),

@@ -1,5 +1,5 @@
 //! The texts that a screen makes.
-use crate::answers::refused;
+use crate::answers::{refused, written};
 use crate::rows::joined;
 use case_player::{StepError, Words};
 use std::alloc::Global;
@@ -138,6 +138,6 @@ fn capture_of(
     range: BasicFormattedCaptureRange<'_>,
 ) -> Result<String, StepError> {
     let mut text = String::new(alloc);
-    screen.write_contents_formatted_basic(&mut text, range)?;
+    written(screen.write_contents_formatted_basic(&mut text, range))?;
     Ok(text)
 }

@@ -2,8 +2,8 @@
 
 ghost use Rattle.std.specs.Prelude.{⊤};
 
-use crate::cuts::{Reader, read};
-use crate::log::Log;
+use crate::cuts::Reader;
+use crate::log::{Log, Until};
 use case_player::{Answer, StepError};
 use std::alloc::Global;
 use std::time::Duration;
@@ -52,13 +52,17 @@ pub struct Processors(pub Global);
 impl Reader for Processors {
     fn read(&self, log: &mut Log, pieces: &[&[u8]]) -> Result<(), StepError> {
         let mut processor = new_processor(self.0)?;
-        for piece in pieces {
-            processor.advance(log, piece);
-        }
-        if processor.sync_bytes_count() > 0 {
-            log.push("(bytes are held) ");
-        }
+        read_pieces(&mut processor, log, pieces);
         Ok(())
+    }
+}
+
+fn read_pieces(processor: &mut Processor, log: &mut Log, pieces: &[&[u8]]) {
+    for piece in pieces {
+        processor.advance(&mut log.calls, piece);
+    }
+    if processor.sync_bytes_count() > 0 {
+        log.push("(bytes are held) ");
     }
 }
 
@@ -69,39 +73,38 @@ pub fn tell_byte_by_byte(
     bytes: &[u8],
     answer: &mut Answer,
 ) -> Result<(), StepError> {
-    read_bytes(alloc, log, bytes)?;
-    let told = log.told()?;
+    log.restart(Until::Never)?;
+    read_bytes(&mut new_processor(alloc)?, log, bytes);
+    log.check()?;
+    let told = log.told();
     if answer.as_str().strip_suffix('\n') != Some(told) {
-        answer.push("byte by byte: ")?;
-        answer.line(told)?;
+        writeln!(answer, "byte by byte: {told}");
     }
     Ok(())
 }
 
-fn read_bytes(alloc: Global, log: &mut Log, bytes: &[u8]) -> Result<(), StepError> {
-    let mut processor = new_processor(alloc)?;
-    read(&Processors(alloc), log, &[])?;
+fn read_bytes(processor: &mut Processor, log: &mut Log, bytes: &[u8]) {
     for byte in bytes {
-        processor.advance(log, &[*byte]);
+        processor.advance(&mut log.calls, &[*byte]);
     }
-    Ok(())
 }
 
 /// Answers the calls since the log was restarted, and how many bytes are held.
 pub fn tell_held(processor: &Processor, log: &Log, answer: &mut Answer) -> Result<(), StepError> {
-    answer.line(log.told()?)?;
-    answer.number(processor.sync_bytes_count() as u64)?;
-    Ok(answer.line(" held")?)
+    log.check()?;
+    let (told, held) = (log.told(), processor.sync_bytes_count());
+    writeln!(answer, "{told}\n{held} held");
+    Ok(())
 }
 
 /// Answers whether the timeout is pending.
-pub fn tell_pending(processor: &Processor, answer: &mut Answer) -> Result<(), StepError> {
+pub fn tell_pending(processor: &Processor, answer: &mut Answer) {
     let pending = processor.sync_timeout().pending;
-    Ok(answer.line(if pending { "yes" } else { "no" })?)
+    answer.line(if pending { "yes" } else { "no" });
 }
 
 /// Answers how often the timeout was set.
-pub fn tell_sets(processor: &Processor, answer: &mut Answer) -> Result<(), StepError> {
-    answer.number(processor.sync_timeout().sets as u64)?;
-    Ok(answer.end_line()?)
+pub fn tell_sets(processor: &Processor, answer: &mut Answer) {
+    let sets = processor.sync_timeout().sets;
+    writeln!(answer, "{sets}");
 }

@@ -60,11 +60,10 @@ pub fn tell_until(
     let mut parser: Parser<1024> = Parser::default();
     let read = parser.advance_until_terminated(log, bytes);
     let more = parser.advance_until_terminated(log, &bytes[read..]);
-    answer.line(log.told()?)?;
-    answer.number(read as u64)?;
-    answer.push(" read, then ")?;
-    answer.number(more as u64)?;
-    Ok(answer.end_line()?)
+    log.check()?;
+    let told = log.told();
+    writeln!(answer, "{told}\n{read} read, then {more}");
+    Ok(())
 }
 
 /// When a log asks the parser to stop, by its name.

@@ -2,9 +2,9 @@
 
 ghost use Rattle.std.specs.Prelude.{⊤, ◌≡◌};
 
+use call_log::CallLog;
 use case_player::StepError;
 use std::alloc::{AllocError, Global};
-use vte::ansi::{Call, Handler};
 use vte_core::{Event, Params, Perform};
 
 /// When a log asks the parser to stop.
@@ -24,8 +24,8 @@ const ROOM: usize = 65_536;
 /// The events or calls so far, each as a few words.
 #[derive(Drop)]
 pub struct Log {
-    text: String,
-    failed: bool,
+    /// What is written down. As a handler it writes down its calls.
+    pub calls: CallLog<'static>,
     until: Until,
     terminated: bool,
 }
@@ -34,8 +34,7 @@ impl Log {
     /// An empty log.
     pub fn new(alloc: Global) -> Log {
         Log {
-            text: String::new(alloc),
-            failed: false,
+            calls: CallLog::new(alloc),
             until: Until::Never,
             terminated: false,
         }
@@ -43,53 +42,49 @@ impl Log {
 
     /// Forgets everything, and makes room. Then the parser is asked to stop where it says.
     pub fn restart(&mut self, until: Until) -> Result<(), AllocError> {
-        self.text.clear();
-        self.failed = false;
         self.until = until;
         self.terminated = false;
-        self.text.reserve(ROOM)
+        self.calls.restart(ROOM)
     }
 
     /// Forgets the events so far.
     pub fn clear(&mut self) {
-        self.text.clear();
+        self.calls.text.clear();
     }
 
     /// The events or calls so far.
-    pub fn told(&self) -> Result<&str, StepError> {
-        if self.failed {
+    pub fn told(&self) -> &str {
+        self.calls.text.as_str().trim_end()
+    }
+
+    /// No memory was refused.
+    pub fn check(&self) -> Result<(), StepError> {
+        if self.calls.refused {
             Err(StepError::Memory)
         } else {
-            Ok(self.text.as_str().trim_end())
+            Ok(())
         }
     }
 
     /// Writes down a text as it is.
     pub fn push(&mut self, text: &str) {
-        self.failed |= self.text.push_str(text).is_err();
-    }
-
-    /// Writes down what another log has.
-    pub fn push_log(&mut self, other: &Log) {
-        self.push(other.text.as_str());
-        self.failed |= other.failed;
+        self.calls.push(text);
     }
 
     /// Writes down a word.
     pub fn word(&mut self, word: &str) {
-        self.push(word);
-        self.push(" ");
+        self.calls.push(word);
+        self.calls.push(" ");
     }
 
     /// Writes down a number.
     pub fn number(&mut self, number: u32) {
-        self.failed |= write!(self.text, "{number} ").is_err();
+        write!(self.calls, "{number} ");
     }
 
     /// Writes down a word and a number.
     pub fn tell(&mut self, word: &str, number: u32) {
-        self.word(word);
-        self.number(number);
+        write!(self.calls, "{word} {number} ");
     }
 
     fn bytes(&mut self, bytes: &[u8]) {
@@ -105,7 +100,7 @@ impl Log {
     }
 
     fn params(&mut self, word: &str, params: &Params) {
-        self.failed |= write!(self.text, "{word} {params:?} ").is_err();
+        write!(self.calls, "{word} {params:?} ");
     }
 
     fn command(&mut self, bell_terminated: bool, pieces: &[&[u8]]) {
@@ -171,13 +166,5 @@ impl Perform for Log {
 
     fn terminated(&self) -> bool {
         self.terminated
-    }
-}
-
-impl Handler for Log {
-    ghost step = { λ _ _ _. ⊤ };
-
-    fn call(&mut self, call: Call<'_>) {
-        self.failed |= write!(self.text, "{call:?} ").is_err();
     }
 }

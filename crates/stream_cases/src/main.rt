@@ -12,18 +12,10 @@ mod states;
 mod text;
 mod values;
 
-use case_player::{Disk, NO_MEMORY, run_cases};
-use command_line::run;
+use case_player::play;
 use player::StreamPlayer;
-use std::env;
 use std::process::ExitCode;
 
 fn main(rt: HostRuntime) -> ExitCode {
-    run(
-        rt.alloc(),
-        env::args(&rt),
-        &mut (rt.stdout(), StreamPlayer::new(rt.alloc())),
-        |(output, player), words| run_cases(rt.alloc(), words, &Disk(&rt), player, output),
-        |_| NO_MEMORY,
-    )
+    play(&rt, StreamPlayer::new(rt.alloc()))
 }

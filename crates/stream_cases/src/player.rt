@@ -67,44 +67,64 @@ impl StreamPlayer {
         };
         self.log.restart(Until::Never)?;
         match name {
-            "advance" => processor.advance(&mut self.log, bytes),
-            "stop" => processor.stop_sync(&mut self.log),
-            "pending" => return tell_pending(processor, answer),
-            _ => return tell_sets(processor, answer),
+            "advance" => processor.advance(&mut self.log.calls, bytes),
+            "stop" => processor.stop_sync(&mut self.log.calls),
+            "pending" => {
+                tell_pending(processor, answer);
+                return Ok(());
+            }
+            _ => {
+                tell_sets(processor, answer);
+                return Ok(());
+            }
         }
         tell_held(processor, &self.log, answer)
     }
 
-    fn until(&mut self, words: &mut Words<'_>, answer: &mut Answer) -> Result<(), StepError> {
-        let until = until_of(words.word()?)?;
-        let bytes = words.bytes(self.alloc)?;
-        tell_until(&mut self.log, until, &bytes, answer)
+    // Steps on values.
+    fn take_value(
+        &mut self,
+        name: &str,
+        words: &mut Words<'_>,
+        answer: &mut Answer,
+    ) -> Result<(), StepError> {
+        match name {
+            "mode" => tell_mode(Mode::new(words.place()?), answer),
+            "private_mode" => tell_private_mode(PrivateMode::new(words.place()?), answer),
+            "color" => tell_color(&words.text(self.alloc)?, answer),
+            "drawn" => tell_mapped(&words.text(self.alloc)?, answer),
+            _ => {
+                let (first, second) = (words.text(self.alloc)?, words.text(self.alloc)?);
+                tell_sums(&first, &second, answer)?;
+            }
+        }
+        Ok(())
     }
 
-    fn fours(&mut self, words: &mut Words<'_>, answer: &mut Answer) -> Result<(), StepError> {
-        let firsts = words.bytes(self.alloc)?;
-        let others = words.bytes(self.alloc)?;
-        let lasts = words.bytes(self.alloc)?;
-        tell_fours(self.alloc, &firsts, &others, &lasts, answer)
-    }
-
-    fn states(&mut self, words: &mut Words<'_>, answer: &mut Answer) -> Result<(), StepError> {
-        let prefix = words.bytes(self.alloc)?;
-        let end = words.bytes(self.alloc)?;
-        tell_states(self.alloc, &mut self.log, &prefix, &end, answer)
-    }
-
-    fn sums(&mut self, words: &mut Words<'_>, answer: &mut Answer) -> Result<(), StepError> {
-        let first = words.text(self.alloc)?;
-        let second = words.text(self.alloc)?;
-        tell_sums(&first, &second, answer)
+    // Steps on several texts.
+    fn take_texts(
+        &mut self,
+        name: &str,
+        words: &mut Words<'_>,
+        answer: &mut Answer,
+    ) -> Result<(), StepError> {
+        let (first, second) = (words.bytes(self.alloc)?, words.bytes(self.alloc)?);
+        if name == "states" {
+            return tell_states(self.alloc, &mut self.log, &first, &second, answer);
+        }
+        tell_fours(
+            self.alloc,
+            &first,
+            &second,
+            &words.bytes(self.alloc)?,
+            answer,
+        )
     }
 }
 
 impl Player for StreamPlayer {
-    fn begin(&mut self) -> Result<(), StepError> {
+    fn begin(&mut self) {
         self.processor = None;
-        Ok(())
     }
 
     fn take(
@@ -118,22 +138,18 @@ impl Player for StreamPlayer {
                 self.processor = Some(new_processor(self.alloc)?);
                 Ok(())
             }
-            "advance" => {
-                let bytes = words.bytes(self.alloc)?;
-                self.take_held(name, &bytes, answer)
-            }
+            "advance" => self.take_held(name, &words.bytes(self.alloc)?, answer),
             "stop" | "pending" | "sets" => self.take_held(name, &[], answer),
-            "until" => self.until(words, answer),
-            "text_of_four" => self.fours(words, answer),
-            "states" => self.states(words, answer),
-            "mode" => tell_mode(Mode::new(words.place()?), answer),
-            "private_mode" => tell_private_mode(PrivateMode::new(words.place()?), answer),
-            "color" => tell_color(&words.text(self.alloc)?, answer),
-            "color_sums" => self.sums(words, answer),
-            "drawn" => tell_mapped(&words.text(self.alloc)?, answer),
+            "until" => {
+                let until = until_of(words.word()?)?;
+                tell_until(&mut self.log, until, &words.bytes(self.alloc)?, answer)
+            }
+            "text_of_four" | "states" => self.take_texts(name, words, answer),
+            "mode" | "private_mode" | "color" | "color_sums" | "drawn" => {
+                self.take_value(name, words, answer)
+            }
             "calls" | "events" | "events_keeping_four" | "runs" | "draws" | "text_after" => {
-                let bytes = words.bytes(self.alloc)?;
-                self.take_stream(name, &bytes, answer)
+                self.take_stream(name, &words.bytes(self.alloc)?, answer)
             }
             _ => Err(StepError::Unknown),
         }

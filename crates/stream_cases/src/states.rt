@@ -3,6 +3,7 @@
 use crate::cuts::read;
 use crate::events::Keeping;
 use crate::log::{Log, Until};
+use call_log::CallLog;
 use case_player::{Answer, StepError};
 use std::alloc::Global;
 
@@ -128,7 +129,7 @@ fn dcs(place: Place, byte: u8) -> (Effect, Place) {
 struct Reading {
     place: Place,
     // The whole numbers of a header that are kept, with what stands between them.
-    numbers: String,
+    numbers: CallLog<'static>,
     // How many numbers are whole.
     count: usize,
     // What stands before the last number.
@@ -138,21 +139,19 @@ struct Reading {
     content: Log,
     parts: usize,
     log: Log,
-    failed: bool,
 }
 
 impl Reading {
     fn new(alloc: Global) -> Result<Reading, StepError> {
         let mut reading = Reading {
             place: Place::Ground,
-            numbers: String::with_capacity(alloc, 256)?,
+            numbers: CallLog::new(alloc),
             count: 0,
             before: "",
             number: 0,
             content: Log::new(alloc),
             parts: 0,
             log: Log::new(alloc),
-            failed: false,
         };
         reading.restart()?;
         Ok(reading)
@@ -160,6 +159,7 @@ impl Reading {
 
     // Nothing is read yet.
     fn restart(&mut self) -> Result<(), StepError> {
+        self.numbers.restart(256)?;
         self.content.restart(Until::Never)?;
         self.log.restart(Until::Never)?;
         self.begin(Place::Ground);
@@ -168,7 +168,7 @@ impl Reading {
 
     fn begin(&mut self, place: Place) {
         self.place = place;
-        self.numbers.clear();
+        self.numbers.text.clear();
         self.count = 0;
         self.before = "";
         self.number = 0;
@@ -189,7 +189,7 @@ impl Reading {
     }
 
     fn data(&mut self) {
-        self.log.push_log(&self.content);
+        self.log.push(self.content.calls.text.as_str());
         self.log.word("|");
     }
 
@@ -216,7 +216,7 @@ impl Reading {
     // A number is whole: 32 are kept.
     fn end_number(&mut self) {
         if self.count < 32 {
-            self.failed |= write!(self.numbers, "{}{}", self.before, self.number).is_err();
+            write!(self.numbers, "{}{}", self.before, self.number);
         }
         self.count = self.count.saturating_add(1);
         self.number = 0;
@@ -242,10 +242,7 @@ impl Reading {
 
     fn dispatch(&mut self, word: &str, byte: u8) {
         self.end_number();
-        self.log.word(word);
-        self.log.push("[");
-        self.log.push(self.numbers.as_str());
-        self.log.push("] ");
+        write!(self.log.calls, "{word} [{}] ", self.numbers.text.as_str());
         self.end(byte);
     }
 
@@ -310,11 +307,10 @@ fn read_by_table(reading: &mut Reading, pieces: &[&[u8]]) -> Result<(), StepErro
     for piece in pieces {
         reading.bytes(piece);
     }
-    if reading.failed {
-        Err(StepError::Memory)
-    } else {
-        Ok(())
+    if reading.numbers.refused || reading.content.calls.refused {
+        return Err(StepError::Memory);
     }
+    reading.log.check()
 }
 
 /// Each byte between a prefix and an end. Answers how many of the streams have the events of the table, and which don't.
@@ -331,25 +327,17 @@ pub fn tell_states(
         let pieces: [&[u8]; 3] = [prefix, &[byte], end];
         read(&Keeping::Usual, log, &pieces)?;
         read_by_table(&mut reading, &pieces)?;
-        if log.told()? == reading.log.told()? {
+        if log.told() == reading.log.told() {
             agreed = agreed.saturating_add(1);
         } else {
-            tell_difference(byte, reading.log.told()?, log.told()?, answer)?;
+            tell_difference(byte, reading.log.told(), log.told(), answer);
         }
     }
-    answer.number(agreed)?;
-    Ok(answer.line(" by the table")?)
+    writeln!(answer, "{agreed} by the table");
+    Ok(())
 }
 
-fn tell_difference(
-    byte: u8,
-    wanted: &str,
-    told: &str,
-    answer: &mut Answer,
-) -> Result<(), StepError> {
-    answer.quoted(&[byte])?;
-    answer.push(": wanted ")?;
-    answer.push(wanted)?;
-    answer.push(", read ")?;
-    Ok(answer.line(told)?)
+fn tell_difference(byte: u8, wanted: &str, told: &str, answer: &mut Answer) {
+    answer.quoted(&[byte]);
+    writeln!(answer, ": wanted {wanted}, read {told}");
 }

@@ -87,26 +87,24 @@ impl Comparison {
 
     // The stream, cut once at each place, has the events that are wanted.
     fn compare(&mut self, answer: &mut Answer) -> Result<(), StepError> {
+        self.wanted.check()?;
         let stream = self.bytes.as_slice();
         for cut in 0..=stream.len() {
             let pieces = [&stream[..cut], &stream[cut..]];
             read(&Keeping::Usual, &mut self.log, &pieces)?;
-            if self.log.told()? != self.wanted.told()? {
-                return self.tell_difference(cut, answer);
+            if self.log.told() != self.wanted.told() {
+                self.tell_difference(cut, answer);
+                return Ok(());
             }
         }
         self.agreed = self.agreed.saturating_add(1);
         Ok(())
     }
 
-    fn tell_difference(&self, cut: usize, answer: &mut Answer) -> Result<(), StepError> {
-        answer.quoted(&self.bytes)?;
-        answer.push(" cut at ")?;
-        answer.number(cut as u64)?;
-        answer.push(": wanted ")?;
-        answer.push(self.wanted.told()?)?;
-        answer.push(", read ")?;
-        Ok(answer.line(self.log.told()?)?)
+    fn tell_difference(&self, cut: usize, answer: &mut Answer) {
+        answer.quoted(&self.bytes);
+        let (wanted, told) = (self.wanted.told(), self.log.told());
+        writeln!(answer, " cut at {cut}: wanted {wanted}, read {told}");
     }
 
     // The stream is made of these parts.
@@ -173,7 +171,8 @@ impl Comparison {
 pub fn tell_after(alloc: Global, unfinished: &[u8], answer: &mut Answer) -> Result<(), StepError> {
     let mut comparison = Comparison::new(alloc)?;
     comparison.each_byte_after(unfinished, answer)?;
-    tell_agreed(&comparison, answer)
+    tell_agreed(&comparison, answer);
+    Ok(())
 }
 
 /// Streams of four bytes, at every cut: each of the first bytes, of the others twice, and of the last ones. Answers as
@@ -189,10 +188,11 @@ pub fn tell_fours(
     for first in firsts {
         comparison.each_four(*first, others, lasts, answer)?;
     }
-    tell_agreed(&comparison, answer)
+    tell_agreed(&comparison, answer);
+    Ok(())
 }
 
-fn tell_agreed(comparison: &Comparison, answer: &mut Answer) -> Result<(), StepError> {
-    answer.number(comparison.agreed())?;
-    Ok(answer.line(" as text")?)
+fn tell_agreed(comparison: &Comparison, answer: &mut Answer) {
+    let agreed = comparison.agreed();
+    writeln!(answer, "{agreed} as text");
 }

@@ -1,61 +1,49 @@
 //! Values of the handler's calls.
 
 use case_player::{Answer, StepError};
-use std::fmt::Write;
 use std::str::FromStr;
 use vte::ansi::{Mode, PrivateMode, Rgb, StandardCharset};
 
 /// Answers the mode that a parameter names, and its number.
-pub fn tell_mode(mode: Mode, answer: &mut Answer) -> Result<(), StepError> {
+pub fn tell_mode(mode: Mode, answer: &mut Answer) {
     let number = mode.raw();
-    write!(answer, "{mode:?} {number}")?;
-    Ok(answer.end_line()?)
+    writeln!(answer, "{mode:?} {number}");
 }
 
 /// Answers the private mode that a parameter names, and its number.
-pub fn tell_private_mode(mode: PrivateMode, answer: &mut Answer) -> Result<(), StepError> {
+pub fn tell_private_mode(mode: PrivateMode, answer: &mut Answer) {
     let number = mode.raw();
-    write!(answer, "{mode:?} {number}")?;
-    Ok(answer.end_line()?)
+    writeln!(answer, "{mode:?} {number}");
 }
 
 /// Answers the colour of a text.
-pub fn tell_color(text: &str, answer: &mut Answer) -> Result<(), StepError> {
+pub fn tell_color(text: &str, answer: &mut Answer) {
     match Rgb::from_str(text) {
-        Ok(color) => write!(answer, "{color}")?,
-        Err(_) => answer.push("no colour")?,
+        Ok(color) => writeln!(answer, "{color}"),
+        Err(_) => answer.line("no colour"),
     }
-    Ok(answer.end_line()?)
 }
 
 /// Answers the sum of two colours, and their difference.
 pub fn tell_sums(first: &str, second: &str, answer: &mut Answer) -> Result<(), StepError> {
-    let (first, second) = (color_of(first)?, color_of(second)?);
+    let (Ok(first), Ok(second)) = (Rgb::from_str(first), Rgb::from_str(second)) else {
+        return Err(StepError::Word("a colour"));
+    };
     let (sum, difference) = (first + second, first - second);
-    write!(answer, "{sum} {difference}")?;
-    Ok(answer.end_line()?)
-}
-
-fn color_of(text: &str) -> Result<Rgb, StepError> {
-    Rgb::from_str(text).map_err(|_| StepError::Word("a colour"))
+    writeln!(answer, "{sum} {difference}");
+    Ok(())
 }
 
 /// Answers what is drawn for characters in DEC's special graphics, and in ASCII.
-pub fn tell_mapped(text: &str, answer: &mut Answer) -> Result<(), StepError> {
-    push_mapped(
+pub fn tell_mapped(text: &str, answer: &mut Answer) {
+    for set in [
         StandardCharset::SpecialCharacterAndLineDrawing,
-        text,
-        answer,
-    )?;
-    answer.end_line()?;
-    push_mapped(StandardCharset::Ascii, text, answer)?;
-    Ok(answer.end_line()?)
-}
-
-fn push_mapped(set: StandardCharset, text: &str, answer: &mut Answer) -> Result<(), StepError> {
-    for c in text.chars() {
-        let drawn = set.map(c);
-        write!(answer, "{drawn}")?;
+        StandardCharset::Ascii,
+    ] {
+        for c in text.chars() {
+            let drawn = set.map(c);
+            write!(answer, "{drawn}");
+        }
+        answer.end_line();
     }
-    Ok(())
 }

@@ -8,7 +8,6 @@ use crate::refused::refused;
 use crate::words::{character, flag, size};
 use case_player::{Answer, StepError, Words};
 use std::alloc::Global;
-use std::fmt::Write;
 use vt100_core::attrs::Attrs;
 use vt100_core::{Grid, GridError, Printed, Size};
 
@@ -102,7 +101,10 @@ pub fn take_call(
     let before = grid.clone().map_err(refused)?;
     let gone_before = gone.rows;
     match make(grid, call, gone) {
-        Ok(told) => tell(told, answer),
+        Ok(told) => {
+            tell(told, answer);
+            Ok(())
+        }
         Err(GridError::Memory) => {
             let outcome = check_recovery(alloc, grid, call);
             *grid = before;
@@ -113,12 +115,12 @@ pub fn take_call(
     }
 }
 
-fn tell(told: Told, answer: &mut Answer) -> Result<(), StepError> {
+fn tell(told: Told, answer: &mut Answer) {
     match told {
-        Told::Nothing => Ok(()),
-        Told::Lines(count) => Ok(writeln!(answer, "{count}")?),
-        Told::Printed(Printed::Nothing) => Ok(answer.line("nothing")?),
-        Told::Printed(Printed::Spacing) => Ok(answer.line("spacing")?),
-        Told::Printed(Printed::Joined) => Ok(answer.line("joined")?),
+        Told::Nothing => {}
+        Told::Lines(count) => writeln!(answer, "{count}"),
+        Told::Printed(Printed::Nothing) => answer.line("nothing"),
+        Told::Printed(Printed::Spacing) => answer.line("spacing"),
+        Told::Printed(Printed::Joined) => answer.line("joined"),
     }
 }

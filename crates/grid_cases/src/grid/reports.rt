@@ -3,7 +3,6 @@ use super::whole::check_whole;
 use crate::answers::{push_cell, push_row};
 use crate::words::pos;
 use case_player::{Answer, StepError, Words};
-use std::fmt::Write;
 use vt100_core::{Grid, Pos};
 
 /// Tells what a step asks of a grid, from which so many rows are gone for good.
@@ -15,37 +14,34 @@ pub fn tell(
     answer: &mut Answer,
 ) -> Result<(), StepError> {
     match name {
-        "rows" => push_rows(grid, answer)?,
-        "cursor" => push_cursor(grid.pos(), answer)?,
-        "kept" => push_kept(grid, gone, answer)?,
-        "capacity" => write!(answer, "{}", grid.scrollback_capacity())?,
+        "rows" => push_rows(grid, answer),
+        "cursor" => push_cursor(grid.pos(), answer),
+        "kept" => push_kept(grid, gone, answer),
+        "capacity" => write!(answer, "{}", grid.scrollback_capacity()),
         "visible_cell" => return tell_cell(grid, pos(words)?, answer),
         "whole" => push_size(grid, answer)?,
         _ => return Err(StepError::Unknown),
     }
-    answer.end_line()?;
+    answer.end_line();
     Ok(())
 }
 
 /// All rows that are drawn on, with a `/` after each.
-fn push_rows(grid: &Grid, answer: &mut Answer) -> Result<(), StepError> {
+fn push_rows(grid: &Grid, answer: &mut Answer) {
     for row in grid.drawing_rows() {
-        push_row(answer, row)?;
-        answer.push("/")?;
+        push_row(answer, row);
+        answer.push("/");
     }
-    Ok(())
 }
 
-fn push_cursor(pos: Pos, answer: &mut Answer) -> Result<(), StepError> {
-    write!(answer, "{} {}", pos.row, pos.col)?;
-    Ok(())
+fn push_cursor(pos: Pos, answer: &mut Answer) {
+    write!(answer, "{} {}", pos.row, pos.col);
 }
 
 /// How many rows are kept, how many of these are shown, and how many are gone for good.
-fn push_kept(grid: &Grid, gone: u64, answer: &mut Answer) -> Result<(), StepError> {
+fn push_kept(grid: &Grid, gone: u64, answer: &mut Answer) {
     let (kept, shown) = (grid.scrollback_len(), grid.scrollback());
-    write!(answer, "{kept} kept, {shown} shown, {gone} gone")?;
-    Ok(())
+    write!(answer, "{kept} kept, {shown} shown, {gone} gone");
 }
 
 fn tell_cell(grid: &Grid, pos: Pos, answer: &mut Answer) -> Result<(), StepError> {
@@ -58,6 +54,6 @@ fn tell_cell(grid: &Grid, pos: Pos, answer: &mut Answer) -> Result<(), StepError
 /// How many rows and columns a whole grid has.
 fn push_size(grid: &Grid, answer: &mut Answer) -> Result<(), StepError> {
     check_whole(grid)?;
-    write!(answer, "{} {}", grid.size().rows(), grid.size().cols())?;
+    write!(answer, "{} {}", grid.size().rows(), grid.size().cols());
     Ok(())
 }

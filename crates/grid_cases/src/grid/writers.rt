@@ -34,17 +34,20 @@ fn tell_contents(
 ) -> Result<(), StepError> {
     if words.is_empty() {
         let (text, ()) = appended(alloc, |text| grid.write_contents(text))?;
-        return tell_text(answer, text.text());
+        tell_text(answer, text.text());
+        return Ok(());
     }
     let mut text = words.text(alloc)?;
     grid.write_contents(&mut text).map_err(refused)?;
-    tell_text(answer, text.as_str())
+    tell_text(answer, text.as_str());
+    Ok(())
 }
 
 fn tell_forms(alloc: Global, grid: &Grid, answer: &mut Answer) -> Result<(), StepError> {
     let (text, attrs) = appended(alloc, |text| grid.write_contents_formatted(text))?;
-    tell_text(answer, text.text())?;
-    Ok(answer.line(plainness(attrs))?)
+    tell_text(answer, text.text());
+    answer.line(plainness(attrs));
+    Ok(())
 }
 
 fn tell_difference(
@@ -59,8 +62,9 @@ fn tell_difference(
     let (text, attrs) = appended(alloc, |text| {
         grid.write_contents_diff(text, earlier, Attrs::new())
     })?;
-    tell_text(answer, text.text())?;
-    Ok(answer.line(plainness(attrs))?)
+    tell_text(answer, text.text());
+    answer.line(plainness(attrs));
+    Ok(())
 }
 
 /// How a cursor at a place that isn't known comes to its place.
@@ -68,5 +72,6 @@ fn tell_place(alloc: Global, grid: &Grid, answer: &mut Answer) -> Result<(), Ste
     let (text, ()) = appended(alloc, |text| {
         grid.write_cursor_position_formatted(text, None, None)
     })?;
-    tell_text(answer, text.text())
+    tell_text(answer, text.text());
+    Ok(())
 }

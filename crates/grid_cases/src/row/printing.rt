@@ -53,11 +53,11 @@ fn join(
 
 fn tell_join(join: Join, answer: &mut Answer) -> Result<(), StepError> {
     match join {
-        Join::InPlace => answer.line("in place")?,
-        Join::Ignored => answer.line("ignored")?,
-        Join::Widened => answer.line("widened")?,
+        Join::InPlace => answer.line("in place"),
+        Join::Ignored => answer.line("ignored"),
+        Join::Widened => answer.line("widened"),
         Join::Carried(cell) => {
-            answer.push("carried ")?;
+            answer.push("carried ");
             push_cell(answer, &cell)?;
         }
     }

@@ -4,7 +4,6 @@ use crate::refused::appended;
 use crate::words::{flag, optional_pos, pos, two};
 use case_player::{Answer, StepError, Words};
 use std::alloc::Global;
-use std::fmt::Write;
 use vt100_core::attrs::Attrs;
 use vt100_core::{Cell, Pos, Row};
 
@@ -18,15 +17,15 @@ pub fn tell(
     answer: &mut Answer,
 ) -> Result<(), StepError> {
     match name {
-        "shown" => push_row(answer, row)?,
-        "counts" => push_counts(row, answer)?,
+        "shown" => push_row(answer, row),
+        "counts" => push_counts(row, answer),
         "cell" => return tell_cell(row, words.place()?, answer),
-        "same_cell" => answer.push(same_cell(row, earlier, two(words)?))?,
+        "same_cell" => answer.push(same_cell(row, earlier, two(words)?)),
         "write_contents" => return tell_contents(alloc, row, words, answer),
         "write_contents_formatted" => return tell_forms(alloc, row, words, answer),
         _ => return Err(StepError::Unknown),
     }
-    answer.end_line()?;
+    answer.end_line();
     Ok(())
 }
 
@@ -43,13 +42,12 @@ fn blank_cells(row: &Row) -> u32 {
 }
 
 /// How many columns a row has, how many of its cells are default ones, and whether it is wrapped.
-fn push_counts(row: &Row, answer: &mut Answer) -> Result<(), StepError> {
+fn push_counts(row: &Row, answer: &mut Answer) {
     let (cols, blank) = (row.cols(), blank_cells(row));
-    write!(answer, "{cols} columns, {blank} blank")?;
+    write!(answer, "{cols} columns, {blank} blank");
     if row.wrapped() {
-        answer.push(", wrapped")?;
+        answer.push(", wrapped");
     }
-    Ok(())
 }
 
 fn tell_cell(row: &Row, col: u16, answer: &mut Answer) -> Result<(), StepError> {
@@ -79,13 +77,13 @@ fn tell_contents(
     let (text, ()) = appended(alloc, |text| {
         row.write_contents(text, start, width, wrapping)
     })?;
-    tell_text(answer, text.text())
+    tell_text(answer, text.text());
+    Ok(())
 }
 
 /// Appends where the cursor stands, and whether it draws with the default attributes.
-fn tell_left(answer: &mut Answer, (pos, attrs): (Pos, Attrs)) -> Result<(), StepError> {
-    writeln!(answer, "{} {} {}", pos.row, pos.col, plainness(attrs))?;
-    Ok(())
+fn tell_left(answer: &mut Answer, (pos, attrs): (Pos, Attrs)) {
+    writeln!(answer, "{} {} {}", pos.row, pos.col, plainness(attrs));
 }
 
 /// The forms that draw columns: the first one, how many, the row's number, whether the row above goes on in this one,
@@ -103,8 +101,9 @@ fn tell_forms(
     let (text, left) = appended(alloc, |text| {
         row.write_contents_formatted(text, start, width, number, wrapping, place, None)
     })?;
-    tell_text(answer, text.text())?;
-    tell_left(answer, left)
+    tell_text(answer, text.text());
+    tell_left(answer, left);
+    Ok(())
 }
 
 /// The difference from the earlier row: the first column, how many, the row's number, whether the row above goes on in
@@ -136,6 +135,7 @@ pub fn tell_difference(
             attrs,
         )
     })?;
-    tell_text(answer, text.text())?;
-    tell_left(answer, left)
+    tell_text(answer, text.text());
+    tell_left(answer, left);
+    Ok(())
 }

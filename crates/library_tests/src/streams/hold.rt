@@ -1,12 +1,13 @@
 //! Synchronized updates.
 
-use super::log::{CallLog, Flagged, Still};
+use super::timeouts::{Flagged, Still};
 use crate::same::same;
+use call_log::CallLog;
 use std::alloc::Global;
 use std::cell::Cell;
 use std::test::Fail;
 use std::time::Duration;
-use vte::ansi::{self, Handler, StdSyncHandler};
+use vte::ansi::{self, StdSyncHandler};
 
 /// Hands a piece over. How many bytes are held then.
 fn held_after(
@@ -25,7 +26,7 @@ const HELD_FIRST: &str =
 #[test]
 fn parses_held_bytes_first(rt: HostRuntime) -> Result<(), Fail> {
     let pending = Cell::new(false);
-    let mut log = CallLog::new(&rt);
+    let mut log = CallLog::new(rt.alloc());
     let mut processor = ansi::Processor::new(rt.alloc(), Flagged(&pending))?;
     let held = held_after(&mut processor, &mut log, b"\x1b[?2026hab");
     pending.set(false);
@@ -38,7 +39,7 @@ fn parses_held_bytes_first(rt: HostRuntime) -> Result<(), Fail> {
 #[test]
 fn begins_while_the_timeout_is_pending(rt: HostRuntime) -> Result<(), Fail> {
     let pending = Cell::new(true);
-    let mut log = CallLog::new(&rt);
+    let mut log = CallLog::new(rt.alloc());
     let mut processor = ansi::Processor::new(rt.alloc(), Flagged(&pending))?;
     let held = held_after(&mut processor, &mut log, b"x");
     let before = log.text.len();
@@ -64,11 +65,12 @@ const WATCHED: &str =
 #[test]
 fn sets_the_timeout_first_and_clears_it_last(rt: HostRuntime) -> Result<(), Fail> {
     let flag = Cell::new(false);
-    let mut log = CallLog::watching(&rt, &flag);
+    let mut log = CallLog::new(rt.alloc());
+    log.flag = Some(&flag);
     let mut processor = ansi::Processor::new(rt.alloc(), Flagged(&flag))?;
     processor.advance(&mut log, b"\x1b[?25;2026ha\x1b[?2026l");
     processor.advance(&mut log, b"b");
-    same(&rt, &(log.failed, log.text.as_str()), &(false, WATCHED));
+    same(&rt, &(log.refused, log.text.as_str()), &(false, WATCHED));
     Ok(())
 }
 
@@ -88,7 +90,7 @@ fn time_after(
 /// An update's time is over 150 milliseconds after it was opened, and is forgotten where it is closed.
 #[test]
 fn keeps_the_time_of_an_update(rt: HostRuntime) -> Result<(), Fail> {
-    let mut log = CallLog::new(&rt);
+    let mut log = CallLog::new(rt.alloc());
     let timeout = StdSyncHandler::new(Still(Duration::from_secs(1)));
     let mut processor = ansi::Processor::new(rt.alloc(), timeout)?;
     let end = Some(Duration::from_millis(1150));
@@ -116,7 +118,8 @@ const FILLED: &str =
 #[test]
 fn empties_a_full_hold(rt: HostRuntime) -> Result<(), Fail> {
     let pending = Cell::new(false);
-    let mut log = CallLog::with_count(&rt);
+    let mut log = CallLog::new(rt.alloc());
+    log.inputs = Some(0);
     let mut processor = ansi::Processor::new(rt.alloc(), Flagged(&pending))?;
     let opened = held_after(&mut processor, &mut log, b"\x1b[?2026h");
     let bold = held_after(&mut processor, &mut log, b"\x1b[1m");

@@ -1,11 +1,10 @@
 //! A writer with a limit.
 
-use std::alloc::Global;
 use std::io;
 use std::io::{ErrorKind, Write};
 
-/// A writer that keeps the bytes it takes, a few bytes a write. Once it has taken `room` bytes, each write of more
-/// fails with `BrokenPipe`.
+/// A writer that keeps the bytes it takes, so many a write. Once it has taken `room` bytes, each write of more fails with
+/// `BrokenPipe`.
 #[derive(Drop)]
 pub struct LimitedWriter {
     /// The bytes that it took.
@@ -18,19 +17,6 @@ pub struct LimitedWriter {
     pub flushes: bool,
     /// How many flushes were made, also those that failed.
     pub flushed: u64,
-}
-
-impl LimitedWriter {
-    /// A writer that takes `room` bytes altogether, one a write, and whose flushes succeed.
-    pub fn new(alloc: Global, room: usize) -> Self {
-        LimitedWriter {
-            kept: Vec::new(alloc),
-            room,
-            step: 1,
-            flushes: true,
-            flushed: 0,
-        }
-    }
 }
 
 impl Write for LimitedWriter {

@@ -1,6 +1,6 @@
 //! Values.
 
-use super::log::Still;
+use super::timeouts::Still;
 use crate::same::same;
 use std::test::Fail;
 use std::time::Duration;

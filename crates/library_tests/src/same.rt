@@ -7,3 +7,13 @@ use std::process::Abort;
 pub fn same<R: Abort, T: PartialEq + Debug>(rt: &R, reported: &T, wanted: &T) {
     assert_eq!(rt; reported, wanted);
 }
+
+/// The value found is the one wanted; a failure names what was asked.
+pub fn same_for<R: Abort, A: Debug, T: PartialEq + Debug>(
+    rt: &R,
+    asked: &A,
+    reported: &T,
+    wanted: &T,
+) {
+    assert_eq!(rt; reported, wanted, "{asked:?}");
+}

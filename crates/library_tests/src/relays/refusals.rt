@@ -1,4 +1,3 @@
 //! Calls that find no memory, where the tests run with allocations that fail. Else each succeeds at once.
 
-mod processors;
 mod runs;

@@ -1,0 +1,71 @@
+//! A handler that writes down its calls, for tests.
+//!
+//! An implementation of `vte`'s `Handler` is proved method by method. So the tests share this one.
+#![tactic(auto)]
+
+ghost use Rattle.std.specs.Prelude.{⊤};
+
+use std::alloc::{AllocError, Global};
+use std::cell::Cell;
+use std::fmt::Display;
+use vte::ansi::{Call, Handler};
+
+/// The calls so far, each with a space behind it.
+///
+/// Where inputs are counted they aren't written down. Where a flag is watched, each call has `true` or `false` behind
+/// it: whether the flag is up.
+#[derive(Drop)]
+pub struct CallLog<'a> {
+    /// What is written down.
+    pub text: String,
+    /// How many inputs there were, if they are counted.
+    pub inputs: Option<usize>,
+    /// The flag that is watched.
+    pub flag: Option<&'a Cell<bool>>,
+    /// Whether memory was refused to something that is to be written down.
+    pub refused: bool,
+}
+
+impl<'a> CallLog<'a> {
+    /// An empty log, which counts and watches nothing.
+    pub fn new(alloc: Global) -> CallLog<'a> {
+        CallLog {
+            text: String::new(alloc),
+            inputs: None,
+            flag: None,
+            refused: false,
+        }
+    }
+
+    /// Forgets everything, and makes room for so many bytes.
+    pub fn restart(&mut self, room: usize) -> Result<(), AllocError> {
+        self.text.clear();
+        self.refused = false;
+        self.text.reserve(room)
+    }
+
+    /// Writes down a text as it is.
+    pub fn push(&mut self, text: &str) {
+        self.refused |= self.text.push_str(text).is_err();
+    }
+
+    /// Writes down what is given to `write!`.
+    pub fn write_fmt<D: Display + Drop>(&mut self, value: D) {
+        self.refused |= self.text.write_fmt(value).is_err();
+    }
+}
+
+impl Handler for CallLog<'_> {
+    ghost step = { λ _ _ _. ⊤ };
+
+    fn call(&mut self, call: Call<'_>) {
+        if let (Some(count), Call::Input(_)) = (self.inputs, call) {
+            self.inputs = Some(count.saturating_add(1));
+            return;
+        }
+        write!(self, "{call:?} ");
+        if let Some(flag) = self.flag {
+            self.push(if flag.get() { "true " } else { "false " });
+        }
+    }
+}

@@ -1,9 +1,0 @@
-//! Values that are to be the same.
-
-use std::fmt::Debug;
-use std::process::Abort;
-
-/// The value found is the one wanted. A test calls this in place of `assert_eq!`, whose proof is then done once.
-pub fn same<R: Abort, T: PartialEq + Debug>(rt: &R, reported: &T, wanted: &T) {
-    assert_eq!(rt; reported, wanted);
-}
