@@ -1,13 +1,14 @@
 -- Frames of ttyrec, one after another.
-use Rattle.std.proofs.Common.{◌≡◌, ◌∙◌, ◌<◌, ◌+◌, ◌-◌, ℕ, zero, suc, List, [], ◌∷◌, ◌++◌, map, length, take, drop, get_or, sym, ap, ap₂, subst, Some, append_assoc, arith}
+use Rattle.std.proofs.Common.{◌≡◌, ◌∙◌, ◌<◌, ◌+◌, ◌-◌, ◌^◌, ℕ, zero, suc, List, [], ◌∷◌, ◌++◌, map, length, take, drop, get_or, length-append, nat_le, ◌&&◌, true, false, refl, sym, ap, ap₂, subst, Some, append_assoc, arith}
 use Rattle.std.specs.Int.{to_le_bytes, from_le_bytes, w32}
 use Rattle.std.proofs.Math.Numerals.{add-one}
 use Rattle.std.proofs.Math.Seq.{take-suc}
 use Rattle.std.proofs.lemmas.Grind.{flat_map-append}
 use Rattle.std.proofs.lemmas.List.{append-nil, get_or-map, length-map, length-take-le, map-append, take-append-drop}
-use Rattle.std.proofs.lemmas.Nat.{le_bytes_4}
+use Rattle.std.proofs.lemmas.Bool.Decides.{nat_tests}
+use Rattle.std.proofs.lemmas.Nat.{from_le_bytes-to_le_bytes_4, le_bytes_4}
 use Rattle.recordings.specs.Recorded.{Row, IsStateAfter, writes}
-use Rattle.recordings.specs.Ttyrec.{Piece, clock, piece_of, rows_after, stored, stored_one}
+use Rattle.recordings.specs.Ttyrec.{IsNoFrame, Piece, begins_with_frame, clock, piece_of, rows_after, stored, stored_one}
 use Rattle.recordings.specs.declared.timeline.Pace.TheVariants.{FromStart}
 use Rattle.recordings.specs.declared.timeline.Timeline.{Timeline}
 use Rattle.recordings.specs.declared.ttyrec.Frame.{Frame}
@@ -53,3 +54,31 @@ next_played frames i d start time text t lt when what state_after =
     let rows = ap (rows_after start) taken ∙ map-append row (take i (map piece_of frames)) (piece_of (get_or frames i d) ∷ []) in
     let last = ap₂ (λ (k : ℕ) bs. rows_after start (take i (map piece_of frames)) ++ (k, Some (writes bs)) ∷ []) when what in
     subst (λ (rs : List Row). IsStateAfter FromStart rs t) (last ∙ sym rows) state_after
+
+-- ---- whether the bytes begin with a frame
+
+frame_parts : (bytes after : List ℕ) (p : Piece) → bytes ≡ stored_one p ++ after → p.micros < 2 ^ 32 → length p.text < 2 ^ 32
+    → (from_le_bytes w32 (take 4 (drop 4 bytes)) ≡ p.micros) × (from_le_bytes w32 (take 4 (drop 8 bytes)) ≡ length p.text)
+    × (length bytes ≡ 12 + length p.text + length after)
+frame_parts bytes after p is small short = (
+  ap (λ bs. from_le_bytes w32 (take 4 (drop 4 bs))) is ∙ from_le_bytes-to_le_bytes_4 p.micros small,
+  ap (λ bs. from_le_bytes w32 (take 4 (drop 8 bs))) is ∙ from_le_bytes-to_le_bytes_4 (length p.text) short,
+  ap length is ∙ let n = length-append p.text after in omega (arith, n),
+)
+
+test_of_frame : (bytes : List ℕ) (micros size more : ℕ) → from_le_bytes w32 (take 4 (drop 4 bytes)) ≡ micros
+    → from_le_bytes w32 (take 4 (drop 8 bytes)) ≡ size → length bytes ≡ 12 + size + more
+    → begins_with_frame bytes ≡ (nat_le 1 size && nat_le (micros + 1) 1000000)
+test_of_frame bytes micros size more a b c =
+    let long : nat_le 12 (length bytes) ≡ true = grind (arith, nat_tests) in
+    let whole : nat_le (12 + size) (length bytes) ≡ true = grind (arith, nat_tests) in
+    rw (a, b, long, whole) refl
+
+pub begins_by_frame : (bytes after : List ℕ) (p : Piece) → bytes ≡ stored_one p ++ after → p.micros < 2 ^ 32 → length p.text < 2 ^ 32
+    → begins_with_frame bytes ≡ (nat_le 1 (length p.text) && nat_le (p.micros + 1) 1000000)
+begins_by_frame bytes after p is small short =
+    let parts = frame_parts bytes after p is small short in
+    test_of_frame bytes p.micros (length p.text) (length after) parts.0 parts.1 parts.2
+
+pub begins_by_none : (bytes : List ℕ) → IsNoFrame bytes → begins_with_frame bytes ≡ false
+begins_by_none bytes none = grind (arith, nat_tests)

@@ -2,3 +2,5 @@ mod FrameLemmas
 mod JsonLemmas
 mod LineLemmas
 mod RowLemmas
+mod ThemeLemmas
+mod TypescriptLemmas

@@ -38,7 +38,7 @@ some_lines text r h =
     (λ v is. let n = sym (length-map (vec_items v) (λ (x : Bor (List ℕ)). x.now)) ∙ (ap length is
     ∙ length-slice_split (λ b. b == 10) text) in omega (arith, n)) h
 
-taken_next : (lines : List (Bor (List ℕ))) (i : ℕ) (d : Bor (List ℕ)) → i < length lines
+pub taken_next : (lines : List (Bor (List ℕ))) (i : ℕ) (d : Bor (List ℕ)) → i < length lines
     → take (i + 1) (texts lines) ≡ take i (texts lines) ++ (get_or lines i d).now ∷ []
 taken_next lines i d lt =
     let n = length-map lines (λ (x : Bor (List ℕ)). x.now) in
@@ -63,7 +63,7 @@ next_line pace lines i d t lt fine event state_after = (
       (sym (ap (rows_of pace) (taken_next lines i d lt) ∙ more_rows pace (take i (texts lines)) (get_or lines i d).now)) state_after,
 )
 
-parts_at : (lines : List (Bor (List ℕ))) (i : ℕ) (d : Bor (List ℕ)) → i < length lines
+pub parts_at : (lines : List (Bor (List ℕ))) (i : ℕ) (d : Bor (List ℕ)) → i < length lines
     → texts lines ≡ take i (texts lines) ++ (get_or lines i d).now ∷ drop (suc i) (texts lines)
 parts_at lines i d lt =
     let n = length-map lines (λ (x : Bor (List ℕ)). x.now) in

@@ -9,12 +9,14 @@ use Rattle.serde_json.specs.Find.{as_array, as_number, as_str, as_u64, get}
 use Rattle.command_line.specs.Numbers.{size_in}
 use Rattle.recordings.specs.Lines.{first_line, lines_in}
 use Rattle.recordings.specs.Recorded.{Deed, Row, deed_of, ended, marks, resizes, said, size_said, reported, writes}
+use Rattle.recordings.specs.Themes.{theme_in, theme_reported}
 use Rattle.recordings.specs.Times.{json_in, time_of}
 use Rattle.recordings.specs.declared.asciicast.Entry.{Entry}
 use Rattle.recordings.specs.declared.asciicast.Entry.TheVariants as entry
 use Rattle.recordings.specs.declared.asciicast.Header.{Header}
 use Rattle.recordings.specs.declared.error.RecordingError.{RecordingError}
 use Rattle.recordings.specs.declared.error.RecordingError.TheVariants as error
+use Rattle.recordings.specs.declared.recording.Kind.TheVariants.{Asciicast as AsAsciicast}
 use Rattle.recordings.specs.declared.recording.Recording.{Recording}
 use Rattle.recordings.specs.declared.timeline.Pace.{Pace}
 use Rattle.recordings.specs.declared.timeline.Pace.TheVariants.{FromStart, FromLast}
@@ -45,6 +47,10 @@ header_in line = option_and_then header_of (json_in line)
 
 abbrev pub header_said : Header → Pace × (ℕ × ℕ)
 header_said h = (h.pace, size_said h.size)
+
+-- the colours that a header has
+abbrev pub theme_said : List ℕ → Option (List ℕ)
+theme_said line = option_and_then theme_in (json_in line)
 
 -- ---- the events
 
@@ -94,15 +100,17 @@ AreEvents pace lines = All (λ line. is_some (rows_in pace line) ≡ true) lines
 
 -- ---- the recording
 
--- what an asciicast with this header and these lines after it says
-pub record Says (header : Pace × (ℕ × ℕ)) (lines : List (List ℕ)) (r : Recording) : Type 0 where
+-- what an asciicast with this header, these colours and these lines after the header says
+pub record Says (header : Pace × (ℕ × ℕ)) (colors : Option (List ℕ)) (lines : List (List ℕ)) (r : Recording) : Type 0 where
+  pub kind : r.kind ≡ AsAsciicast
   pub size : option_map size_said r.size ≡ Some header.1
+  pub theme : theme_reported r.theme ≡ colors
   pub events : AreEvents header.0 lines
   pub moments : said r.events.items ≡ reported header.0 0 (rows_of header.0 lines)
   pub length : r.length ≡ ended header.0 0 (rows_of header.0 lines)
 
 abbrev pub IsAsciicast : List ℕ → Recording → Type 0
-IsAsciicast text r = IsSomeAnd (header_in (first_line text)) (λ header. Says header (drop 1 (lines_in text)) r)
+IsAsciicast text r = IsSomeAnd (header_in (first_line text)) (λ header. Says header (theme_said (first_line text)) (drop 1 (lines_in text)) r)
 
 -- the first line that is no event, counted from 1 for the header
 pub record IsBadLine (pace : Pace) (lines : List (List ℕ)) (n : ℕ) : Type 0 where

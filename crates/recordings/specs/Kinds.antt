@@ -1,8 +1,15 @@
--- The kinds of recordings, by their names.
-use Rattle.std.specs.Prelude.{ℕ, List, Option, Some, None, if◌then◌else◌, codes}
+-- The kinds of recordings, their names, and what a file of each kind says.
+use Rattle.std.specs.Prelude.{◌≡◌, ℕ, List, [], ◌∷◌, Option, Some, None, if◌then◌else◌, codes, IsSomeAnd}
 use Rattle.std.specs.Str.{bytes_eq}
+use Rattle.recordings.specs.Asciicast.{IsAsciicast, IsFault, is_header}
+use Rattle.recordings.specs.Recorded.{said, writes}
+use Rattle.recordings.specs.Ttyrec.{IsCut, IsTtyrec, begins_with_frame}
+use Rattle.recordings.specs.Typescript.{IsFaultOfStep, IsTypescript}
+use Rattle.recordings.specs.declared.error.RecordingError.{RecordingError}
+use Rattle.recordings.specs.declared.error.RecordingError.TheVariants as error
 use Rattle.recordings.specs.declared.recording.Kind.{Kind}
 use Rattle.recordings.specs.declared.recording.Kind.TheVariants.{Asciicast, Raw, Script, Ttyrec}
+use Rattle.recordings.specs.declared.recording.Recording.{Recording}
 
 abbrev pub kind_named : List ℕ → Option Kind
 kind_named word =
@@ -10,3 +17,38 @@ kind_named word =
     else (if bytes_eq word (codes "script") then Some Script
     else (if bytes_eq word (codes "ttyrec") then Some Ttyrec
     else (if bytes_eq word (codes "raw") then Some Raw else None)))
+
+-- by the first bytes; a typescript isn't told from its output alone
+abbrev pub kind_guessed : List ℕ → Kind
+kind_guessed bytes =
+    if is_header bytes then Asciicast
+    else (if begins_with_frame bytes then Ttyrec else Raw)
+
+-- the kind that is asked for, or else that of a typescript where there is a timing file
+abbrev pub kind_taken : Option Kind → Option (List ℕ) → List ℕ → Kind
+kind_taken (Some kind) timing bytes = kind
+kind_taken None (Some timing) bytes = Script
+kind_taken None None bytes = kind_guessed bytes
+
+-- one output at the time 0
+pub record IsRaw (bytes : List ℕ) (r : Recording) : Type 0 where
+  pub kind : r.kind ≡ Raw
+  pub size : r.size ≡ None
+  pub theme : r.theme ≡ None
+  pub moments : said r.events.items ≡ (0, writes bytes) ∷ []
+  pub length : r.length ≡ 0
+
+-- what a file of this kind says
+abbrev pub IsOfKind : Kind → List ℕ → Option (List ℕ) → Recording → Type 0
+IsOfKind Asciicast bytes timing r = IsAsciicast bytes r
+IsOfKind Script bytes timing r = IsSomeAnd timing (λ steps. IsTypescript bytes steps r)
+IsOfKind Ttyrec bytes timing r = IsTtyrec bytes r
+IsOfKind Raw bytes timing r = IsRaw bytes r
+
+-- why a file of this kind isn't read, but for memory
+abbrev pub IsFaultOfKind : Kind → List ℕ → Option (List ℕ) → RecordingError → Type 0
+IsFaultOfKind Asciicast bytes timing e = IsFault bytes e
+IsFaultOfKind Script bytes None e = e ≡ error.NoTiming
+IsFaultOfKind Script bytes (Some timing) e = IsFaultOfStep bytes timing e
+IsFaultOfKind Ttyrec bytes timing e = IsCut bytes e
+IsFaultOfKind Raw bytes timing e = ⊥

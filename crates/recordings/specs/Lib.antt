@@ -1,6 +1,9 @@
 pub mod Asciicast
+pub mod Faults
 pub mod Kinds
 pub mod Lines
 pub mod Recorded
+pub mod Themes
 pub mod Times
 pub mod Ttyrec
+pub mod Typescript

@@ -1,10 +1,11 @@
 -- Ttyrecs: frames with a header of 12 bytes each.
-use Rattle.std.specs.Prelude.{◌≡◌, ℕ, ◌+◌, ◌-◌, ◌*◌, ◌<◌, List, [], ◌∷◌, ◌++◌, map, take, drop, length, Some, ◌⊎◌}
+use Rattle.std.specs.Prelude.{◌≡◌, ℕ, ◌+◌, ◌-◌, ◌*◌, ◌<◌, nat_le, ◌&&◌, Bool, List, [], ◌∷◌, ◌++◌, map, take, drop, length, Some, None, ◌⊎◌}
 use Rattle.std.specs.Int.{to_le_bytes, from_le_bytes, w32}
 use Rattle.std.specs.List.{flat_map}
 use Rattle.recordings.specs.Recorded.{Row, ended, said, reported, writes}
 use Rattle.recordings.specs.declared.error.RecordingError.{RecordingError}
 use Rattle.recordings.specs.declared.error.RecordingError.TheVariants as error
+use Rattle.recordings.specs.declared.recording.Kind.TheVariants.{Ttyrec as AsTtyrec}
 use Rattle.recordings.specs.declared.recording.Recording.{Recording}
 use Rattle.recordings.specs.declared.timeline.Pace.TheVariants.{FromStart}
 use Rattle.recordings.specs.declared.ttyrec.Frame.{Frame}
@@ -41,6 +42,9 @@ rows_after start ps = map (λ p. (clock p - start, Some (writes p.text))) ps
 pub record IsTtyrec (bytes : List ℕ) (r : Recording) : Type 0 where
   pub pieces : List Piece
   pub whole : bytes ≡ stored pieces
+  pub kind : r.kind ≡ AsTtyrec
+  pub size : r.size ≡ None
+  pub theme : r.theme ≡ None
   pub moments : said r.events.items ≡ reported FromStart 0 (rows_after (start_of pieces) pieces)
   pub length : r.length ≡ ended FromStart 0 (rows_after (start_of pieces) pieces)
 
@@ -59,3 +63,10 @@ pub record IsCutAt (bytes : List ℕ) (n : ℕ) : Type 0 where
 abbrev pub IsCut : List ℕ → RecordingError → Type 0
 IsCut bytes (error.Byte n) = IsCutAt bytes n
 IsCut bytes _ = ⊥
+
+-- a whole frame that isn't empty, and whose microseconds are less than a second
+abbrev pub begins_with_frame : List ℕ → Bool
+begins_with_frame bytes =
+    let size = from_le_bytes w32 (take 4 (drop 8 bytes)) in
+    (nat_le 12 (length bytes) && nat_le (12 + size) (length bytes))
+    && (nat_le 1 size && nat_le (from_le_bytes w32 (take 4 (drop 4 bytes)) + 1) 1000000)

@@ -1,10 +1,11 @@
 //! Asciicasts: a header and an event a line, each a value in JSON.
 
-ghost use Rattle.std.specs.Prelude.{◌≡◌, ◌++◌, ◌+◌, ◌^◌, ◌<◌, ◌⊎◌, ◌==◌, [], List, map, drop, length, true, None, is_some, unwrap_or, slice_index, IfOk, IfErr, OnOk};
+ghost use Rattle.std.specs.Prelude.{◌≡◌, ◌++◌, ◌+◌, ◌^◌, ◌<◌, ◌⊎◌, ◌==◌, [], List, map, drop, length, true, None, is_some, unwrap_or, slice_index, IfOk, IfErr, IfSome, OnOk};
 ghost use Rattle.serde_json.specs.View.{view};
 ghost use Rattle.std.specs.Option.{option_map};
 ghost use Rattle.recordings.specs.Recorded.{Row, IsStateAfter, deed_of, size_said};
-ghost use Rattle.recordings.specs.Asciicast.{AreEvents, IsAsciicast, IsFault, IsFaultIn, comments, deed_in, entry_said, header_in, header_of as header_of_data, header_said, is_header, resize_in, row_in, rows_in, rows_of, side_in, sides_in};
+ghost use Rattle.recordings.specs.Asciicast.{AreEvents, IsAsciicast, IsFault, IsFaultIn, comments, deed_in, entry_said, header_in, header_of as header_of_data, header_said, is_header, resize_in, row_in, rows_in, rows_of, side_in, sides_in, theme_said};
+ghost use Rattle.recordings.specs.Themes.{theme_in as theme_in_data, theme_reported};
 ghost use Rattle.recordings.specs.declared.error.RecordingError.TheVariants.{Line, Memory};
 
 use crate::error::RecordingError;
@@ -56,7 +57,8 @@ pub struct Header {
 }
 
 fn parse_header(alloc: Global, line: &[u8]) -> Result<Option<Header>, AllocError>
-    ensures { IfOk result (λ header. option_map header_said header ≡ header_in line.now) }
+    ensures header { IfOk result (λ header. option_map header_said header ≡ header_in line.now) }
+    ensures theme { IfOk result (λ header. IfSome header (λ h. theme_reported h.theme ≡ theme_said line.now)) }
 {
     match parse_json(alloc, line)? {
         Some(header) => Ok(header_of(&header)),
@@ -65,7 +67,8 @@ fn parse_header(alloc: Global, line: &[u8]) -> Result<Option<Header>, AllocError
 }
 
 fn header_of(header: &Value) -> Option<Header>
-    ensures { option_map header_said result ≡ header_of_data (view header.now) }
+    ensures header { option_map header_said result ≡ header_of_data (view header.now) }
+    ensures theme { IfSome result (λ h. theme_reported h.theme ≡ theme_in_data (view header.now)) }
 {
     match header.get("version")?.as_u64()? {
         2 => Some(Header {

@@ -1,5 +1,11 @@
 //! Which kind of recording a file is.
 
+ghost use Rattle.std.specs.Prelude.{◌≡◌, ◌⊎◌, IfOk, IfErr};
+ghost use Rattle.std.specs.Option.{option_copied};
+ghost use Rattle.std.specs.Vec.{vec_items};
+ghost use Rattle.recordings.specs.Kinds.{IsFaultOfKind, IsOfKind, IsRaw, kind_guessed, kind_taken};
+ghost use Rattle.recordings.specs.declared.error.RecordingError.TheVariants.{Memory};
+
 use crate::asciicast::{begins_asciicast, parse_asciicast};
 use crate::error::RecordingError;
 use crate::recording::{Change, Event, Kind, Recording};
@@ -15,7 +21,12 @@ pub fn parse_recording(
     bytes: Vec<u8>,
     timing: Option<&[u8]>,
     kind: Option<Kind>,
-) -> Result<Recording, RecordingError> {
+) -> Result<Recording, RecordingError>
+    ensures recording { let lines = option_copied timing.entry in
+        IfOk result (IsOfKind (kind_taken kind lines (vec_items bytes)) (vec_items bytes) lines) }
+    ensures fault { let lines = option_copied timing.entry in
+        IfErr result (λ e. (e ≡ Memory) ⊎ IsFaultOfKind (kind_taken kind lines (vec_items bytes)) (vec_items bytes) lines e) }
+{
     let kind = match (kind, timing) {
         (Some(kind), _) => kind,
         (None, Some(_)) => Kind::Script,
@@ -31,7 +42,9 @@ pub fn parse_recording(
 }
 
 /// The kind that the first bytes say. A typescript without its timing file is a raw stream.
-pub fn guess_kind(alloc: Global, bytes: &[u8]) -> Result<Kind, AllocError> {
+pub fn guess_kind(alloc: Global, bytes: &[u8]) -> Result<Kind, AllocError>
+    ensures { IfOk result (λ kind. kind ≡ kind_guessed bytes.now) }
+{
     if begins_asciicast(alloc, bytes)? {
         Ok(Kind::Asciicast)
     } else if begins_ttyrec(bytes) {
@@ -42,7 +55,9 @@ pub fn guess_kind(alloc: Global, bytes: &[u8]) -> Result<Kind, AllocError> {
 }
 
 // One output at the time 0.
-fn raw_recording(alloc: Global, bytes: Vec<u8>) -> Result<Recording, AllocError> {
+fn raw_recording(alloc: Global, bytes: Vec<u8>) -> Result<Recording, AllocError>
+    ensures { IfOk result (IsRaw (vec_items bytes)) }
+{
     let mut events = Vec::new(alloc);
     events.push(Event {
         time: 0,

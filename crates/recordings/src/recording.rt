@@ -1,6 +1,6 @@
 //! Recordings of what a program writes to its terminal.
 
-ghost use Rattle.std.specs.Prelude.{◌≡◌};
+ghost use Rattle.std.specs.Prelude.{◌≡◌, Some};
 ghost use Rattle.recordings.specs.Kinds.{kind_named};
 
 use crate::theme::RecordedTheme;
@@ -50,7 +50,9 @@ pub enum Kind {
 
 impl Kind {
     /// The name by which the kind is printed and asked for.
-    pub fn name(self) -> &'static str {
+    pub fn name(self) -> &'static str
+        ensures { kind_named result.now ≡ Some self }
+    {
         match self {
             Kind::Asciicast => "asciicast",
             Kind::Script => "script",

@@ -1,9 +1,9 @@
 //! Ttyrecs: frames of output, each behind its time and its length.
 
-ghost use Rattle.std.specs.Prelude.{◌≡◌, ◌++◌, ◌<◌, ◌*◌, ◌+◌, List, length, map, take, MatchOption, IfOk, IfErr, ◌⊎◌};
+ghost use Rattle.std.specs.Prelude.{◌≡◌, ◌++◌, ◌<◌, ◌^◌, ◌*◌, ◌+◌, List, length, map, take, MatchOption, IfOk, IfErr, ◌⊎◌};
 ghost use Rattle.std.specs.Int.{to_le_bytes, w32};
 ghost use Rattle.recordings.specs.Recorded.{IsStateAfter};
-ghost use Rattle.recordings.specs.Ttyrec.{IsCut, IsNoFrame, IsTtyrec, Piece, piece_of, start_of, stored, rows_after, clock, stored_one};
+ghost use Rattle.recordings.specs.Ttyrec.{IsCut, IsNoFrame, IsTtyrec, Piece, begins_with_frame, piece_of, start_of, stored, rows_after, clock, stored_one};
 ghost use Rattle.recordings.specs.declared.error.RecordingError.TheVariants.{Byte, Memory};
 ghost use Rattle.recordings.specs.declared.timeline.Pace.TheVariants.{FromStart as From};
 
@@ -39,7 +39,9 @@ pub fn parse_ttyrec(alloc: Global, bytes: &[u8]) -> Result<Recording, RecordingE
 }
 
 /// Whether the bytes begin with a frame that isn't empty, and whose microseconds are less than a second.
-pub(crate) fn begins_ttyrec(bytes: &[u8]) -> bool {
+pub(crate) fn begins_ttyrec(bytes: &[u8]) -> bool
+    ensures { result ≡ begins_with_frame bytes.now }
+{
     match next_frame(bytes) {
         Some((frame, _)) => frame.micros < 1_000_000 && !frame.bytes.is_empty(),
         None => false,
@@ -95,7 +97,8 @@ fn time_of(frame: &Frame<'_>) -> u64
 // The frame at the start, and what comes after it.
 fn next_frame(bytes: &[u8]) -> Option<(Frame<'_>, &[u8])>
     ensures { MatchOption result (IsNoFrame bytes.now)
-        (λ p. (bytes.now ≡ stored_one (piece_of p.0) ++ p.1.now) × (length p.1.now < length bytes.now)) }
+        (λ p. (bytes.now ≡ stored_one (piece_of p.0) ++ p.1.now) × (length p.1.now < length bytes.now)
+        × (length (piece_of p.0).text < 2 ^ 32)) }
 {
     let (seconds, bytes) = next_number(bytes)?;
     let (micros, bytes) = next_number(bytes)?;

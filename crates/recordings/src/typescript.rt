@@ -1,5 +1,13 @@
 //! Typescripts of `script`: the output in one file, and its times in another.
 
+ghost use Rattle.std.specs.Prelude.{◌≡◌, ◌⊎◌, ◌∷◌, ◌++◌, [], List, map, MatchOption, None, Some, IfOk, IfErr};
+ghost use Rattle.std.specs.Option.{option_map};
+ghost use Rattle.command_line.specs.Numbers.{count_of, size_in as size_of};
+ghost use Rattle.recordings.specs.Recorded.{Row, IsStateAfter, size_said};
+ghost use Rattle.recordings.specs.Typescript.{IsFaultOfStep, IsTypescript, events_of, other_in, output_in, output_of, rest_of, side_named, signal_in, size_named, step_in, step_said, taken, window_in as window_of, word_of};
+ghost use Rattle.recordings.specs.declared.error.RecordingError.TheVariants.{Memory};
+ghost use Rattle.recordings.specs.declared.timeline.Pace.TheVariants.{FromLast as Last};
+
 use crate::error::RecordingError;
 use crate::lines::{is_blank, lines_of};
 use crate::recording::{Change, Kind, Recording, ScreenSize};
@@ -16,7 +24,10 @@ pub fn parse_typescript(
     alloc: Global,
     typescript: &[u8],
     timing: &[u8],
-) -> Result<Recording, RecordingError> {
+) -> Result<Recording, RecordingError>
+    ensures recording { IfOk result (IsTypescript typescript.now timing.now) }
+    ensures fault { IfErr result (IsFaultOfStep typescript.now timing.now) }
+{
     let lines = lines_of(alloc, timing)?;
     let mut timeline = Timeline::new(alloc, Pace::FromLast);
     let mut left = after_line(typescript);
@@ -39,7 +50,9 @@ pub fn parse_typescript(
 }
 
 // What comes after the first line.
-fn after_line(text: &[u8]) -> &[u8] {
+fn after_line(text: &[u8]) -> &[u8]
+    ensures { result.now ≡ output_of text.now }
+{
     match text.iter().position(|b| *b == b'\n') {
         Some(end) => &text[end + 1..],
         None => &[],
@@ -63,7 +76,11 @@ fn push_step<'a>(
     timeline: &mut Timeline,
     step: TimingLine,
     left: &'a [u8],
-) -> Result<Option<&'a [u8]>, AllocError> {
+) -> Result<Option<&'a [u8]>, AllocError>
+    ensures { IfOk result (λ rest. MatchOption rest (taken left.now (step_said step) ≡ None) (λ after.
+        (row : Row) × (taken left.now (step_said step) ≡ Some (row, after.now))
+        × ((rows : List Row) → IsStateAfter Last rows timeline.old → IsStateAfter Last (rows ++ row ∷ []) timeline.new))) }
+{
     match step {
         TimingLine::Output(time, count) => match left.split_at_checked(count) {
             Some((bytes, after)) => {
@@ -84,7 +101,9 @@ fn push_step<'a>(
     }
 }
 
-fn parse_step(alloc: Global, line: &[u8]) -> Result<Option<TimingLine>, AllocError> {
+fn parse_step(alloc: Global, line: &[u8]) -> Result<Option<TimingLine>, AllocError>
+    ensures { IfOk result (λ step. option_map step_said step ≡ step_in line.now) }
+{
     if is_blank(line) {
         return Ok(Some(TimingLine::Other(0)));
     }
@@ -98,7 +117,9 @@ fn parse_step(alloc: Global, line: &[u8]) -> Result<Option<TimingLine>, AllocErr
 }
 
 // Reads `DELAY BYTES`.
-fn output_step(alloc: Global, text: &[u8]) -> Result<Option<TimingLine>, AllocError> {
+fn output_step(alloc: Global, text: &[u8]) -> Result<Option<TimingLine>, AllocError>
+    ensures { IfOk result (λ step. option_map step_said step ≡ output_in text.now) }
+{
     let (delay, count) = cut(text);
     match (parse_seconds(alloc, delay)?, count_in(count)) {
         (Some(time), Some(count)) => Ok(Some(TimingLine::Output(time, count))),
@@ -107,7 +128,9 @@ fn output_step(alloc: Global, text: &[u8]) -> Result<Option<TimingLine>, AllocEr
 }
 
 // Reads `DELAY SIGNAL`, which for `SIGWINCH` goes on as `ROWS=N COLS=N`.
-fn signal_step(alloc: Global, text: &[u8]) -> Result<Option<TimingLine>, AllocError> {
+fn signal_step(alloc: Global, text: &[u8]) -> Result<Option<TimingLine>, AllocError>
+    ensures { IfOk result (λ step. option_map step_said step ≡ signal_in text.now) }
+{
     let (delay, signal) = cut(text);
     let Some(time) = parse_seconds(alloc, delay)? else {
         return Ok(None);
@@ -123,7 +146,9 @@ fn signal_step(alloc: Global, text: &[u8]) -> Result<Option<TimingLine>, AllocEr
 }
 
 // Reads a delay, and passes over what follows.
-fn other_step(alloc: Global, text: &[u8]) -> Result<Option<TimingLine>, AllocError> {
+fn other_step(alloc: Global, text: &[u8]) -> Result<Option<TimingLine>, AllocError>
+    ensures { IfOk result (λ step. option_map step_said step ≡ other_in text.now) }
+{
     let (delay, _) = cut(text);
     match parse_seconds(alloc, delay)? {
         Some(time) => Ok(Some(TimingLine::Other(time))),
@@ -132,7 +157,9 @@ fn other_step(alloc: Global, text: &[u8]) -> Result<Option<TimingLine>, AllocErr
 }
 
 // Reads `ROWS=N COLS=N`.
-fn window_in(text: &[u8]) -> Option<ScreenSize> {
+fn window_in(text: &[u8]) -> Option<ScreenSize>
+    ensures { option_map size_said result ≡ window_of text.now }
+{
     let (rows, cols) = cut(text);
     Some(ScreenSize {
         rows: side_in(rows.strip_prefix(b"ROWS=")?)?,
@@ -141,14 +168,18 @@ fn window_in(text: &[u8]) -> Option<ScreenSize> {
 }
 
 // The size in the header: the values of `LINES` and `COLUMNS`.
-fn size_in(lines: &[&[u8]]) -> Option<ScreenSize> {
+fn size_in(lines: &[&[u8]]) -> Option<ScreenSize>
+    ensures { option_map size_said result ≡ size_named (map (λ x. x.now) lines.now) }
+{
     Some(ScreenSize {
         rows: header_in(lines, b"LINES")?,
         cols: header_in(lines, b"COLUMNS")?,
     })
 }
 
-fn header_in(lines: &[&[u8]], name: &[u8]) -> Option<NonZeroU16> {
+fn header_in(lines: &[&[u8]], name: &[u8]) -> Option<NonZeroU16>
+    ensures { option_map (λ n. n.value) result ≡ side_named name.now (map (λ x. x.now) lines.now) }
+{
     for line in lines {
         let (first, rest) = cut(line);
         let (_, field) = cut(rest);
@@ -160,14 +191,18 @@ fn header_in(lines: &[&[u8]], name: &[u8]) -> Option<NonZeroU16> {
     None
 }
 
-fn side_in(text: &[u8]) -> Option<NonZeroU16> {
+fn side_in(text: &[u8]) -> Option<NonZeroU16>
+    ensures { option_map (λ n. n.value) result ≡ size_of text.now }
+{
     match str::from_utf8(text) {
         Ok(text) => parse_size(text),
         Err(_) => None,
     }
 }
 
-fn count_in(text: &[u8]) -> Option<usize> {
+fn count_in(text: &[u8]) -> Option<usize>
+    ensures { result ≡ count_of text.now }
+{
     match str::from_utf8(text) {
         Ok(text) => parse_count(text),
         Err(_) => None,
@@ -175,7 +210,10 @@ fn count_in(text: &[u8]) -> Option<usize> {
 }
 
 // What stands before the first space, and what after it.
-fn cut(text: &[u8]) -> (&[u8], &[u8]) {
+fn cut(text: &[u8]) -> (&[u8], &[u8])
+    ensures word { result.0.now ≡ word_of text.now }
+    ensures rest { result.1.now ≡ rest_of text.now }
+{
     match text.iter().position(|b| *b == b' ') {
         Some(end) => (&text[..end], &text[end + 1..]),
         None => (text, &[]),

@@ -1,0 +1,138 @@
+-- Typescripts of `script`: the output in one file, and its times in another.
+use Rattle.std.specs.Prelude.{◌≡◌, ℕ, ◌+◌, ◌==◌, ◌&&◌, ◌||◌, nat_le, Bool, List, [], ◌∷◌, ◌++◌, take, drop, length, Option, Some, None, option_and_then, if◌then◌else◌, codes}
+use Rattle.std.specs.Char.{is_ascii_whitespace}
+use Rattle.std.specs.List.{list_all, before_first, after_first, find}
+use Rattle.std.specs.Option.{option_map}
+use Rattle.std.specs.Str.{bytes_eq}
+use Rattle.command_line.specs.Numbers.{count_of, size_in}
+use Rattle.recordings.specs.Lines.{lines_in}
+use Rattle.recordings.specs.Recorded.{Row, ended, resizes, said, size_said, reported, writes}
+use Rattle.recordings.specs.Times.{time_in}
+use Rattle.recordings.specs.declared.error.RecordingError.{RecordingError}
+use Rattle.recordings.specs.declared.error.RecordingError.TheVariants as error
+use Rattle.recordings.specs.declared.recording.Kind.TheVariants.{Script}
+use Rattle.recordings.specs.declared.recording.Recording.{Recording}
+use Rattle.recordings.specs.declared.timeline.Pace.TheVariants.{FromLast}
+use Rattle.recordings.specs.declared.typescript.TimingLine.{TimingLine}
+use Rattle.recordings.specs.declared.typescript.TimingLine.TheVariants as declared
+
+-- ---- the lines of a timing file
+
+-- what stands before the first space, and what after it
+abbrev pub word_of : List ℕ → List ℕ
+word_of text = before_first (λ b. b == 0x20) text
+
+abbrev pub rest_of : List ℕ → List ℕ
+rest_of text = after_first (λ b. b == 0x20) text
+
+-- what a line says: so many bytes are written, the screen gets this size, or only time passes
+pub data Step : Type 0 where
+  gives : ℕ → ℕ → Step
+  resizes_to : ℕ → ℕ × ℕ → Step
+  passes : ℕ → Step
+
+-- `DELAY BYTES`
+abbrev pub output_in : List ℕ → Option Step
+output_in text = option_and_then (λ time. option_map (gives time) (count_of (rest_of text))) (time_in (word_of text))
+
+-- the value of a word that begins so
+abbrev pub side_after : List ℕ → List ℕ → Option ℕ
+side_after name word = if bytes_eq (take (length name) word) name then size_in (drop (length name) word) else None
+
+-- `ROWS=N COLS=N`
+abbrev pub window_in : List ℕ → Option (ℕ × ℕ)
+window_in text =
+    option_and_then (λ rows. option_map (λ cols. (rows, cols)) (side_after (codes "COLS=") (rest_of text)))
+    (side_after (codes "ROWS=") (word_of text))
+
+abbrev pub signal_of : ℕ → List ℕ → Option Step
+signal_of time signal =
+    if bytes_eq (word_of signal) (codes "SIGWINCH") then option_map (resizes_to time) (window_in (rest_of signal))
+    else Some (passes time)
+
+-- `DELAY SIGNAL`
+abbrev pub signal_in : List ℕ → Option Step
+signal_in text = option_and_then (λ time. signal_of time (rest_of text)) (time_in (word_of text))
+
+-- a delay, and what else there is
+abbrev pub other_in : List ℕ → Option Step
+other_in text = option_map passes (time_in (word_of text))
+
+-- `O`, `S`, `H` or `I` comes first in the newer format
+abbrev pub step_in : List ℕ → Option Step
+step_in line =
+    if list_all is_ascii_whitespace line then Some (passes 0)
+    else (if bytes_eq (word_of line) (codes "O") then output_in (rest_of line)
+    else (if bytes_eq (word_of line) (codes "S") then signal_in (rest_of line)
+    else (if bytes_eq (word_of line) (codes "H") || bytes_eq (word_of line) (codes "I") then other_in (rest_of line)
+    else output_in line)))
+
+abbrev pub step_said : TimingLine → Step
+step_said (declared.Output time count) = gives time count
+step_said (declared.Resize time size) = resizes_to time (size_said size)
+step_said (declared.Other time) = passes time
+
+-- ---- the size
+
+-- `H DELAY NAME VALUE`
+abbrev pub is_field : List ℕ → List ℕ → Bool
+is_field name line = bytes_eq (word_of line) (codes "H") && bytes_eq (word_of (rest_of (rest_of line))) name
+
+-- the first of them counts
+abbrev pub side_named : List ℕ → List (List ℕ) → Option ℕ
+side_named name lines = option_and_then (λ line. size_in (rest_of (rest_of (rest_of line)))) (find (is_field name) lines)
+
+abbrev pub size_named : List (List ℕ) → Option (ℕ × ℕ)
+size_named lines =
+    option_and_then (λ rows. option_map (λ cols. (rows, cols)) (side_named (codes "COLUMNS") lines))
+    (side_named (codes "LINES") lines)
+
+-- ---- the recording
+
+-- the first line, which says when it began, isn't output
+abbrev pub output_of : List ℕ → List ℕ
+output_of typescript = after_first (λ b. b == 10) typescript
+
+-- an event, and the output that is left after it
+abbrev pub taken : List ℕ → Step → Option (Row × List ℕ)
+taken left (gives time count) =
+    if nat_le count (length left) then Some ((time, Some (writes (take count left))), drop count left) else None
+taken left (resizes_to time size) = Some ((time, Some (resizes size.0 size.1)), left)
+taken left (passes time) = Some ((time, None), left)
+
+abbrev pub event_of : List ℕ → List ℕ → Option (Row × List ℕ)
+event_of left line = option_and_then (taken left) (step_in line)
+
+-- the events of the lines, and the output that is left after them
+abbrev pub events_of : List ℕ → List (List ℕ) → Option (List Row × List ℕ)
+events_of left [] = Some ([], left)
+events_of left (line ∷ lines) =
+    option_and_then (λ event. option_map (λ more. (event.0 ∷ more.0, more.1)) (events_of event.1 lines)) (event_of left line)
+
+-- each line takes its bytes from the output
+pub record IsTypescript (typescript timing : List ℕ) (r : Recording) : Type 0 where
+  pub rows : List Row
+  pub left : List ℕ
+  pub steps : events_of (output_of typescript) (lines_in timing) ≡ Some (rows, left)
+  pub kind : r.kind ≡ Script
+  pub size : option_map size_said r.size ≡ size_named (lines_in timing)
+  pub theme : r.theme ≡ None
+  pub moments : said r.events.items ≡ reported FromLast 0 rows
+  pub length : r.length ≡ ended FromLast 0 rows
+
+-- the first line that is no step, or takes more bytes than there are, counted from 1
+pub record IsBadStep (output : List ℕ) (lines : List (List ℕ)) (n : ℕ) : Type 0 where
+  pub before : List (List ℕ)
+  pub line : List ℕ
+  pub after : List (List ℕ)
+  pub parts : lines ≡ before ++ line ∷ after
+  pub number : n ≡ length before + 1
+  pub rows : List Row
+  pub left : List ℕ
+  pub fine : events_of output before ≡ Some (rows, left)
+  pub ill : event_of left line ≡ None
+
+abbrev pub IsFaultOfStep : List ℕ → List ℕ → RecordingError → Type 0
+IsFaultOfStep typescript timing (error.Step n) = IsBadStep (output_of typescript) (lines_in timing) n
+IsFaultOfStep typescript timing error.Memory = Unit {0}
+IsFaultOfStep typescript timing _ = ⊥
