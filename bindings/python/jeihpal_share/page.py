@@ -49,7 +49,7 @@ class Browsers(Crowd):
         self._loop, self._screen, self._most, self.notices = screen.loop, screen, most, notices
         self._token = token
         self._messages = Messages(name)
-        self._tasks: set[asyncio.Task[None]] = set()  # of those whose request isn't answered yet
+        self._tasks: set[asyncio.Task[None] | None] = set()  # of those whose request isn't answered yet
         self._still_here: asyncio.TimerHandle | None = None
         self._door: Door | None = None
         self._is_current = False  # the newest message is of what was shown last
@@ -102,6 +102,7 @@ class Browsers(Crowd):
         """A page asks for its events, and has sent some more with that."""
         sock.send(_EVENTS + b"retry: 1000\n\n")
         page = Page(self._loop, sock, self)
+        self._tasks.discard(asyncio.current_task())  # it counts as a page from now on
         self.add(page)
         if rest:
             page.heard(rest)
@@ -154,9 +155,10 @@ class Browsers(Crowd):
     async def close_all(self) -> None:
         """Ends every connection."""
         self.close()
-        for task in list(self._tasks):
+        tasks = [task for task in self._tasks if task]
+        for task in tasks:
             task.cancel()
-        await asyncio.gather(*self._tasks, return_exceptions=True)
+        await asyncio.gather(*tasks, return_exceptions=True)
 
 
 def _page(is_head: bool) -> bytes:

@@ -56,7 +56,7 @@ class Watchers(Crowd):
         super().__init__()
         self._loop, self._screen, self._most, self.notices = screen.loop, screen, most, notices
         self._token = token
-        self._tasks: set[asyncio.Task[None]] = set()  # of those that have still to say the token
+        self._tasks: set[asyncio.Task[None] | None] = set()  # of those that have still to say the token
         self._client: int | None = None
         self._whole = b""  # what draws on a fresh terminal what the client has been sent, where that was wanted
         self._door: Door | None = None
@@ -81,6 +81,7 @@ class Watchers(Crowd):
         line = b""
         with contextlib.suppress(OSError, asyncio.TimeoutError):
             line = await asyncio.wait_for(self._first_line(sock), TOKEN_SECONDS)
+        self._tasks.discard(asyncio.current_task())  # it counts as a watcher from now on
         if self._token.is_known(line):
             return self.add(Watcher(self._loop, sock, self))
         self.notices.say("a watcher was refused: its first line isn't the token")
@@ -165,7 +166,8 @@ class Watchers(Crowd):
         if self._door:
             self._door.close()
         for task in self._tasks:
-            task.cancel()
+            if task:
+                task.cancel()
         self.finish(_FAREWELL)
 
 

@@ -81,8 +81,14 @@ class Readers:
     def figures(self) -> dict[str, Any]:
         """What came out."""
         assert self._run.stdout
-        with self._run, self._run.stdout:
-            return json.loads(self._run.stdout.readline())
+        return json.loads(self._run.stdout.readline())
+
+    def close(self) -> None:
+        """Ends them."""
+        assert self._run.stdout
+        self._run.kill()
+        self._run.wait()
+        self._run.stdout.close()
 
 
 class Keys:
@@ -113,9 +119,10 @@ class Keys:
         self._terminal.read_all()
         while self._page.read():
             pass
+        shown = [self._terminal.view.text().strip(), "\n".join(self._page.rows).strip()]
         self._terminal.__exit__()
         self._page.sock.close()
-        return [self._terminal.view.text().strip(), "\n".join(self._page.rows).strip()]
+        return shown
 
     def figures(self) -> str:
         """The median and 99 of 100."""
@@ -189,6 +196,8 @@ def crowd(pages: int, terminals: int) -> bool:
         if nginx:
             kinds["pages through nginx"] = (("127.0.0.1", nginx.port), "/crowd/events", far, 0, far // 50)
         readers = {name: Readers(name.split()[0], *numbers, seconds) for name, numbers in kinds.items()}
+        for it in readers.values():
+            stack.callback(it.close)
         for it in readers.values():
             it.wait_until_open()
         print(f"all open after {time.monotonic() - begun:.0f} s of {seconds:.0f} s")
