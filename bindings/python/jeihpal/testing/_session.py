@@ -64,6 +64,7 @@ class Session:
         self._outgoing = bytearray()
         self._jobs: Deque[_Job] = collections.deque()
         self._first_unseen: Optional[_Begun] = None
+        self._look_again_at = 0.0  # what the program does isn't looked at before
         self._wake_read, self._wake_write = os.pipe()
         for fd in (self._wake_read, self._wake_write):
             os.set_blocking(fd, False)
@@ -236,11 +237,16 @@ class Session:
 
     def _has_drawn(self, begun: _Begun) -> bool:
         """Whether it is silent and waits, or draws for so long without a pause that it is looked at in between."""
-        now, activity = time.monotonic(), self.process.activity()
+        now = time.monotonic()
+        is_silent, is_restless = now - self.written_at >= PAUSE, now - begun.at > _RESTLESS
+        if not (is_silent or is_restless) or now < self._look_again_at:
+            return False
+        self._look_again_at = now + PAUSE / 2
+        activity = self.process.activity()
         if activity.is_busy or self._has_more():
             taken = (activity.ticks - begun.ticks) / 100 + time.thread_time() - begun.reading
             return taken > _RESTLESS or now - begun.at > _LATEST
-        return now - self.written_at >= PAUSE or now - begun.at > _RESTLESS
+        return True
 
     def _has_more(self) -> bool:
         """Whether more can be read at once."""

@@ -8,30 +8,26 @@ from typing import Iterator
 from ._colors import BACKGROUND, FOREGROUND, NAMES, hex_of_name
 from ._picture import Cell, Picture, Style
 
-_WIDTH, _HEIGHT, _BASE = 8.4, 17, 13  # pixels of a cell, and from its top to the line that letters stand on
+_WIDTH, _HEIGHT, _BASE, _FONT = 9, 18, 14, 15  # pixels: of a cell, to the line that letters stand on, of the font
 
 
 def svg(picture: Picture) -> str:
     """The picture as an SVG document: colours, attributes, wide characters and the cursor."""
     rows, cols = picture.size
-    width, height = round(cols * _WIDTH + 10, 1), rows * _HEIGHT + 10
+    width, height = cols * _WIDTH + 10, rows * _HEIGHT + 10
     told = [
         f'<svg xmlns="http://www.w3.org/2000/svg" viewBox="0 0 {width} {height}" width="{width}" height="{height}">',
         f'<rect width="100%" height="100%" fill="{BACKGROUND}"/>',
-        f'<g transform="translate(5 5)" font-family="monospace" font-size="14" fill="{FOREGROUND}"',
-        ' xml:space="preserve">',
+        f'<g transform="translate(5 5)" font-family="monospace" font-size="{_FONT}" fill="{FOREGROUND}"',
+        ' shape-rendering="crispEdges">',
     ]
     for row, cells in enumerate(picture.cells):
         told += _row(row, cells)
     cursor = picture.cursor
     if not cursor.hidden:
-        place = f'x="{_x(min(cursor.col, cols - 1))}" y="{cursor.row * _HEIGHT}"'
+        place = f'x="{_WIDTH * min(cursor.col, cols - 1)}" y="{cursor.row * _HEIGHT}"'
         told.append(f'<rect {place} width="{_WIDTH}" height="{_HEIGHT}" fill="none" stroke="{FOREGROUND}"/>')
     return "\n".join([*told, "</g>", "</svg>", ""])
-
-
-def _x(col: int) -> float:
-    return round(col * _WIDTH, 1)
 
 
 def _runs(cells: tuple[Cell, ...]) -> Iterator[tuple[int, int, str, Style]]:
@@ -60,13 +56,15 @@ def _row(row: int, cells: tuple[Cell, ...]) -> list[str]:
         front, back = hex_of_name(name, FOREGROUND), hex_of_name(style.background, BACKGROUND)
         if "inverse" in style.attributes:
             front, back = back, front
-        place, wide = f'x="{_x(start)}" y="{row * _HEIGHT}"', _x(cols)
+        place, wide = f'x="{start * _WIDTH}" y="{row * _HEIGHT}"', cols * _WIDTH
         if back != BACKGROUND:
             behind.append(f'<rect {place} width="{wide}" height="{_HEIGHT}" fill="{back}"/>')
         if text.strip():
             look = _look(style, front)
-            place = f'x="{_x(start)}" y="{row * _HEIGHT + _BASE}"'
-            texts.append(f'<text {place} textLength="{wide}"{look}>{escape(_drawable(text))}</text>')
+            place = f'x="{start * _WIDTH}" y="{row * _HEIGHT + _BASE}"'
+            texts.append(
+                f'<text xml:space="preserve" {place} textLength="{wide}"{look}>{escape(_drawable(text))}</text>'
+            )
     return behind + texts
 
 
