@@ -81,6 +81,8 @@ impl<CB: Callbacks> Perform for WrappedScreen<CB> {
         }
     }
 
+    // Text between sequences comes here: with a call, coloured text takes 4 % more instructions.
+    #[inline(always)]
     fn print_ascii(&mut self, text: &str) {
         if text.is_empty() {
             return;
@@ -295,6 +297,22 @@ impl<CB: Callbacks> WrappedScreen<CB> {
             'C' => self.cuf(canonicalize_params_1(params, 1)),
             'H' => self.cup(canonicalize_params_2(params, 1, 1)),
             'K' => self.el_csi(params),
+            _ => self.moving_csi(params, action),
+        }
+    }
+
+    /// A control sequence without intermediates: those that move the cursor by a count, and any other.
+    // It isn't inlined, and needs no stack. By the table alone text that is put here and there takes 3 % more instructions.
+    #[inline(never)]
+    fn moving_csi(&mut self, params: &Params, action: char)
+        requires { self.old.screen.failed ≡ false }
+        ensures { Handles CB.step CB.scrolls (plain_effect (lookup action plain_rows) params.now action)
+            (plain_may_allocate params.now action self.old.screen.state) self.old self.new }
+    {
+        match action {
+            'A' => self.cuu(canonicalize_params_1(params, 1)),
+            'B' => self.cud(canonicalize_params_1(params, 1)),
+            'D' => self.cub(canonicalize_params_1(params, 1)),
             _ => self.any_csi(params, action),
         }
     }

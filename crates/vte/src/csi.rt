@@ -152,6 +152,20 @@ fn unmarked<H: Handler>(handler: &mut H, last: Option<char>, params: &Params, ac
         'm' => sgr(handler, params),
         'H' => goto(handler, params),
         'K' => clear_line(handler, first_or(params, 0)),
+        _ => moving_unmarked(handler, last, params, action),
+    }
+}
+
+/// Sequences without intermediates: those that move the cursor by a count, and any other.
+// It isn't inlined, and needs no stack. By the table alone text that is put here and there takes 8 % more instructions.
+#[inline(never)]
+fn moving_unmarked<H: Handler>(handler: &mut H, last: Option<char>, params: &Params, action: char)
+    ensures { Calls H.step handler.old (csi_calls last params.now [] action) handler.new }
+{
+    match action {
+        'A' => handler.move_up(count_in(params)),
+        'C' => handler.move_forward(count_in(params)),
+        'D' => handler.move_backward(count_in(params)),
         _ => any_unmarked(handler, last, params, action),
     }
 }

@@ -20,6 +20,8 @@ impl<CB: Callbacks> WrappedScreen<CB> {
     /// those of 38 and 48 in one group or in groups of their own. Without any group the attributes become the default
     /// ones. A value past 255, or one that is missing, ends the reading; so does a kind of colour that is neither 2 nor
     /// 5. Answers how many groups were unhandled: such a kind, and any other group.
+    // Most sequences are these: with a call, coloured text takes 2 % more instructions.
+    #[inline(always)]
     pub fn sgr(&mut self, params: &Params) -> usize
         ensures { Counts CB.scrolls (attributes_read params.now) self.old.screen self.old.callbacks result
             self.new.screen self.new.callbacks }
