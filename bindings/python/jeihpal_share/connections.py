@@ -98,23 +98,24 @@ class Connection:
 
     def give(self, data: bytes) -> None:
         """Sends it, and the rest of it once the socket takes more."""
-        self._rest = memoryview(data)
-        self._send()
-        if self._rest:
+        try:
+            count = self._sock.send(data)
+        except BlockingIOError:
+            count = 0
+        except OSError:
+            return self._crowd.leave(self)
+        if count < len(data):
+            self._rest = memoryview(data)[count:]
             self._loop.add_writer(self._sock, self._send_rest)
 
-    def _send(self) -> None:
+    def _send_rest(self) -> None:
         try:
             self._rest = self._rest[self._sock.send(self._rest) :]
         except BlockingIOError:
-            pass
+            return
         except OSError:
-            self._rest = memoryview(b"")
-            self._crowd.leave(self)
-
-    def _send_rest(self) -> None:
-        self._send()
-        if not self._rest and self._sock.fileno() >= 0:
+            return self._crowd.leave(self)
+        if not self._rest:
             self._loop.remove_writer(self._sock)
             self._crowd.has_room(self)
 

@@ -79,7 +79,7 @@ class SharedScreen:
             self._tick.cancel()
         else:
             self._first = now
-        between = max(self._between, 2 * self._took)  # so that showing takes at most half of a processor
+        between = max(self._between, 1.5 * self._took)  # so that showing takes at most two thirds of a processor
         soonest, latest = self._last + between, self._first + between
         self._tick = self.loop.call_at(max(soonest, min(latest, now + PAUSE)), self.show)
 

@@ -150,7 +150,7 @@ class WithNchan(unittest.TestCase):
         last = self.watch(nginx)
         last.read_to_the_end()
         self.assertEqual((last.rows[0], last.ended, shared.end()), ("the end", 3, 3))
-        late = Published(nginx)  # also after the end
+        late = self.watch(nginx)  # also after the end
         late.read_to_the_end()
         self.assertEqual((late.rows[0], late.ended), ("the end", 3))
 
@@ -203,12 +203,12 @@ class WithNchan(unittest.TestCase):
 
     def test_one_that_reads_nothing(self):
         """It is cut off, and one beside it loses nothing."""
-        nginx = self.start(**{"send_timeout 10s": "send_timeout 1s", "sndbuf=32k": "sndbuf=8k"})
+        nginx = self.start(**{"send_timeout 10s": "send_timeout 3s", "sndbuf=32k": "sndbuf=8k"})
         rows = "'\\r\\n'.join(''.join(f'\\x1b[3{(n + k) % 8}m{(n + k) % 9}' for k in range(79)) for _ in range(23))"
         shared = self.publish(nginx, f"import time\nfor n in range(200): print('\\x1b[H' + {rows}); time.sleep(.05)")
         still, page = self.watch(nginx, 4096), self.watch(nginx)
         page.read_to_the_end()
-        self.assertEqual((page.lost, page.joins, shared.end()), (0, 1, 0))
+        self.assertEqual((page.lost, page.ended, shared.end()), (0, 0, 0))
         still.sock.settimeout(5)
         with self.assertRaises(OSError):
             while still.sock.recv(65536):

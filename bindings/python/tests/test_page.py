@@ -6,6 +6,7 @@ import json
 import os
 import re
 import socket
+import tempfile
 import time
 import unittest
 
@@ -290,19 +291,25 @@ input()
             self.assertLess(first[letter] - left, (at + 2) * one)
 
     def test_pause(self):
-        program = "import time\nfor n in range(300): print('\\x1b[H', n); time.sleep(.05)"
-        with Shared(program, *HTTP) as shared:
-            with Chromium("http://%s:%d/" % shared.place("browsers")) as browser:
-                shown = lambda: browser.value("document.getElementById('text').textContent")
-                wait_for(lambda: (shown() or "").strip(), 30)
-                browser.value("document.getElementById('pause').click()")
-                before = shown()
-                time.sleep(0.5)
-                self.assertEqual(shown(), before)
-                browser.value("document.getElementById('pause').click()")
-                wait_for(lambda: shown() != before)
-                state = "document.getElementById('state').textContent"
-                wait_for(lambda: browser.value(state) == "ended with status 0", 30)
+        with tempfile.TemporaryDirectory() as folder:
+            is_told = f"os.path.exists('{folder}/stop')"
+            program = f"import os, time\nwhile not {is_told}: print('\\x1b[H', time.time()); time.sleep(.05)"
+            with Shared(program, *HTTP) as shared:
+                with Chromium("http://%s:%d/" % shared.place("browsers")) as browser:
+                    self.check_pause(browser, f"{folder}/stop")
+
+    def check_pause(self, browser: Chromium, stop: str) -> None:
+        """A paused page stands still, and then goes on to the end."""
+        value = lambda name: browser.value(f"document.getElementById('{name}')?.textContent") or ""
+        wait_for(lambda: value("text").strip(), 30)
+        browser.value("document.getElementById('pause').click()")
+        before = value("text")
+        time.sleep(0.5)
+        self.assertEqual(value("text"), before)
+        browser.value("document.getElementById('pause').click()")
+        wait_for(lambda: value("text") != before)
+        open(stop, "w").close()
+        wait_for(lambda: value("state") == "ended with status 0", 30)
 
 
 if __name__ == "__main__":
