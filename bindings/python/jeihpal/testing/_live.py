@@ -88,10 +88,6 @@ class LiveScreen:
             return self._before
         return self._picture()
 
-    def unfinished(self) -> Picture:
-        """The screen with what an update has drawn so far."""
-        return self._picture()
-
     def state(self) -> bytes:
         """What leads a fresh terminal to it."""
         return self._screen.state()
