@@ -215,12 +215,12 @@ class WholeMoments(unittest.TestCase):
 
     def test_a_moment_that_came_and_went_is_found(self):
         program = (
-            "import time; input(); print('\\x1b[H\\x1b[2JSaving', flush=True); time.sleep(.1)\n"
+            "import time; input(); print('\\x1b[H\\x1b[2JSaving', flush=True); time.sleep(.5)\n"
             "print('\\x1b[H\\x1b[2JSaved'); input()"
         )
         with python(program) as terminal:
             terminal.type("\n")
-            time.sleep(0.5)
+            time.sleep(2)
             self.assertEqual(terminal.wait_for("Saving").row(0).text, "Saving")
             self.assertEqual(terminal.wait_for("Saved").row(0).text, "Saved")
             with self.assertRaises(WaitFailed):
