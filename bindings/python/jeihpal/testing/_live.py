@@ -44,6 +44,8 @@ class LiveScreen:
             was_updating = self.look.updating
             self._screen.process(piece.data)
             self.look = self._screen.look()
+            if not self.look.updating:
+                self._before = None
             is_mark = piece.asked is not None and is_update(piece.asked)
             if not (is_mark and piece.asked and piece.asked[0] == piece.data):
                 self._shown = None
