@@ -1,5 +1,7 @@
 """bash with a prompt that draws itself anew."""
 
+import pytest
+
 PROMPT = r"\[\e7\e[8;31H\e[7m$COLUMNS cols\e[m\e8\]\[\e[32m\]\w\[\e[m\]> "
 
 
@@ -9,6 +11,7 @@ def bash(terminal, folder, cols=40):
     return terminal("bash --rcfile rc -i", rows=8, cols=cols, cwd=folder, env=env)
 
 
+@pytest.mark.needs("bash")
 def test_bash_redraws_its_prompt(terminal, tmp_path):
     shell = bash(terminal, tmp_path)
     screen = shell.wait_for(lambda it: "~>" in it and it.cursor.col == 3)

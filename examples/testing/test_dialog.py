@@ -1,6 +1,9 @@
 """dialog: a menu in a box."""
 
+import pytest
 
+
+@pytest.mark.needs("dialog")
 def test_dialog_menu(terminal, assert_screen, tmp_path):
     command = ["dialog", "--no-shadow", "--output-fd", "3", "--menu", "Choose one", "12", "40", "3"]
     choices = ["a", "first", "b", "second", "c", "third"]
@@ -17,6 +20,7 @@ def test_dialog_menu(terminal, assert_screen, tmp_path):
     assert (tmp_path / "chosen").read_text() == "c"
 
 
+@pytest.mark.needs("dialog")
 def test_dialog_by_mouse(terminal, tmp_path):
     dialog = terminal('dialog --yesno "Go on?" 7 30', rows=12, cols=40, env={"DIALOGRC": None})
     dialog.wait_for("No")

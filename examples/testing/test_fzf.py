@@ -1,11 +1,9 @@
 """fzf: a picker that asks its terminal where the cursor is."""
 
-import shutil
-
 import pytest
 
 
-@pytest.mark.skipif(not shutil.which("fzf"), reason="there is no fzf")
+@pytest.mark.needs("fzf")
 def test_fzf_filters(terminal, tmp_path):
     (tmp_path / "fruits").write_text("apple\nbanana\ncherry\ndate\n")
     env = {"FZF_DEFAULT_OPTS": None}

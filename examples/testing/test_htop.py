@@ -1,12 +1,11 @@
 """htop, or top where that isn't installed: a screen that always changes."""
 
 import re
-import shutil
 
 import pytest
 
 
-@pytest.mark.skipif(not shutil.which("htop"), reason="there is no htop")
+@pytest.mark.needs("htop")
 def test_htop_shows_processes_and_its_setup(terminal, tmp_path):
     htop = terminal("htop", rows=30, cols=100, env={"HTOPRC": str(tmp_path / "htoprc")})
     screen = htop.wait_for(re.compile(r"PID\b.*\bCommand"))
@@ -21,6 +20,7 @@ def test_htop_shows_processes_and_its_setup(terminal, tmp_path):
     assert htop.wait_for_exit() == 0
 
 
+@pytest.mark.needs("top")
 def test_top_follows_its_keys(terminal, tmp_path):
     top = terminal("top -d 60", rows=24, cols=80, env={"HOME": str(tmp_path)})
     screen = top.wait_for(re.compile(r"PID USER"))

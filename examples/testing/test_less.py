@@ -1,6 +1,9 @@
 """less: pages, a search, and its highlights."""
 
+import pytest
 
+
+@pytest.mark.needs("less")
 def test_less_pages_and_searches(terminal, assert_screen, tmp_path):
     (tmp_path / "numbers").write_text("".join(f"line {number}\n" for number in range(1, 101)))
     less = terminal("less numbers", rows=8, cols=40, cwd=tmp_path, env={"LESS": None, "LESSOPEN": None})

@@ -2,6 +2,8 @@
 
 import sys
 
+import pytest
+
 SIZES = r"""
 import os, signal
 def draw(*_):
@@ -30,6 +32,7 @@ def test_a_program_draws_to_each_size(terminal):
     assert program.wait_for_exit() == -15
 
 
+@pytest.mark.needs("less")
 def test_less_goes_on_in_another_size(terminal, tmp_path):
     (tmp_path / "numbers").write_text("".join(f"line {number}\n" for number in range(1, 101)))
     less = terminal("less numbers", rows=6, cols=30, cwd=tmp_path, env={"LESS": None})

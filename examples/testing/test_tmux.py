@@ -1,6 +1,9 @@
 """tmux: two panes, each with a shell."""
 
+import pytest
 
+
+@pytest.mark.needs("tmux")
 def test_tmux_splits(terminal, tmp_path):
     (tmp_path / "conf").write_text("set -g default-command 'PS1=\"$ \" exec sh'\n")
     env = {"TMUX_TMPDIR": str(tmp_path), "ENV": None}

@@ -2,7 +2,10 @@
 
 import re
 
+import pytest
 
+
+@pytest.mark.needs("vim")
 def test_vim_edits_a_file(terminal, assert_screen, tmp_path):
     (tmp_path / "list.txt").write_text("milk\nbread\n")
     vim = terminal("vim -u NONE -N -n -i NONE list.txt", rows=10, cols=50, cwd=tmp_path)

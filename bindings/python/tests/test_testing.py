@@ -194,6 +194,19 @@ class WholeMoments(unittest.TestCase):
         self.assertEqual([it.text for it in seen], ["one", "two", "two", "three"])
         live.close()
 
+    def test_however_it_is_written(self):
+        for begin, end in (
+            (b"\x1b[?25;2026h", b"\x1b[?2026;25l"),
+            (b"\x1b[?02026h", b"\x1bc"),
+            (b"\x1b[?;2026;h", b"\x1b[?2026l"),
+        ):
+            live = LiveScreen(2, 20)
+            live.feed(b"one" + begin + b"two", lambda _: None)
+            self.assertEqual((live.look.updating, live.picture().text), (True, "one"), begin)
+            live.feed(end + b"\rthree", lambda _: None)
+            self.assertEqual((live.look.updating, live.picture().text[:5]), (False, "three"), end)
+            live.close()
+
     def test_however_it_is_cut(self):
         data = b"".join(b"\x1b[?2026h\x1b[H%d\x1b[2H%d\x1b[?2026l" % (n, n) for n in range(9))
         for size in range(1, 40):
@@ -215,12 +228,12 @@ class WholeMoments(unittest.TestCase):
 
     def test_a_moment_that_came_and_went_is_found(self):
         program = (
-            "import time; input(); print('\\x1b[H\\x1b[2JSaving', flush=True); time.sleep(.1)\n"
+            "import time; input(); print('\\x1b[H\\x1b[2JSaving', flush=True); time.sleep(.5)\n"
             "print('\\x1b[H\\x1b[2JSaved'); input()"
         )
         with python(program) as terminal:
             terminal.type("\n")
-            time.sleep(0.5)
+            time.sleep(2)
             self.assertEqual(terminal.wait_for("Saving").row(0).text, "Saving")
             self.assertEqual(terminal.wait_for("Saved").row(0).text, "Saved")
             with self.assertRaises(WaitFailed):

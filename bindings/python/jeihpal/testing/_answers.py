@@ -16,7 +16,7 @@ CELL_WIDTH, CELL_HEIGHT = 8, 16  # pixels, where a program asks for them
 
 # Behind ESC. Each name but the first is a method of _Answers.
 _FORMS = {
-    "update": rb"\[\?(?:\d+;)*2026(?:;\d+)*[hl]",
+    "update": rb"\[\?(?:\d*;)*0*2026(?:;\d*)*[hl]",
     "status": rb"\[5n",
     "place": rb"\[(?P<place_mark>\??)6n",
     "attributes": rb"\[0?c",

@@ -44,6 +44,8 @@ class LiveScreen:
             was_updating = self.look.updating
             self._screen.process(piece.data)
             self.look = self._screen.look()
+            if not self.look.updating:
+                self._before = None
             is_mark = piece.asked is not None and is_update(piece.asked)
             if not (is_mark and piece.asked and piece.asked[0] == piece.data):
                 self._shown = None
@@ -86,10 +88,6 @@ class LiveScreen:
         """The screen at the last whole moment."""
         if self.look.updating and self._before:
             return self._before
-        return self._picture()
-
-    def unfinished(self) -> Picture:
-        """The screen with what an update has drawn so far."""
         return self._picture()
 
     def state(self) -> bytes:

@@ -107,7 +107,8 @@ class Session:
         with self.changed:
             self._is_closing = True
         self._wake()
-        self._thread.join()
+        if threading.current_thread() is not self._thread:
+            self._thread.join()
         with self.changed:
             for fd in (self._wake_read, self._wake_write):
                 if fd >= 0:
@@ -190,10 +191,10 @@ class Session:
                 self.last = (self.last + data)[-_MOST_LAST:]
                 self.written += len(data)
                 self.written_at = time.monotonic()
-                self.is_fresh = False
             answers = self.live.feed(data, self._publish)
             with self.changed:
                 self._outgoing += answers
+                self.is_fresh = False
                 if self.recording.is_full:
                     self.recording.begin_anew(self.live.state(), self.live.look.rows, self.live.look.cols)
             if self._first_unseen is None:
@@ -260,10 +261,11 @@ class Session:
         self._first_unseen = None
 
     def _publish(self, picture: Picture) -> None:
-        """A moment of the screen."""
+        """A moment of the screen, if it isn't the newest one again."""
         with self.changed:
-            self.moments.append(picture)
-            self.count += 1
+            if not self.moments or picture is not self.moments[-1]:
+                self.moments.append(picture)
+                self.count += 1
             self.is_fresh = True
             self.changed.notify_all()
 
