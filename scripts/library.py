@@ -17,6 +17,7 @@ LINE = 64  # bytes of a line of the processor's cache
 VERSION = "0.1.0"
 SHARED = f"libjeihpal.so.{ABI}"
 PYTHON = f"{HERE}/bindings/python"
+COMMANDS = ("share", "jeihpal-test")
 PKG_CONFIG = f"""prefix=${{pcfiledir}}/../..
 includedir=${{prefix}}/include
 libdir=${{prefix}}/lib
@@ -163,7 +164,7 @@ def install_configurations(folder):
 
 def install_share(path):
     """Copies the command, which finds the module from where it lies."""
-    with open(f"{HERE}/share", encoding="utf-8") as file:
+    with open(f"{HERE}/{os.path.basename(path)}", encoding="utf-8") as file:
         text = file.read()
     text = text.replace('"bindings", "python"', '"..", "lib", "jeihpal", "python"')
     ours = "from a checkout, over the library that ./build --library has made"
@@ -188,5 +189,7 @@ def install(prefix):
     install_configurations(f"{prefix}/share/doc/jeihpal/nginx")
     link(SHARED, f"{prefix}/lib/libjeihpal.so")
     install_python(f"{prefix}/lib/jeihpal/python")
-    install_share(f"{prefix}/bin/share")
-    return [*copied, f"{prefix}/lib/libjeihpal.so", f"{prefix}/lib/jeihpal/python", f"{prefix}/bin/share"]
+    commands = [f"{prefix}/bin/{name}" for name in COMMANDS]
+    for path in commands:
+        install_share(path)
+    return [*copied, f"{prefix}/lib/libjeihpal.so", f"{prefix}/lib/jeihpal/python", *commands]

@@ -13,7 +13,7 @@ import zipfile
 
 HERE = os.path.dirname(os.path.abspath(__file__))
 NAME, VERSION = "jeihpal", "0.1.0"
-PACKAGES = ("jeihpal", "jeihpal_share")
+PACKAGES = ("jeihpal", "jeihpal/testing", "jeihpal_share")
 INFO = f"{NAME}-{VERSION}.dist-info"
 METADATA = f"""Metadata-Version: 2.1
 Name: {NAME}
@@ -22,7 +22,13 @@ Summary: Terminal screens that arrive whole, proved in Rattle
 License: MIT
 Requires-Python: >=3.9
 """
-SCRIPTS = "[console_scripts]\nshare = jeihpal_share.program:main\n"
+SCRIPTS = """[console_scripts]
+share = jeihpal_share.program:main
+jeihpal-test = jeihpal.testing._script:main
+
+[pytest11]
+jeihpal = jeihpal.testing.pytest_plugin
+"""
 
 
 def _tag() -> str:
