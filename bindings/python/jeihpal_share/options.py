@@ -7,7 +7,7 @@ import re
 from dataclasses import dataclass
 
 USAGE = """share [--listen ADDRESS:PORT | --unix PATH] [--terminals N] [--http ADDRESS:PORT] [--browsers N]
-             [--publish SOCKET --as NAME] [--token FILE] [--size RxC] [--rate N] [--] COMMAND [WORD ..]"""
+             [--publish SOCKET --as NAME] [--token FILE] [--record FILE] [--size RxC] [--rate N] [--] COMMAND [WORD ..]"""
 ABOUT = """Runs a command in a pseudo-terminal and shows its screen to whoever connects.
 
 Watch with a terminal of the same size:  socat -,raw,echo=0 tcp:ADDRESS:PORT   (or nc ADDRESS PORT)
@@ -34,6 +34,7 @@ class Options:
     publish: str | None = None
     name: str | None = None
     token: str | None = None
+    record: str | None = None
 
 
 def address(text: str) -> tuple[str, int]:
@@ -98,6 +99,7 @@ def _parser() -> argparse.ArgumentParser:
     parser.add_argument("--publish", metavar="SOCKET", help="the socket of an nginx with nchan, which hands it on")
     parser.add_argument("--as", type=name, dest="name", metavar="NAME", help="its name there")
     parser.add_argument("--token", metavar="FILE", help="who watches must know its first line; made if missing")
+    parser.add_argument("--record", metavar="FILE", help="write what is shown as an asciicast of version 3")
     parser.add_argument("--size", type=size, metavar="RxC", help="rows and columns (as the terminal here, else 24x80)")
     parser.add_argument("--rate", type=rate, default=30.0, metavar="N", help="at most N frames a second (30)")
     parser.add_argument("command", nargs=argparse.REMAINDER, metavar="COMMAND")

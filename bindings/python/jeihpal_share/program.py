@@ -9,12 +9,13 @@ import shutil
 import signal
 import socket
 import sys
-from typing import Callable
+from typing import Callable, TextIO
 
 from .notices import Notices
 from .options import Options, parsed
 from .page import Browsers
 from .publisher import Post, Publisher
+from .recorder import Recorder
 from .screen import SharedScreen
 from .terminals import Command, LocalTerminal, Outlet, raise_descriptors, undoing, window
 from .tokens import Token, kept_token
@@ -145,6 +146,9 @@ class Sockets:
         if options.http:
             self.browsers = stack.enter_context(tcp_listener(*options.http))
         self.token = Token(kept_token(options.token) if options.token else None)
+        self.recording: TextIO | None = None
+        if options.record:
+            self.recording = stack.enter_context(open(options.record, "w", encoding="utf-8"))
         self._options = options
 
     def announce(self, size: tuple[int, int]) -> None:
@@ -177,6 +181,9 @@ class Audiences:
         self._watchers = Watchers(screen, options.terminals, sockets.token, notices)
         self._browsers = Browsers(screen, title, options.browsers, sockets.token, notices)
         self._publisher: Publisher | None = None
+        self._recorder: Recorder | None = None
+        if sockets.recording:
+            self._recorder = Recorder(screen, sockets.recording, options.command, notices)
         if options.publish and options.name:
             self._publisher = Publisher(screen, Post(options.publish, options.name), title, notices)
         if sockets.terminals:
@@ -186,6 +193,8 @@ class Audiences:
 
     async def end(self, loop: asyncio.AbstractEventLoop, status: int) -> None:
         """The command has ended, and its last screen was shown. Waits for those that have still to read it."""
+        if self._recorder:
+            self._recorder.end(status)
         self._watchers.end()
         self._browsers.end(status)
         reading = _until(loop, lambda: not len(self._watchers) + len(self._browsers), LINGER)
