@@ -59,7 +59,8 @@ module _ (W : Type 0) (takes : W → List ℕ → Result ℕ Error → W → Typ
       subst (λ (xs : List ℕ). SendsText takes w xs answer v) (sym (append_assoc one others more))
       (part k pumps (text-broken k v others more answer e rest is))
   text-broken w v text more answer e (broken {text = one} {e = f} others pumps) is =
-      subst (λ (xs : List ℕ). SendsText takes w xs (Err f) v) (sym (append_assoc one others more)) (broken (others ++ more) pumps)
+      subst (λ (xs : List ℕ). SendsText takes w xs (Err f) v) (sym (append_assoc one others more))
+      (broken (others ++ more) pumps)
 
   -- one pump sends a text
   pub text-pumped : (w v : W) (text : List ℕ) (n : ℕ) → Pumps takes w text well n v → SendsText takes w text well v

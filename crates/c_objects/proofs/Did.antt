@@ -10,7 +10,8 @@ use Rattle.c_objects.specs.declared.object.Object.TheVariants.{Hub, Screen}
 
 pub hub_did : (step : HubState as_kept → ℤ → HubState as_kept → Type 0) (x : Object) (h g : HubState as_kept) (code : ℤ)
     → mag code < 2147483648 → x ≡ Hub h → step h code g → HubDoes step x (to_z w32 (of_z w32 code)) (Hub g)
-hub_did step x h g code fits is did = rw (to_z-of_z {w = w32} {z = code} (record { sfits = fits })) (rw is (g, did, refl))
+hub_did step x h g code fits is did = rw (to_z-of_z {w = w32} {z = code} (record { sfits = fits }))
+    (rw is (g, did, refl))
 
 pub screen_did : (step : Marked → ℤ → Marked → Type 0) (x : Object) (m n : Marked) (code : ℤ) → mag code < 2147483648
     → x ≡ Screen m → step m code n → ScreenDoes step x (to_z w32 (of_z w32 code)) (Screen n)

@@ -20,5 +20,6 @@ row-text w v text u sends none =
 -- sending a text to a vector fails only if there is a byte of it
 pub some-text : (w v : Vec ℕ) (text : List ℕ) (e : Error) → SendsText (Writes held) w text (Err e) v → text ≢ []
 some-text w v text e sends none =
-    let part = text-part (Vec ℕ) (Writes held) held (λ s bytes answer t reported. reported) w v text (Err e) e sends refl in
+    let part = text-part (Vec ℕ) (Writes held) held (λ s bytes answer t reported. reported) w v text (Err e) e sends
+    refl in
     omega (arith, part.1, ap length none)

@@ -107,9 +107,23 @@ detached h g key ss (Err Memory) did =
 detached h g key ss (Err Failed) did =
     inr (call.Detach key, done (Err Failed), tt, (Err Failed, did, refl), refl, (refl, (Err Failed, refl, refl)))
 detached h g key ss (Err UnknownClient) did =
-    inr (call.Detach key, done (Err UnknownClient), tt, (Err UnknownClient, did, refl), refl, (refl, (Err UnknownClient, refl, refl)))
+    inr (
+      call.Detach key,
+      done (Err UnknownClient),
+      tt,
+      (Err UnknownClient, did, refl),
+      refl,
+      (refl, (Err UnknownClient, refl, refl)),
+    )
 detached h g key ss (Err (Write e)) did =
-    inr (call.Detach key, done (Err (Write e)), tt, (Err (Write e), did, refl), refl, (refl, (Err (Write e), refl, refl)))
+    inr (
+      call.Detach key,
+      done (Err (Write e)),
+      tt,
+      (Err (Write e), did, refl),
+      refl,
+      (refl, (Err (Write e), refl, refl)),
+    )
 
 -- ---- bytes that were sent, as a pump
 
@@ -185,7 +199,8 @@ sent-to e h g key count ss c is fits puts =
       (t.takes, refl, refl),
     )
 
-sent : (e : Error) (h g : HubState as_kept) (key count : ℕ) (code : ℤ) (ss : List SessionView) (slot : Option ClientState)
+sent : (e : Error) (h g : HubState as_kept) (key count : ℕ) (code : ℤ) (ss : List SessionView)
+    (slot : Option ClientState)
     → clients_in h key ≡ slot → Sends key count h code g
     → Steps (Sent key count) code h ss g (sessions_after h (Sent key count) code ss)
 sent e h g key count code ss None is did =

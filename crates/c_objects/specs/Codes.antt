@@ -1,7 +1,8 @@
 -- The numbers that calls return: 0 or more for success, less than 0 for a refusal.
 use Rattle.std.specs.Prelude.{ℤ, pos, negsuc, Ok, Err, Result}
 use Rattle.termrelay.specs.declared.answer.Answer.{Answer}
-use Rattle.termrelay.specs.declared.answer.Answer.TheVariants.{Full, Difference, Unsure, Unchanged, Behind, Held, TooLong}
+use Rattle.termrelay.specs.declared.answer.Answer.TheVariants.{Full, Difference, Unsure, Unchanged, Behind, Held}
+use Rattle.termrelay.specs.declared.answer.Answer.TheVariants.{TooLong}
 use Rattle.termrelay.specs.declared.error.HubError.{HubError}
 use Rattle.termrelay.specs.declared.error.HubError.TheVariants.{Memory, Failed, UnknownClient, Write}
 use Rattle.vt100.specs.declared.error.ScreenError.{ScreenError}

@@ -1,5 +1,6 @@
 -- What each call does to a hub, by the library's call, and the number that it returns.
-use Rattle.std.specs.Prelude.{◌≡◌, ◌≢◌, ◌⊎◌, ℕ, ◌≤◌, ◌<◌, ◌*◌, ℤ, false, List, length, drop, Some, Ok, Err, Result, IfOk, OnOk}
+use Rattle.std.specs.Prelude.{◌≡◌, ◌≢◌, ◌⊎◌, ℕ, ◌≤◌, ◌<◌, ◌*◌, ℤ, false, List, length, drop, Some, Ok, Err, Result}
+use Rattle.std.specs.Prelude.{IfOk, OnOk}
 use Rattle.std.specs.Prelude.{MatchOption, encode_utf8_all}
 use Rattle.vt100_core.specs.Grid.{visible_row_at, cell_in}
 use Rattle.vt100_core.specs.Contents.{newlines_cut, text_lines}
@@ -9,9 +10,11 @@ use Rattle.termrelay.specs.declared.answer.Answer.{Answer}
 use Rattle.termrelay.specs.declared.answer.Answer.TheVariants.{Difference, TooLong}
 use Rattle.termrelay.specs.declared.error.HubError.{HubError}
 use Rattle.termrelay.specs.Hub as hub
-use Rattle.termrelay.specs.Hub.{HubState, as_kept, IsNewHub, clients_in, Puts, OwesOneFrame, OwesLocalFrame, size_in, is_failed}
+use Rattle.termrelay.specs.Hub.{HubState, as_kept, IsNewHub, clients_in, Puts, OwesOneFrame, OwesLocalFrame, size_in}
+use Rattle.termrelay.specs.Hub.{is_failed}
 use Rattle.termrelay.specs.Hub.{screen_in}
-use Rattle.c_objects.specs.Codes.{ok, bad_size, memory, unknown_client, not_owed, no_cell, refusal_code, code_of, frame_code}
+use Rattle.c_objects.specs.Codes.{ok, bad_size, memory, unknown_client, not_owed, no_cell, refusal_code, code_of}
+use Rattle.c_objects.specs.Codes.{frame_code}
 use Rattle.c_objects.specs.Texts.{IsCopied, CopiesText}
 use Rattle.c_objects.specs.Looks.{cell_of, screen_look}
 use Rattle.c_objects.specs.declared.plain.CCell.{CCell}
@@ -91,7 +94,8 @@ ShowsRow v row old new count code =
 
 abbrev pub ShowsContents : ScreenView → List ℕ → List ℕ → ℕ → ℤ → Type 0
 ShowsContents v old new count code =
-    CopiesText (newlines_cut (encode_utf8_all (text_lines v.state.shown (length v.state.shown.rows)))) old new count code
+    CopiesText (newlines_cut (encode_utf8_all (text_lines v.state.shown (length v.state.shown.rows)))) old new count
+    code
 
 -- the size, the cursor and the modes of a hub's screen are copied
 abbrev pub Looks : CLook → HubState as_kept → ℤ → Type 0

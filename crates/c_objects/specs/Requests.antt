@@ -1,5 +1,6 @@
 -- The queue of what a program asks of its terminal beyond drawing.
-use Rattle.std.specs.Prelude.{◌≡◌, ◌⊎◌, ◌<◌, ◌≤◌, ◌+◌, ℕ, ℤ, pos, nat_le, List, [], ◌∷◌, ◌++◌, length, min, Option, Some, None}
+use Rattle.std.specs.Prelude.{◌≡◌, ◌⊎◌, ◌<◌, ◌≤◌, ◌+◌, ℕ, ℤ, pos, nat_le, List, [], ◌∷◌, ◌++◌, length, min, Option}
+use Rattle.std.specs.Prelude.{Some, None}
 use Rattle.std.specs.Prelude.{if◌then◌else◌}
 use Rattle.screen_model.specs.Call.{Call, ScreenView, audible_bell, visual_bell, resize, set_window_icon_name}
 use Rattle.screen_model.specs.Call.{set_window_title, copy_to_clipboard, paste_from_clipboard}
@@ -35,7 +36,8 @@ request_of visual_bell = Some (of_kind 2 [])
 request_of (resize rows cols) = Some (record (of_kind 3 []) { rows = rows; cols = cols })
 request_of (set_window_icon_name text) = Some (of_kind 4 text)
 request_of (set_window_title text) = Some (of_kind 5 text)
-request_of (copy_to_clipboard letters base64) = Some (record (of_kind 6 (letters ++ base64)) { letters = length letters })
+request_of (copy_to_clipboard letters base64) = Some (record (of_kind 6 (letters ++ base64))
+    { letters = length letters })
 request_of (paste_from_clipboard letters) = Some (record (of_kind 7 letters) { letters = length letters })
 request_of _ = None
 
@@ -45,8 +47,8 @@ pub record Gets (q : RequestsView) (r : RequestView) (new : RequestsView) : Type
   pub short : length r.text ≤ 1024
   pub new_is : new ≡ record q { waiting = q.waiting ++ r ∷ [] }
 
--- a request with this text may find no place in the queue: the queue is full, or the text isn't empty, so that it can be
--- too long, or its allocation can fail
+-- a request with this text may find no place in the queue: the queue is full, or the text isn't empty, so that it can
+-- be too long, or its allocation can fail
 abbrev pub HasNoPlace : RequestsView → List ℕ → Type 0
 HasNoPlace q text = (256 ≤ length q.waiting) ⊎ (0 < length text)
 

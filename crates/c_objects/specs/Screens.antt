@@ -1,5 +1,6 @@
 -- What each call does to a screen, by the library's call, and the number that it returns.
-use Rattle.std.specs.Prelude.{◌≡◌, ◌⊎◌, ℕ, ◌<◌, ◌*◌, ℤ, true, false, List, [], ◌∷◌, ◌++◌, length, min, Option, Some, None, Ok, Err, Result}
+use Rattle.std.specs.Prelude.{◌≡◌, ◌⊎◌, ℕ, ◌<◌, ◌*◌, ℤ, true, false, List, [], ◌∷◌, ◌++◌, length, min, Option, Some}
+use Rattle.std.specs.Prelude.{None, Ok, Err, Result}
 use Rattle.std.specs.Prelude.{String}
 use Rattle.std.specs.Global.{Global}
 use Rattle.std.specs.Prelude.{OnOk, IsOk, encode_utf8_all}
@@ -146,7 +147,8 @@ HasContents old new count m code = ShowsContents (m.parser.screen) old new count
 
 abbrev pub HasBetween : ℕ × ℕ → ℕ × ℕ → List ℕ → List ℕ → ℕ → Marked → ℤ → Type 0
 HasBetween start end old new count m code =
-    CopiesText (encode_utf8_all (text_between m.parser.screen.state.shown start.0 start.1 end.0 end.1)) old new count code
+    CopiesText (encode_utf8_all (text_between m.parser.screen.state.shown start.0 start.1 end.0 end.1)) old new count
+    code
 
 -- a text that the library's call gives is copied
 abbrev pub CopiesGiven : (Result (String Global) ScreenError → Type 0) → List ℕ → List ℕ → ℕ → ℤ → Type 0
@@ -155,7 +157,8 @@ CopiesGiven Gives old new count code =
 
 abbrev pub HasFormatted : List ℕ → List ℕ → ℕ → Marked → ℤ → Type 0
 HasFormatted old new count m code =
-    CopiesGiven (GivesRedraw contents_formatted picture.contents_formatted 512 (m.parser.screen.state)) old new count code
+    CopiesGiven (GivesRedraw contents_formatted picture.contents_formatted 512 (m.parser.screen.state)) old new count
+    code
 
 abbrev pub HasState : List ℕ → List ℕ → ℕ → Marked → ℤ → Type 0
 HasState old new count m code =

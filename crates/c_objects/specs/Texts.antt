@@ -1,5 +1,6 @@
 -- Texts that are copied into the caller's memory.
-use Rattle.std.specs.Prelude.{◌≡◌, ◌≢◌, ◌⊎◌, ℕ, ℤ, List, [], ◌++◌, length, min, take, drop, Ok, Err, Result, String, string_bytes}
+use Rattle.std.specs.Prelude.{◌≡◌, ◌≢◌, ◌⊎◌, ℕ, ℤ, List, [], ◌++◌, length, min, take, drop, Ok, Err, Result, String}
+use Rattle.std.specs.Prelude.{string_bytes}
 use Rattle.vt100.specs.declared.error.ScreenError.{ScreenError}
 use Rattle.c_objects.specs.Codes.{ok, memory, screen_refusal}
 

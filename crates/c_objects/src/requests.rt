@@ -70,8 +70,8 @@ impl Requests {
         })
     }
 
-    /// Queues a request of this kind. If the queue is full, its text is too long, or the allocation of its text fails, it
-    /// is counted as dropped.
+    /// Queues a request of this kind. If the queue is full, its text is too long, or the allocation of its text fails,
+    /// it is counted as dropped.
     // Few streams have requests, and what reads the others is faster without this inlined.
     #[inline(never)]
     fn queue(&mut self, kind: u8, size: (u16, u16), letters: &[u8], text: &[u8])
@@ -88,8 +88,8 @@ impl Requests {
         }
     }
 
-    /// Queues a request and returns true. Returns false if the queue is full, its text is too long, or the allocation of
-    /// its text fails.
+    /// Queues a request and returns true. Returns false if the queue is full, its text is too long, or the allocation
+    /// of its text fails.
     fn find_room(&mut self, kind: u8, size: (u16, u16), letters: &[u8], text: &[u8]) -> bool
         ensures queued { result ≡ true → Gets self.old (record {
           kind = kind;

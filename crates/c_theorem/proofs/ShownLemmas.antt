@@ -100,7 +100,8 @@ shows-of rows cols s t pieces v parsed sized shows right =
     (sym (shows ∙ ap (λ (z : Size). seen z parsed) sized)) right
 
 pub views-shown : Error → EachRunFromCIsLogged → LoggedFramesAreShown → IsExact until_cleared → ViewsFromCAreShown
-views-shown e logged judged exact rows cols (Hub h) y made ss n s (View v) w pieces beyond height width new ran is fresh read joined =
+views-shown e logged judged exact rows cols (Hub h) y made ss n s (View v) w pieces beyond height width new ran is fresh
+    read joined =
     let run = run-of h [] ss made y ran in
     let all : IsLoggedRun h made run.0 ss = logged e h run.0 [] ss made run.2 in
     let r = reads-of exact v [] None pieces w fresh.holds read in
@@ -130,11 +131,15 @@ views-shown e logged judged exact rows cols (Hub h) y made ss n s (View v) w pie
       size = sized;
       shows = shows-of rows cols s found.0 pieces r.view r.parsed' sized r.holds.state_after.shows found.2;
     }
-views-shown e logged judged exact rows cols (View h) y made ss n s v w pieces beyond height width new ran is fresh read joined =
+views-shown e logged judged exact rows cols (View h) y made ss n s v w pieces beyond height width new ran is fresh read
+    joined =
     absurd new
-views-shown e logged judged exact rows cols (Screen m) y made ss n s v w pieces beyond height width new ran is fresh read joined =
+views-shown e logged judged exact rows cols (Screen m) y made ss n s v w pieces beyond height width new ran is fresh
+    read joined =
     absurd new
-views-shown e logged judged exact rows cols (Hub h) y made ss n s (Hub g) w pieces beyond height width new ran is fresh read joined =
+views-shown e logged judged exact rows cols (Hub h) y made ss n s (Hub g) w pieces beyond height width new ran is fresh
+    read joined =
     absurd fresh
-views-shown e logged judged exact rows cols (Hub h) y made ss n s (Screen m) w pieces beyond height width new ran is fresh read joined =
+views-shown e logged judged exact rows cols (Hub h) y made ss n s (Screen m) w pieces beyond height width new ran
+    is fresh read joined =
     absurd fresh

@@ -3,7 +3,8 @@
 use std::io;
 use std::io::{ErrorKind, Write};
 
-/// A writer that keeps the bytes it takes, so many a write. Once it has taken `room` bytes, each write of more fails with
+/// A writer that keeps the bytes it takes, so many a write. Once it has taken `room` bytes, each write of more fails
+/// with
 /// `BrokenPipe`.
 #[derive(Drop)]
 pub struct LimitedWriter {

@@ -25,7 +25,8 @@ all_read (Some x) (Some y) bytes h end = sym (h ∙ ap (λ ys. bytes ++ ys) end 
 -- some reads were made: whatever the others do completes the whole
 pub record GoesOn {S : Type 0} (step : S → ℕ → Result (List ℕ) Error → S → Type 0) (room : ℕ) (old : S) (all : ℕ)
     (now : S) (rest : ℕ) (got : List ℕ) : Type 0 where
-  pub further : (bytes : List ℕ) (answer : Result (Unit {0}) InputError) (t : S) → Drains step room now rest bytes answer t
+  pub further : (bytes : List ℕ) (answer : Result (Unit {0}) InputError) (t : S) → Drains step room now rest bytes
+      answer t
       → Drains step room old all (got ++ bytes) answer t
 
 pub begun : {S : Type 0} (step : S → ℕ → Result (List ℕ) Error → S → Type 0) (room : ℕ) (old : S) (all : ℕ)
@@ -33,43 +34,44 @@ pub begun : {S : Type 0} (step : S → ℕ → Result (List ℕ) Error → S →
 begun step room old all = record { further = λ bytes answer t d. d }
 
 module _ {S : Type 0} {step : S → ℕ → Result (List ℕ) Error → S → Type 0} {room : ℕ} {old : S} {all : ℕ} {now : S}
-    {rest : ℕ} {got : List ℕ} (g : GoesOn step room old all now rest got) (left : ℕ) (one : rest ≡ suc left) (new : S) where
-  -- one read more, which was interrupted
-  pub once_more : (e : Error) → step now room (Err e) new → error_kind e ≡ Interrupted
-      → GoesOn step room old all new left got
-  once_more e read is = record {
-    further = λ bytes answer t d. g.further bytes answer t
-        (subst (λ n. Drains step room now n bytes answer t) (sym one) (again new e read is d));
-  }
+    {rest : ℕ} {got : List ℕ} (g : GoesOn step room old all now rest got) (left : ℕ) (one : rest ≡ suc left) (new : S)
+  where
+    -- one read more, which was interrupted
+    pub once_more : (e : Error) → step now room (Err e) new → error_kind e ≡ Interrupted
+        → GoesOn step room old all new left got
+    once_more e read is = record {
+      further = λ bytes answer t d. g.further bytes answer t
+          (subst (λ n. Drains step room now n bytes answer t) (sym one) (again new e read is d));
+    }
 
-  -- one that gave some bytes
-  pub some_more : (some : List ℕ) → some ≢ [] → length some ≤ room → step now room (Ok some) new
-      → GoesOn step room old all new left (got ++ some)
-  some_more some none fits read = record {
-    further = λ bytes answer t d.
-        let whole = g.further (some ++ bytes) answer t
-        (subst (λ n. Drains step room now n (some ++ bytes) answer t) (sym one) (more new some none fits read d)) in
-        subst (λ xs. Drains step room old all xs answer t) (sym (append_assoc got some bytes)) whole;
-  }
+    -- one that gave some bytes
+    pub some_more : (some : List ℕ) → some ≢ [] → length some ≤ room → step now room (Ok some) new
+        → GoesOn step room old all new left (got ++ some)
+    some_more some none fits read = record {
+      further = λ bytes answer t d.
+          let whole = g.further (some ++ bytes) answer t
+          (subst (λ n. Drains step room now n (some ++ bytes) answer t) (sym one) (more new some none fits read d)) in
+          subst (λ xs. Drains step room old all xs answer t) (sym (append_assoc got some bytes)) whole;
+    }
 
-  -- the input has ended
-  pub at_end : step now room (Ok []) new → Drains step room old all got (Ok tt) new
-  at_end read =
-      let last = g.further [] (Ok tt) new
-      (subst (λ n. Drains step room now n [] (Ok tt) new) (sym one) (ended read)) in
-      subst (λ xs. Drains step room old all xs (Ok tt) new) (append-nil got) last
+    -- the input has ended
+    pub at_end : step now room (Ok []) new → Drains step room old all got (Ok tt) new
+    at_end read =
+        let last = g.further [] (Ok tt) new
+        (subst (λ n. Drains step room now n [] (Ok tt) new) (sym one) (ended read)) in
+        subst (λ xs. Drains step room old all xs (Ok tt) new) (append-nil got) last
 
-  -- a read failed
-  pub at_fault : (e : Error) → step now room (Err e) new → error_kind e ≢ Interrupted
-      → Drains step room old all (got ++ []) (Err (Read e)) new
-  at_fault e read is = g.further [] (Err (Read e)) new
-      (subst (λ n. Drains step room now n [] (Err (Read e)) new) (sym one) (failed read is))
+    -- a read failed
+    pub at_fault : (e : Error) → step now room (Err e) new → error_kind e ≢ Interrupted
+        → Drains step room old all (got ++ []) (Err (Read e)) new
+    at_fault e read is = g.further [] (Err (Read e)) new
+        (subst (λ n. Drains step room now n [] (Err (Read e)) new) (sym one) (failed read is))
 
-  -- memory for what a read gave was refused
-  pub at_refusal : (some : List ℕ) → some ≢ [] → length some ≤ room → step now room (Ok some) new
-      → Drains step room old all (got ++ some) (Err Memory) new
-  at_refusal some none fits read = g.further some (Err Memory) new
-      (subst (λ n. Drains step room now n some (Err Memory) new) (sym one) (refused none fits read))
+    -- memory for what a read gave was refused
+    pub at_refusal : (some : List ℕ) → some ≢ [] → length some ≤ room → step now room (Ok some) new
+        → Drains step room old all (got ++ some) (Err Memory) new
+    at_refusal some none fits read = g.further some (Err Memory) new
+        (subst (λ n. Drains step room now n some (Err Memory) new) (sym one) (refused none fits read))
 
 pub at_most : {S : Type 0} {step : S → ℕ → Result (List ℕ) Error → S → Type 0} {room : ℕ} {old : S} {all : ℕ} {now : S}
     {rest : ℕ} {got : List ℕ} → GoesOn step room old all now rest got → rest ≡ 0
@@ -112,4 +114,5 @@ module _ {S : Type 0} {step : S → ℕ → Result (List ℕ) Error → S → Ty
   pub whole : (s t : S) (n : ℕ) (bytes : List ℕ) → Drains step room s n bytes (Ok tt) t → 0 < room
       → IfSome (left s) (λ all. bytes ≡ all)
   whole s t n bytes drains wide =
-      all_read (left s) (left t) bytes (taken s t n bytes (Ok tt) drains) (nothing_left s t n bytes (Ok tt) drains refl wide)
+      all_read (left s) (left t) bytes (taken s t n bytes (Ok tt) drains) (nothing_left s t n bytes (Ok tt) drains refl
+      wide)

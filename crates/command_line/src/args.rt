@@ -51,8 +51,8 @@ pub fn lend<'a>(alloc: Global, words: &'a [String]) -> Result<Vec<&'a str>, Allo
 
 /// Does something to a state with the words after a program's name, and answers what that gives.
 ///
-/// They are what [`words_of`] makes of `args`, lent. Where memory is refused before, or `args` is another fault, nothing
-/// is done and the state stays as it was.
+/// They are what [`words_of`] makes of `args`, lent. Where memory is refused before, or `args` is another fault,
+/// nothing is done and the state stays as it was.
 pub fn with_words<S, F: FnOnce(&mut S, &[&str]) -> u8>(
     alloc: Global,
     args: io::Result<Args>,

@@ -28,7 +28,8 @@ pub fn run<S, F: FnOnce(&mut S, &[&str]) -> u8, G: FnOnce(&mut S) -> u8>(
 ) -> ExitCode
     requires command { F.IsAlwaysCallable command }
     requires refuse { G.IsAlwaysCallable refuse }
-    ensures given { IfOk args (λ all. ReturnsWith F.FnOnce command state.old (map string_bytes (drop 1 (into_iter_items all)))
+    ensures given { IfOk args (λ all. ReturnsWith F.FnOnce command state.old
+        (map string_bytes (drop 1 (into_iter_items all)))
         (exit_status result) state.new
         ⊎ FnOnceReturnsAtMut G.FnOnce refuse state.old (exit_status result) state.new) }
     ensures not_text { IfErr args (λ e. error_kind e ≡ InvalidData

@@ -29,7 +29,8 @@ use Rattle.vt100_forms.specs.Form.{Form, Text, MoveTo, MoveRight, EraseChar, Cle
 use Rattle.vt100_forms.specs.Form.{Crlf, Lf, Backspace, SaveCursor, RestoreCursor, HideCursor, Keypad, CursorKeys}
 use Rattle.vt100_forms.specs.Form.{Paste, Mouse, Encoding, Style, Sgr, Change, csi, counted}
 use Rattle.vt100_forms.specs.Form.{mode_change, mouse_number, encoding_number, style_number, color_numbers, color_part}
-use Rattle.vt100_forms.specs.Form.{intensity_part, flag_part, sgr_numbers, sgr_text, further_numbers, form_bytes, bytes_of}
+use Rattle.vt100_forms.specs.Form.{intensity_part, flag_part, sgr_numbers, sgr_text, further_numbers, form_bytes}
+use Rattle.vt100_forms.specs.Form.{bytes_of}
 use Rattle.vt100_forms.specs.Attrs.{IsByteColor}
 use Rattle.vt100_forms.specs.Length.{IsByteOption}
 use Rattle.forms_read.specs.Events.{sequence, bare, counted_events, mode_events, sgr_events}
@@ -67,7 +68,8 @@ read-escape : (k b : ℕ) → is_in_range 0x30 0x7E b ≡ true → is_introducer
     → IsReadAs k (27 ∷ b ∷ []) (Esc [] false b ∷ [])
 read-escape k b h i = (escape-tells k [] b (tt, h, λ _. i), ground-escape k [] b (tt, h, λ _. i))
 
-pub cond-two : {A B : Type 0} (P : A → B → Type 0) (b : Bool) (x y : A) (u v : B) → (b ≡ true → P x u) → (b ≡ false → P y v)
+pub cond-two : {A B : Type 0} (P : A → B → Type 0) (b : Bool) (x y : A) (u v : B) → (b ≡ true → P x u)
+    → (b ≡ false → P y v)
     → P (cond b x y) (cond b u v)
 cond-two P true x y u v h g = h refl
 cond-two P false x y u v h g = g refl
@@ -233,7 +235,8 @@ form-read k (Sgr c) h = read-sgr k (sgr_numbers c) (few-sgr c h.1.0 h.1.1)
 
 forms-read : (k : ℕ) (fs : List Form) → AllByRecursion IsReadable fs → IsReadAs k (bytes_of fs) (events_of_all fs)
 forms-read k [] h = read-nil k
-forms-read k (f ∷ fs) h = read-append k (form_bytes f) (bytes_of fs) (events_of f) (events_of_all fs) (form-read k f h.0)
+forms-read k (f ∷ fs) h = read-append k (form_bytes f) (bytes_of fs) (events_of f) (events_of_all fs)
+    (form-read k f h.0)
     (forms-read k fs h.1)
 
 pub list-read : EachListIsRead

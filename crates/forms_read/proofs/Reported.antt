@@ -21,7 +21,8 @@ use Rattle.vt100_forms.specs.Form.{Change, color_numbers, color_part, intensity_
 use Rattle.vt100_forms.specs.Attrs.{IsByteColor}
 use Rattle.vt100_forms.specs.Length.{IsByteOption}
 use Rattle.forms_read.specs.Events.{kept_number}
-use Rattle.forms_read.specs.Calls.{name_of, color_reported, foreground_reported, background_reported, intensity_reported, flag_reported}
+use Rattle.forms_read.specs.Calls.{name_of, color_reported, foreground_reported, background_reported}
+use Rattle.forms_read.specs.Calls.{intensity_reported, flag_reported}
 use Rattle.forms_read.specs.Calls.{change_reported}
 use Rattle.forms_read.proofs.ReadForms.{cond-two}
 
@@ -40,7 +41,8 @@ groups-join (m ∷ ms) ns gs = ap (λ rest. (kept_number m ∷ []) ∷ rest) (gr
 abbrev pub IsReportedBy : List ℕ → List Attr → Type 0
 IsReportedBy ns xs = (gs : List (List ℕ)) → attributes nothing (groups_reported ns ++ gs) ≡ xs ++ attributes nothing gs
 
-reported-both : (ms ns : List ℕ) (xs ys : List Attr) → IsReportedBy ms xs → IsReportedBy ns ys → IsReportedBy (ms ++ ns) (xs ++ ys)
+reported-both : (ms ns : List ℕ) (xs ys : List Attr) → IsReportedBy ms xs → IsReportedBy ns ys → IsReportedBy (ms ++ ns)
+    (xs ++ ys)
 reported-both ms ns xs ys h k gs =
     ap (attributes nothing) (groups-join ms ns gs) ∙ h (groups_reported ns ++ gs) ∙ ap (λ zs. xs ++ zs) (k gs)
     ∙ sym (append_assoc xs ys (attributes nothing gs))

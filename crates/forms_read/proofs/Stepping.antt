@@ -31,7 +31,8 @@ use Rattle.terminal_model.proofs.TermLemmas.{IsTerm-moved, IsTerm-apply}
 use Rattle.forms_read.specs.Events.{kept_number}
 use Rattle.terminal_model.specs.FormText.{IsSentForm}
 use Rattle.forms_read.proofs.SentTexts.{forms-readable}
-use Rattle.forms_read.specs.Calls.{place_reported, foreground_reported, background_reported, intensity_reported, flag_reported}
+use Rattle.forms_read.specs.Calls.{place_reported, foreground_reported, background_reported, intensity_reported}
+use Rattle.forms_read.specs.Calls.{flag_reported}
 use Rattle.forms_read.specs.Calls.{change_reported, mode_calls, style_reported, set_call, reset_call, form_calls}
 use Rattle.forms_read.specs.Calls.{form_calls_all}
 use Rattle.forms_read.specs.Terminals.{stepped, ReadsAttributes, ReadsCalls, IsSmall, EachFormIsStepped}
@@ -172,7 +173,8 @@ module _ (step : Size → Call → Term → Term) (f : Attr → Attrs → Attrs)
   step-MoveRight k t =
       cond-two (λ cs u. stepped step z cs t ≡ u) (k == 0) [] (call.move_forward (kept_number k) ∷ []) t
       (record t { col = min (t.col + k) (z.cols - 1) }) (λ _. refl)
-      (λ _. let col : min (t.col + kept_number k) (z.cols - 1) ≡ min (t.col + k) (z.cols - 1) = omega (arith, small.1) in
+      (λ _. let col : min (t.col + kept_number k) (z.cols - 1) ≡ min (t.col + k) (z.cols - 1) =
+      omega (arith, small.1) in
       s.forward (kept_number k) t ∙ (λ i. record t { col = col i }))
 
   step-EraseChar : (k : ℕ) (t : Term) → stepped step z (form_calls (EraseChar k)) t ≡ apply z (EraseChar k) t

@@ -124,7 +124,8 @@ form_calls (Paste true) = set_call 2004 ∷ []
 form_calls (Paste false) = reset_call 2004 ∷ []
 form_calls (Mouse to from) = mode_calls (mouse_number to) (mouse_number from)
 form_calls (Encoding to from) = mode_calls (encoding_number to) (encoding_number from)
-form_calls (Style to from) = if style_number to == style_number from then [] else call.set_cursor_style (style_reported to)
+form_calls (Style to from) = if style_number to == style_number from then [] else call.set_cursor_style
+    (style_reported to)
     ∷ []
 form_calls (Sgr change) = map call.terminal_attribute (change_reported change)
 

@@ -33,6 +33,7 @@ pub record EachExampleHolds : Type 0 where
   pub modes : reported (HideCursor true ∷ Mouse mouse.ButtonMotion mouse.None ∷ Mouse mouse.None mouse.Press ∷ [])
       ≡ Csi ((25 ∷ []) ∷ []) (63 ∷ []) false 108 ∷ Csi ((1002 ∷ []) ∷ []) (63 ∷ []) false 104
       ∷ Csi ((9 ∷ []) ∷ []) (63 ∷ []) false 108 ∷ []
-  pub styled : reported (Style style.SteadyVerticalBar style.Default ∷ []) ≡ Csi ((6 ∷ []) ∷ []) (32 ∷ []) false 113 ∷ []
+  pub styled : reported (Style style.SteadyVerticalBar style.Default ∷ []) ≡ Csi ((6 ∷ []) ∷ []) (32 ∷ []) false 113
+      ∷ []
   pub colored : reported (colors ∷ []) ≡ Csi ((38 ∷ []) ∷ (2 ∷ []) ∷ (1 ∷ []) ∷ (20 ∷ []) ∷ (255 ∷ []) ∷ (41 ∷ []) ∷ [])
       [] false 109 ∷ []

@@ -77,7 +77,8 @@ pub record ReadsCalls (step : Size → Call → Term → Term) (attribute : Attr
   pub attributes : (x : Attr) (t : Term) → step z (call.terminal_attribute x) t ≡ record t {
     attrs = attribute x t.attrs;
   }
-  pub style : (s : CursorStyle) (t : Term) → step z (call.set_cursor_style (style_reported s)) t ≡ record t { style = s }
+  pub style : (s : CursorStyle) (t : Term) → step z (call.set_cursor_style (style_reported s)) t
+      ≡ record t { style = s }
   pub keypad : (t : Term) → step z call.set_keypad_application_mode t ≡ record t {
     modes = record (t.modes) { keypad = true };
   }

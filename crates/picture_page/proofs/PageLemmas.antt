@@ -1,8 +1,10 @@
 -- A picture to which a part is added.
-use Rattle.std.proofs.Common.{◌≡◌, ℕ, List, [], ◌∷◌, ◌++◌, Option, Some, None, refl, sym, ap, ap₂, ◌∙◌, append_assoc, subst, take, ◌+◌}
+use Rattle.std.proofs.Common.{◌≡◌, ℕ, List, [], ◌∷◌, ◌++◌, Option, Some, None, refl, sym, ap, ap₂, ◌∙◌, append_assoc}
+use Rattle.std.proofs.Common.{subst, take, ◌+◌}
 use Rattle.std.proofs.Common.{append-nil, unwrap_or, Result, OnOk}
 use Rattle.std.proofs.lemmas.Result.{on_ok_weaker}
-use Rattle.picture_page.specs.Page.{Adds, Part, Name, Text, Shows, escaped, part_bytes, part_text, parts_bytes, parts_text, IsPage, reference}
+use Rattle.picture_page.specs.Page.{Adds, Part, Name, Text, Shows, escaped, part_bytes, part_text, parts_bytes}
+use Rattle.picture_page.specs.Page.{parts_text, IsPage, reference}
 
 pub parts_bytes-append : (ps : List Part) (p : Part) → parts_bytes (ps ++ p ∷ []) ≡ parts_bytes ps ++ part_bytes p
 parts_bytes-append [] p = append-nil (part_bytes p)
@@ -34,7 +36,8 @@ grown_by_byte bytes b page is =
 pub joined_bytes : (ps qs : List Part) → parts_bytes (ps ++ qs) ≡ parts_bytes ps ++ parts_bytes qs
 joined_bytes [] qs = refl
 joined_bytes (p ∷ ps) qs =
-    ap (λ xs. part_bytes p ++ xs) (joined_bytes ps qs) ∙ sym (append_assoc (part_bytes p) (parts_bytes ps) (parts_bytes qs))
+    ap (λ xs. part_bytes p ++ xs) (joined_bytes ps qs) ∙ sym (append_assoc (part_bytes p) (parts_bytes ps)
+    (parts_bytes qs))
 
 pub joined_text : (ps qs : List Part) → parts_text (ps ++ qs) ≡ parts_text ps ++ parts_text qs
 joined_text [] qs = refl
@@ -95,14 +98,17 @@ names_byte old b r = adds_part old (b ∷ []) (Name (b ∷ [])) (escaped_one b N
 -- a byte more of a text that is taken from the left
 pub adds_more : (a b c text : List ℕ) (i x : ℕ) → take (i + 1) text ≡ take i text ++ x ∷ [] → Adds a b (take i text)
     → Adds b c (x ∷ []) → Adds a c (take (i + 1) text)
-adds_more a b c text i x more first second = subst (λ t. Adds a c t) (sym more) (adds_both a b c (take i text) (x ∷ []) first second)
+adds_more a b c text i x more first second = subst (λ t. Adds a c t) (sym more) (adds_both a b c (take i text) (x ∷ [])
+    first second)
 
 -- markup, and then what a call may add
-pub if_added : {T E : Type 0} (r : Result T E) (a b c t : List ℕ) → Adds a b [] → OnOk r (Adds b c t) → OnOk r (Adds a c t)
+pub if_added : {T E : Type 0} (r : Result T E) (a b c t : List ℕ) → Adds a b [] → OnOk r (Adds b c t)
+    → OnOk r (Adds a c t)
 if_added r a b c t first = on_ok_weaker r (after_markup a b c t first)
 
 -- what a call may add after parts, if that is markup
-pub if_ended : {T E : Type 0} (r : Result T E) (a b c s : List ℕ) → Adds a b s → OnOk r (Adds b c []) → OnOk r (Adds a c s)
+pub if_ended : {T E : Type 0} (r : Result T E) (a b c s : List ℕ) → Adds a b s → OnOk r (Adds b c [])
+    → OnOk r (Adds a c s)
 if_ended r a b c s first = on_ok_weaker r (before_markup a b c s first)
 
 -- two pages, one after the other
@@ -113,7 +119,8 @@ pages_joined a b first second = record {
 }
 
 -- what a call may add after parts
-pub if_both : {T E : Type 0} (r : Result T E) (a b c s t : List ℕ) → Adds a b s → OnOk r (Adds b c t) → OnOk r (Adds a c (s ++ t))
+pub if_both : {T E : Type 0} (r : Result T E) (a b c s t : List ℕ) → Adds a b s → OnOk r (Adds b c t)
+    → OnOk r (Adds a c (s ++ t))
 if_both r a b c s t first = on_ok_weaker r (adds_both a b c s t first)
 
 -- the bytes of a page that was empty at first

@@ -1,9 +1,12 @@
 -- A page is safe.
-use Rattle.std.proofs.Common.{◌≡◌, ◌≢◌, ◌≤◌, ◌+◌, ℕ, Bool, true, false, not, ◌&&◌, ◌||◌, List, [], ◌∷◌, ◌++◌, Some, None, refl, sym, ap, ◌∙◌, inl, inr, arith, nat_eq, nat_le, codes, unwrap_or, cond, map, subst, true≢false}
+use Rattle.std.proofs.Common.{◌≡◌, ◌≢◌, ◌≤◌, ◌+◌, ℕ, Bool, true, false, not, ◌&&◌, ◌||◌, List, [], ◌∷◌, ◌++◌, Some}
+use Rattle.std.proofs.Common.{None, refl, sym, ap, ◌∙◌, inl, inr, arith, nat_eq, nat_le, codes, unwrap_or, cond, map}
+use Rattle.std.proofs.Common.{subst, true≢false}
 use Rattle.std.specs.List.{concat, slice_index_or}
 use Rattle.std.proofs.lemmas.Bool.{leb-true, ne_eqb}
 use Rattle.std.proofs.lemmas.List.Elements.{All-map}
-use Rattle.picture_page.specs.Page.{Part, Markup, Digit, RowEnd, Name, Text, IsPage, IsSafe, IsHarmless, IsPiece, begins_reference, digit_byte, escaped, part_bytes, parts_bytes, reference}
+use Rattle.picture_page.specs.Page.{Part, Markup, Digit, RowEnd, Name, Text, IsPage, IsSafe, IsHarmless, IsPiece}
+use Rattle.picture_page.specs.Page.{begins_reference, digit_byte, escaped, part_bytes, parts_bytes, reference}
 
 both : (a b : Bool) → a && b ≡ true → (a ≡ true) × (b ≡ true)
 both true b h = (refl, h)
@@ -23,15 +26,19 @@ is_harmless [] = true
 is_harmless (b ∷ bs) = not (nat_eq b 60) && (not (nat_eq b 62) && (not (nat_eq b 34) && (not (nat_eq b 39)
     && ((not (nat_eq b 38) || begins_reference (b ∷ bs)) && is_harmless bs))))
 
-by_itself : (b : ℕ) (rest : List ℕ) → nat_eq b 38 ≡ false → nat_eq b 60 ≡ false → nat_eq b 62 ≡ false → nat_eq b 34 ≡ false
+by_itself : (b : ℕ) (rest : List ℕ) → nat_eq b 38 ≡ false → nat_eq b 60 ≡ false → nat_eq b 62 ≡ false → nat_eq b 34
+    ≡ false
     → nat_eq b 39 ≡ false → is_harmless rest ≡ true → is_harmless (b ∷ rest) ≡ true
 by_itself b rest p q r s t h = rw (p, q, r, s, t) h
 
-escaped_byte : (b : ℕ) (rest : List ℕ) → is_harmless rest ≡ true → is_harmless (unwrap_or (reference b) (b ∷ []) ++ rest) ≡ true
-escaped_byte b rest h = go (nat_eq b 38) (nat_eq b 60) (nat_eq b 62) (nat_eq b 34) (nat_eq b 39) refl refl refl refl refl
+escaped_byte : (b : ℕ) (rest : List ℕ) → is_harmless rest ≡ true → is_harmless (unwrap_or (reference b) (b ∷ [])
+    ++ rest) ≡ true
+escaped_byte b rest h = go (nat_eq b 38) (nat_eq b 60) (nat_eq b 62) (nat_eq b 34) (nat_eq b 39) refl refl refl refl
+    refl
   where
     go : (p q r s t : Bool) → nat_eq b 38 ≡ p → nat_eq b 60 ≡ q → nat_eq b 62 ≡ r → nat_eq b 34 ≡ s → nat_eq b 39 ≡ t
-        → is_harmless (unwrap_or (cond p (Some (codes "&amp;")) (cond q (Some (codes "&lt;")) (cond r (Some (codes "&gt;"))
+        → is_harmless (unwrap_or (cond p (Some (codes "&amp;")) (cond q (Some (codes "&lt;"))
+        (cond r (Some (codes "&gt;"))
         (cond s (Some (codes "&quot;")) (cond t (Some (codes "&#39;")) None))))) (b ∷ []) ++ rest) ≡ true
     go true q r s t _ _ _ _ _ = h
     go false true r s t _ _ _ _ _ = h

@@ -4,7 +4,8 @@ use Rattle.picture_page.specs.declared.tag.Tag.{Tag}
 use Rattle.picture_page.specs.declared.tag.Tag.TheVariants as tag
 
 abbrev pub tag_bytes : Tag → List ℕ
-tag_bytes tag.PageHead = codes "<!DOCTYPE html>\n<html><head><meta charset=\"utf-8\"><title>screentext</title></head>\n<body>"
+tag_bytes tag.PageHead =
+    codes "<!DOCTYPE html>\n<html><head><meta charset=\"utf-8\"><title>screentext</title></head>\n<body>"
 tag_bytes tag.PageFoot = codes "</body></html>\n"
 tag_bytes tag.Block = codes "<pre style=\"display:inline-block;line-height:normal;"
 tag_bytes tag.BlockFont = codes ";font-family:'"
@@ -21,7 +22,8 @@ tag_bytes tag.SpanUnderline = codes ";text-decoration:underline"
 tag_bytes tag.SpanWide = codes ";display:inline-block;width:2ch"
 tag_bytes tag.SpanText = codes "\">"
 tag_bytes tag.SpanEnd = codes "</span>"
-tag_bytes tag.Svg = codes "<svg xmlns=\"http://www.w3.org/2000/svg\" shape-rendering=\"crispEdges\" font-size=\"15\" font-family=\""
+tag_bytes tag.Svg = codes
+    "<svg xmlns=\"http://www.w3.org/2000/svg\" shape-rendering=\"crispEdges\" font-size=\"15\" font-family=\""
 tag_bytes tag.SvgFont = codes "'"
 tag_bytes tag.SvgFontEnd = codes "',"
 tag_bytes tag.Monospace = codes "monospace"

@@ -14,4 +14,5 @@ act_of (Marker name) = Fed []
 -- what the events whose time is at most `moment` do, in their order
 abbrev pub acts_until : ℕ → List Event → List Act
 acts_until moment [] = []
-acts_until moment (e ∷ es) = if nat_le e.time moment then act_of e.change ∷ acts_until moment es else acts_until moment es
+acts_until moment (e ∷ es) = if nat_le e.time moment then act_of e.change ∷ acts_until moment es else acts_until moment
+    es

@@ -22,7 +22,8 @@ pub fn terminal_at(
     events: &[Event],
     moment: u64,
 ) -> Result<Parser<()>, ScreenError>
-    ensures shows { IfOk result (λ p. ParserIsAfter p size.rows.value size.cols.value capacity (acts_until moment events.now)) }
+    ensures shows { IfOk result (λ p. ParserIsAfter p size.rows.value size.cols.value capacity
+        (acts_until moment events.now)) }
     ensures memory { OnErr result (result ≡ Err Memory) }
 {
     let mut parser = Parser::new(alloc, size.rows, size.cols, capacity)?;
@@ -35,7 +36,8 @@ fn play(parser: &mut Parser<()>, events: &[Event], moment: u64) -> Result<(), Sc
     requires live { parser.old.screen.failed ≡ false }
     ensures live { OnOk result (parser.new.screen.failed ≡ false) }
     ensures memory { OnErr result (result ≡ Err Memory) }
-    ensures shows { OnOk result ((rows cols capacity : ℕ) (acts : List Act) → ParserIsAfter parser.old rows cols capacity acts
+    ensures shows { OnOk result ((rows cols capacity : ℕ) (acts : List Act) → ParserIsAfter parser.old rows cols
+        capacity acts
         → ParserIsAfter parser.new rows cols capacity (acts ++ acts_until moment events.now)) }
 {
     for event in events {
@@ -49,7 +51,8 @@ fn step(parser: &mut Parser<()>, event: &Event, moment: u64) -> Result<(), Scree
     requires live { parser.old.screen.failed ≡ false }
     ensures live { OnOk result (parser.new.screen.failed ≡ false) }
     ensures memory { OnErr result (result ≡ Err Memory) }
-    ensures shows { OnOk result ((rows cols capacity : ℕ) (acts : List Act) → ParserIsAfter parser.old rows cols capacity acts
+    ensures shows { OnOk result ((rows cols capacity : ℕ) (acts : List Act) → ParserIsAfter parser.old rows cols
+        capacity acts
         → ParserIsAfter parser.new rows cols capacity (acts ++ acts_until moment (event.now ∷ []))) }
 {
     if event.time > moment {
@@ -63,7 +66,8 @@ pub(crate) fn act(parser: &mut Parser<()>, change: &Change) -> Result<(), Screen
     requires live { parser.old.screen.failed ≡ false }
     ensures live { OnOk result (parser.new.screen.failed ≡ false) }
     ensures memory { OnErr result (result ≡ Err Memory) }
-    ensures shows { OnOk result ((rows cols capacity : ℕ) (acts : List Act) → ParserIsAfter parser.old rows cols capacity acts
+    ensures shows { OnOk result ((rows cols capacity : ℕ) (acts : List Act) → ParserIsAfter parser.old rows cols
+        capacity acts
         → ParserIsAfter parser.new rows cols capacity (acts ++ act_of change.now ∷ [])) }
 {
     match change {

@@ -1,5 +1,7 @@
 -- Frames of ttyrec, one after another.
-use Rattle.std.proofs.Common.{◌≡◌, ◌∙◌, ◌<◌, ◌+◌, ◌-◌, ◌^◌, ℕ, zero, suc, List, [], ◌∷◌, ◌++◌, map, length, take, drop, get_or, length-append, nat_le, ◌&&◌, true, false, refl, sym, ap, ap₂, subst, Some, append_assoc, arith}
+use Rattle.std.proofs.Common.{◌≡◌, ◌∙◌, ◌<◌, ◌+◌, ◌-◌, ◌^◌, ℕ, zero, suc, List, [], ◌∷◌, ◌++◌, map, length, take, drop}
+use Rattle.std.proofs.Common.{get_or, length-append, nat_le, ◌&&◌, true, false, refl, sym, ap, ap₂, subst, Some}
+use Rattle.std.proofs.Common.{append_assoc, arith}
 use Rattle.std.specs.Int.{to_le_bytes, from_le_bytes, w32}
 use Rattle.std.proofs.Math.Numerals.{add-one}
 use Rattle.std.proofs.Math.Seq.{take-suc}
@@ -8,7 +10,8 @@ use Rattle.std.proofs.lemmas.List.{append-nil, get_or-map, length-map, length-ta
 use Rattle.std.proofs.lemmas.Bool.Decides.{nat_tests}
 use Rattle.std.proofs.lemmas.Nat.{from_le_bytes-to_le_bytes_4, le_bytes_4}
 use Rattle.recordings.specs.Recorded.{Row, IsStateAfter, writes}
-use Rattle.recordings.specs.Ttyrec.{IsNoFrame, Piece, begins_with_frame, clock, piece_of, rows_after, stored, stored_one}
+use Rattle.recordings.specs.Ttyrec.{IsNoFrame, Piece, begins_with_frame, clock, piece_of, rows_after, stored}
+use Rattle.recordings.specs.Ttyrec.{stored_one}
 use Rattle.recordings.specs.declared.timeline.Pace.TheVariants.{FromStart}
 use Rattle.recordings.specs.declared.timeline.Timeline.{Timeline}
 use Rattle.recordings.specs.declared.ttyrec.Frame.{Frame}
@@ -39,26 +42,33 @@ next_stored bytes left after frames new f whole first push =
     ∙ ap (λ bs. stored (map piece_of frames) ++ bs) (append-nil (stored_one (piece_of f))) in
     let all = ap (λ fs. stored (map piece_of fs)) push ∙ (ap stored (map-append piece_of frames (f ∷ [])) ∙ one) in
     whole ∙ (ap (λ bs. stored (map piece_of frames) ++ bs) first
-    ∙ (sym (append_assoc (stored (map piece_of frames)) (stored_one (piece_of f)) after) ∙ ap (λ bs. bs ++ after) (sym all)))
+    ∙ (sym (append_assoc (stored (map piece_of frames)) (stored_one (piece_of f)) after) ∙ ap (λ bs. bs ++ after)
+    (sym all)))
 
 -- one more frame is played
-pub next_played : (frames : List Frame) (i : ℕ) (d : Frame) (start time : ℕ) (text : List ℕ) (t : Timeline) → i < length frames
+pub next_played : (frames : List Frame) (i : ℕ) (d : Frame) (start time : ℕ) (text : List ℕ) (t : Timeline)
+    → i < length frames
     → time ≡ clock (piece_of (get_or frames i d)) - start → text ≡ (piece_of (get_or frames i d)).text
     → IsStateAfter FromStart (rows_after start (take i (map piece_of frames)) ++ (time, Some (writes text)) ∷ []) t
     → IsStateAfter FromStart (rows_after start (take (i + 1) (map piece_of frames))) t
 next_played frames i d start time text t lt when what state_after =
     let n = length-map frames piece_of in
     let row : Piece → Row = λ p. (clock p - start, Some (writes p.text)) in
-    let taken = ap (λ k. take k (map piece_of frames)) (add-one i) ∙ (take-suc (map piece_of frames) i (piece_of d) (omega (arith, n))
+    let taken = ap (λ k. take k (map piece_of frames)) (add-one i) ∙ (take-suc (map piece_of frames) i (piece_of d)
+    (omega (arith, n))
     ∙ ap (λ x. take i (map piece_of frames) ++ x ∷ []) (get_or-map piece_of frames i d (piece_of d) lt)) in
-    let rows = ap (rows_after start) taken ∙ map-append row (take i (map piece_of frames)) (piece_of (get_or frames i d) ∷ []) in
-    let last = ap₂ (λ (k : ℕ) bs. rows_after start (take i (map piece_of frames)) ++ (k, Some (writes bs)) ∷ []) when what in
+    let rows = ap (rows_after start) taken ∙ map-append row (take i (map piece_of frames)) (piece_of (get_or frames i d)
+    ∷ []) in
+    let last = ap₂ (λ (k : ℕ) bs. rows_after start (take i (map piece_of frames)) ++ (k, Some (writes bs)) ∷ []) when
+    what in
     subst (λ (rs : List Row). IsStateAfter FromStart rs t) (last ∙ sym rows) state_after
 
 -- ---- whether the bytes begin with a frame
 
-frame_parts : (bytes after : List ℕ) (p : Piece) → bytes ≡ stored_one p ++ after → p.micros < 2 ^ 32 → length p.text < 2 ^ 32
-    → (from_le_bytes w32 (take 4 (drop 4 bytes)) ≡ p.micros) × (from_le_bytes w32 (take 4 (drop 8 bytes)) ≡ length p.text)
+frame_parts : (bytes after : List ℕ) (p : Piece) → bytes ≡ stored_one p ++ after → p.micros < 2 ^ 32
+    → length p.text < 2 ^ 32
+    → (from_le_bytes w32 (take 4 (drop 4 bytes)) ≡ p.micros) × (from_le_bytes w32 (take 4 (drop 8 bytes))
+    ≡ length p.text)
     × (length bytes ≡ 12 + length p.text + length after)
 frame_parts bytes after p is small short = (
   ap (λ bs. from_le_bytes w32 (take 4 (drop 4 bs))) is ∙ from_le_bytes-to_le_bytes_4 p.micros small,
@@ -74,7 +84,8 @@ test_of_frame bytes micros size more a b c =
     let whole : nat_le (12 + size) (length bytes) ≡ true = grind (arith, nat_tests) in
     rw (a, b, long, whole) refl
 
-pub begins_by_frame : (bytes after : List ℕ) (p : Piece) → bytes ≡ stored_one p ++ after → p.micros < 2 ^ 32 → length p.text < 2 ^ 32
+pub begins_by_frame : (bytes after : List ℕ) (p : Piece) → bytes ≡ stored_one p ++ after → p.micros < 2 ^ 32
+    → length p.text < 2 ^ 32
     → begins_with_frame bytes ≡ (nat_le 1 (length p.text) && nat_le (p.micros + 1) 1000000)
 begins_by_frame bytes after p is small short =
     let parts = frame_parts bytes after p is small short in

@@ -1,5 +1,7 @@
 -- Lines, one after another.
-use Rattle.std.proofs.Common.{◌≡◌, ◌∙◌, ◌<◌, ◌≤◌, ◌+◌, ◌==◌, ℕ, suc, Bool, true, false, cond, ltb, List, [], ◌∷◌, ◌++◌, map, length, take, drop, get_or, sym, ap, subst, Some, None, is_some, Result, IfOk, ◌⊎◌, inl, inr, arith}
+use Rattle.std.proofs.Common.{◌≡◌, ◌∙◌, ◌<◌, ◌≤◌, ◌+◌, ◌==◌, ℕ, suc, Bool, true, false, cond, ltb, List, [], ◌∷◌, ◌++◌}
+use Rattle.std.proofs.Common.{map, length, take, drop, get_or, sym, ap, subst, Some, None, is_some, Result, IfOk, ◌⊎◌}
+use Rattle.std.proofs.Common.{inl, inr, arith}
 use Rattle.std.specs.Borrow.{Bor}
 use Rattle.std.specs.Prelude.{unwrap_or, Vec}
 use Rattle.std.specs.Vec.{vec_items}
@@ -60,7 +62,8 @@ next_line pace lines i d t lt fine event state_after = (
   subst (AreEvents pace) (sym (taken_next lines i d lt))
       (All-push (λ line. is_some (rows_in pace line) ≡ true) (take i (texts lines)) (get_or lines i d).now fine event),
   subst (λ (rows : List Row). IsStateAfter pace rows t)
-      (sym (ap (rows_of pace) (taken_next lines i d lt) ∙ more_rows pace (take i (texts lines)) (get_or lines i d).now)) state_after,
+      (sym (ap (rows_of pace) (taken_next lines i d lt) ∙ more_rows pace (take i (texts lines)) (get_or lines i d).now))
+      state_after,
 )
 
 pub parts_at : (lines : List (Bor (List ℕ))) (i : ℕ) (d : Bor (List ℕ)) → i < length lines
@@ -72,7 +75,8 @@ parts_at lines i d lt =
     ∙ ap (λ x. x ∷ drop (suc i) (texts lines)) (get_or-map (λ (x : Bor (List ℕ)). x.now) lines i d [] lt))
 
 -- the first line that is no event
-pub faulty : (pace : Pace) (lines : List (Bor (List ℕ))) (i n : ℕ) (d : Bor (List ℕ)) (e : RecordingError) → i < length lines
+pub faulty : (pace : Pace) (lines : List (Bor (List ℕ))) (i n : ℕ) (d : Bor (List ℕ)) (e : RecordingError)
+    → i < length lines
     → AreEvents pace (take i (texts lines)) → n ≡ i + 2
     → (e ≡ Memory) ⊎ ((e ≡ Line n) × (rows_in pace (get_or lines i d).now ≡ None)) → IsFaultIn pace (texts lines) e
 faulty pace lines i n d e lt fine number (inl is) = subst (IsFaultIn pace (texts lines)) (sym is) tt

@@ -1,7 +1,8 @@
 -- Rows, one after another.
 use Rattle.std.proofs.Common.{◌≡◌, ◌∙◌, ℕ, List, [], ◌∷◌, ◌++◌, refl, sym, ap, ap₂, Option, Some, None}
 use Rattle.std.proofs.lemmas.List.{append-nil, map-append}
-use Rattle.recordings.specs.Recorded.{Deed, Moment, Row, IsStateAfter, deed_of, ended, reached, said, reported, with_deed}
+use Rattle.recordings.specs.Recorded.{Deed, Moment, Row, IsStateAfter, deed_of, ended, reached, said, reported}
+use Rattle.recordings.specs.Recorded.{with_deed}
 use Rattle.recordings.specs.declared.recording.Event.{Event}
 use Rattle.recordings.specs.declared.timeline.Pace.{Pace}
 use Rattle.recordings.specs.declared.timeline.Timeline.{Timeline}
@@ -42,7 +43,8 @@ state_after_further pace rows t u time deed s same last events =
 pub said-append : (xs ys : List Event) → said (xs ++ ys) ≡ said xs ++ said ys
 said-append xs ys = map-append (λ (e : Event). (e.time, deed_of e.change)) xs ys
 
-pub state_after_still : (pace : Pace) (rows : List Row) (t : Timeline) → IsStateAfter pace rows t → IsStateAfter pace (rows ++ []) t
+pub state_after_still : (pace : Pace) (rows : List Row) (t : Timeline) → IsStateAfter pace rows t
+    → IsStateAfter pace (rows ++ []) t
 state_after_still pace rows t s = record {
   same_pace = s.same_pace;
   last = s.last ∙ ap (ended pace 0) (sym (append-nil rows));

@@ -1,11 +1,14 @@
 -- Colours, one after another.
-use Rattle.std.proofs.Common.{◌≡◌, ◌≢◌, ◌∙◌, ◌<◌, ◌≤◌, ◌+◌, ◌-◌, ℕ, suc, Bool, true, false, List, [], ◌∷◌, ◌++◌, map, length, take, drop, get_or, refl, sym, ap, ◌*◌, ◌^◌, ◌&&◌, nat_lt, ap₂, subst, lit≤, lit<, Option, Some, None, arith, append-nil, length-append, add-one, drop-cons}
+use Rattle.std.proofs.Common.{◌≡◌, ◌≢◌, ◌∙◌, ◌<◌, ◌≤◌, ◌+◌, ◌-◌, ℕ, suc, Bool, true, false, List, [], ◌∷◌, ◌++◌, map}
+use Rattle.std.proofs.Common.{length, take, drop, get_or, refl, sym, ap, ◌*◌, ◌^◌, ◌&&◌, nat_lt, ap₂, subst, lit≤, lit<}
+use Rattle.std.proofs.Common.{Option, Some, None, arith, append-nil, length-append, add-one, drop-cons}
 use Rattle.std.proofs.Math.ListN.{set, length-set}
 use Rattle.std.proofs.Math.Seq.{paste, take-add, take-suc-set}
 use Rattle.std.proofs.lemmas.Bool.Decides.{nat_tests}
 use Rattle.std.proofs.Math.Nat.{pow-le-pow_right, pow-suc}
 use Rattle.std.proofs.lemmas.Int.Digits.{digits_value_more}
-use Rattle.std.proofs.lemmas.List.{length-map, map-append, at_drop_all, at_drop_more, drop-take, drop_all, take_all, take-append-le}
+use Rattle.std.proofs.lemmas.List.{length-map, map-append, at_drop_all, at_drop_more, drop-take, drop_all, take_all}
+use Rattle.std.proofs.lemmas.List.{take-append-le}
 use Rattle.std.specs.Borrow.{Bor}
 use Rattle.std.specs.Prelude.{if◌then◌else◌, option_and_then}
 use Rattle.std.specs.Char.{digit_value, is_digit}
@@ -15,8 +18,10 @@ use Rattle.std.specs.Option.{option_map}
 use Rattle.recordings.specs.Themes.{color_in, colors_in, palette_of}
 
 joined : (o : Option ℕ) (m n : Option (List ℕ))
-    → option_and_then (λ c. option_map (λ (cs : List ℕ). c ∷ cs) (option_and_then (λ xs. option_map (λ ys. xs ++ ys) n) m)) o
-    ≡ option_and_then (λ xs. option_map (λ ys. xs ++ ys) n) (option_and_then (λ c. option_map (λ (cs : List ℕ). c ∷ cs) m) o)
+    → option_and_then (λ c. option_map (λ (cs : List ℕ). c ∷ cs) (option_and_then (λ xs. option_map (λ ys. xs ++ ys) n)
+    m)) o
+    ≡ option_and_then (λ xs. option_map (λ ys. xs ++ ys) n) (option_and_then (λ c. option_map (λ (cs : List ℕ). c ∷ cs)
+    m) o)
 joined None m n = refl
 joined (Some c) None n = refl
 joined (Some c) (Some xs) None = refl
@@ -34,7 +39,8 @@ colors_in-append (x ∷ xs) ys =
     ∙ joined (color_in x) (colors_in xs) (colors_in ys)
 
 -- one colour more
-pub colors_in-push : (xs : List (List ℕ)) (x : List ℕ) (cs : List ℕ) (c : ℕ) → colors_in xs ≡ Some cs → color_in x ≡ Some c
+pub colors_in-push : (xs : List (List ℕ)) (x : List ℕ) (cs : List ℕ) (c : ℕ) → colors_in xs ≡ Some cs → color_in x
+    ≡ Some c
     → colors_in (xs ++ x ∷ []) ≡ Some (cs ++ c ∷ [])
 colors_in-push xs x cs c so_far one = rw (colors_in-append xs (x ∷ []), so_far, one) refl
 
@@ -68,13 +74,15 @@ no_hex : (x : ℕ) → ¬ (x < 16) → nat_lt x 16 ≡ false
 no_hex x h = grind (arith, nat_tests)
 
 pub next_digit : (digits : List ℕ) (i color v : ℕ) → i < length digits → digit_value (get_or digits i 0) < 16
-    → v ≡ digit_value (get_or digits i 0) → AreDigitsSoFar digits i color → AreDigitsSoFar digits (i + 1) (color * 16 + v)
+    → v ≡ digit_value (get_or digits i 0) → AreDigitsSoFar digits i color → AreDigitsSoFar digits (i + 1)
+    (color * 16 + v)
 next_digit digits i color v lt small is so_far =
     let d = get_or digits i 0 in
     record {
       value = ap₂ (λ m n. m * 16 + n) so_far.value is ∙ sym (digits_value_more 16 digits i lt);
       small = raised i color v so_far.small (subst (λ n. n < 16) (sym is) small);
-      left = sym (at_drop_more are_hex digits i 0 lt ∙ ap (λ b. b && are_hex (drop (i + 1) digits)) (is_hex (digit_value d) small))
+      left = sym (at_drop_more are_hex digits i 0 lt ∙ ap (λ b. b && are_hex (drop (i + 1) digits))
+          (is_hex (digit_value d) small))
           ∙ so_far.left;
     }
 
@@ -134,7 +142,8 @@ one_word words word end v colors lt one p =
     let m : length (words ++ word ∷ []) ≡ length words + 1 = length-append words (word ∷ []) in
     let k : length (p.some ++ v ∷ []) ≡ length p.some + 1 = length-append p.some (v ∷ []) in
     let all : take 16 words ≡ words = take_all 16 words (omega (arith, few)) in
-    let more : take 16 (words ++ word ∷ []) ≡ words ++ word ∷ [] = take_all 16 (words ++ word ∷ []) (omega (arith, m, few)) in
+    let more : take 16 (words ++ word ∷ []) ≡ words ++ word ∷ [] = take_all 16 (words ++ word ∷ [])
+    (omega (arith, m, few)) in
     record {
       some = p.some ++ v ∷ [];
       are = ap colors_in more ∙ colors_in-push words word p.some v (ap colors_in (sym all) ∙ p.are) one;
@@ -167,7 +176,8 @@ word_more words word end colors full p =
 -- a word that is no colour, among the first sixteen
 pub bad_word : (all words : List (List ℕ)) (word : List ℕ) (end : ℕ) (colors : List ℕ) → words ≡ take (length words) all
     → length words < length all → word ≡ get_or all (length words) word → end < 18 → color_in word ≡ None
-    → IsPaletteAfter words end colors → None ≡ option_map behind_two (option_and_then palette_of (colors_in (take 16 all)))
+    → IsPaletteAfter words end colors → None ≡ option_map behind_two (option_and_then palette_of
+    (colors_in (take 16 all)))
 bad_word all words word end colors so_far lt here small none p =
     let n = length words in
     let short : n ≡ length p.some = p.short small in
@@ -181,13 +191,16 @@ bad_word all words word end colors so_far lt here small none p =
     ∙ ap (λ o. option_map behind_two (option_and_then palette_of o))
     (colors_in-none words (take (15 - n) (drop (suc n) all)) word p.some (ap colors_in (sym first) ∙ p.are) none))
 
-palette_is : (end : ℕ) (colors : List ℕ) (all words : List (List ℕ)) → words ≡ all → (p : IsPaletteAfter words end colors)
-    → option_map behind_two (option_and_then palette_of (colors_in (take 16 all))) ≡ option_map behind_two (palette_of p.some)
+palette_is : (end : ℕ) (colors : List ℕ) (all words : List (List ℕ)) → words ≡ all
+    → (p : IsPaletteAfter words end colors)
+    → option_map behind_two (option_and_then palette_of (colors_in (take 16 all))) ≡ option_map behind_two
+    (palette_of p.some)
 palette_is end colors all words is p =
     ap (λ ws. option_map behind_two (option_and_then palette_of (colors_in (take 16 ws)))) (sym is)
     ∙ ap (λ o. option_map behind_two (option_and_then palette_of o)) p.are
 
-pub sixteen : (end : ℕ) (colors : List ℕ) (all words : List (List ℕ)) → words ≡ all → end ≡ 18 → IsPaletteAfter words end colors
+pub sixteen : (end : ℕ) (colors : List ℕ) (all words : List (List ℕ)) → words ≡ all → end ≡ 18 → IsPaletteAfter words
+    end colors
     → Some colors ≡ option_map behind_two (option_and_then palette_of (colors_in (take 16 all)))
 sixteen end colors all words is e p =
     let n : length p.some ≡ 16 = omega (arith, e, p.filled) in
@@ -196,7 +209,8 @@ sixteen end colors all words is e p =
     let palette : palette_of p.some ≡ Some p.some = grind (arith, nat_tests) in
     ap Some whole ∙ sym (palette_is end colors all words is p ∙ ap (option_map behind_two) palette)
 
-pub eight : (end : ℕ) (colors new : List ℕ) (all words : List (List ℕ)) → words ≡ all → end ≡ 10 → IsPaletteAfter words end colors
+pub eight : (end : ℕ) (colors new : List ℕ) (all words : List (List ℕ)) → words ≡ all → end ≡ 10 → IsPaletteAfter words
+    end colors
     → new ≡ paste colors 10 (drop 2 colors) 8
     → Some new ≡ option_map behind_two (option_and_then palette_of (colors_in (take 16 all)))
 eight end colors new all words is e p pasted =
@@ -211,7 +225,8 @@ eight end colors new all words is e p pasted =
     ap Some whole ∙ sym (palette_is end colors all words is p ∙ ap (option_map behind_two) palette)
 
 pub other_count : (end : ℕ) (colors : List ℕ) (all words : List (List ℕ)) → words ≡ all → end ≢ 18 → end ≢ 10
-    → IsPaletteAfter words end colors → None ≡ option_map behind_two (option_and_then palette_of (colors_in (take 16 all)))
+    → IsPaletteAfter words end colors → None ≡ option_map behind_two (option_and_then palette_of
+    (colors_in (take 16 all)))
 other_count end colors all words is a b p =
     let m : length p.some ≢ 16 = λ x. a (omega (arith, x, p.filled)) in
     let n : length p.some ≢ 8 = λ x. b (omega (arith, x, p.filled)) in
@@ -226,7 +241,8 @@ words_of ys = map {A = Bor (List ℕ)} {B = List ℕ} (λ w. w.now) ys
 pushed : (ys : List (Bor (List ℕ))) (y : Bor (List ℕ)) → words_of (ys ++ y ∷ []) ≡ words_of ys ++ y.now ∷ []
 pushed ys y = map-append (λ (w : Bor (List ℕ)). w.now) ys (y ∷ [])
 
-pub next_word : (ys : List (Bor (List ℕ))) (y : Bor (List ℕ)) (end v : ℕ) (colors : List ℕ) → end < 18 → color_in y.now ≡ Some v
+pub next_word : (ys : List (Bor (List ℕ))) (y : Bor (List ℕ)) (end v : ℕ) (colors : List ℕ) → end < 18 → color_in y.now
+    ≡ Some v
     → IsPaletteAfter (words_of ys) end colors → IsPaletteAfter (words_of (ys ++ y ∷ [])) (end + 1) (set colors end v)
 next_word ys y end v colors lt one p =
     subst (λ (ws : List (List ℕ)). IsPaletteAfter ws (end + 1) (set colors end v)) (sym (pushed ys y))
@@ -235,7 +251,8 @@ next_word ys y end v colors lt one p =
 pub past_word : (ys : List (Bor (List ℕ))) (y : Bor (List ℕ)) (end : ℕ) (colors : List ℕ) → 18 ≤ end
     → IsPaletteAfter (words_of ys) end colors → IsPaletteAfter (words_of (ys ++ y ∷ [])) end colors
 past_word ys y end colors full p =
-    subst (λ (ws : List (List ℕ)). IsPaletteAfter ws end colors) (sym (pushed ys y)) (word_more (words_of ys) y.now end colors full p)
+    subst (λ (ws : List (List ℕ)). IsPaletteAfter ws end colors) (sym (pushed ys y)) (word_more (words_of ys) y.now end
+    colors full p)
 
 pub no_color : (all : List (List ℕ)) (ys : List (Bor (List ℕ))) (y : Bor (List ℕ)) (end : ℕ) (colors : List ℕ)
     → words_of ys ≡ take (length ys) all → (length ys < length all) × (y.now ≡ get_or all (length ys) y.now) → end < 18

@@ -1,5 +1,7 @@
 -- Steps of a typescript, one after another.
-use Rattle.std.proofs.Common.{◌≡◌, ◌∙◌, ◌<◌, ◌+◌, ℕ, suc, List, [], ◌∷◌, ◌++◌, length, take, drop, get_or, refl, sym, ap, nat_le, ◌≤◌, ◌&&◌, ◌⊎◌, inl, inr, cond, codes, ap₂, add-one, drop-cons, Bool, true, false, Option, Some, None, arith}
+use Rattle.std.proofs.Common.{◌≡◌, ◌∙◌, ◌<◌, ◌+◌, ℕ, suc, List, [], ◌∷◌, ◌++◌, length, take, drop, get_or, refl, sym}
+use Rattle.std.proofs.Common.{ap, nat_le, ◌≤◌, ◌&&◌, ◌⊎◌, inl, inr, cond, codes, ap₂, add-one, drop-cons, Bool, true}
+use Rattle.std.proofs.Common.{false, Option, Some, None, arith}
 use Rattle.std.specs.Borrow.{Bor}
 use Rattle.std.specs.Prelude.{option_and_then}
 use Rattle.std.specs.Option.{option_map}
@@ -13,7 +15,8 @@ use Rattle.command_line.specs.Numbers.{count_of, size_in}
 use Rattle.command_line.proofs.NumberLemmas.{own}
 use Rattle.std.proofs.lemmas.List.{get_or-map, length-map, length-take-le}
 use Rattle.recordings.specs.Recorded.{Row, writes}
-use Rattle.recordings.specs.Typescript.{IsBadStep, event_of, events_of, gives, is_field, rest_of, side_named, taken, word_of}
+use Rattle.recordings.specs.Typescript.{IsBadStep, event_of, events_of, gives, is_field, rest_of, side_named, taken}
+use Rattle.recordings.specs.Typescript.{word_of}
 use Rattle.recordings.proofs.LineLemmas.{parts_at, taken_next, texts}
 
 abbrev Events : Type 0
@@ -42,7 +45,8 @@ row_first row (Some p) more = one_first row p.0 (more p.1)
 
 by_event : (xs ys : List (List ℕ)) → ((l : List ℕ)
     → events_of l (xs ++ ys) ≡ option_and_then (λ p. option_map (after_rows p.0) (events_of p.1 ys)) (events_of l xs))
-    → (o : Option (Row × List ℕ)) → option_and_then (λ event. option_map (after_row event.0) (events_of event.1 (xs ++ ys))) o
+    → (o : Option (Row × List ℕ)) → option_and_then (λ event. option_map (after_row event.0)
+    (events_of event.1 (xs ++ ys))) o
     ≡ option_and_then (λ p. option_map (after_rows p.0) (events_of p.1 ys))
     (option_and_then (λ event. option_map (after_row event.0) (events_of event.1 xs)) o)
 by_event xs ys more None = refl
@@ -50,12 +54,14 @@ by_event xs ys more (Some event) =
     ap (option_map (after_row event.0)) (more event.1) ∙ row_first event.0 (events_of event.1 xs) (λ l. events_of l ys)
 
 pub events_of-append : (left : List ℕ) (xs ys : List (List ℕ))
-    → events_of left (xs ++ ys) ≡ option_and_then (λ p. option_map (after_rows p.0) (events_of p.1 ys)) (events_of left xs)
+    → events_of left (xs ++ ys) ≡ option_and_then (λ p. option_map (after_rows p.0) (events_of p.1 ys))
+    (events_of left xs)
 events_of-append left [] ys = none_first (events_of left ys)
 events_of-append left (x ∷ xs) ys = by_event xs ys (λ l. events_of-append l xs ys) (event_of left x)
 
 -- one line more
-pub events_of-push : (output : List ℕ) (lines : List (List ℕ)) (line : List ℕ) (rows : List Row) (left : List ℕ) (row : Row)
+pub events_of-push : (output : List ℕ) (lines : List (List ℕ)) (line : List ℕ) (rows : List Row) (left : List ℕ)
+    (row : Row)
     (after : List ℕ) → events_of output lines ≡ Some (rows, left) → event_of left line ≡ Some (row, after)
     → events_of output (lines ++ line ∷ []) ≡ Some (rows ++ row ∷ [], after)
 events_of-push output lines line rows left row after so_far one =
@@ -65,7 +71,8 @@ events_of-push output lines line rows left row after so_far one =
     (option_and_then (λ event. option_map (after_row event.0) (events_of event.1 [])) o)) one
 
 -- the first line that is no step
-pub bad_step : (output : List ℕ) (lines : List (Bor (List ℕ))) (i n : ℕ) (d : Bor (List ℕ)) (rows : List Row) (left : List ℕ)
+pub bad_step : (output : List ℕ) (lines : List (Bor (List ℕ))) (i n : ℕ) (d : Bor (List ℕ)) (rows : List Row)
+    (left : List ℕ)
     → i < length lines → n ≡ i + 1 → events_of output (take i (texts lines)) ≡ Some (rows, left)
     → event_of left (get_or lines i d).now ≡ None → IsBadStep output (texts lines) n
 bad_step output lines i n d rows left lt number fine ill =
@@ -84,7 +91,8 @@ bad_step output lines i n d rows left lt number fine ill =
     }
 
 -- one more line of those that are lent
-pub next_step : (output : List ℕ) (lines : List (Bor (List ℕ))) (i : ℕ) (d : Bor (List ℕ)) (rows : List Row) (left : List ℕ) (row : Row)
+pub next_step : (output : List ℕ) (lines : List (Bor (List ℕ))) (i : ℕ) (d : Bor (List ℕ)) (rows : List Row)
+    (left : List ℕ) (row : Row)
     (after : List ℕ) → i < length lines → events_of output (take i (texts lines)) ≡ Some (rows, left)
     → event_of left (get_or lines i d).now ≡ Some (row, after)
     → events_of output (take (i + 1) (texts lines)) ≡ Some (rows ++ row ∷ [], after)
@@ -93,7 +101,8 @@ next_step output lines i d rows left row after lt so_far one =
     ∙ events_of-push output (take i (texts lines)) (get_or lines i d).now rows left row after so_far one
 
 -- the bytes of an output
-pub bytes_taken : (left bytes after : List ℕ) (time count : ℕ) → count ≤ length left → bytes ≡ take count left → after ≡ drop count left
+pub bytes_taken : (left bytes after : List ℕ) (time count : ℕ) → count ≤ length left → bytes ≡ take count left → after
+    ≡ drop count left
     → taken left (gives time count) ≡ Some ((time, Some (writes bytes)), after)
 bytes_taken left bytes after time count le is rest =
     let whole : nat_le count (length left) ≡ true = grind (arith, nat_tests) in
@@ -146,27 +155,33 @@ parted lines i d lt =
     ∙ ap₂ (λ (x : List ℕ) (k : ℕ). x ∷ drop k (texts lines)) (get_or-map (λ (x : Bor (List ℕ)). x.now) lines i d [] lt)
     (sym (add-one i))
 
-pub field_at : (name : List ℕ) (lines : List (Bor (List ℕ))) (i : ℕ) (d : Bor (List ℕ)) (first rest field found value : List ℕ)
-    → first ≡ word_of (get_or lines i d).now → rest ≡ rest_of (get_or lines i d).now → field ≡ rest_of rest → found ≡ word_of field
+pub field_at : (name : List ℕ) (lines : List (Bor (List ℕ))) (i : ℕ) (d : Bor (List ℕ))
+    (first rest field found value : List ℕ)
+    → first ≡ word_of (get_or lines i d).now → rest ≡ rest_of (get_or lines i d).now → field ≡ rest_of rest → found
+    ≡ word_of field
     → value ≡ rest_of field → i < length lines → bytes_eq first (codes "H") ≡ true → bytes_eq found name ≡ true
     → side_named name (drop i (texts lines)) ≡ size_in value
 field_at name lines i d first rest field found value a b e f g lt p q =
     let line = (get_or lines i d).now in
     let third : field ≡ rest_of (rest_of line) = e ∙ ap rest_of b in
-    let hit : is_field name line ≡ true = both (bytes_eq (word_of line) (codes "H")) (bytes_eq (word_of (rest_of (rest_of line))) name)
+    let hit : is_field name line ≡ true = both (bytes_eq (word_of line) (codes "H"))
+    (bytes_eq (word_of (rest_of (rest_of line))) name)
     (ap (λ w. bytes_eq w (codes "H")) (sym a) ∙ p) (ap (λ w. bytes_eq w name) (sym (f ∙ ap word_of third)) ∙ q) in
     ap (found_in name) (parted lines i d lt)
     ∙ ap (λ h. option_and_then value_in (cond h (Some line) (find (is_field name) (drop (i + 1) (texts lines))))) hit
     ∙ ap size_in (sym (g ∙ ap rest_of third))
 
-pub field_not_at : (name : List ℕ) (lines : List (Bor (List ℕ))) (i : ℕ) (d : Bor (List ℕ)) (first rest field found : List ℕ)
-    → first ≡ word_of (get_or lines i d).now → rest ≡ rest_of (get_or lines i d).now → field ≡ rest_of rest → found ≡ word_of field
+pub field_not_at : (name : List ℕ) (lines : List (Bor (List ℕ))) (i : ℕ) (d : Bor (List ℕ))
+    (first rest field found : List ℕ)
+    → first ≡ word_of (get_or lines i d).now → rest ≡ rest_of (get_or lines i d).now → field ≡ rest_of rest → found
+    ≡ word_of field
     → i < length lines → (bytes_eq first (codes "H") ≡ false) ⊎ (bytes_eq found name ≡ false)
     → side_named name (drop i (texts lines)) ≡ side_named name (drop (i + 1) (texts lines))
 field_not_at name lines i d first rest field found a b e f lt other =
     let line = (get_or lines i d).now in
     let third : field ≡ rest_of (rest_of line) = e ∙ ap rest_of b in
-    let miss : is_field name line ≡ false = one (bytes_eq (word_of line) (codes "H")) (bytes_eq (word_of (rest_of (rest_of line))) name)
+    let miss : is_field name line ≡ false = one (bytes_eq (word_of line) (codes "H"))
+    (bytes_eq (word_of (rest_of (rest_of line))) name)
     (⊎_elim (λ p. inl (ap (λ w. bytes_eq w (codes "H")) (sym a) ∙ p))
     (λ q. inr (ap (λ w. bytes_eq w name) (sym (f ∙ ap word_of third)) ∙ q)) other) in
     ap (found_in name) (parted lines i d lt)

@@ -1,5 +1,7 @@
 -- Asciicasts, versions 2 and 3: a header, and an event a line.
-use Rattle.std.specs.Prelude.{◌≡◌, ℕ, ◌+◌, ◌==◌, ◌&&◌, ◌||◌, nat_le, Bool, true, false, List, [], ◌∷◌, ◌++◌, drop, length, slice_index, Option, Some, None, is_some, option_and_then, unwrap_or, if◌then◌else◌, codes, IsSomeAnd, ◌⊎◌}
+use Rattle.std.specs.Prelude.{◌≡◌, ℕ, ◌+◌, ◌==◌, ◌&&◌, ◌||◌, nat_le, Bool, true, false, List, [], ◌∷◌, ◌++◌, drop}
+use Rattle.std.specs.Prelude.{length, slice_index, Option, Some, None, is_some, option_and_then, unwrap_or}
+use Rattle.std.specs.Prelude.{if◌then◌else◌, codes, IsSomeAnd, ◌⊎◌}
 use Rattle.std.specs.Char.{is_ascii_whitespace}
 use Rattle.std.specs.List.{list_all, flat_map, before_first, after_first, position_or_len, All}
 use Rattle.std.specs.Option.{option_map}
@@ -32,15 +34,18 @@ side_in name json =
 abbrev pub sides_in : List ℕ → List ℕ → Data → Option (ℕ × ℕ)
 sides_in rows cols json = option_and_then (λ r. option_map (λ c. (r, c)) (side_in cols json)) (side_in rows json)
 
--- version 2 has the size in the header, with times from the beginning; version 3 in its `term`, with times between events
+-- version 2 has the size in the header, with times from the beginning; version 3 in its `term`, with times between
+-- events
 abbrev pub header_of_version : Data → ℕ → Option (Pace × (ℕ × ℕ))
 header_of_version json version =
     if version == 2 then option_map (λ size. (FromStart, size)) (sides_in (codes "height") (codes "width") json)
-    else (if version == 3 then option_map (λ size. (FromLast, size)) (option_and_then (sides_in (codes "rows") (codes "cols")) (get (codes "term") json))
+    else (if version == 3 then option_map (λ size. (FromLast, size))
+    (option_and_then (sides_in (codes "rows") (codes "cols")) (get (codes "term") json))
     else None)
 
 abbrev pub header_of : Data → Option (Pace × (ℕ × ℕ))
-header_of json = option_and_then (header_of_version json) (option_and_then as_u64 (option_and_then as_number (get (codes "version") json)))
+header_of json = option_and_then (header_of_version json)
+    (option_and_then as_u64 (option_and_then as_number (get (codes "version") json)))
 
 abbrev pub header_in : List ℕ → Option (Pace × (ℕ × ℕ))
 header_in line = option_and_then header_of (json_in line)
@@ -101,16 +106,18 @@ AreEvents pace lines = All (λ line. is_some (rows_in pace line) ≡ true) lines
 -- ---- the recording
 
 -- what an asciicast with this header, these colours and these lines after the header says
-pub record Says (header : Pace × (ℕ × ℕ)) (colors : Option (List ℕ)) (lines : List (List ℕ)) (r : Recording) : Type 0 where
-  pub kind : r.kind ≡ AsAsciicast
-  pub size : option_map size_said r.size ≡ Some header.1
-  pub theme : theme_reported r.theme ≡ colors
-  pub events : AreEvents header.0 lines
-  pub moments : said r.events.items ≡ reported header.0 0 (rows_of header.0 lines)
-  pub length : r.length ≡ ended header.0 0 (rows_of header.0 lines)
+pub record Says (header : Pace × (ℕ × ℕ)) (colors : Option (List ℕ)) (lines : List (List ℕ)) (r : Recording) : Type 0
+  where
+    pub kind : r.kind ≡ AsAsciicast
+    pub size : option_map size_said r.size ≡ Some header.1
+    pub theme : theme_reported r.theme ≡ colors
+    pub events : AreEvents header.0 lines
+    pub moments : said r.events.items ≡ reported header.0 0 (rows_of header.0 lines)
+    pub length : r.length ≡ ended header.0 0 (rows_of header.0 lines)
 
 abbrev pub IsAsciicast : List ℕ → Recording → Type 0
-IsAsciicast text r = IsSomeAnd (header_in (first_line text)) (λ header. Says header (theme_said (first_line text)) (drop 1 (lines_in text)) r)
+IsAsciicast text r = IsSomeAnd (header_in (first_line text)) (λ header. Says header (theme_said (first_line text))
+    (drop 1 (lines_in text)) r)
 
 -- the first line that is no event, counted from 1 for the header
 pub record IsBadLine (pace : Pace) (lines : List (List ℕ)) (n : ℕ) : Type 0 where
@@ -131,7 +138,8 @@ IsFaultIn pace lines _ = ⊥
 -- why a text isn't read: it has no header, or a line after that is no event
 abbrev pub IsFault : List ℕ → RecordingError → Type 0
 IsFault text error.Header = header_in (first_line text) ≡ None
-IsFault text e = IsSomeAnd (header_in (first_line text)) (λ header. IsFaultIn header.0 (drop 1 (lines_in text)) e) ⊎ (e ≡ error.Memory)
+IsFault text e = IsSomeAnd (header_in (first_line text)) (λ header. IsFaultIn header.0 (drop 1 (lines_in text)) e)
+    ⊎ (e ≡ error.Memory)
 
 -- ---- its kind
 

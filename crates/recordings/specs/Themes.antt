@@ -1,5 +1,6 @@
 -- The colours that a recording has of its own.
-use Rattle.std.specs.Prelude.{ℕ, ◌==◌, ◌&&◌, Bool, List, [], ◌∷◌, ◌++◌, drop, take, length, slice_index, Option, Some, None, option_and_then, if◌then◌else◌, codes}
+use Rattle.std.specs.Prelude.{ℕ, ◌==◌, ◌&&◌, Bool, List, [], ◌∷◌, ◌++◌, drop, take, length, slice_index, Option, Some}
+use Rattle.std.specs.Prelude.{None, option_and_then, if◌then◌else◌, codes}
 use Rattle.std.specs.Char.{is_digit}
 use Rattle.std.specs.List.{list_all, slice_split}
 use Rattle.std.specs.Option.{option_map, option_or}
@@ -18,7 +19,8 @@ color_in word = if is_color word then Some (digits_value 16 (drop 1 word)) else 
 -- a colour a word
 abbrev pub colors_in : List (List ℕ) → Option (List ℕ)
 colors_in [] = Some []
-colors_in (word ∷ words) = option_and_then (λ color. option_map (λ colors. color ∷ colors) (colors_in words)) (color_in word)
+colors_in (word ∷ words) = option_and_then (λ color. option_map (λ colors. color ∷ colors) (colors_in words))
+    (color_in word)
 
 -- the first sixteen colours, or eight that are those of the bright ones too
 abbrev pub palette_of : List ℕ → Option (List ℕ)
@@ -42,7 +44,8 @@ theme_of json =
 
 -- the header's `theme`, or else that in its `term`
 abbrev pub theme_in : Data → Option (List ℕ)
-theme_in json = option_and_then theme_of (option_or (get (codes "theme") json) (option_and_then (get (codes "theme")) (get (codes "term") json)))
+theme_in json = option_and_then theme_of (option_or (get (codes "theme") json) (option_and_then (get (codes "theme"))
+    (get (codes "term") json)))
 
 abbrev pub theme_reported : Option RecordedTheme → Option (List ℕ)
 theme_reported = option_map (λ theme. theme.colors)

@@ -12,7 +12,8 @@ use Rattle.serde_json.specs.Read.{read}
 abbrev pub time_of_number : Num → Option ℕ
 time_of_number n =
     if lt (to_float n) float_zero then None
-    else Some (float_to_unsigned w64 (add binary64 (mul binary64 (to_float n) (of_bits binary64 0x412e848000000000)) (of_bits binary64 0x3fe0000000000000)))
+    else Some (float_to_unsigned w64 (add binary64 (mul binary64 (to_float n) (of_bits binary64 0x412e848000000000))
+    (of_bits binary64 0x3fe0000000000000)))
 
 abbrev pub time_of : Data → Option ℕ
 time_of value = option_and_then time_of_number (as_number value)

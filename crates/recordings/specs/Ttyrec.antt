@@ -1,5 +1,6 @@
 -- Ttyrecs: frames with a header of 12 bytes each.
-use Rattle.std.specs.Prelude.{◌≡◌, ℕ, ◌+◌, ◌-◌, ◌*◌, ◌<◌, nat_le, ◌&&◌, Bool, List, [], ◌∷◌, ◌++◌, map, take, drop, length, Some, None, ◌⊎◌}
+use Rattle.std.specs.Prelude.{◌≡◌, ℕ, ◌+◌, ◌-◌, ◌*◌, ◌<◌, nat_le, ◌&&◌, Bool, List, [], ◌∷◌, ◌++◌, map, take, drop}
+use Rattle.std.specs.Prelude.{length, Some, None, ◌⊎◌}
 use Rattle.std.specs.Int.{to_le_bytes, from_le_bytes, w32}
 use Rattle.std.specs.List.{flat_map}
 use Rattle.recordings.specs.Recorded.{Row, ended, said, reported, writes}

@@ -1,5 +1,6 @@
 -- Typescripts of `script`: the output in one file, and its times in another.
-use Rattle.std.specs.Prelude.{◌≡◌, ℕ, ◌+◌, ◌==◌, ◌&&◌, ◌||◌, nat_le, Bool, List, [], ◌∷◌, ◌++◌, take, drop, length, Option, Some, None, option_and_then, if◌then◌else◌, codes}
+use Rattle.std.specs.Prelude.{◌≡◌, ℕ, ◌+◌, ◌==◌, ◌&&◌, ◌||◌, nat_le, Bool, List, [], ◌∷◌, ◌++◌, take, drop, length}
+use Rattle.std.specs.Prelude.{Option, Some, None, option_and_then, if◌then◌else◌, codes}
 use Rattle.std.specs.Char.{is_ascii_whitespace}
 use Rattle.std.specs.List.{list_all, before_first, after_first, find}
 use Rattle.std.specs.Option.{option_map}
@@ -80,7 +81,8 @@ is_field name line = bytes_eq (word_of line) (codes "H") && bytes_eq (word_of (r
 
 -- the first of them counts
 abbrev pub side_named : List ℕ → List (List ℕ) → Option ℕ
-side_named name lines = option_and_then (λ line. size_in (rest_of (rest_of (rest_of line)))) (find (is_field name) lines)
+side_named name lines = option_and_then (λ line. size_in (rest_of (rest_of (rest_of line))))
+    (find (is_field name) lines)
 
 abbrev pub size_named : List (List ℕ) → Option (ℕ × ℕ)
 size_named lines =
@@ -107,7 +109,8 @@ event_of left line = option_and_then (taken left) (step_in line)
 abbrev pub events_of : List ℕ → List (List ℕ) → Option (List Row × List ℕ)
 events_of left [] = Some ([], left)
 events_of left (line ∷ lines) =
-    option_and_then (λ event. option_map (λ more. (event.0 ∷ more.0, more.1)) (events_of event.1 lines)) (event_of left line)
+    option_and_then (λ event. option_map (λ more. (event.0 ∷ more.0, more.1)) (events_of event.1 lines))
+    (event_of left line)
 
 -- each line takes its bytes from the output
 pub record IsTypescript (typescript timing : List ℕ) (r : Recording) : Type 0 where

@@ -1,10 +1,13 @@
 //! Asciicasts: a header and an event a line, each a value in JSON.
 
-ghost use Rattle.std.specs.Prelude.{◌≡◌, ◌++◌, ◌+◌, ◌^◌, ◌<◌, ◌⊎◌, ◌==◌, [], List, map, drop, length, true, None, is_some, unwrap_or, slice_index, IfOk, IfErr, IfSome, OnOk};
+ghost use Rattle.std.specs.Prelude.{◌≡◌, ◌++◌, ◌+◌, ◌^◌, ◌<◌, ◌⊎◌, ◌==◌, [], List, map, drop, length, true, None};
+ghost use Rattle.std.specs.Prelude.{is_some, unwrap_or, slice_index, IfOk, IfErr, IfSome, OnOk};
 ghost use Rattle.serde_json.specs.View.{view};
 ghost use Rattle.std.specs.Option.{option_map};
 ghost use Rattle.recordings.specs.Recorded.{Row, IsStateAfter, deed_of, size_said};
-ghost use Rattle.recordings.specs.Asciicast.{AreEvents, IsAsciicast, IsFault, IsFaultIn, comments, deed_in, entry_said, header_in, header_of as header_of_data, header_said, is_header, resize_in, row_in, rows_in, rows_of, side_in, sides_in, theme_said};
+ghost use Rattle.recordings.specs.Asciicast.{AreEvents, IsAsciicast, IsFault, IsFaultIn, comments, deed_in, entry_said};
+ghost use Rattle.recordings.specs.Asciicast.{header_in, header_of as header_of_data, header_said, is_header, resize_in};
+ghost use Rattle.recordings.specs.Asciicast.{row_in, rows_in, rows_of, side_in, sides_in, theme_said};
 ghost use Rattle.recordings.specs.Themes.{theme_in as theme_in_data, theme_reported};
 ghost use Rattle.recordings.specs.declared.error.RecordingError.TheVariants.{Line, Memory};
 

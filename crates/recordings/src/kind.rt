@@ -25,7 +25,8 @@ pub fn parse_recording(
     ensures recording { let lines = option_copied timing.entry in
         IfOk result (IsOfKind (kind_taken kind lines (vec_items bytes)) (vec_items bytes) lines) }
     ensures fault { let lines = option_copied timing.entry in
-        IfErr result (λ e. (e ≡ Memory) ⊎ IsFaultOfKind (kind_taken kind lines (vec_items bytes)) (vec_items bytes) lines e) }
+        IfErr result (λ e. (e ≡ Memory) ⊎ IsFaultOfKind (kind_taken kind lines (vec_items bytes)) (vec_items bytes)
+        lines e) }
 {
     let kind = match (kind, timing) {
         (Some(kind), _) => kind,

@@ -6,7 +6,8 @@ ghost use Rattle.std.specs.List.{list_all};
 ghost use Rattle.std.specs.Str.Parse.{digits_value};
 ghost use Rattle.std.specs.Option.{option_map};
 ghost use Rattle.serde_json.specs.View.{view};
-ghost use Rattle.recordings.specs.Themes.{color_in as color_of, palette_in as palette_of, text_at as text_of, theme_in as theme_in_data, theme_of as theme_of_data, theme_reported};
+ghost use Rattle.recordings.specs.Themes.{color_in as color_of, palette_in as palette_of, text_at as text_of};
+ghost use Rattle.recordings.specs.Themes.{theme_in as theme_in_data, theme_of as theme_of_data, theme_reported};
 
 use serde_json::Value;
 

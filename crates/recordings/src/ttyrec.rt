@@ -1,9 +1,11 @@
 //! Ttyrecs: frames of output, each behind its time and its length.
 
-ghost use Rattle.std.specs.Prelude.{◌≡◌, ◌++◌, ◌<◌, ◌^◌, ◌*◌, ◌+◌, List, length, map, take, MatchOption, IfOk, IfErr, ◌⊎◌};
+ghost use Rattle.std.specs.Prelude.{◌≡◌, ◌++◌, ◌<◌, ◌^◌, ◌*◌, ◌+◌, List, length, map, take, MatchOption, IfOk, IfErr};
+ghost use Rattle.std.specs.Prelude.{◌⊎◌};
 ghost use Rattle.std.specs.Int.{to_le_bytes, w32};
 ghost use Rattle.recordings.specs.Recorded.{IsStateAfter};
-ghost use Rattle.recordings.specs.Ttyrec.{IsCut, IsNoFrame, IsTtyrec, Piece, begins_with_frame, piece_of, start_of, stored, rows_after, clock, stored_one};
+ghost use Rattle.recordings.specs.Ttyrec.{IsCut, IsNoFrame, IsTtyrec, Piece, begins_with_frame, piece_of, start_of};
+ghost use Rattle.recordings.specs.Ttyrec.{stored, rows_after, clock, stored_one};
 ghost use Rattle.recordings.specs.declared.error.RecordingError.TheVariants.{Byte, Memory};
 ghost use Rattle.recordings.specs.declared.timeline.Pace.TheVariants.{FromStart as From};
 
@@ -67,7 +69,8 @@ fn read_frames(alloc: Global, bytes: &[u8]) -> Result<Vec<Frame<'_>>, RecordingE
 }
 
 fn play_frames(alloc: Global, frames: &[Frame<'_>]) -> Result<Timeline, AllocError>
-    ensures { IfOk result (IsStateAfter From (rows_after (start_of (map piece_of frames.now)) (map piece_of frames.now))) }
+    ensures { IfOk result (IsStateAfter From (rows_after (start_of (map piece_of frames.now))
+        (map piece_of frames.now))) }
 {
     let mut timeline = Timeline::new(alloc, Pace::FromStart);
     let start = start_time(frames);

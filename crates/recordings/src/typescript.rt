@@ -4,7 +4,9 @@ ghost use Rattle.std.specs.Prelude.{◌≡◌, ◌⊎◌, ◌∷◌, ◌++◌, [
 ghost use Rattle.std.specs.Option.{option_map};
 ghost use Rattle.command_line.specs.Numbers.{count_of, size_in as size_of};
 ghost use Rattle.recordings.specs.Recorded.{Row, IsStateAfter, size_said};
-ghost use Rattle.recordings.specs.Typescript.{IsFaultOfStep, IsTypescript, events_of, other_in, output_in, output_of, rest_of, side_named, signal_in, size_named, step_in, step_said, taken, window_in as window_of, word_of};
+ghost use Rattle.recordings.specs.Typescript.{IsFaultOfStep, IsTypescript, events_of, other_in, output_in, output_of};
+ghost use Rattle.recordings.specs.Typescript.{rest_of, side_named, signal_in, size_named, step_in, step_said, taken};
+ghost use Rattle.recordings.specs.Typescript.{window_in as window_of, word_of};
 ghost use Rattle.recordings.specs.declared.error.RecordingError.TheVariants.{Memory};
 ghost use Rattle.recordings.specs.declared.timeline.Pace.TheVariants.{FromLast as Last};
 
@@ -79,7 +81,8 @@ fn push_step<'a>(
 ) -> Result<Option<&'a [u8]>, AllocError>
     ensures { IfOk result (λ rest. MatchOption rest (taken left.now (step_said step) ≡ None) (λ after.
         (row : Row) × (taken left.now (step_said step) ≡ Some (row, after.now))
-        × ((rows : List Row) → IsStateAfter Last rows timeline.old → IsStateAfter Last (rows ++ row ∷ []) timeline.new))) }
+        × ((rows : List Row) → IsStateAfter Last rows timeline.old → IsStateAfter Last (rows ++ row ∷ [])
+        timeline.new))) }
 {
     match step {
         TimingLine::Output(time, count) => match left.split_at_checked(count) {

@@ -20,7 +20,8 @@ fn push_row(answer: &mut Answer, view: &View<UntilCleared>, row: u16) {
     answer.push(if view.row_wrapped(row) { ">/" } else { "/" });
 }
 
-/// Appends a view's rows, `.` for an empty cell, `_` for the second half of a wide one, `>` where the row is wrapped and
+/// Appends a view's rows, `.` for an empty cell, `_` for the second half of a wide one, `>` where the row is wrapped
+/// and
 /// `/` after each; then the cursor's row and column, as in `"ab>/c./" 1 1`.
 pub fn push_shown(answer: &mut Answer, view: &View<UntilCleared>) {
     answer.push("\"");

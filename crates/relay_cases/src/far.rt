@@ -58,8 +58,8 @@ impl Hubs {
         self.far(alloc, part, &cuts)
     }
 
-    /// What a cell of such views shows, and their cursor, where the bytes are cut once, at each place. The words are the
-    /// session, how many of its bytes are taken, and the cell's row and column.
+    /// What a cell of such views shows, and their cursor, where the bytes are cut once, at each place. The words are
+    /// the session, how many of its bytes are taken, and the cell's row and column.
     pub fn cut_far(
         &self,
         alloc: Global,

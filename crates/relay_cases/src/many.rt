@@ -78,8 +78,8 @@ impl Hubs {
         outcome
     }
 
-    /// The program writes so many lines of 80 letters, of `a` to `z` again and again. A client is sent a frame after each,
-    /// which is added to the bytes.
+    /// The program writes so many lines of 80 letters, of `a` to `z` again and again. A client is sent a frame after
+    /// each, which is added to the bytes.
     pub fn letters(&mut self, words: &mut Words<'_>, sent: &mut Vec<u8>) -> Result<(), StepError> {
         let index = words.count()?;
         for line in 0..words.count()? {

@@ -21,7 +21,8 @@ impl Numbers {
     }
 }
 
-/// Makes a stream of this length of parts that follow each other in a fixed order. The words are its length and the parts.
+/// Makes a stream of this length of parts that follow each other in a fixed order. The words are its length and the
+/// parts.
 pub fn made_of_parts(alloc: Global, words: &mut Words<'_>) -> Result<Vec<u8>, StepError> {
     let length = words.count()?;
     let mut parts = Vec::new(alloc);
@@ -48,8 +49,8 @@ fn fill(stream: &mut Vec<u8>, length: usize, parts: &[Vec<u8>]) -> Result<(), St
     Ok(())
 }
 
-/// The first frame of a screen that is fed the stream in pieces of these lengths, again and again, is that of one that is
-/// fed it in one piece. The words are the screen's size and the lengths.
+/// The first frame of a screen that is fed the stream in pieces of these lengths, again and again, is that of one that
+/// is fed it in one piece. The words are the screen's size and the lengths.
 pub fn check_pieces(alloc: Global, words: &mut Words<'_>, stream: &[u8]) -> Result<(), StepError> {
     let size = (words.size()?, words.size()?);
     let lengths = counts(alloc, words)?;

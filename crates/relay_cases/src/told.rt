@@ -22,8 +22,8 @@ pub enum Told {
 }
 
 impl Told {
-    /// Whether a call on one hub tells what it told on another. Clients have keys of their own there, and the fault of a
-    /// run's writer is of kind `Other`.
+    /// Whether a call on one hub tells what it told on another. Clients have keys of their own there, and the fault of
+    /// a run's writer is of kind `Other`.
     pub fn is_like(&self, other: &Told) -> bool {
         match (*self, *other) {
             (Told::Attached(_), Told::Attached(_)) => true,

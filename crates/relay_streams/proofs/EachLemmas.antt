@@ -36,7 +36,8 @@ module _ (S W : Type 0) (gives : S → ℕ → Result (List ℕ) Error → S →
       (step.1 rows cols pieces (base_of rows cols pieces) before.2) in (
         goes.0,
         goes.1,
-        subst (λ (key : ℕ). Relaying rows cols (pieces ++ piece ∷ []) (base_of rows cols (pieces ++ piece ∷ [])) r.hub key)
+        subst (λ (key : ℕ). Relaying rows cols (pieces ++ piece ∷ []) (base_of rows cols (pieces ++ piece ∷ [])) r.hub
+            key)
             (sym step.0) goes.2,
       )
 
@@ -54,7 +55,8 @@ module _ (S W : Type 0) (gives : S → ℕ → Result (List ℕ) Error → S →
       so_far.1 (step.1 rows cols pieces (base_of rows cols pieces) so_far.2)
   streams-of s t p q w v answer at (each.taken pieces d all) =
       let so_far = turns-go p w pieces q v at all in
-      sent pieces (frames_of rows cols pieces) d (frames-are-relayed rows cols pieces at.height at.width so_far.0) so_far.1
+      sent pieces (frames_of rows cols pieces) d (frames-are-relayed rows cols pieces at.height at.width so_far.0)
+      so_far.1
 
 abbrev ByView : Unchanged → View UntilCleared → List ℕ → Result (Unit {0}) RelayError → Unchanged → View UntilCleared
     → Type 0

@@ -54,7 +54,8 @@ none-logged (t ∷ ts) zero is = absurd (let no : Some t.session ≡ None = is i
 none-logged (t ∷ ts) (suc n) is = omega (arith, none-logged ts n is)
 
 module _ (rows cols : ℕ) (calls : List Call) (h g : HubState as_kept) (m : LogView) (new : IsNewHub rows cols h)
-    (ran : MadeAll h empty_log calls g m) (fed : list_any is_out_of_memory m.replies ≡ false) (n most : ℕ) (cuts : List ℕ)
+    (ran : MadeAll h empty_log calls g m) (fed : list_any is_out_of_memory m.replies ≡ false) (n most : ℕ)
+    (cuts : List ℕ)
   where
     fed-all : list_any is_out_of_memory ran.0 ≡ false
     fed-all = ap (list_any is_out_of_memory) (sym ran.1) ∙ fed

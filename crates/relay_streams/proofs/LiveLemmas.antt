@@ -1,6 +1,7 @@
 -- A live input, piece by piece, and what its frames leave.
 use Rattle.std.proofs.Common.{◌≡◌, ◌≢◌, ◌∙◌, ℕ, ◌+◌, ◌<◌, ◌≤◌, false, List, [], ◌∷◌, ◌++◌, Option, Some, Ok, Err}
-use Rattle.std.proofs.Common.{Result, IfSome, IfOk, OnOk, refl, sym, ap, subst, take, length, arith, append_assoc, append-nil}
+use Rattle.std.proofs.Common.{Result, IfSome, IfOk, OnOk, refl, sym, ap, subst, take, length, arith, append_assoc}
+use Rattle.std.proofs.Common.{append-nil}
 use Rattle.std.proofs.Common.{add_assoc, zero-add}
 use Rattle.std.proofs.Math.Seq.{take-length}
 use Rattle.std.proofs.lemmas.List.{length-take-le}
@@ -310,7 +311,8 @@ module _ (S W : Type 0) (gives : S → ℕ → Result (List ℕ) Error → S →
     listened : (s : S) (n : ℕ) (pieces : List (List ℕ)) (t : S) (bytes : List ℕ) → Listens gives live_len s n pieces t
         → left s ≡ Some bytes → (rest : List ℕ) × (bytes ≡ concat pieces ++ rest)
     listened s n pieces t bytes listens is =
-        let known = left-known (left s) (left t) bytes (concat pieces) is (listens-taken s live_len n pieces t listens) in
+        let known = left-known (left s) (left t) bytes (concat pieces) is (listens-taken s live_len n pieces t
+        listens) in
         (known.0, known.2)
 
     -- the same of all pieces but the last one
@@ -330,14 +332,16 @@ module _ (S W : Type 0) (gives : S → ℕ → Result (List ℕ) Error → S →
         (live.unread {n = n} m pieces frames e listens tries are sends counts) is =
         let cut = listened s n pieces m bytes listens is in
         takes-live rows cols lines w v pieces frames over bytes cut.0 are sends cut.1
-    streams-prefix rows cols lines s w answer t v bytes (live.unmade {n = n} pieces frames piece listens are sends most) is =
+    streams-prefix rows cols lines s w answer t v bytes (live.unmade {n = n} pieces frames piece listens are sends most)
+        is =
         let cut = listened-past s n pieces piece t bytes listens is in
         takes-live rows cols lines w v pieces frames over bytes cut.0 are sends cut.1
     streams-prefix rows cols lines s w answer t v bytes
         (live.overlong {n = n} pieces frames piece listens are ends sends most) is =
         let cut = listened-past s n pieces piece t bytes listens is in
         takes-live rows cols lines w v pieces frames over bytes cut.0 are sends cut.1
-    streams-prefix rows cols lines s w answer t v bytes (live.stopped {n = n} pieces frames e listens are sends most) is =
+    streams-prefix rows cols lines s w answer t v bytes (live.stopped {n = n} pieces frames e listens are sends most)
+        is =
         let cut = listened s n pieces t bytes listens is in
         takes-live rows cols lines w v pieces frames (Err e) bytes cut.0 are sends cut.1
     streams-prefix rows cols lines s w answer t v bytes
@@ -345,7 +349,8 @@ module _ (S W : Type 0) (gives : S → ℕ → Result (List ℕ) Error → S →
         let cut = listened s n pieces m bytes listens is in
         takes-live rows cols lines w v pieces frames over bytes cut.0 are sends cut.1
 
-    streams-whole : (rows cols : ℕ) (lines : LineDrawing) (s : S) (w : W) (answer : Result (Unit {0}) RelayError) (t : S)
+    streams-whole : (rows cols : ℕ) (lines : LineDrawing) (s : S) (w : W) (answer : Result (Unit {0}) RelayError)
+        (t : S)
         (v : W) (bytes : List ℕ) → StreamsThrough lines gives takes flushes rows cols s w answer t v → answer ≡ well
         → left s ≡ Some bytes
         → (text : List ℕ) × IsLiveText rows cols (passed lines [] bytes) text × Appends (contents w) (contents v) text

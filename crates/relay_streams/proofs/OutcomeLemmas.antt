@@ -162,7 +162,8 @@ module _ (S W : Type 0) (gives : S → ℕ → Result (List ℕ) Error → S →
         → has_overlong u ≡ true
     streams-long rows cols s w answer t v bytes (relayed.unread pieces frames rest e d are sends) long is key u so =
         absurd (no-read d.end e d.answered long)
-    streams-long rows cols s w answer t v bytes (relayed.overlong pieces frames piece b are ends sends) long is key u so =
+    streams-long rows cols s w answer t v bytes (relayed.overlong pieces frames piece b are ends sends) long is key u
+        so =
         let more = begun-well S gives left gave s (pieces ++ piece ∷ []) t bytes b is in
         long-prefix rows cols key (pieces ++ piece ∷ []) more.0 (pieces_of bytes) u ends more.1 so
     streams-long rows cols s w answer t v bytes _ long is key u so = absurd (cc)
@@ -205,7 +206,8 @@ module _ (S W : Type 0) (gives : S → ℕ → Result (List ℕ) Error → S →
         → Drained gives piece_len s pieces (Ok tt) t → left s ≡ Some bytes → IsTextShown z pieces text
         → IsTextShown z (pieces_of bytes) text
     whole-shown z s t pieces text bytes d known is =
-        subst (λ (ps : List (List ℕ)). IsTextShown z ps text) (drained-pieces S gives left gave s pieces t bytes d known) is
+        subst (λ (ps : List (List ℕ)). IsTextShown z ps text) (drained-pieces S gives left gave s pieces t bytes d
+        known) is
 
     on-ok : (answer : Result (Unit {0}) RelayError) (known : Option (List ℕ)) (P : List ℕ → Type 0) (A : Type 0)
         → OnOk answer A → ((bytes : List ℕ) → known ≡ Some bytes → A → P bytes) → OnOk answer (IfSome known P)
@@ -217,7 +219,8 @@ module _ (S W : Type 0) (gives : S → ℕ → Result (List ℕ) Error → S →
         → OnOk answer (IfSome (left s) (λ bytes. (text : List ℕ) × IsTextShown z (pieces_of bytes) text
         × Appends (contents w) (contents v) text))
     shows-text z s w answer t v (shown.shown pieces text d is prints) =
-        on-ok answer (left s) _ (Appends (contents w) (contents v) text) (prints-text W takes flushes contents took flushed w text answer v prints)
+        on-ok answer (left s) _ (Appends (contents w) (contents v) text) (prints-text W takes flushes contents took
+        flushed w text answer v prints)
         (λ bytes known took. (text, whole-shown z s t pieces text bytes d known is, took))
     shows-text z s w answer t v _ = tt
 

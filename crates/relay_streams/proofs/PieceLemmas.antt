@@ -15,7 +15,8 @@ use Rattle.relay_streams.specs.Fill.{again, more, CountsTo, end_answer, max_read
 use Rattle.relay_streams.specs.Pieces.{cut_by, piece_len, pieces_of, Drains, last, next, outcome_of, Drained, Begun}
 use Rattle.std.proofs.Math.Nat.{add-div_left}
 
-pub Consumes-more : (a b c : Option (List ℕ)) (xs ys : List ℕ) → Consumes a b xs → Consumes b c ys → Consumes a c (xs ++ ys)
+pub Consumes-more : (a b c : Option (List ℕ)) (xs ys : List ℕ) → Consumes a b xs → Consumes b c ys
+    → Consumes a c (xs ++ ys)
 Consumes-more None b c xs ys h k = tt
 Consumes-more (Some a) None c xs ys h k = absurd h
 Consumes-more (Some a) (Some b) None xs ys h k = absurd k
@@ -233,7 +234,8 @@ module _ (S : Type 0) (step : S → ℕ → Result (List ℕ) Error → S → Ty
               ∙ ap (λ (x : List ℕ). x ∷ (ps ++ later.0)) same,
         )
 
-    pub drained-prefix : (s : S) (pieces : List (List ℕ)) (rest : List ℕ) (answer : Result (Unit {0}) RelayError) (t : S)
+    pub drained-prefix : (s : S) (pieces : List (List ℕ)) (rest : List ℕ) (answer : Result (Unit {0}) RelayError)
+        (t : S)
         (input : List ℕ) → Drained step piece_len s (pieces ++ rest ∷ []) answer t → left s ≡ Some input
         → (more : List (List ℕ)) × (pieces_of input ≡ pieces ++ more)
     drained-prefix s pieces rest answer t input d is =
@@ -321,7 +323,8 @@ full_end Ended answer len n room is ok short long =
     absurd (omega (arith, same, short (λ no. absurd (cc)), long))
 full_end _ answer len n room is ok short long = absurd (let e = sym is ∙ ok in cc)
 
-short_end : (end : FillEnd) (answer : Result ℕ RelayError) (len n room : ℕ) → answer ≡ end_answer end len → answer ≡ Ok n
+short_end : (end : FillEnd) (answer : Result ℕ RelayError) (len n room : ℕ) → answer ≡ end_answer end len → answer
+    ≡ Ok n
     → (end ≡ Full → len ≡ room) → n < room → (end ≡ Ended) × (n ≡ len)
 short_end Full answer len n room is ok all low =
     let e = sym is ∙ ok in

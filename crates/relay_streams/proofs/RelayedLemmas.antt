@@ -78,7 +78,8 @@ relayed-judged : (rows cols key : ℕ) (input : List ℕ) (t : Story) → IsRela
     × (judged rows cols (last_frame None t.entries) ≡ shown_state (state_after rows cols input))
 relayed-judged rows cols key input t r fits sure ended =
     let by = relayed-by rows cols key (pieces_of input) t r in
-    let reported = sessions-reported rows cols (relay_calls key (pieces_of input)) (Attached key ∷ r.replies) 0 t r.session in
+    let reported = sessions-reported rows cols (relay_calls key (pieces_of input)) (Attached key ∷ r.replies) 0 t
+    r.session in
     let cut = last-piece (replicate (length input / piece_len) piece_len) input in
     let prefix = cut.0 in
     let all = prefix ++ cut.1 ∷ [] in

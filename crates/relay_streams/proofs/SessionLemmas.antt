@@ -127,7 +127,8 @@ module _ (rows cols key : ℕ) where
     pub are : us ≡ with_answer (entry_at rows cols got base) t ∷ []
     pub at : IsAt got (base_at rows cols got base) g (with_answer (entry_at rows cols got base) t)
 
-  module _ (got : List (List ℕ)) (base : Option Shown) (t : Story) (on : is_on key t ≡ true) (g k l : HubState as_reported)
+  module _ (got : List (List ℕ)) (base : Option Shown) (t : Story) (on : is_on key t ≡ true)
+      (g k l : HubState as_reported)
       (fed : g.parser ≡ past_of got) (client : g.clients key ≡ Some (idle base)) (answer : Answer)
       (is : answer ≡ answer_for (screen_in g).state (idle base))
       (put : Puts g key (Some (after_answer (size_in g) (shown_in g) (idle base) answer)) k) (reply : Reply)
@@ -194,7 +195,8 @@ module _ (rows cols key : ℕ) where
         → Turns got base t l (stories_after k (Pump key []) reply (stories_after g (Frame key) (Answered answer) ts))
     turns ts are = record {
       are = ap (λ xs. stories_after k (Pump key []) reply (stories_after g (Frame key) (Answered answer) xs)) are
-          ∙ ap (stories_after k (Pump key []) reply) framed ∙ pumped ∙ ap (λ (x : Entry). with_answer x t ∷ []) reported;
+          ∙ ap (stories_after k (Pump key []) reply) framed ∙ pumped ∙ ap (λ (x : Entry). with_answer x t ∷ [])
+          reported;
       at = record {
         parser = pump-parser (k.clients key) pumps.0 pumps.1 pumps.2 ∙ put.0 ∙ fed;
         client = at-pump ∙ ap (λ (d : ClientState). Some (idle d.base)) after;
@@ -271,7 +273,8 @@ module _ (rows cols key : ℕ) where
       story-pumped got next ps (with_answer e t)
       ∙ append_assoc t.session.pumped e.text (concat (frames_from rows cols got next ps))
 
-  ran-by : (past : List (List ℕ)) (base : Option Shown) (t : Story) (pieces : List (List ℕ)) (h k : HubState as_reported)
+  ran-by : (past : List (List ℕ)) (base : Option Shown) (t : Story) (pieces : List (List ℕ))
+      (h k : HubState as_reported)
       (ts us : List Story) (replies : List Reply) → IsAt past base h t → ts ≡ t ∷ []
       → list_any is_refused replies ≡ false → RunsReported h ts (turn_calls key pieces) replies k us
       → us ≡ story_from past base pieces t ∷ []
@@ -320,7 +323,8 @@ module _ (rows cols key : ℕ) where
 
   reported-by : (pieces : List (List ℕ)) (t : Story) (replies : List Reply) (h : HubState as_reported) (ts : List Story)
       → list_any is_refused replies ≡ false
-      → RunsReported (fresh rows cols) [] (relay_calls key pieces) (Attached key ∷ replies) h ts → slice_get ts 0 ≡ Some t
+      → RunsReported (fresh rows cols) [] (relay_calls key pieces) (Attached key ∷ replies) h ts → slice_get ts 0
+      ≡ Some t
       → t ≡ relayed pieces
   reported-by pieces t replies h ts ok (g, is, (result, f, e), run) at =
       let are = ran-by [] None first pieces g h (first ∷ []) ts replies (first-at result g f e) refl ok run in

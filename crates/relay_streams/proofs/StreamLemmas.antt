@@ -46,7 +46,8 @@ module _ (S W : Type 0) (gives : S → ℕ → Result (List ℕ) Error → S →
   fits-on last fit = fits-push rows cols past piece fit last
 
   -- a turn at which a fault came
-  pub turn-faults : (s t : S) (w m v : W) (e : RelayError) → IsSide rows → IsSide cols → Begun gives piece_len s pieces t
+  pub turn-faults : (s t : S) (w m v : W) (e : RelayError) → IsSide rows → IsSide cols → Begun gives piece_len s pieces
+      t
       → Fit past → Sends takes w (frames_of rows cols past) (Ok tt) m
       → Turned takes rows cols pieces base key m (Err e) v g → Streams gives takes rows cols s w (Err e) t v
   turn-faults s t w m v Read height width b fit sends turned = absurd turned
@@ -55,7 +56,8 @@ module _ (S W : Type 0) (gives : S → ℕ → Result (List ℕ) Error → S →
       subst (λ (texts : List (List ℕ)). Sends takes w texts (Err x) v) (sym frames-are)
       (sends-more W takes w m v (frames_of rows cols past) ((asked rows cols (concat pieces) base).owed ∷ []) (Ok tt)
       (Err x) sends refl (sent.fault pumps)) in
-      stopped pieces (frames_of rows cols pieces) x b (frames-are-relayed rows cols pieces height width (fits-on last fit))
+      stopped pieces (frames_of rows cols pieces) x b (frames-are-relayed rows cols pieces height width
+      (fits-on last fit))
       all
   turn-faults s t w m v Memory height width b fit sends turned =
       unmade past (frames_of rows cols past) piece b (frames-are-relayed rows cols past height width fit)

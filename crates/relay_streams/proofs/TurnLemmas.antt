@@ -48,7 +48,8 @@ piece-fed : (rows cols : ℕ) (pieces : List (List ℕ)) (piece : List ℕ) (bas
 piece-fed rows cols pieces piece base h g key r f = record {
   height = r.height;
   width = r.width;
-  parser = subst (λ (acts : List Act). ParserIsAfter g.parser rows cols 0 acts) (sym (map-append Fed pieces (piece ∷ [])))
+  parser = subst (λ (acts : List Act). ParserIsAfter g.parser rows cols 0 acts)
+      (sym (map-append Fed pieces (piece ∷ [])))
       (f.3 rows cols 0 (map Fed pieces) r.parser);
   client = ap (λ (c : ℕ → Option ClientState). c key) f.2 ∙ r.client;
 }

@@ -63,7 +63,8 @@ led_on old now new pieces piece led take =
 
 -- what a fresh view shows once it has read pieces
 pub shown_so : (fresh now : View UntilCleared) (z : Size) (pieces : List (List ℕ)) → HoldsAt until_cleared fresh [] None
-    → view_size fresh ≡ z → Led fresh pieces now → IsTextShown z pieces (screen_text (view_size now) (shown_by now).cell)
+    → view_size fresh ≡ z → Led fresh pieces now → IsTextShown z pieces (screen_text (view_size now)
+    (shown_by now).cell)
 shown_so fresh now z pieces at is led =
     let l = led.goes [] None at in
     let text : screen_text (view_size now) (shown_by now).cell

@@ -51,8 +51,8 @@ abbrev pub last_given : Story → ℕ → Option Entry
 last_given t most = last_whole None t.entries (length (take most t.session.pumped))
 
 -- These calls can get such replies on a new hub, none of which is a refusal for want of memory, that the view, of the
--- size of the n-th session that they then have, shows what the judge says of the last frame that lies wholly in the bytes
--- that it was given, unless that one wasn't sure; and so of the last one of some frames that make up these bytes.
+-- size of the n-th session that they then have, shows what the judge says of the last frame that lies wholly in the
+-- bytes that it was given, unless that one wasn't sure; and so of the last one of some frames that make up these bytes.
 pub record ShowsJudged (rows cols : ℕ) (calls : List Call) (n most : ℕ) (v : View UntilCleared) : Type 0 where
   pub replies : List Reply
   pub story : Story
@@ -60,7 +60,8 @@ pub record ShowsJudged (rows cols : ℕ) (calls : List Call) (n most : ℕ) (v :
   pub fed : list_any is_out_of_memory replies ≡ false
   pub size : view_size v ≡ size_of_story story
   pub shows : IsShownRight rows cols (shown_of (shown_by v)) (last_given story most)
-  pub whole : (prefix back : List Entry) → story.entries ≡ prefix ++ back → take most story.session.pumped ≡ texts prefix
+  pub whole : (prefix back : List Entry) → story.entries ≡ prefix ++ back → take most story.session.pumped
+      ≡ texts prefix
       → IsShownRight rows cols (shown_of (shown_by v)) (last_frame None prefix)
 
 -- such a view shows what the judge says of the last frame that lies wholly in the bytes that it was given, unless that

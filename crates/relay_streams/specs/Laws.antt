@@ -16,7 +16,8 @@ use Rattle.relay_streams.specs.Shown.{IsTextShown, screen_text, sized}
 
 -- pieces have one text: it is a function of the size and the pieces
 abbrev pub TextsAreOne : Type 0
-TextsAreOne = (z : Size) (pieces : List (List ℕ)) (a b : List ℕ) → IsTextShown z pieces a → IsTextShown z pieces b → a ≡ b
+TextsAreOne = (z : Size) (pieces : List (List ℕ)) (a b : List ℕ) → IsTextShown z pieces a → IsTextShown z pieces b → a
+    ≡ b
 
 -- joined whole frames are printed as the text of the screen that they leave
 abbrev pub WholeFramesArePrinted : Type 0
@@ -24,8 +25,8 @@ WholeFramesArePrinted = (z : Size) (frames : List (List ℕ)) (text : List ℕ)
     → All IsFrame frames → IsTextShown z (pieces_of (concat frames)) text
     → text ≡ screen_text z (seen z (concat frames)).cell
 
--- Any prefix of what is relayed of some pieces, in whatever pieces it comes: a new view of the size, which has parsed so
--- much of it, shows what the judge says of the last frame that lies wholly in it, unless that one wasn't sure.
+-- Any prefix of what is relayed of some pieces, in whatever pieces it comes: a new view of the size, which has parsed
+-- so much of it, shows what the judge says of the last frame that lies wholly in it, unless that one wasn't sure.
 abbrev pub RelayedPrefixesAreShown : Type 0
 RelayedPrefixesAreShown = (rows cols key : ℕ) (parsed : List ℕ) (fed pieces : List (List ℕ)) (t : Story)
     → IsRelayed rows cols key fed t → ReadsPrefix t.session.pumped pieces parsed

@@ -38,7 +38,8 @@ pub fn far_view(
 ) -> Result<Option<View<UntilCleared>>, RelayError>
     ensures view { IfOk result (λ found. IsFarView rows.value cols.value (map call_of calls.now) session take cuts.now
         found) }
-    ensures shows { IfOk result (λ found. IfSome found (ShowsJudged rows.value cols.value (map call_of calls.now) session
+    ensures shows { IfOk result (λ found. IfSome found (ShowsJudged rows.value cols.value (map call_of calls.now)
+        session
         take)) }
     ensures memory { OnErr result (result ≡ Err Memory) }
 {

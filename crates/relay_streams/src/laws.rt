@@ -13,15 +13,16 @@ pub fn whole_frames_are_printed()
     ensures { WholeFramesArePrinted }
 {}
 
-/// What `relay` writes of an input a view shows, in whatever pieces it comes, and `show` prints as the rows of the screen
-/// that the input makes, unless that screen shows U+FE0F, or the input ends inside a synchronized update of its own.
+/// What `relay` writes of an input a view shows, in whatever pieces it comes, and `show` prints as the rows of the
+/// screen that the input makes, unless that screen shows U+FE0F, or the input ends inside a synchronized update of its
+/// own.
 pub fn relayed_is_shown()
     ensures { RelayedIsShown }
 {}
 
-/// Of any prefix of what `relay` or `relay_live` writes, in whatever pieces it comes, a view shows what the input's first
-/// pieces had made when the last frame was taken that lies wholly in it, or a blank screen: so where that screen showed no
-/// U+FE0F. So also where the relay ended since a frame would be too long.
+/// Of any prefix of what `relay` or `relay_live` writes, in whatever pieces it comes, a view shows what the input's
+/// first pieces had made when the last frame was taken that lies wholly in it, or a blank screen: so where that screen
+/// showed no U+FE0F. So also where the relay ended since a frame would be too long.
 pub fn relayed_prefixes_are_shown()
     ensures { RelayedPrefixesAreShown }
 {}
@@ -34,8 +35,9 @@ pub fn far_views_show()
 {}
 
 /// What `relay` writes is what is pumped to a session of a history, in which a client comes, and after each piece asks
-/// for a frame and gets what it is owed: there is one for all pieces, all its frames are pumped, and whichever it is, the
-/// answers and their texts are the same. So all laws of sessions hold of what `relay` writes, also of a beginning of it.
+/// for a frame and gets what it is owed: there is one for all pieces, all its frames are pumped, and whichever it is,
+/// the answers and their texts are the same. So all laws of sessions hold of what `relay` writes, also of a beginning
+/// of it.
 pub fn relays_are_sessions()
     ensures is { EachRelayIsASession }
     ensures pumped { EachRelayIsPumped }

@@ -1,8 +1,9 @@
 //! Relayed streams: a terminal program's output as frames of its screen, those frames as text, and what a far terminal
 //! makes of the bytes that a hub's client was sent.
 //!
-//! [`relay`] reads a program's output and writes frames, [`relay_live`] writes each as soon as it is due, [`show`] reads such a stream and writes the rows of the picture
-//! that it leaves, and [`far_view`] makes any calls on a hub and gives a view the first bytes of a session, in any pieces.
+//! [`relay`] reads a program's output and writes frames, [`relay_live`] writes each as soon as it is due, [`show`]
+//! reads such a stream and writes the rows of the picture that it leaves, and [`far_view`] makes any calls on a hub and
+//! gives a view the first bytes of a session, in any pieces.
 #![tactic(auto)]
 
 mod error;

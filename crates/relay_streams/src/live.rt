@@ -28,8 +28,8 @@ pub const LIVE_LEN: usize = 65_536;
 /// due while the program is in a synchronized update of its own. A frame that would be longer than 2,097,150 bytes is a
 /// fault, [`RelayError::FrameTooLong`], and nothing of it is written.
 ///
-/// At most 2^40 reads are made; an interrupted one is tried again and counted. A fault ends it. What was written by then
-/// stays written.
+/// At most 2^40 reads are made; an interrupted one is tried again and counted. A fault ends it. What was written by
+/// then stays written.
 pub fn relay_live<S: Source, W: FlushSink>(
     alloc: Global,
     rows: NonZeroU16,
@@ -47,8 +47,8 @@ pub fn relay_live<S: Source, W: FlushSink>(
     relay_live_with(alloc, rows, cols, LineDrawing::Kept, input, output)
 }
 
-/// Does what [`relay_live`] does, where each piece first passes a [`PieceFilter`]. With [`LineDrawing::Kept`] pieces pass
-/// as they are. With [`LineDrawing::Drawn`] what is written is what [`relay_live`] writes of the bytes that
+/// Does what [`relay_live`] does, where each piece first passes a [`PieceFilter`]. With [`LineDrawing::Kept`] pieces
+/// pass as they are. With [`LineDrawing::Drawn`] what is written is what [`relay_live`] writes of the bytes that
 /// `charset_filter` gives, and still each read brings a frame at once.
 ///
 /// A filtered piece has up to four times as many bytes as were read.

@@ -24,8 +24,8 @@ use termrelay::{Answer, Client, Hub};
 /// output equals the bytes that a hub sends to a client that attaches before the first piece and asks for a frame after
 /// each.
 ///
-/// No frame is due while the program is in a synchronized update of its own. A frame that would be longer than 2,097,150
-/// bytes is a fault, [`RelayError::FrameTooLong`], and nothing of it is written.
+/// No frame is due while the program is in a synchronized update of its own. A frame that would be longer than
+/// 2,097,150 bytes is a fault, [`RelayError::FrameTooLong`], and nothing of it is written.
 ///
 /// Pieces are full however the reader cuts, and are read by at most 2^40 reads; an interrupted read is tried again and
 /// counted. A fault ends it. What was written by then stays written.

@@ -90,8 +90,8 @@ pub fn print_view<W: FlushSink>(view: &View<UntilCleared>, output: &mut W) -> Re
     }
 }
 
-/// Writes the text of each row of what the view shows, and a newline after it. Any fault of a write ends it, and so does
-/// a write that takes nothing; what was taken by then stays written.
+/// Writes the text of each row of what the view shows, and a newline after it. Any fault of a write ends it, and so
+/// does a write that takes nothing; what was taken by then stays written.
 pub fn write_view<T: ByteSink>(view: &View<UntilCleared>, output: &mut T) -> io::Result<()>
     ensures { SendsText T.takes output.old (screen_text (view_size view.now) (shown_by view.now).cell) result
         output.new }

@@ -114,7 +114,8 @@ module _ (rows cols key : ℕ) where
       let after : now key ≡ Some (left_in takes l.client) =
       at-key clients key (Some (left m))
       ∙ ap (λ i. Some (left i)) (taken-as-reported takes rest l.client.owed end m pumps) in
-      let r = goes-on (lives rows cols l (Pumped takes)) owns now (stories_after h (Pump key takes) reply ts) can after in
+      let r = goes-on (lives rows cols l (Pumped takes)) owns now (stories_after h (Pump key takes) reply ts) can
+      after in
       one-more h g ts (Pumped takes) owns reply tt serves (pump-fed end) r
       (own-first (Pumped takes) (own_of key (map (alone key) owns) r.replies))
   goes-on l (Leaves ∷ owns) clients ts can at =

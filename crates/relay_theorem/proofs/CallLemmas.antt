@@ -165,7 +165,8 @@ module _ (h : HubState as_reported) where
   hub_after (Pump key takes) reply = pumped_by key takes (h.clients key)
   hub_after call reply = h
 
-  pub does-after : (call : Call) (reply : Reply) (g : HubState as_reported) → Does h call reply g → g ≡ hub_after call reply
+  pub does-after : (call : Call) (reply : Reply) (g : HubState as_reported) → Does h call reply g → g
+      ≡ hub_after call reply
   does-after call reply g (refuses (Feed bytes) hub.Memory never) = absurd never
   does-after call reply g (refuses (Frame key) e never) = absurd never
   does-after call reply g (refuses (Pump key takes) e never) = absurd never

@@ -438,7 +438,8 @@ module _ (rows cols : ℕ) (z : Size) (height : IsSide z.rows) (width : IsSide z
 
   -- the whole frames' texts are those of the entries that lie wholly in the bytes
   abbrev Covers : List Entry → Type 0
-  Covers es = (last : Option Entry) (whole rest : List (List ℕ)) (p : List ℕ) → AreAnswered rows cols z (base_of last) es
+  Covers es = (last : Option Entry) (whole rest : List (List ℕ)) (p : List ℕ) → AreAnswered rows cols z (base_of last)
+      es
       → frame_texts es ≡ whole ++ rest → IsPart p rest → texts (whole_in es (length (concat whole ++ p))) ≡ concat whole
 
   covers-by : (frame : Bool) (e : Entry) (es : List Entry) → Covers es → is_frame e.answer ≡ frame
@@ -567,7 +568,8 @@ seen-then rows cols calls replies n t pieces parsed s r =
     let h = reported rows cols calls replies n t s in
     let all : concat pieces ++ (r.beyond ++ h.left) ≡ texts t.entries =
     sym (append_assoc (concat pieces) r.beyond h.left) ∙ ap (λ xs. xs ++ h.left) r.joined ∙ h.prefix in
-    prefix-seen rows cols (size_of_story t) h.height h.width t.entries pieces (r.beyond ++ h.left) parsed r.hold h.entries all
+    prefix-seen rows cols (size_of_story t) h.height h.width t.entries pieces (r.beyond ++ h.left) parsed r.hold
+    h.entries all
     r.leads
 
 pub last-shown : LastWholeFrameIsShown

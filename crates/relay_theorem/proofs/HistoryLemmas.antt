@@ -352,7 +352,8 @@ fed-kept h bytes ts k =
     parser-kept h (p.acts ++ Fed bytes ∷ []) p.failed ts (acts-more p.rows p.cols p.acts k.acts (Fed bytes) tt)
     (size-fed p.rows p.cols p.acts bytes k.acts) k
 
-pub resized-kept : (h : HubState as_reported) (rows cols : ℕ) (ts : List Story) → IsSide rows × IsSide cols → IsKept h ts
+pub resized-kept : (h : HubState as_reported) (rows cols : ℕ) (ts : List Story) → IsSide rows × IsSide cols
+    → IsKept h ts
     → IsKept (acted h (Resized rows cols) no_clients) (map (with_session ended) ts)
 resized-kept h rows cols ts s k =
     let p = h.parser in
@@ -490,7 +491,8 @@ module _ (h : HubState as_reported) (ts : List Story) (k : IsKept h ts) where
 -- ---- runs
 
 -- a run, call by call, with what is kept before each
-pub data Went : HubState as_reported → List Story → List Call → List Reply → HubState as_reported → List Story → Type 0 where
+pub data Went : HubState as_reported → List Story → List Call → List Reply → HubState as_reported → List Story
+    → Type 0 where
   over : {h : HubState as_reported} {ts : List Story} → IsKept h ts → Went h ts [] [] h ts
   called : {h k : HubState as_reported} {ts us : List Story} {call : Call} {reply : Reply} {calls : List Call}
       {replies : List Reply} (g : HubState as_reported) → IsKept h ts → Does h call reply g → IsCall call

@@ -92,7 +92,8 @@ logged-whole rows cols calls l n s a =
       reported.1,
       λ prefix parsed hold r.
           subst (λ (x : SessionView). (hold ≡ None)
-          × IsShownRight rows cols (shown_of (seen (size_of_session x) parsed)) (last_frame None prefix)) reported.1.logged
+          × IsShownRight rows cols (shown_of (seen (size_of_session x) parsed)) (last_frame None prefix))
+          reported.1.logged
           (wholes-shown rows cols calls l.replies n reported.0 prefix parsed hold reported.1.session r),
     )
 

@@ -12,7 +12,8 @@ use Rattle.termrelay.specs.Hub.{HubState, new_client, no_clients, DetachesFrom}
 use Rattle.termrelay.specs.Calls.{Call, Feed, Resize, Attach, Detach, done, Serves}
 use Rattle.termrelay.specs.Log.{SessionView, begun}
 use Rattle.relay_theorem.specs.History.{Past, as_reported, Story, stories_after, RunsReported}
-use Rattle.relay_theorem.specs.Isolation.{is_out_of_memory, Own, Acts, Comes, Asks, Pumped, Leaves, own_at, own_then, own_of}
+use Rattle.relay_theorem.specs.Isolation.{is_out_of_memory, Own, Acts, Comes, Asks, Pumped, Leaves, own_at, own_then}
+use Rattle.relay_theorem.specs.Isolation.{own_of}
 use Rattle.relay_theorem.specs.Isolation.{own_calls, alone, EachLoneSessionIsAlike, EachLoggedLoneSessionIsAlike}
 use Rattle.relay_theorem.proofs.StoryLemmas.{put, at-key}
 use Rattle.relay_theorem.proofs.CallLemmas.{serves-does, hub_after, does-after}
@@ -67,7 +68,8 @@ module _ (rows cols : ℕ) where
     here own = ap (λ b. if b then Some own else None) (eq-eqb key key refl)
 
     own-now : (n : ℕ) (l : Life) (h g : HubState as_reported) (ts : List Story) (own : Own) (owns : List Own)
-        (reply : Reply) → CanLive rows cols l (own ∷ owns) → Lives rows cols key n h ts l → is_out_of_memory reply ≡ false
+        (reply : Reply) → CanLive rows cols l (own ∷ owns) → Lives rows cols key n h ts l → is_out_of_memory reply
+        ≡ false
         → Serves h (alone key own) reply g → own_at key (alone key own) reply ≡ Some own
     own-now n l h g ts (Acts (Fed bytes)) owns reply can s fed serves =
         ap (own_at key (Feed bytes)) (feed-done h g l.acts reply s.parser fed bytes serves)
@@ -95,8 +97,10 @@ module _ (rows cols : ℕ) where
         ap (λ xs. Pumped takes ∷ xs) (more (lives rows cols l (Pumped takes)) can.1 goes.1)
     own-more n l g us Leaves owns later can goes more = ap (λ xs. Leaves ∷ xs) (sym can)
 
-    lone-on : (n : ℕ) (l : Life) (owns : List Own) (h k : HubState as_reported) (ts us : List Story) (answers : List Reply)
-        → CanLive rows cols l owns → IsKept h ts → Lives rows cols key n h ts l → list_any is_out_of_memory answers ≡ false
+    lone-on : (n : ℕ) (l : Life) (owns : List Own) (h k : HubState as_reported) (ts us : List Story)
+        (answers : List Reply)
+        → CanLive rows cols l owns → IsKept h ts → Lives rows cols key n h ts l → list_any is_out_of_memory answers
+        ≡ false
         → RunsReported h ts (map (alone key) owns) answers k us → own_of key (map (alone key) owns) answers ≡ owns
     lone-on n l [] h k ts us [] can kept s fed run = refl
     lone-on n l [] h k ts us (reply ∷ answers) can kept s fed run = absurd run
@@ -147,7 +151,8 @@ module _ (rows cols : ℕ) where
       → key ≡ u.session.client
   key-of acts key k us calls answers u kept fed run is =
       let l = life_on rows cols (born rows cols acts) (own_of key calls answers) in
-      let e = lives-run rows cols key 0 (born rows cols acts) (first_at acts key) k (stories_at acts key) us calls answers
+      let e = lives-run rows cols key 0 (born rows cols acts) (first_at acts key) k (stories_at acts key) us calls
+      answers
       (born-lives acts key) fed
       (run-went (first_at acts key) k (stories_at acts key) us calls answers
       (attached-kept (hub_at acts) key [] refl kept) run) in
@@ -178,7 +183,8 @@ module _ (rows cols : ℕ) where
       let r = resize-done h g acts reply refl each.0 height width serves in
       let run = goes-to acts (Resize height width) reply Done g k us calls answers serves r later in
       ap (λ y. own_calls 0 (Resize height width ∷ calls) (y ∷ answers)) r
-      ∙ ap (λ xs. Acts (Resized height width) ∷ xs) (lone-start (acts ++ Resized height width ∷ []) owns key k us answers
+      ∙ ap (λ xs. Acts (Resized height width) ∷ xs) (lone-start (acts ++ Resized height width ∷ []) owns key k us
+      answers
       u can.1 (resized-kept h height width [] can.0 kept) each.1 run is at)
   lone-start acts (Comes ∷ owns) key k us [] u can kept fed run is at = absurd run
   lone-start acts (Comes ∷ owns) key k us (reply ∷ answers) u can kept fed (g, ok, serves, later) is at =
@@ -202,7 +208,8 @@ lone-alike rows cols calls replies answers n t u key s z fed also at =
     let found = session-found rows cols calls replies n t s fed in
     let same = lone-start rows cols [] owns key z.hub z.stories answers u found.can
     (fresh-kept rows cols z.height z.width) also z.ran z.is at in
-    let both = sessions-isolated rows cols calls (map (alone key) owns) replies answers n 0 t u s z fed also (sym same) in
+    let both = sessions-isolated rows cols calls (map (alone key) owns) replies answers n 0 t u s z fed also
+    (sym same) in
     (both.0, both.1, same)
 
 pub logged-lone_alike : EachLoggedLoneSessionIsAlike

@@ -92,7 +92,8 @@ module _ (rows cols : ℕ) where
     moment = l.acts;
     answer = answer;
     text = if is_frame answer
-        then frame_text (grid_size (made rows cols 0 l.acts).shown) l.client.base (shown_state (made rows cols 0 l.acts))
+        then frame_text (grid_size (made rows cols 0 l.acts).shown) l.client.base
+        (shown_state (made rows cols 0 l.acts))
         else [];
   }
 

@@ -188,7 +188,8 @@ module _ (rows cols : ℕ) where
       → life_of rows cols acts (map Acts more ++ owns) ≡ life_of rows cols (acts ++ more) owns
   life_of-more acts [] owns = ap (λ all. life_of rows cols all owns) (sym (append-nil acts))
   life_of-more acts (act ∷ more) owns =
-      life_of-more (acts ++ act ∷ []) more owns ∙ ap (λ all. life_of rows cols all owns) (append_assoc acts (act ∷ []) more)
+      life_of-more (acts ++ act ∷ []) more owns ∙ ap (λ all. life_of rows cols all owns) (append_assoc acts (act ∷ [])
+      more)
 
   -- a call by which no session comes, and what is found after it
   quiet-then : (acts : List Act) (h g k : HubState as_reported) (ts us : List Story) (call : Call) (reply : Reply)
@@ -217,7 +218,8 @@ module _ (rows cols : ℕ) where
   new-story : HubState as_reported → ℕ → Story
   new-story h key = record { session = begun h key; entries = [] }
 
-  module _ (acts : List Act) (h k : HubState as_reported) (ts us : List Story) (calls : List Call) (replies : List Reply)
+  module _ (acts : List Act) (h k : HubState as_reported) (ts us : List Story) (calls : List Call)
+      (replies : List Reply)
       (n : ℕ) (t : Story) (parser : h.parser ≡ past rows cols acts) (fed : list_any is_out_of_memory replies ≡ false)
       (at : slice_get us (length ts + n) ≡ Some t) (key : ℕ) where
     same-born : new-story h key ≡ story_of rows cols key false (born rows cols acts)
@@ -269,7 +271,8 @@ module _ (rows cols : ℕ) where
         more (n - 1) (ap (λ i. slice_get us i) place ∙ at)
 
   -- one call more, whichever it is, by where the session is found after it
-  module _ (acts : List Act) (h k : HubState as_reported) (ts us : List Story) (calls : List Call) (replies : List Reply)
+  module _ (acts : List Act) (h k : HubState as_reported) (ts us : List Story) (calls : List Call)
+      (replies : List Reply)
       (n : ℕ) (t : Story) (kept : IsKept h ts) (parser : h.parser ≡ past rows cols acts)
       (rest : list_any is_out_of_memory replies ≡ false) (at : slice_get us (length ts + n) ≡ Some t) where
     abbrev Later : HubState as_reported → Call → Reply → Type 0
@@ -285,7 +288,8 @@ module _ (rows cols : ℕ) where
         quiet is does first at
 
     call-now : (call : Call) (reply : Reply) (g : HubState as_reported) → IsCall call → Does h call reply g
-        → is_out_of_memory reply ≡ false → Went g (stories_after h call reply ts) calls replies k us → Later g call reply
+        → is_out_of_memory reply ≡ false → Went g (stories_after h call reply ts) calls replies k us
+        → Later g call reply
         → Found acts (own_calls n (call ∷ calls) (reply ∷ replies)) k t
     unfolding new-story
     call-now Attach reply g is (attaches key free) first later more =

@@ -70,13 +70,15 @@ module _ (h : HubState as_kept) (u : HubState as_reported) (m : Matches h u) whe
 
   -- what may allocate by what has been read, may by the history
   may-take : (bytes : List ℕ) → is_failed h ≡ false
-      → ((past : List ℕ) → HasRead h.parser past → some_may_allocate (events_added past bytes) h.parser.screen.state ≡ true)
+      → ((past : List ℕ) → HasRead h.parser past → some_may_allocate (events_added past bytes) h.parser.screen.state
+      ≡ true)
       → some_may_allocate (events_added (bytes_fed u.parser.acts) bytes)
       (made u.parser.rows u.parser.cols 0 u.parser.acts) ≡ true
   may-take bytes e may =
       let at = m.parser (live e) in
       let past = bytes_fed u.parser.acts in
-      ap (λ (v : ScreenView). some_may_allocate (events_added past bytes) v.state) (sym at.screen) ∙ may past at.has_read
+      ap (λ (v : ScreenView). some_may_allocate (events_added past bytes) v.state) (sym at.screen)
+      ∙ may past at.has_read
 
   feed-follows : (bytes : List ℕ) (result : Result (Unit {0}) HubError) (g : HubState as_kept) → Feeds h bytes result g
       → (v : HubState as_reported) × Feeds u bytes result v × Matches g v
@@ -264,7 +266,8 @@ log-follows h g u (call ∷ calls) [] ts ss ss' m logged run = absurd run
 log-follows h g u (call ∷ calls) (reply ∷ replies) ts ss ss' m logged (k, is, serves, later) =
     let first = call-follows h u m call reply k serves in
     let shows = call-shown h u m call reply k ts serves ∙ ap (sessions_after h call reply) logged in
-    let rest = log-follows k g first.after calls replies (stories_after u call reply ts) (sessions_after h call reply ss)
+    let rest = log-follows k g first.after calls replies (stories_after u call reply ts) (sessions_after h call reply
+    ss)
     ss' first.matches shows later in
     (rest.0, rest.1, (first.after, is, first.serves, rest.2), rest.3, rest.4)
 
@@ -312,7 +315,8 @@ pump-ends takes rest owed end n (nothing owes reported kind) =
     ends-none (taken_by takes (length owed)) (length owed) _ (first-none takes rest owed owes reported)
     (some-owed owed owes)
 pump-ends takes rest owed end n (fault {e = e} owes reported) =
-    ends-none (taken_by takes (length owed)) (length owed) e (first-fault takes rest owed e reported) (some-owed owed owes)
+    ends-none (taken_by takes (length owed)) (length owed) e (first-fault takes rest owed e reported)
+    (some-owed owed owes)
 pump-ends takes rest owed end n (some middle first k more pos reported later) =
     let h = first-some takes middle owed first pos reported in
     let further = pump-ends middle rest (drop first owed) end k later in
@@ -362,7 +366,8 @@ module _ (S : Type 0) (step : S → List ℕ → Result ℕ Error → S → Type
             (some later.0 j k owes more (refl, refl) after),
       )
 
-  reported-from : (h g : HubState as_kept) (key : ℕ) (o : Option ClientState) (s t : S) (result : Result (Unit {0}) HubError)
+  reported-from : (h g : HubState as_kept) (key : ℕ) (o : Option ClientState) (s t : S) (result : Result (Unit {0})
+      HubError)
       → PumpsFrom step h key o s result t g
       → (takes : List Take) × PumpsFrom WritesAsReported h key o takes result [] g
   reported-from h g key None s t result f = ([], (f.0, refl, f.2))

@@ -97,5 +97,6 @@ stories_after h call reply ts = ts
 
 -- Calls, one after another, take a hub h and its stories to another hub and its stories. All their numbers fit the
 -- code's types.
-abbrev pub RunsReported : HubState as_reported → List Story → List Call → List Reply → HubState as_reported → List Story → Type 0
+abbrev pub RunsReported : HubState as_reported → List Story → List Call → List Reply → HubState as_reported → List Story
+    → Type 0
 RunsReported = RunsBeside stories_after

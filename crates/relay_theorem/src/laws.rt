@@ -5,9 +5,11 @@ ghost use Rattle.relay_theorem.specs.Bounds.{EachSessionIsBounded, EachFrameFits
 ghost use Rattle.relay_theorem.specs.Examples.{EachExampleIsReported};
 ghost use Rattle.relay_theorem.specs.History.{as_reported};
 ghost use Rattle.relay_theorem.specs.Laws.{EachSessionIsReported, EachClientHasASession};
-ghost use Rattle.relay_theorem.specs.Headline.{EachTextIsAFrame, WholeSessionsAreShown, LastWholeFrameIsShown, NoSessionIsTorn};
+ghost use Rattle.relay_theorem.specs.Headline.{EachTextIsAFrame, WholeSessionsAreShown, LastWholeFrameIsShown};
+ghost use Rattle.relay_theorem.specs.Headline.{NoSessionIsTorn};
 ghost use Rattle.relay_theorem.specs.Headline.{OneMomentShowsTheSame, OneMomentShowsTheSameWhole};
-ghost use Rattle.relay_theorem.specs.Serves.{EachPumpTakesAsReported, EachPumpIsServed, EachRunHasAHistory, EachLogHasAHistory};
+ghost use Rattle.relay_theorem.specs.Serves.{EachPumpTakesAsReported, EachPumpIsServed, EachRunHasAHistory};
+ghost use Rattle.relay_theorem.specs.Serves.{EachLogHasAHistory};
 ghost use Rattle.relay_theorem.specs.Serves.{EachHistoryIsOne};
 ghost use Rattle.relay_theorem.specs.Logged.{EachLoggedReadIsARead, LoggedFramesAreShown, WholeLoggedFramesAreShown};
 ghost use Rattle.relay_theorem.specs.Isolation.{SessionsAreIsolated, LoggedSessionsAreIsolated, EachSessionIsIsolated};
@@ -92,8 +94,8 @@ pub fn histories_are_one()
     ensures { EachHistoryIsOne }
 {}
 
-/// Each pump of a hub, to any [`ByteSink`](byte_streams::ByteSink), has the same effect as a pump to some scripted writer. So it
-/// can be a call of a history.
+/// Each pump of a hub, to any [`ByteSink`](byte_streams::ByteSink), has the same effect as a pump to some scripted
+/// writer. So it can be a call of a history.
 pub fn pumps_are_served<T: ByteSink>()
     ensures { EachPumpIsServed T.takes }
 {}
@@ -124,8 +126,8 @@ pub fn logged_frames_are_shown()
 /// If two sessions have the same own calls, the same bytes are pumped to them, and they get the same answers at the
 /// same moments. They have the same size, and have both ended or both not. While they haven't ended, their clients are
 /// owed the same bytes, and the screens at their last frames show the same. This holds whatever the other calls and the
-/// keys were, if no call of the two runs failed for want of memory. It holds for two histories (`reported`), and for the
-/// sessions of two logs (`logged`).
+/// keys were, if no call of the two runs failed for want of memory. It holds for two histories (`reported`), and for
+/// the sessions of two logs (`logged`).
 pub fn sessions_are_isolated()
     ensures reported { SessionsAreIsolated }
     ensures logged { LoggedSessionsAreIsolated }

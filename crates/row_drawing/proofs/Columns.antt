@@ -27,7 +27,8 @@ use Rattle.row_drawing.proofs.LocalRow.{IsRoom, space-room, put-room, wipe-room}
 use Rattle.row_drawing.proofs.RowReads.{Reads, reads-then, reads-as, reads-to, reads-skip, reads-turn, reads-goto}
 use Rattle.row_drawing.proofs.RowReads.{reads-color, reads-back, reads-marking, reads-erasing, reads-clearing, ends}
 use Rattle.row_drawing.proofs.RowReads.{ends-as, ends-then, ends-next}
-use Rattle.row_drawing.proofs.RowLeads.{at-row, past, edge, Opens, Standing, At, After, wrapped-flags, not-due, wraps-now}
+use Rattle.row_drawing.proofs.RowLeads.{at-row, past, edge, Opens, Standing, At, After, wrapped-flags, not-due}
+use Rattle.row_drawing.proofs.RowLeads.{wraps-now}
 use Rattle.row_drawing.proofs.RowLeads.{draws, reads-space_turned}
 
 -- ---- cells
@@ -54,9 +55,11 @@ span-wide x w = rw w refl
 pub span-narrow : (x : CellView) → x.wide ≡ false → span_of x ≡ 1
 span-narrow x w = rw w refl
 
-pub room-for : (s : Scene) → IsScene s → (n : ℕ) → n < s.row_change.cols → n + span_of (s.row_change.new n) ≤ s.row_change.cols
+pub room-for : (s : Scene) → IsScene s → (n : ℕ) → n < s.row_change.cols → n + span_of (s.row_change.new n)
+    ≤ s.row_change.cols
 room-for s h n l =
-    let inside = wide_within s.row_change.cols s.row_change.new n h.new.beyond h.new.paired in grind (arith, nat_tests, inside)
+    let inside = wide_within s.row_change.cols s.row_change.new n h.new.beyond h.new.paired in grind
+    (arith, nat_tests, inside)
 
 -- ---- columns are erased
 
@@ -130,7 +133,8 @@ draw-passes j n p e is none =
       | inr differs ↦ rw (differs, none) (ap (λ o. mark_of j n o p) is)
     ]
 
-line-printed : (s : Scene) → IsScene s → (n : ℕ) (f : ℕ → CellView) (a : Attrs) → Line s.row_change.old s.row_change.new n f
+line-printed : (s : Scene) → IsScene s → (n : ℕ) (f : ℕ → CellView) (a : Attrs) → Line s.row_change.old s.row_change.new
+    n f
     → (s.row_change.new n).continuation ≡ false
     → Line s.row_change.old s.row_change.new (n + span_of (s.row_change.new n)) (put f n (s.row_change.new n) a)
 line-printed s h n f a l single =
@@ -185,7 +189,8 @@ pub finish-is_none : (j : RowChange) (p : Pen) → p.erase ≡ None → finish j
 unfolding finish finish_of
 finish-is_none j p e = ap (λ o. finish_of j o p) e
 
-pub finish-is_some : (j : RowChange) (p : Pen) (e : Erase) → p.erase ≡ Some e → finish j p ≡ (to_erase j e >> clearing) p
+pub finish-is_some : (j : RowChange) (p : Pen) (e : Erase) → p.erase ≡ Some e → finish j p ≡ (to_erase j e >> clearing)
+    p
 unfolding finish finish_of
 finish-is_some j p e h = ap (λ o. finish_of j o p) h
 
@@ -208,11 +213,14 @@ half-closed : (s : Scene) (n : ℕ) (e : Erase) → IsScene s → Opens s.row_ch
 half-closed s zero e h opens half = absurd (omega (arith, opens.0))
 half-closed s (suc n) e h opens half =
     let next : n + 1 ≡ suc n = omega arith in
-    let wide : (s.row_change.new n).wide ≡ true = sym (h.new.paired.next n) ∙ ap (λ i. (s.row_change.new i).continuation) next ∙ half
+    let wide : (s.row_change.new n).wide ≡ true = sym (h.new.paired.next n)
+    ∙ ap (λ i. (s.row_change.new i).continuation) next ∙ half
     in
-    both_ways (s.row_change.new n).wide (ap (λ (x : CellView). x.wide) (opens.2 n (omega (arith, opens.0)) (omega arith))) wide
+    both_ways (s.row_change.new n).wide (ap (λ (x : CellView). x.wide) (opens.2 n (omega (arith, opens.0))
+    (omega arith))) wide
 
-pub not-first : (s : Scene) (n : ℕ) → IsScene s → (s.row_change.new n).continuation ≡ true → (n == s.row_change.start) ≡ false
+pub not-first : (s : Scene) (n : ℕ) → IsScene s → (s.row_change.new n).continuation ≡ true → (n == s.row_change.start)
+    ≡ false
 not-first s n h half = ne_eqb n s.row_change.start (λ e. both_ways (s.row_change.new 0).continuation h.new.paired.first
     (ap (λ i. (s.row_change.new i).continuation) (sym (e ∙ h.whole)) ∙ half))
 
@@ -264,7 +272,8 @@ module _ (s : Scene) (h : IsScene s) (C : ℕ → Type 0) (S : ℕ → ℕ → T
       ]
 
   -- the columns from the mark up to n are to be empty
-  marked-room : (e : Erase) (n : ℕ) → Opens s.row_change n (Some e) → n ≤ s.row_change.cols → (k : ℕ) → e.from ≤ k → k < n → C k
+  marked-room : (e : Erase) (n : ℕ) → Opens s.row_change n (Some e) → n ≤ s.row_change.cols → (k : ℕ) → e.from ≤ k
+      → k < n → C k
   marked-room e n opens up_to k low high =
       o.empty e.from k (let from = opens.0 in omega (arith, from, up_to)) opens.3 (omega (arith, high, up_to))
       (ap is_filled (opens.2 k low high))
@@ -272,7 +281,8 @@ module _ (s : Scene) (h : IsScene s) (C : ℕ → Type 0) (S : ℕ → ℕ → T
   erases : (F : ℕ → Bool) (f : ℕ → CellView) (r k : ℕ) (a : Attrs) (e : Erase) (lost : Bool) (n : ℕ) → IsProper a
       → Line s.row_change.old s.row_change.new e.from f → Opens s.row_change n (Some e) → n ≤ s.row_change.cols
       → Standing s F (pen r k a (Some e) lost) e.from
-      → Erased S s (to_erase s.row_change e >> erasing (n - e.from) (wipe_unflags s.row_change.cols s.row_change.old e.from n))
+      → Erased S s (to_erase s.row_change e >> erasing (n - e.from) (wipe_unflags s.row_change.cols s.row_change.old
+      e.from n))
       (pen r k a (Some e) lost) (with_row s f F r k a) e n (wipe_unflags s.row_change.cols s.row_change.old e.from n)
   erases F f r k a e lost n ha l opens up_to standing =
       let j = s.row_change in
@@ -295,7 +305,8 @@ module _ (s : Scene) (h : IsScene s) (C : ℕ → Type 0) (S : ℕ → ℕ → T
   pub clears : (F : ℕ → Bool) (f : ℕ → CellView) (r k : ℕ) (a : Attrs) (e : Erase) (lost : Bool) → IsProper a
       → Line s.row_change.old s.row_change.new e.from f → Opens s.row_change s.row_change.cols (Some e)
       → Standing s F (pen r k a (Some e) lost) e.from
-      → Erased S s (to_erase s.row_change e >> clearing) (pen r k a (Some e) lost) (with_row s f F r k a) e s.row_change.cols true
+      → Erased S s (to_erase s.row_change e >> clearing) (pen r k a (Some e) lost) (with_row s f F r k a) e
+      s.row_change.cols true
   clears F f r k a e lost ha l opens standing =
       let j = s.row_change in
       let some : e.from < j.cols = opens.0 in
@@ -347,7 +358,8 @@ module _ (s : Scene) (h : IsScene s) (C : ℕ → Type 0) (S : ℕ → ℕ → T
       ]
 
   column-at : (F : ℕ → Bool) (f : ℕ → CellView) (r k : ℕ) (a : Attrs) (e : Option Erase) (lost : Bool) (n : ℕ)
-      → IsProper a → n < s.row_change.cols → (s.row_change.new n).continuation ≡ false → Line s.row_change.old s.row_change.new (edge e n) f
+      → IsProper a → n < s.row_change.cols → (s.row_change.new n).continuation ≡ false → Line s.row_change.old
+      s.row_change.new (edge e n) f
       → Opens s.row_change n e → Standing s F (pen r k a e lost) (edge e n)
       → After S s (n + 1) (flush s.row_change n >> draw s.row_change n) (pen r k a e lost) (with_row s f F r k a)
   column-at F f r k a None lost n ha inside single l opens standing =
@@ -377,7 +389,8 @@ module _ (s : Scene) (h : IsScene s) (C : ℕ → Type 0) (S : ℕ → ℕ → T
       ]
 
   column-half_at : (F : ℕ → Bool) (f : ℕ → CellView) (r k : ℕ) (a : Attrs) (e : Option Erase) (lost : Bool) (n : ℕ)
-      → IsProper a → (s.row_change.new n).continuation ≡ true → Line s.row_change.old s.row_change.new (edge e (past s.row_change n)) f
+      → IsProper a → (s.row_change.new n).continuation ≡ true → Line s.row_change.old s.row_change.new
+      (edge e (past s.row_change n)) f
       → Opens s.row_change n e → Standing s F (pen r k a e lost) (edge e (past s.row_change n))
       → After S s (n + 1) (column s.row_change n) (pen r k a e lost) (with_row s f F r k a)
   column-half_at F f r k a (Some e) lost n ha half l opens standing = absurd (half-closed s n e h opens half)
@@ -388,7 +401,8 @@ module _ (s : Scene) (h : IsScene s) (C : ℕ → Type 0) (S : ℕ → ℕ → T
       ends (reads-as (column-is_half j n p (and_from _ _ half (ap not (not-first s n h half)))) reads-skip)
       (at-row F f ha (subst (λ m. Line j.old j.new m f) same l) tt (subst (Standing s F p) same standing))
 
-  column-leads : (n : ℕ) (p : Pen) (t : Term) → n < s.row_change.cols → At s n p t → After S s (n + 1) (column s.row_change n) p t
+  column-leads : (n : ℕ) (p : Pen) (t : Term) → n < s.row_change.cols → At s n p t
+      → After S s (n + 1) (column s.row_change n) p t
   column-leads n p t inside now =
       let j = s.row_change in
       elim (cases_Bool (j.new n).continuation) [

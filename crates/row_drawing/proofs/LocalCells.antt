@@ -117,7 +117,8 @@ row-room s old new h =
 near-first : (s : Scene) (old new : Shown) (p : Pen) → IsPictured s old new → owes_flag s.row_change p ≡ true
     → IsNear (scene_size s) old new s.row_change.row
 near-first s old new p h owed =
-    let above = and_parts s.row_change.above (not s.row_change.was_above) (and_parts (s.row_change.above && not s.row_change.was_above) _ owed).0 in
+    let above = and_parts s.row_change.above (not s.row_change.was_above)
+    (and_parts (s.row_change.above && not s.row_change.was_above) _ owed).0 in
     h.above above.0 (not-true s.row_change.was_above above.1)
 
 inside-row : (s : Scene) → IsScene s → (k : ℕ) → is_same s.row_change k ≡ false → k < s.row_change.cols
@@ -135,7 +136,8 @@ flags-apart : (a b : Bool) → not (bool_eq a b) ≡ true → a ≡ b → ⊥
 flags-apart a b h e = grind (arith, nat_tests)
 
 near-last : (s : Scene) (old new : Shown) (p : Pen) → IsScene s → IsReady s p → IsPictured s old new
-    → owes_end s.row_change (row_redraw s.row_change s.row_change.cols p).pen ≡ true → IsNear (scene_size s) old new s.row_change.row
+    → owes_end s.row_change (row_redraw s.row_change s.row_change.cols p).pen ≡ true → IsNear (scene_size s) old new
+    s.row_change.row
 near-last s old new p scene ready h needs =
     let j = s.row_change in
     let q = (row_redraw j j.cols p).pen in

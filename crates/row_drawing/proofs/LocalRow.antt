@@ -19,10 +19,12 @@ use Rattle.row_drawing.proofs.Lines.{Line, line-wide_is, space_narrow}
 -- touched: these, with their other halves.
 pub record IsRoom (s : Scene) (C : ℕ → Type 0) (S : ℕ → ℕ → Type 0) : Type 0 where
   pub close : (k : ℕ) → k < s.row_change.cols → C k → S s.row_change.row k
-  pub second : (k : ℕ) → k + 1 < s.row_change.cols → C k → ((s.row_change.old k).wide || (s.row_change.new k).wide) ≡ true
+  pub second : (k : ℕ) → k + 1 < s.row_change.cols → C k → ((s.row_change.old k).wide || (s.row_change.new k).wide)
+      ≡ true
       → S s.row_change.row (k + 1)
   pub first : (k : ℕ) → k + 1 < s.row_change.cols → C (k + 1)
-      → ((s.row_change.old (k + 1)).continuation || (s.row_change.new (k + 1)).continuation) ≡ true → S s.row_change.row k
+      → ((s.row_change.old (k + 1)).continuation || (s.row_change.new (k + 1)).continuation) ≡ true
+      → S s.row_change.row k
   pub differs : (k : ℕ) → k < s.row_change.cols → is_same s.row_change k ≡ false → C k
   pub empty : (c k : ℕ) → c < s.row_change.cols → is_same s.row_change c ≡ false → k < s.row_change.cols
       → is_filled (s.row_change.new k) ≡ false → C k
@@ -59,7 +61,8 @@ half-of f k m b p e w = ap (λ i. (f i).continuation) e ∙ p.next m ∙ w
 
 -- a cell that differs is put at n
 pub put-room : (s : Scene) (C : ℕ → Type 0) (S : ℕ → ℕ → Type 0) → IsScene s → IsRoom s C S → (n : ℕ) (f : ℕ → CellView)
-    → Line s.row_change.old s.row_change.new n f → (s.row_change.new n).continuation ≡ false → n < s.row_change.cols → C n → (k : ℕ)
+    → Line s.row_change.old s.row_change.new n f → (s.row_change.new n).continuation ≡ false → n < s.row_change.cols
+    → C n → (k : ℕ)
     → k < s.row_change.cols → put_touches f n (s.row_change.new n) k ≡ true → S s.row_change.row k
 put-room s C S h o n f l single inside here k low touched =
     let j = s.row_change in
@@ -87,7 +90,8 @@ pub wipe-room : (s : Scene) (C : ℕ → Type 0) (S : ℕ → ℕ → Type 0) �
     → ((k : ℕ) → k < a → f k ≡ s.row_change.new k)
     → ((f b).continuation ≡ true → (s.row_change.old b).continuation ≡ true)
     → a < b → b ≤ s.row_change.cols → ((k : ℕ) → a ≤ k → k < b → s.row_change.new k ≡ empty_cell x)
-    → ((k : ℕ) → a ≤ k → k < b → C k) → (k : ℕ) → k < s.row_change.cols → wipe_touches f a b k ≡ true → S s.row_change.row k
+    → ((k : ℕ) → a ≤ k → k < b → C k) → (k : ℕ) → k < s.row_change.cols → wipe_touches f a b k ≡ true
+    → S s.row_change.row k
 wipe-room s C S h o a b f x written half some up_to blank close k low touched =
     let j = s.row_change in
     let last : b - 1 + 1 ≡ b = omega (arith, some) in

@@ -2,7 +2,8 @@
 use Rattle.std.proofs.Common.{◌≡◌, ℕ, ◌+◌, ◌-◌, ◌<◌, ◌≤◌, ◌==◌, Bool, true, false, cond, not, ◌&&◌, ◌||◌, nat_lt}
 use Rattle.std.proofs.Common.{nat_le, Option, Some, None, refl, arith, sym, ap, ◌∙◌, inl, inr, subst}
 use Rattle.std.proofs.lemmas.Bool.Decides.{nat_tests}
-use Rattle.std.proofs.lemmas.Bool.{cases_Bool, cases_lt, both_ways, and_from, eqb-true, eq-eqb, lt-ltb, le-leb, or_left, or_right}
+use Rattle.std.proofs.lemmas.Bool.{cases_Bool, cases_lt, both_ways, and_from, eqb-true, eq-eqb, lt-ltb, le-leb, or_left}
+use Rattle.std.proofs.lemmas.Bool.{or_right}
 use Rattle.vt100_forms.specs.declared.attrs.Attrs.{Attrs}
 use Rattle.vt100_forms.specs.Attrs.{IsProper}
 use Rattle.vt100_cells.specs.Cell.{CellView, has_text, is_filled, bool_eq}
@@ -158,14 +159,16 @@ last-text s h full =
 
 no_third : (s : Scene) → IsScene s → (g : ℕ → CellView)
     → put_unflags s.row_change.cols g (last_col_of s.row_change) (last_cell_of s.row_change) ≡ false
-no_third s h g = third_off s.row_change.cols (last_col_of s.row_change) (last_cell_of s.row_change) g (last-is s h).up_to
+no_third s h g = third_off s.row_change.cols (last_col_of s.row_change) (last_cell_of s.row_change) g
+    (last-is s h).up_to
 
 -- ---- the flag
 
 own-flag : (s : Scene) → IsScene s → flags_above s s.row_change.row ≡ s.row_change.was_wrapped
 own-flag s h =
     elim (cases_Bool s.row_change.above) [
-      | inl above ↦ ap (λ G. G s.row_change.row) (flags-on s above) ∙ update-other s.flags (s.row_change.row - 1) s.row_change.row true
+      | inl above ↦ ap (λ G. G s.row_change.row) (flags-on s above) ∙ update-other s.flags (s.row_change.row - 1)
+          s.row_change.row true
           (λ e. let some = h.below_first above in absurd (omega (arith, e, some))) ∙ h.flag
       | inr none ↦ ap (λ b. cond b (update s.flags (s.row_change.row - 1) true) s.flags s.row_change.row) none ∙ h.flag
     ]
@@ -199,7 +202,8 @@ pub closing-none : (j : RowChange) (p : Pen) → (not (bool_eq j.wrapped j.was_w
 unfolding closing
 closing-none j p h = rw h refl
 
-pub closing-some : (j : RowChange) (p : Pen) (c : ℕ) (x : CellView) → owes_end j p ≡ true → c ≡ last_col_of j → x ≡ j.new c
+pub closing-some : (j : RowChange) (p : Pen) (c : ℕ) (x : CellView) → owes_end j p ≡ true → c ≡ last_col_of j → x
+    ≡ j.new c
     → closing j p ≡ (goto j.row c >> mend j x) p
 unfolding closing
 closing-some j p c x h e is = rw (is, e, h) refl
@@ -268,7 +272,8 @@ wiped-over s a h =
     }
 
 print-end : (s : Scene) (S : ℕ → ℕ → Type 0) → IsScene s → IsEndRoom s S → (g : ℕ → CellView) → IsOverEnd s g → (k : ℕ)
-    → k < s.row_change.cols → put_touches g (last_col_of s.row_change) (last_cell_of s.row_change) k ≡ true → S s.row_change.row k
+    → k < s.row_change.cols → put_touches g (last_col_of s.row_change) (last_cell_of s.row_change) k ≡ true
+    → S s.row_change.row k
 print-end s S h room g over k low touched =
     let j = s.row_change in
     let c = last_col_of j in
@@ -285,7 +290,8 @@ print-end s S h room g over k low touched =
     ]
 
 wipe-end : (s : Scene) (S : ℕ → ℕ → Type 0) → IsScene s → IsEndRoom s S → (k : ℕ) → k < s.row_change.cols
-    → wipe_touches s.row_change.new (last_col_of s.row_change) (last_col_of s.row_change + 1) k ≡ true → S s.row_change.row k
+    → wipe_touches s.row_change.new (last_col_of s.row_change) (last_col_of s.row_change + 1) k ≡ true
+    → S s.row_change.row k
 wipe-end s S h room k low touched =
     let j = s.row_change in
     let c = last_col_of j in
@@ -336,8 +342,10 @@ module _ (s : Scene) (h : IsScene s) (S : ℕ → ℕ → Type 0) (room : IsEndR
   -- it is erased, and the flag is off
   last-erased : (F : ℕ → Bool) (a : Attrs) (lost : Bool)
       → Reads S s (erasing 1 true) (pen s.row_change.row (last_col_of s.row_change) a None lost)
-      (with_row s s.row_change.new F s.row_change.row (last_col_of s.row_change) a) (pen s.row_change.row (last_col_of s.row_change) a None (lost || true))
-      (with_row s (wiped s.row_change.new (last_col_of s.row_change) (last_col_of s.row_change + 1) a) (update F s.row_change.row false) s.row_change.row
+      (with_row s s.row_change.new F s.row_change.row (last_col_of s.row_change) a)
+      (pen s.row_change.row (last_col_of s.row_change) a None (lost || true))
+      (with_row s (wiped s.row_change.new (last_col_of s.row_change) (last_col_of s.row_change + 1) a)
+      (update F s.row_change.row false) s.row_change.row
       (last_col_of s.row_change) a)
   last-erased F a lost =
       let j = s.row_change in
@@ -359,7 +367,8 @@ module _ (s : Scene) (h : IsScene s) (S : ℕ → ℕ → Type 0) (room : IsEndR
   -- the row's flag changes, or it was lost
   mends : (F : ℕ → Bool) (a : Attrs) (lost : Bool) → IsProper a → Flags F (flags_above s) s.row_change.row lost
       → (not (bool_eq s.row_change.wrapped s.row_change.was_wrapped) || (s.row_change.wrapped && lost)) ≡ true
-      → Ends S s (IsDrawn s) (mend s.row_change (last_cell_of s.row_change)) (pen s.row_change.row (last_col_of s.row_change) a None lost)
+      → Ends S s (IsDrawn s) (mend s.row_change (last_cell_of s.row_change))
+      (pen s.row_change.row (last_col_of s.row_change) a None lost)
       (with_row s s.row_change.new F s.row_change.row (last_col_of s.row_change) a)
   mends F a lost ha kept needs =
       let j = s.row_change in
@@ -424,7 +433,8 @@ module _ (s : Scene) (h : IsScene s) (C : ℕ → Type 0) (S : ℕ → ℕ → T
             (mends s h S (end-room s C S h o (owed needs)) F a lost ha kept needs))
       ]
 
-  pub closing-leads : (p : Pen) (t : Term) → IsFilled s p t → (owes_end s.row_change p ≡ true → C (s.row_change.cols - 1))
+  pub closing-leads : (p : Pen) (t : Term) → IsFilled s p t → (owes_end s.row_change p ≡ true
+      → C (s.row_change.cols - 1))
       → Ends S s (IsDrawn s) (closing s.row_change) p t
   closing-leads p t now owed =
       let j = s.row_change in

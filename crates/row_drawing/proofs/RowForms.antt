@@ -14,7 +14,8 @@ use Rattle.row_drawing.specs.declared.pen.Erase.{Erase}
 use Rattle.row_drawing.specs.declared.pen.Pen.{Pen}
 use Rattle.row_drawing.specs.Writer.{Drawn, Writer, ◌>>◌, skip, goto, turn, color, print, space, back, erasing}
 use Rattle.row_drawing.specs.Writer.{clearing, marking}
-use Rattle.row_drawing.specs.RowWriter.{RowChange, is_same, wraps, owes_flag, reprint, opening, to_erase, is_end, flush_of}
+use Rattle.row_drawing.specs.RowWriter.{RowChange, is_same, wraps, owes_flag, reprint, opening, to_erase, is_end}
+use Rattle.row_drawing.specs.RowWriter.{flush_of}
 use Rattle.row_drawing.specs.RowWriter.{flush, finish_of, finish, arrive, mark_of, mark, draw, column, columns}
 use Rattle.row_drawing.specs.RowWriter.{last_col_of, unflag, print_last, mend, owes_end, closing}
 use Rattle.row_drawing.specs.RowWriter.{row_redraw, row_difference}

@@ -132,7 +132,8 @@ pub reads-print_turned : {S : ℕ → ℕ → Type 0} {a : Attrs} {m : ℕ} (s :
     → ((i : ℕ) → i < s.row_change.cols → put_touches f 0 x i ≡ true → S s.row_change.row i)
     → Reads S s (print x b) (pen s.row_change.row 0 x.attrs e lost) (with_row s f F r k x.attrs)
     (pen s.row_change.row (0 + span_of x) x.attrs e (lost || b))
-    (with_row s (put f 0 x x.attrs) (kept_or_off (put_unflags s.row_change.cols f 0 x) (update F r true) s.row_change.row) s.row_change.row
+    (with_row s (put f 0 x x.attrs) (kept_or_off (put_unflags s.row_change.cols f 0 x) (update F r true)
+    s.row_change.row) s.row_change.row
     (0 + span_of x) x.attrs)
 unfolding print
 reads-print_turned {S = S} s F f r k x e lost b h now send fits touched =
@@ -168,7 +169,8 @@ pub reads-space_turned : {S : ℕ → ℕ → Type 0} {b : Attrs} {m : ℕ} (s :
     (with_row s (put f 0 (cell_of 32 a) a) (update F r true) s.row_change.row 1 a)
 unfolding print space char_width
 reads-space_turned s F f r k a e lost h now touched =
-    let printed = reads-print_turned s F f r k (cell_of 32 a) e lost false h now (sends-space a) (omega (arith, h.some_col))
+    let printed = reads-print_turned s F f r k (cell_of 32 a) e lost false h now (sends-space a)
+    (omega (arith, h.some_col))
     touched in
     record { takes = record { pen_is = refl; term_is = printed.takes.term_is }; stays = printed.stays }
 
@@ -185,7 +187,8 @@ pub arrive-turn : (j : RowChange) (c n : ℕ) (p : Pen) → (wraps j n p && (c =
 unfolding arrive
 arrive-turn j c n p h = rw h refl
 
-pub arrive-goto : (j : RowChange) (c n : ℕ) (p : Pen) → (wraps j n p && (c == 0)) ≡ false → arrive j c n p ≡ goto j.row c p
+pub arrive-goto : (j : RowChange) (c n : ℕ) (p : Pen) → (wraps j n p && (c == 0)) ≡ false → arrive j c n p
+    ≡ goto j.row c p
 unfolding arrive
 arrive-goto j c n p h = rw h refl
 
@@ -203,7 +206,8 @@ arrive-pen j c n p =
 
 -- the cell x is drawn at n
 pub draws : (S : ℕ → ℕ → Type 0) (s : Scene) (F : ℕ → Bool) (f : ℕ → CellView) (r k : ℕ) (a : Attrs) (lost b : Bool)
-    (n : ℕ) (x : CellView) → IsScene s → IsProper a → IsProper x.attrs → IsSendable x → n + span_of x ≤ s.row_change.cols
+    (n : ℕ) (x : CellView) → IsScene s → IsProper a → IsProper x.attrs → IsSendable x
+    → n + span_of x ≤ s.row_change.cols
     → (put_unflags s.row_change.cols f n x ≡ true → b ≡ true) → Standing s F (pen r k a None lost) n
     → ((i : ℕ) → i < s.row_change.cols → put_touches f n x i ≡ true → S s.row_change.row i)
     → Prints S s f (pen r k a None lost) (with_row s f F r k a)

@@ -1,5 +1,6 @@
 -- A row's writers, read by a terminal on which the row is drawn: what the terminal is then, and which cells they touch.
-use Rattle.std.proofs.Common.{◌≡◌, ℕ, ◌+◌, ◌-◌, ◌<◌, ◌≤◌, Bool, true, ◌||◌, Option, Some, None, refl, sym, ap, ◌∙◌, subst, arith}
+use Rattle.std.proofs.Common.{◌≡◌, ℕ, ◌+◌, ◌-◌, ◌<◌, ◌≤◌, Bool, true, ◌||◌, Option, Some, None, refl, sym, ap, ◌∙◌}
+use Rattle.std.proofs.Common.{subst, arith}
 use Rattle.std.proofs.lemmas.Bool.{or_right}
 use Rattle.vt100_forms.specs.declared.attrs.Attrs.{Attrs}
 use Rattle.vt100_forms.specs.Attrs.{IsProper}
@@ -12,7 +13,8 @@ use Rattle.terminal_model.specs.Touch.{put_touches, wipe_touches, form_touches, 
 use Rattle.terminal_model.proofs.FormLemmas.{run-joined, moves-lead, change-read}
 use Rattle.row_drawing.specs.declared.pen.Erase.{Erase}
 use Rattle.row_drawing.specs.declared.pen.Pen.{Pen}
-use Rattle.row_drawing.specs.Writer.{Drawn, Writer, ◌>>◌, skip, goto, turn, color, print, back, erasing, clearing, marking}
+use Rattle.row_drawing.specs.Writer.{Drawn, Writer, ◌>>◌, skip, goto, turn, color, print, back, erasing, clearing}
+use Rattle.row_drawing.specs.Writer.{marking}
 use Rattle.row_drawing.specs.Scene.{Scene, IsScene, scene_size, with_row}
 use Rattle.row_drawing.proofs.Steps.{Takes, pen, kept_or_off, erase-line, IsSendable, takes-print, takes-erasing}
 use Rattle.row_drawing.proofs.Touches.{Stays, stays-then, form-idle, erase-within, stays-goto, stays-color}
@@ -76,7 +78,8 @@ reads-goto {S = S} {s = s} {F = F} {r = r} {k = k} {a = a} {e = e} {b = b} {col 
     record {
       takes = record {
         pen_is = refl;
-        term_is = moves-lead (scene_size s) t (record { row = r; col = k }) (record { row = s.row_change.row; col = col }) refl
+        term_is = moves-lead (scene_size s) t (record { row = r; col = k })
+            (record { row = s.row_change.row; col = col }) refl
             refl h.row_in l;
       };
       stays = stays-goto S (scene_size s) s.row_change.row col (pen r k a e b) t refl h.row_in;
@@ -112,11 +115,13 @@ pub reads-print : {S : ℕ → ℕ → Type 0} {s : Scene} {F : ℕ → Bool} {c
     → ((k : ℕ) → k < s.row_change.cols → put_touches f c x k ≡ true → S s.row_change.row k)
     → Reads S s (print x b) (pen s.row_change.row c x.attrs e lost) (with_row s f F s.row_change.row c x.attrs)
     (pen s.row_change.row (c + span_of x) x.attrs e (lost || b))
-    (with_row s (put f c x x.attrs) (kept_or_off (put_unflags s.row_change.cols f c x) F s.row_change.row) s.row_change.row (c + span_of x)
+    (with_row s (put f c x x.attrs) (kept_or_off (put_unflags s.row_change.cols f c x) F s.row_change.row)
+    s.row_change.row (c + span_of x)
     x.attrs)
 reads-print {S = S} {s = s} {F = F} {c = c} {x = x} {e = e} {lost = lost} f b send l h = record {
   takes = takes-print (scene_size s) s.term s.cells F s.row_change.row c f x e lost b send l;
-  stays = stays-print S (scene_size s) s.term s.cells F s.row_change.row c x.attrs f x b (pen s.row_change.row c x.attrs e lost) send l
+  stays = stays-print S (scene_size s) s.term s.cells F s.row_change.row c x.attrs f x b (pen s.row_change.row c x.attrs
+      e lost) send l
       h;
 }
 
@@ -126,13 +131,16 @@ pub reads-erasing : {S : ℕ → ℕ → Type 0} {s : Scene} {F : ℕ → Bool} 
     → ((k : ℕ) → k < s.row_change.cols → wipe_touches f c n k ≡ true → S s.row_change.row k)
     → Reads S s (erasing m b) (pen s.row_change.row c a e lost) (with_row s f F s.row_change.row c a)
     (pen s.row_change.row c a None (lost || b))
-    (with_row s (wiped f c n a) (kept_or_off (wipe_unflags s.row_change.cols f c n) F s.row_change.row) s.row_change.row c a)
+    (with_row s (wiped f c n a) (kept_or_off (wipe_unflags s.row_change.cols f c n) F s.row_change.row) s.row_change.row
+    c a)
 reads-erasing {S = S} {s = s} {F = F} {c = c} {a = a} {e = e} {lost = lost} f m b n is l h =
     let z = scene_size s in
     let p = pen s.row_change.row c a e lost in
     record {
-      takes = subst (λ i. Takes z (erasing m b) p (with_row s f F s.row_change.row c a) (pen s.row_change.row c a None (lost || b))
-          (with_row s (wiped f c i a) (kept_or_off (wipe_unflags s.row_change.cols f c i) F s.row_change.row) s.row_change.row c a)) is
+      takes = subst (λ i. Takes z (erasing m b) p (with_row s f F s.row_change.row c a) (pen s.row_change.row c a None
+          (lost || b))
+          (with_row s (wiped f c i a) (kept_or_off (wipe_unflags s.row_change.cols f c i) F s.row_change.row)
+          s.row_change.row c a)) is
           (takes-erasing z s.term s.cells F s.row_change.row c m f a e lost b (omega (arith, is, l)));
       stays = stays-erasing S z s.term s.cells F s.row_change.row c m n a f b p is l h;
     }
@@ -142,14 +150,19 @@ pub reads-clearing : {S : ℕ → ℕ → Type 0} {s : Scene} {F : ℕ → Bool}
     → ((k : ℕ) → k < s.row_change.cols → wipe_touches f c s.row_change.cols k ≡ true → S s.row_change.row k)
     → Reads S s clearing (pen s.row_change.row c a e lost) (with_row s f F s.row_change.row c a)
     (pen s.row_change.row c a None (lost || true))
-    (with_row s (wiped f c s.row_change.cols a) (kept_or_off (wipe_unflags s.row_change.cols f c s.row_change.cols) F s.row_change.row) s.row_change.row c
+    (with_row s (wiped f c s.row_change.cols a) (kept_or_off (wipe_unflags s.row_change.cols f c s.row_change.cols) F
+    s.row_change.row) s.row_change.row c
     a)
 unfolding clearing apply form_touches
 reads-clearing {S = S} {s = s} {F = F} {c = c} {a = a} {e = e} {lost = lost} f h =
     let z = scene_size s in
     reads-to (ap (pen s.row_change.row c a None) (sym (or_right lost true refl))) refl (record {
-      takes = record { pen_is = refl; term_is = erase-line z s.term s.cells F s.row_change.row c s.row_change.cols a f };
-      stays = erase-within S z ClearRowForward s.term s.cells F s.row_change.row c s.row_change.cols a f (λ r k. refl) h;
+      takes = record {
+        pen_is = refl;
+        term_is = erase-line z s.term s.cells F s.row_change.row c s.row_change.cols a f;
+      };
+      stays = erase-within S z ClearRowForward s.term s.cells F s.row_change.row c s.row_change.cols a f (λ r k. refl)
+          h;
     })
 
 -- ---- what is true after a writer
@@ -181,7 +194,8 @@ ends-then {S = S} {s = s} {g = g} {q = q} {u = u} {P = P} a b =
     ends {P = P} (reads-then a rest) b.there
 
 -- after a writer that touches nothing else
-pub ends-next : {S : ℕ → ℕ → Type 0} {s : Scene} {g : Writer} {p : Pen} {t : Term} {P : Pen → Term → Type 0} (f : Writer)
+pub ends-next : {S : ℕ → ℕ → Type 0} {s : Scene} {g : Writer} {p : Pen} {t : Term} {P : Pen → Term → Type 0}
+    (f : Writer)
     → Stays S (scene_size s) f p t → Ends S s P g (f p).pen (run (scene_size s) (f p).forms t)
     → Ends S s P (f >> g) p t
 ends-next {S = S} {s = s} {p = p} {t = t} {P = P} f a b =

@@ -16,7 +16,8 @@ use Rattle.row_drawing.specs.Scene.{Scene, IsScene, flags_above}
 use Rattle.row_drawing.specs.Laws.{EachRedrawLeads}
 use Rattle.row_drawing.proofs.Steps.{pen}
 use Rattle.row_drawing.proofs.RowLeads.{arrive-pen}
-use Rattle.row_drawing.proofs.Columns.{finish-is_none, flush-is_none, flush-is_ended, draw-full, column-is_whole, column-is_half}
+use Rattle.row_drawing.proofs.Columns.{finish-is_none, flush-is_none, flush-is_ended, draw-full, column-is_whole}
+use Rattle.row_drawing.proofs.Columns.{column-is_half}
 use Rattle.row_drawing.proofs.Columns.{not-first, span-wide, span-narrow}
 use Rattle.row_drawing.proofs.RowEnd.{last-is, last-text, flags-off, flags-kept}
 use Rattle.row_drawing.proofs.RowStart.{redraw-filled}
@@ -50,7 +51,8 @@ drawn-behind s n p differs some closed =
     }
 
 column-behind : (s : Scene) (n : ℕ) (p : Pen) → is_same s.row_change n ≡ false → has_text (s.row_change.new n) ≡ true
-    → (s.row_change.new n).continuation ≡ false → IsBehind s.row_change (n + span_of (s.row_change.new n)) (column s.row_change n p).pen
+    → (s.row_change.new n).continuation ≡ false → IsBehind s.row_change (n + span_of (s.row_change.new n))
+    (column s.row_change n p).pen
 unfolding ◌>>◌
 column-behind s n p differs some single =
     let j = s.row_change in
@@ -61,7 +63,8 @@ column-behind s n p differs some single =
 
 -- if the last cell is drawn, it is drawn last
 columns-behind : (s : Scene) (p : Pen) → IsScene s → is_same s.row_change (last_col_of s.row_change) ≡ false
-    → has_text (last_cell_of s.row_change) ≡ true → IsBehind s.row_change s.row_change.cols (columns s.row_change s.row_change.cols p).pen
+    → has_text (last_cell_of s.row_change) ≡ true → IsBehind s.row_change s.row_change.cols
+    (columns s.row_change s.row_change.cols p).pen
 unfolding columns ◌>>◌ skip
 columns-behind s p h differs some =
     let j = s.row_change in
@@ -92,7 +95,8 @@ columns-behind s p h differs some =
     ]
 
 redraw-behind : (s : Scene) (p : Pen) → IsScene s → is_same s.row_change (last_col_of s.row_change) ≡ false
-    → has_text (last_cell_of s.row_change) ≡ true → IsBehind s.row_change s.row_change.cols (row_redraw s.row_change s.row_change.cols p).pen
+    → has_text (last_cell_of s.row_change) ≡ true → IsBehind s.row_change s.row_change.cols
+    (row_redraw s.row_change s.row_change.cols p).pen
 unfolding row_redraw ◌>>◌ skip
 redraw-behind s p h differs some =
     let j = s.row_change in
@@ -101,7 +105,8 @@ redraw-behind s p h differs some =
     subst (λ (d : Drawn). IsBehind j j.cols d.pen) (sym (finish-is_none j q at_end.closed)) at_end
 
 -- if a row wraps, and no flag was set, its last cell is drawn last
-redraw-waits : (s : Scene) (p : Pen) → IsScene s → ((k : ℕ) → s.row_change.old k ≡ default_cell) → s.row_change.wrapped ≡ true
+redraw-waits : (s : Scene) (p : Pen) → IsScene s → ((k : ℕ) → s.row_change.old k ≡ default_cell) → s.row_change.wrapped
+    ≡ true
     → IsBehind s.row_change s.row_change.cols (row_redraw s.row_change s.row_change.cols p).pen
 redraw-waits s p h blank wraps =
     let j = s.row_change in

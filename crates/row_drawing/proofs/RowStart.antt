@@ -1,5 +1,6 @@
 -- The start of a row that is drawn, and the whole row.
-use Rattle.std.proofs.Common.{◌≡◌, ℕ, ◌+◌, ◌-◌, ◌<◌, ◌≤◌, ◌==◌, Bool, true, false, cond, not, ◌&&◌, ◌||◌, Option, None, refl}
+use Rattle.std.proofs.Common.{◌≡◌, ℕ, ◌+◌, ◌-◌, ◌<◌, ◌≤◌, ◌==◌, Bool, true, false, cond, not, ◌&&◌, ◌||◌, Option, None}
+use Rattle.std.proofs.Common.{refl}
 use Rattle.std.proofs.Common.{arith, sym, ap, ◌∙◌, inl, inr, subst, if◌then◌else◌}
 use Rattle.std.proofs.lemmas.Bool.{cases_Bool, both_ways, and_parts, and_from}
 use Rattle.std.proofs.lemmas.Bool.Decides.{nat_tests}
@@ -22,9 +23,11 @@ use Rattle.row_drawing.proofs.Steps.{pen, Flags, kept_or_off, flags-step}
 use Rattle.row_drawing.proofs.LocalRow.{IsRoom, any-room, space-room, put-room, wipe-room}
 use Rattle.row_drawing.proofs.RowReads.{Reads, reads-then, reads-as, reads-to, reads-skip, reads-turn, reads-color}
 use Rattle.row_drawing.proofs.RowReads.{reads-back, reads-erasing, Ends, ends, ends-as, ends-next}
-use Rattle.row_drawing.proofs.RowLeads.{at-row, flags-on, past, edge, Standing, At, After, WrapsNow, wraps-now, reads-print_turned}
+use Rattle.row_drawing.proofs.RowLeads.{at-row, flags-on, past, edge, Standing, At, After, WrapsNow, wraps-now}
+use Rattle.row_drawing.proofs.RowLeads.{reads-print_turned}
 use Rattle.row_drawing.proofs.RowLeads.{reads-space_turned}
-use Rattle.row_drawing.proofs.Columns.{past-whole, empty-is, sends, room-for, span-wide, span-narrow, wipe-loses, columns-lead}
+use Rattle.row_drawing.proofs.Columns.{past-whole, empty-is, sends, room-for, span-wide, span-narrow, wipe-loses}
+use Rattle.row_drawing.proofs.Columns.{columns-lead}
 use Rattle.row_drawing.proofs.RowEnd.{IsFilled, finish-leads, closing-leads, span-few}
 
 -- ---- the tests
@@ -105,7 +108,8 @@ same_unflags s h same =
 -- a space is printed over the empty cell and erased
 spaced-line : (s : Scene) (b : Attrs) → IsScene s → s.row_change.old 0 ≡ s.row_change.new 0
     → s.row_change.new 0 ≡ empty_cell (s.row_change.new 0).attrs
-    → Line s.row_change.old s.row_change.new 0 (wiped (put s.row_change.old 0 (cell_of 32 b) b) 0 1 (s.row_change.new 0).attrs)
+    → Line s.row_change.old s.row_change.new 0 (wiped (put s.row_change.old 0 (cell_of 32 b) b) 0 1
+    (s.row_change.new 0).attrs)
 spaced-line s b h same is =
     let j = s.row_change in
     let narrow : (j.old 0).wide ≡ false = ap (λ (x : CellView). x.wide) (same ∙ is) in
@@ -123,14 +127,16 @@ begins : (s : Scene) (F : ℕ → Bool) (f : ℕ → CellView) (r k : ℕ) (a : 
     → Line s.row_change.old s.row_change.new 0 f → Standing s F (pen r k a None lost) (past s.row_change 0)
     → At s 0 (pen r k a None lost) (with_row s f F r k a)
 begins s F f r k a lost h ha l standing =
-    at-row F f ha (subst (λ m. Line s.row_change.old s.row_change.new m f) (sym (past-whole s.row_change 0 h.new.paired.first)) l) tt
+    at-row F f ha (subst (λ m. Line s.row_change.old s.row_change.new m f)
+    (sym (past-whole s.row_change 0 h.new.paired.first)) l) tt
     standing
 
 module _ (s : Scene) (h : IsScene s) (C : ℕ → Type 0) (S : ℕ → ℕ → Type 0) (o : IsRoom s C S) where
   reprints-text : (r k : ℕ) (a : Attrs) (lost : Bool) → IsProper a → C 0 → s.row_change.old 0 ≡ s.row_change.new 0
       → has_text (s.row_change.new 0) ≡ true → WrapsNow s (span_of (s.row_change.new 0)) (pen r k a None lost) 0
       → Flags (update s.flags r true) (flags_above s) s.row_change.row lost
-      → After S s 0 (turn s.row_change.row >> color (s.row_change.new 0).attrs >> reprint s.row_change (s.row_change.new 0))
+      → After S s 0 (turn s.row_change.row >> color (s.row_change.new 0).attrs >> reprint s.row_change
+      (s.row_change.new 0))
       (pen r k a None lost) (with_row s s.row_change.old s.flags r k a)
   reprints-text r k a lost ha here same some now kept =
       let j = s.row_change in
@@ -138,7 +144,8 @@ module _ (s : Scene) (h : IsScene s) (C : ℕ → Type 0) (S : ℕ → ℕ → T
       let fits = room-for s h 0 h.some_col in
       let begun = line-begun j.old j.new h.old.paired.first in
       let G : ℕ → Bool = update s.flags r true in
-      let prints = reads-print_turned {S = S} s s.flags j.old r k x None lost false h now (sends s h 0 some) (omega (arith, fits))
+      let prints = reads-print_turned {S = S} s s.flags j.old r k x None lost false h now (sends s h 0 some)
+      (omega (arith, fits))
       (put-room s C S h o 0 j.old begun h.new.paired.first h.some_col here) in
       let line : put j.old 0 x x.attrs ≡ j.old = ap (λ y. put j.old 0 y x.attrs) (sym same)
       ∙ line-reprinted j.old 0 x.attrs h.old.paired h.old.paired.first in
@@ -166,7 +173,8 @@ module _ (s : Scene) (h : IsScene s) (C : ℕ → Type 0) (S : ℕ → ℕ → T
   reprints-empty : (r k : ℕ) (a : Attrs) (lost : Bool) → IsProper a → C 0 → s.row_change.old 0 ≡ s.row_change.new 0
       → has_text (s.row_change.new 0) ≡ false → WrapsNow s (span_of (s.row_change.new 0)) (pen r k a None lost) 0
       → Flags (update s.flags r true) (flags_above s) s.row_change.row lost
-      → After S s 0 (turn s.row_change.row >> color (s.row_change.new 0).attrs >> reprint s.row_change (s.row_change.new 0))
+      → After S s 0 (turn s.row_change.row >> color (s.row_change.new 0).attrs >> reprint s.row_change
+      (s.row_change.new 0))
       (pen r k a None lost) (with_row s s.row_change.old s.flags r k a)
   reprints-empty r k a lost ha here same none now kept =
       let j = s.row_change in

@@ -22,7 +22,8 @@ use Rattle.row_drawing.specs.RowWriter.{RowChange, arrive, column, last_col_of, 
 use Rattle.row_drawing.specs.Writes.{Wrote, Appended}
 use Rattle.row_drawing.proofs.RowLeads.{arrive-pen, arrive-goto}
 use Rattle.row_drawing.proofs.Columns.{column-is_half, column-is_whole, draw-full, flush-is_none}
-use Rattle.row_drawing.proofs.WritesLemmas.{appended_none, color_same, goto_here, wrote_both, wrote_by, wrote_columns_next, wrote_skip}
+use Rattle.row_drawing.proofs.WritesLemmas.{appended_none, color_same, goto_here, wrote_both, wrote_by}
+use Rattle.row_drawing.proofs.WritesLemmas.{wrote_columns_next, wrote_skip}
 
 pub wrote_turn : (row : ℕ) (p : Pen) (s : List ℕ) (q : Pen) → q ≡ (turn row p).pen → Wrote (turn row) p s q s
 unfolding turn
@@ -107,7 +108,8 @@ unfolding color
 colored_attrs a h = sym (ap (λ (y : Pen). y.attrs) h.pen_is)
 
 -- moving the cursor there leaves the attributes
-pub arrived_attrs : {p v : Pen} {s w : List ℕ} (j : RowChange) (c n : ℕ) → Wrote (arrive j c n) p s v w → v.attrs ≡ p.attrs
+pub arrived_attrs : {p v : Pen} {s w : List ℕ} (j : RowChange) (c n : ℕ) → Wrote (arrive j c n) p s v w → v.attrs
+    ≡ p.attrs
 arrived_attrs {p = p} j c n h = ap (λ (y : Pen). y.attrs) (sym h.pen_is ∙ arrive-pen j c n p)
 
 -- ---- the text of one cell
@@ -138,7 +140,8 @@ pub joined_attrs : {j : RowChange} {c : ℕ} {p : Pen} {a : Attrs} (x : CellView
 joined_attrs {a = a} x is h = sym (attrs_eq-true _ a h.attrs) ∙ ap (λ (y : CellView). y.attrs) (sym is)
 
 -- a cell joins the run
-pub wrote_joined : {j : RowChange} {c : ℕ} {p q : Pen} {a : Attrs} {s t : List ℕ} (x : CellView) → x ≡ j.new c → p.attrs ≡ a
+pub wrote_joined : {j : RowChange} {c : ℕ} {p q : Pen} {a : Attrs} {s t : List ℕ} (x : CellView) → x ≡ j.new c → p.attrs
+    ≡ a
     → JoinsRun j c p a → Wrote (print x false) p s q t → Wrote (column j c) p s q t
 wrote_joined {j = j} {c = c} {p = p} {s = s} x is drawn h printed =
     wrote_column_on j c (span_of x) x is refl h.begins (wrote_arrive_here j c (span_of x) p s h.here)

@@ -62,7 +62,8 @@ each-draws P j h = record {
 pub draws-row_redraw : (P : List ℕ → Type 0) (j : RowChange) (n : ℕ) → AreTexts P j.new → Draws P (row_redraw j n)
 draws-row_redraw P j n h p = ((keeps-redraw _ _ _ j (each-draws P j h) n (λ _ _. tt)).at p tt).0
 
-pub draws-row_difference : (P : List ℕ → Type 0) (j : RowChange) (n : ℕ) → AreTexts P j.new → Draws P (row_difference j n)
+pub draws-row_difference : (P : List ℕ → Type 0) (j : RowChange) (n : ℕ) → AreTexts P j.new
+    → Draws P (row_difference j n)
 draws-row_difference P j n h p = ((keeps-difference _ _ _ j (each-draws P j h) n (λ _ _. tt)).at p tt).0
 
 row-texts : (f : ℕ → CellView) → AreTexts (IsTextOf f) f

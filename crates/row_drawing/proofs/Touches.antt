@@ -2,7 +2,8 @@
 use Rattle.std.proofs.Common.{◌≡◌, ℕ, suc, ◌+◌, ◌-◌, ◌<◌, ◌≤◌, ◌==◌, Bool, true, false, cond, ◌&&◌, nat_lt}
 use Rattle.std.proofs.Common.{nat_le, List, [], ◌∷◌, min, refl, arith, sym, ap, ◌∙◌, inl, inr, subst}
 use Rattle.std.specs.Prelude.{Contains, All}
-use Rattle.std.proofs.lemmas.Bool.{lt-leb, both_ways, cond_both, and_parts, eqb-true, eq-eqb, ne_eqb, le-ltb, le-leb, or_left}
+use Rattle.std.proofs.lemmas.Bool.{lt-leb, both_ways, cond_both, and_parts, eqb-true, eq-eqb, ne_eqb, le-ltb, le-leb}
+use Rattle.std.proofs.lemmas.Bool.{or_left}
 use Rattle.std.proofs.lemmas.Bool.{false≢true, ltb-true}
 use Rattle.std.proofs.lemmas.Bool.Decides.{nat_tests}
 use Rattle.vt100_forms.specs.declared.attrs.Attrs.{Attrs}
@@ -253,7 +254,8 @@ stays-print S z t C W i c a f x loses p send room h =
     subst (λ j. S j k) (sym there.0) (h k l
     (ap (λ g. put_touches g c x k) (sym (update-same C i f)) ∙ there.1)))
 
-pub erase-within : (S : ℕ → ℕ → Type 0) (z : Size) (g : Form) (t : Term) (C : ℕ → ℕ → CellView) (W : ℕ → Bool) (i c e : ℕ)
+pub erase-within : (S : ℕ → ℕ → Type 0) (z : Size) (g : Form) (t : Term) (C : ℕ → ℕ → CellView) (W : ℕ → Bool)
+    (i c e : ℕ)
     (a : Attrs) (f : ℕ → CellView)
     → ((r k : ℕ) → form_touches z g (at t (update C i f) W i c a) r k
     ≡ ((r == i) && wipe_touches (update C i f i) c e k))

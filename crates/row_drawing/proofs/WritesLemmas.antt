@@ -1,6 +1,7 @@
 -- What calls write, one after the other.
 use Rattle.std.proofs.Common.{◌≡◌, ℕ, zero, suc, ◌+◌, ◌-◌, ◌<◌, ◌≤◌, ◌==◌, ◌&&◌, Bool, true, false, ◌||◌, ◌⊎◌, List, []}
-use Rattle.std.proofs.Common.{◌∷◌, ◌++◌, refl, sym, ap, ◌∙◌, inl, inr, append-nil, append_assoc, length-append, subst, None, arith, Result, Ok, Err}
+use Rattle.std.proofs.Common.{◌∷◌, ◌++◌, refl, sym, ap, ◌∙◌, inl, inr, append-nil, append_assoc, length-append, subst}
+use Rattle.std.proofs.Common.{None, arith, Result, Ok, Err}
 use Rattle.std.specs.Prelude.{encode_utf8_all, is_ok, length, String, string_bytes, string_len, string_capacity}
 use Rattle.std.specs.Result.{IsErr}
 use Rattle.vt100_forms.specs.declared.attrs.Attrs.{Attrs}
@@ -47,7 +48,8 @@ pub wrote_then : (f g : Writer) (p : Pen) (s : List ℕ) (q : Pen) (t : List ℕ
 unfolding ◌>>◌
 wrote_then f g p s q t r u a b = record {
   pen_is = ap (λ x. (g x).pen) a.pen_is ∙ b.pen_is;
-  text_is = b.text_is ∙ ap (λ bs. bs ++ bytes_of (g q).forms) a.text_is ∙ append_assoc s (bytes_of (f p).forms) (bytes_of
+  text_is = b.text_is ∙ ap (λ bs. bs ++ bytes_of (g q).forms) a.text_is ∙ append_assoc s (bytes_of (f p).forms)
+      (bytes_of
       (g q).forms) ∙ ap (λ x. s ++ (bytes_of (f p).forms ++ bytes_of (g x).forms)) (sym a.pen_is)
       ∙ ap (λ bs. s ++ bs) (sym (bytes_of-joined (f p).forms (g (f p).pen).forms));
 }
@@ -208,12 +210,6 @@ module _ {Z : Type 0} where
   refused_run x {f = f} {p = p} v s t failed empty a same full =
       refused_whole x f p s v t _ failed (a.text_is ∙ ap (λ bs. bs ++ bytes_of (f p).forms) empty) same full
 
-  -- the last one
-  pub writes_by : (f g : Writer) (p : Pen) (s : String Z) (ok : Bool) (q : Pen) (t : String Z) → g p ≡ f p
-      → Writes f p s ok q t → Writes g p s ok q t
-  writes_by f g p s true q t e a = appended_by e a
-  writes_by f g p s false q t e a = refused_by e a
-
   pub writes_last : {f : Writer} {s : String Z} {q : Pen} {t : String Z} (h : Writer) (p : Pen) (g : Writer)
       (ok : Bool) (r : Pen) (u : String Z) → h p ≡ (f >> g) p → Appended f p s q t → Writes g q t ok r u
       → Writes h p s ok r u
@@ -260,25 +256,6 @@ began_columns {p = p} {s = s} {t = t} j n (suc m) le h =
 pub began_columns_all : {p q : Pen} {s t : List ℕ} (j : RowChange) (n m : ℕ) → n ≤ m → Wrote (columns j n) p s q t
     → Began (columns j m) p s t
 began_columns_all j n m le h = began_columns j n m le (began_all h)
-
--- a column is refused
-refused_columns : {Z : Type 0} {p : Pen} {s t : String Z} (j : RowChange) (n m : ℕ) → n ≤ m → Refused (columns j n) p s t
-    → Refused (columns j m) p s t
-unfolding columns
-refused_columns {p = p} {s = s} {t = t} j n zero le h =
-    let all : n ≡ 0 = omega (arith, le) in subst (λ k. Refused (columns j k) p s t) all h
-refused_columns {p = p} {s = s} {t = t} j n (suc m) le h =
-    elim (cases_lt n (m + 1)) [
-      | inl before ↦ refused_first _ (refused_columns j n m (omega (arith, before)) h)
-      | inr after ↦ (let all : n ≡ suc m = omega (arith, le, after) in subst (λ k. Refused (columns j k) p s t) all h)
-    ]
-
-pub refused_columns_at : {Z : Type 0} {p q : Pen} {s t u : String Z} (j : RowChange) (n m : ℕ) → n < m
-    → Appended (columns j n) p s q t → Refused (column j (j.start + n)) q t u → Refused (columns j m) p s u
-unfolding columns
-refused_columns_at {p = p} {s = s} {u = u} j n m inside a b =
-    let next : Refused (columns j (suc n)) p s u = refused_then a b in
-    refused_columns j (suc n) m (omega (arith, inside)) next
 
 -- the bytes of the columns so far are appended, or none of those that were still to come
 pub began_columns_moved : {p q : Pen} {s t u : List ℕ} (j : RowChange) (n m : ℕ) (r : List ℕ) → n ≤ m

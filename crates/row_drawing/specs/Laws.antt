@@ -15,14 +15,16 @@ use Rattle.row_drawing.specs.Scene.{Scene, IsScene, IsReady, IsDrawn, scene_size
 -- flag of the row above.
 abbrev pub EachDifferenceLeads : Type 0
 EachDifferenceLeads = (s : Scene) (p : Pen) → IsScene s → IsReady s p
-    → IsDrawn s (row_difference s.row_change s.row_change.cols p).pen (run (scene_size s) (row_difference s.row_change s.row_change.cols p).forms
+    → IsDrawn s (row_difference s.row_change s.row_change.cols p).pen
+    (run (scene_size s) (row_difference s.row_change s.row_change.cols p).forms
     (with_row s s.row_change.old s.flags p.pos.row p.pos.col p.attrs))
 
 -- the same of the redraw, if the earlier row has default cells and no flag
 abbrev pub EachRedrawLeads : Type 0
 EachRedrawLeads = (s : Scene) (p : Pen) → IsScene s → IsReady s p → ((k : ℕ) → s.row_change.old k ≡ default_cell)
     → s.row_change.was_wrapped ≡ false
-    → IsDrawn s (row_redraw s.row_change s.row_change.cols p).pen (run (scene_size s) (row_redraw s.row_change s.row_change.cols p).forms
+    → IsDrawn s (row_redraw s.row_change s.row_change.cols p).pen
+    (run (scene_size s) (row_redraw s.row_change s.row_change.cols p).forms
     (with_row s s.row_change.old s.flags p.pos.row p.pos.col p.attrs))
 
 -- nothing is written for a row that stays, whatever number of its columns is drawn
@@ -42,7 +44,8 @@ pub record IsPictured (s : Scene) (old new : Shown) : Type 0 where
   pub new_cells : new.cell s.row_change.row ≡ s.row_change.new
   pub old_flag : old.wrapped s.row_change.row ≡ s.row_change.was_wrapped
   pub new_flag : new.wrapped s.row_change.row ≡ s.row_change.wrapped
-  pub above : s.row_change.above ≡ true → s.row_change.was_above ≡ false → IsNear (scene_size s) old new s.row_change.row
+  pub above : s.row_change.above ≡ true → s.row_change.was_above ≡ false → IsNear (scene_size s) old new
+      s.row_change.row
 
 -- the difference touches only local cells
 abbrev pub EachDifferenceIsLocal : Type 0

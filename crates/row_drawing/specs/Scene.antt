@@ -24,7 +24,14 @@ scene_size s = record { rows = s.rows; cols = s.row_change.cols }
 
 -- the terminal with the line f in that row, with these flags, cursor and attributes
 abbrev pub with_row : Scene → (ℕ → CellView) → (ℕ → Bool) → ℕ → ℕ → Attrs → Term
-with_row s f W r c a = record (s.term) { cell = update s.cells s.row_change.row f; wrapped = W; row = r; col = c; attrs = a }
+with_row s f W r c a = record (s.term) {
+  cell = update s.cells s.row_change.row f;
+  wrapped = W;
+  row = r;
+  col =
+      c;
+  attrs = a;
+}
 
 -- the flags, with that of the row above set if that row wraps
 abbrev pub flags_above : Scene → ℕ → Bool
@@ -50,7 +57,8 @@ pub record IsScene (s : Scene) : Type 0 where
   pub proper : (k : ℕ) → IsProper (s.row_change.new k).attrs
   pub flag : s.flags s.row_change.row ≡ s.row_change.was_wrapped
   pub below_first : s.row_change.above ≡ true → 0 < s.row_change.row
-  pub above_filled : s.row_change.above ≡ true → is_filled (s.cells (s.row_change.row - 1) (s.row_change.cols - 1)) ≡ true
+  pub above_filled : s.row_change.above ≡ true → is_filled (s.cells (s.row_change.row - 1) (s.row_change.cols - 1))
+      ≡ true
   pub above_flag : s.row_change.above ≡ true → s.row_change.was_above ≡ true → s.flags (s.row_change.row - 1) ≡ true
 
 -- the pen at the start of the row: if the row above still needs its flag, the cursor is behind that row's last column
@@ -58,7 +66,8 @@ pub record IsReady (s : Scene) (p : Pen) : Type 0 where
   pub closed : p.erase ≡ None
   pub kept : p.lost ≡ false
   pub proper : IsProper p.attrs
-  pub waits : s.row_change.above ≡ true → s.row_change.was_above ≡ false → (p.pos.row + 1 ≡ s.row_change.row) × (p.pos.col ≡ s.row_change.cols)
+  pub waits : s.row_change.above ≡ true → s.row_change.was_above ≡ false → (p.pos.row + 1 ≡ s.row_change.row)
+      × (p.pos.col ≡ s.row_change.cols)
 
 -- The row is drawn, and the pen is right. The terminal has the row's flag; or the row wraps, and the cursor is behind
 -- its last column, so that the next row sets the flag. `keeps_flag` says which, and the next row relies on it.
@@ -71,4 +80,5 @@ pub record IsDrawn (s : Scene) (p : Pen) (t : Term) : Type 0 where
       ⊎ ((s.row_change.wrapped ≡ true) × (p.pos.row ≡ s.row_change.row) × (p.pos.col ≡ s.row_change.cols)
       × (update flags s.row_change.row true ≡ update (flags_above s) s.row_change.row true))
   pub keeps : s.row_change.wrapped ≡ true → keeps_flag s.row_change p ≡ true → flags s.row_change.row ≡ true
-  pub waits : s.row_change.wrapped ≡ true → keeps_flag s.row_change p ≡ false → (p.pos.row ≡ s.row_change.row) × (p.pos.col ≡ s.row_change.cols)
+  pub waits : s.row_change.wrapped ≡ true → keeps_flag s.row_change p ≡ false → (p.pos.row ≡ s.row_change.row)
+      × (p.pos.col ≡ s.row_change.cols)

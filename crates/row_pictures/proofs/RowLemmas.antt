@@ -1,5 +1,6 @@
 -- The texts of parts of a row.
-use Rattle.std.proofs.Common.{◌≡◌, ◌≤◌, ◌<◌, ◌+◌, ◌-◌, ℕ, List, [], ◌∷◌, ◌++◌, take, drop, length, get_or, encode_utf8, sym, ap, ◌∙◌, append-nil, subst, arith}
+use Rattle.std.proofs.Common.{◌≡◌, ◌≤◌, ◌<◌, ◌+◌, ◌-◌, ℕ, List, [], ◌∷◌, ◌++◌, take, drop, length, get_or, encode_utf8}
+use Rattle.std.proofs.Common.{sym, ap, ◌∙◌, append-nil, subst, arith}
 use Rattle.std.proofs.Math.Seq.{take-add}
 use Rattle.std.proofs.lemmas.Grind.{flat_map-append}
 use Rattle.std.proofs.lemmas.List.{take_more}
@@ -22,7 +23,8 @@ row_drawn a b c cells i j le first second =
     subst (λ t. Adds a c t) (sym (row_text-take cells i j le)) (adds_both a b c _ _ first second)
 
 -- one cell more
-pub cell_drawn : (a b c : List ℕ) (cells : List CellView) (i : ℕ) (x : CellView) → i < length cells → x ≡ get_or cells i x
+pub cell_drawn : (a b c : List ℕ) (cells : List CellView) (i : ℕ) (x : CellView) → i < length cells → x
+    ≡ get_or cells i x
     → Adds a b (row_text (take i cells)) → Adds b c (cell_text x) → Adds a c (row_text (take (i + 1) cells))
 cell_drawn a b c cells i x lt is first second =
     let more : take (i + 1) cells ≡ take i cells ++ x ∷ [] =

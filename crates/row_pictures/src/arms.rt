@@ -23,7 +23,8 @@ pub(crate) struct Arms {
 }
 
 impl Arms {
-    /// The lines of a character from U+2500 to U+257F, as Unicode's names say them. Dashes, arcs and diagonals have none.
+    /// The lines of a character from U+2500 to U+257F, as Unicode's names say them. Dashes, arcs and diagonals have
+    /// none.
     pub(crate) fn of(c: char) -> Self {
         let place = (c as u32).saturating_sub(0x2500) % 128;
         let [up, right, down, left] = ARMS[place as usize];

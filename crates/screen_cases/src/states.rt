@@ -17,8 +17,8 @@ pub fn places(screen: &Screen) -> Places {
     ((rows.get(), cols.get()), screen.cursor_position(), kept)
 }
 
-/// The alternate sheet, the keypad's and the cursor keys' application mode, the hidden cursor and bracketed paste; bold,
-/// dim, italic, underlined and inverse; whether it has failed, and whether it is live.
+/// The alternate sheet, the keypad's and the cursor keys' application mode, the hidden cursor and bracketed paste;
+/// bold, dim, italic, underlined and inverse; whether it has failed, and whether it is live.
 pub fn switches(screen: &Screen) -> [bool; 12] {
     [
         screen.alternate_screen(),

@@ -89,7 +89,8 @@ unflags-none n f more single = grind (arith, nat_tests)
 
 -- an empty first cell isn't the last one of a row that wraps, nor right before a second half
 first-keeps : (s : Scene) (p : Pen) → IsScene s → s.row_change.wrapped ≡ true → owes_flag s.row_change p ≡ true
-    → has_text (s.row_change.new s.row_change.start) ≡ false → wipe_unflags s.row_change.cols s.row_change.old 0 1 ≡ false
+    → has_text (s.row_change.new s.row_change.start) ≡ false → wipe_unflags s.row_change.cols s.row_change.old 0 1
+    ≡ false
 first-keeps s p h on owed none =
     let j = s.row_change in
     let x = j.new 0 in
@@ -127,7 +128,8 @@ closing-blamed K j q on b =
 -- ---- the row
 
 pub lost-cause : (K : Type 0) (s : Scene) (p : Pen) → IsScene s → p.erase ≡ None → p.lost ≡ false
-    → s.row_change.wrapped ≡ true → IsCause K s.row_change → (row_difference s.row_change s.row_change.cols p).pen.lost ≡ true → K
+    → s.row_change.wrapped ≡ true → IsCause K s.row_change → (row_difference s.row_change s.row_change.cols p).pen.lost
+    ≡ true → K
 unfolding row_difference row_redraw ◌>>◌ finish
 lost-cause K s p h closed kept on cause =
     let j = s.row_change in

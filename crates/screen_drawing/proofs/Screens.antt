@@ -8,7 +8,8 @@ use Rattle.vt100_forms.specs.declared.modes.CursorStyle.{CursorStyle}
 use Rattle.vt100_forms.specs.Attrs.{IsProper, default_attrs}
 use Rattle.vt100_forms.specs.Form.{Form, ClearAttrs, ClearScreen, HideCursor, change}
 use Rattle.vt100_cells.specs.Cell.{CellView, default_cell, empty_cell}
-use Rattle.terminal_model.specs.Term.{Size, Modes, Shown, Saved, Term, IsShown, shown_of, saved_of, term_of, blank_shown}
+use Rattle.terminal_model.specs.Term.{Size, Modes, Shown, Saved, Term, IsShown, shown_of, saved_of, term_of}
+use Rattle.terminal_model.specs.Term.{blank_shown}
 use Rattle.terminal_model.specs.Term.{none_saved}
 use Rattle.terminal_model.specs.Apply.{apply, run}
 use Rattle.terminal_model.proofs.FormLemmas.{run-joined, change-read}

@@ -58,9 +58,11 @@ small-rules z s h = record {
   held = λ p k. k.0;
   moved = λ p q k. k;
   redraw = λ i l p k.
-      costs-row_redraw _ (row-row_change z blank_shown s i false h l) z.cols h.shown.some_col (omega arith) (afresh p) k;
+      costs-row_redraw _ (row-row_change z blank_shown s i false h l) z.cols h.shown.some_col (omega arith) (afresh p)
+      k;
   difference = λ old i l p k.
-      costs-row_difference _ (row-row_change z old s i (is_continued old.wrapped i && not p.lost) h l) z.cols h.shown.some_col
+      costs-row_difference _ (row-row_change z old s i (is_continued old.wrapped i && not p.lost) h l) z.cols
+      h.shown.some_col
       (omega arith) (afresh p) k;
 }
 

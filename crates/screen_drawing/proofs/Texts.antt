@@ -12,7 +12,8 @@ use Rattle.vt100_forms.specs.Mark.{HasPlainText, HasNoMark}
 use Rattle.vt100_forms.proofs.Marks.{no_mark}
 use Rattle.vt100_cells.specs.Cell.{has_text, cell_of, columns_of}
 use Rattle.terminal_model.specs.Term.{Size, Modes, Shown, Term}
-use Rattle.terminal_model.specs.Apply.{with_line, erase, print, join, down, wrap, made_to_fit, is_dropped, input, inputs}
+use Rattle.terminal_model.specs.Apply.{with_line, erase, print, join, down, wrap, made_to_fit, is_dropped, input}
+use Rattle.terminal_model.specs.Apply.{inputs}
 use Rattle.terminal_model.specs.Apply.{apply, run}
 use Rattle.vt100_forms.specs.Form.{HasText}
 use Rattle.terminal_model.specs.FormText.{IsSentText, IsFormText, AllTexts}

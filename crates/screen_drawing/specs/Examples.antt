@@ -76,21 +76,24 @@ abbrev pub wrapped_row : Shown
 wrapped_row = screen (plain_cells (codes "abcd") ∷ plain_cells (codes "xyz") ∷ []) (true ∷ []) 1 3
 
 abbrev pub wrapped_changed : Shown
-wrapped_changed = screen (plain_cells (codes "abce") ∷ (plain_cells (codes "x") ++ blank ++ plain_cells (codes "z")) ∷ []) (true ∷ []) 1 1
+wrapped_changed = screen (plain_cells (codes "abce") ∷ (plain_cells (codes "x") ++ blank ++ plain_cells (codes "z"))
+    ∷ []) (true ∷ []) 1 1
 
 -- a letter over the second half of a wide character, which makes the terminal lose the row's flag
 abbrev pub wide_end : Shown
 wide_end = screen ((plain_cells (codes "ab") ++ wide) ∷ plain_cells (codes "x") ∷ []) (true ∷ []) 1 1
 
 abbrev pub wide_covered : Shown
-wide_covered = screen ((plain_cells (codes "ab") ++ blank ++ plain_cells (codes "d")) ∷ plain_cells (codes "x") ∷ []) (true ∷ []) 0 4
+wide_covered = screen ((plain_cells (codes "ab") ++ blank ++ plain_cells (codes "d")) ∷ plain_cells (codes "x") ∷ [])
+    (true ∷ []) 0 4
 
 -- a wide character one column to the left, which does the same
 abbrev pub wide_last : Shown
 wide_last = screen ((plain_cells (codes "an") ++ wide) ∷ plain_cells (codes "y") ∷ []) (true ∷ []) 1 1
 
 abbrev pub wide_moved : Shown
-wide_moved = screen ((plain_cells (codes "a") ++ wide ++ plain_cells (codes "x")) ∷ plain_cells (codes "y") ∷ []) (true ∷ []) 1 1
+wide_moved = screen ((plain_cells (codes "a") ++ wide ++ plain_cells (codes "x")) ∷ plain_cells (codes "y") ∷ [])
+    (true ∷ []) 1 1
 
 -- the cursor is behind the last column of a full row, and then of the empty row
 abbrev pub full_row : Shown

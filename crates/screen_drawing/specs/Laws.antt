@@ -141,7 +141,8 @@ EachLaterRedrawLeads = (z : Size) (old new from : Shown) → IsDrawableScreen z 
 
 -- a redraw, and differences after it, take a terminal to the last of these screens
 abbrev pub EachChainLeads : Type 0
-EachChainLeads = (z : Size) (s from : Shown) (xs : List Shown) → IsDrawableScreen z s → AllByRecursion (IsDrawableScreen z) xs
+EachChainLeads = (z : Size) (s from : Shown) (xs : List Shown) → IsDrawableScreen z s
+    → AllByRecursion (IsDrawableScreen z) xs
     → Leads z (contents_formatted z s ++ contents_diffs z s xs) from
     (with_modes from.modes from.style (last_shown s xs))
 

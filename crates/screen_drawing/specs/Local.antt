@@ -41,7 +41,8 @@ EachGridDifferenceIsLocal = (z : Size) (old new : Shown) → IsShown z old → I
 
 -- the same, and whether the cursor is hidden, and the attributes
 abbrev pub EachContentsDifferenceIsLocal : Type 0
-EachContentsDifferenceIsLocal = (z : Size) (old new : Shown) → IsShown z old → IsProper old.attrs → IsDrawableScreen z new
+EachContentsDifferenceIsLocal = (z : Size) (old new : Shown) → IsShown z old → IsProper old.attrs
+    → IsDrawableScreen z new
     → IsLocalList z old new (contents_diff z old new)
 
 -- the same, and the modes and the cursor style

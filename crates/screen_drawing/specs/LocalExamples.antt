@@ -31,10 +31,12 @@ two_rows cells wrapped = screen (cells ∷ plain_cells (codes "x") ∷ []) (wrap
 
 pub record EachDifferenceTouches : Type 0 where
   -- nothing changes
-  pub none : touched (size 2 4) (two_rows (plain_cells (codes "abcd")) true) (two_rows (plain_cells (codes "abcd")) true)
+  pub none : touched (size 2 4) (two_rows (plain_cells (codes "abcd")) true) (two_rows (plain_cells (codes "abcd"))
+      true)
       ≡ codes "...." ∷ codes "...." ∷ []
   -- one cell changes
-  pub middle : touched (size 1 4) (row (plain_cells (codes "abcd"))) (row (plain_cells (codes "abxd"))) ≡ codes "..x." ∷ []
+  pub middle : touched (size 1 4) (row (plain_cells (codes "abcd"))) (row (plain_cells (codes "abxd")))
+      ≡ codes "..x." ∷ []
   -- the row's end is erased
   pub end : touched (size 1 4) (row (plain_cells (codes "abcd"))) (row (plain_cells (codes "a"))) ≡ codes ".xxx" ∷ []
   -- a wide character is erased, and a letter is printed over one of its halves
@@ -43,12 +45,15 @@ pub record EachDifferenceTouches : Type 0 where
   pub over_second : touched (size 1 4) (row (plain_cells (codes "a") ++ wide ++ plain_cells (codes "d")))
       (row (plain_cells (codes "a") ++ blank ++ plain_cells (codes "nd"))) ≡ codes ".xx." ∷ []
   -- an empty column between two that are erased is erased with them
-  pub between : touched (size 1 4) (row (plain_cells (codes "ab") ++ blank ++ plain_cells (codes "d"))) (row (plain_cells (codes "a")))
+  pub between : touched (size 1 4) (row (plain_cells (codes "ab") ++ blank ++ plain_cells (codes "d")))
+      (row (plain_cells (codes "a")))
       ≡ codes ".xxx" ∷ []
   -- the row begins to wrap, or no longer wraps: its last cell is printed once more
-  pub wraps : touched (size 2 4) (two_rows (plain_cells (codes "abcd")) false) (two_rows (plain_cells (codes "abcd")) true)
+  pub wraps : touched (size 2 4) (two_rows (plain_cells (codes "abcd")) false) (two_rows (plain_cells (codes "abcd"))
+      true)
       ≡ codes "...x" ∷ codes "x..." ∷ []
-  pub ends : touched (size 2 4) (two_rows (plain_cells (codes "abcd")) true) (two_rows (plain_cells (codes "abcd")) false)
+  pub ends : touched (size 2 4) (two_rows (plain_cells (codes "abcd")) true) (two_rows (plain_cells (codes "abcd"))
+      false)
       ≡ codes "...x" ∷ codes "...." ∷ []
   -- the flag is lost and set again, by the first cell of the next row
   pub lost : touched (size 2 4) wide_end wide_covered ≡ codes "..xx" ∷ codes "x..." ∷ []

@@ -23,11 +23,13 @@ use Rattle.screen_model.specs.Holds.{KeepsAtSameSize}
 use Rattle.screen_model.proofs.RowTraits.{IsKnown, IsClean, IsCleanRow, sound, clean-row, clean-cell}
 use Rattle.screen_model.proofs.SheetTraits.{IsCleanSheet}
 use Rattle.screen_model.proofs.UnscrolledSizes.{resized-same}
-use Rattle.screen_model.proofs.UnscrolledStates.{Bounds, IsUnscrolledState, is-state, well-fresh, well-resized, main-fine}
+use Rattle.screen_model.proofs.UnscrolledStates.{Bounds, IsUnscrolledState, is-state, well-fresh, well-resized}
+use Rattle.screen_model.proofs.UnscrolledStates.{main-fine}
 use Rattle.screen_model.proofs.ScalarEvents.{IsReported, added-reported}
 use Rattle.screen_model.proofs.UnscrolledEvents.{effect-well}
 
-played-well : (es : List Event) → All IsReported es → (b : Bounds) (s : State) → IsUnscrolledState b s → IsUnscrolledState b (played es s)
+played-well : (es : List Event) → All IsReported es → (b : Bounds) (s : State) → IsUnscrolledState b s
+    → IsUnscrolledState b (played es s)
 played-well [] h b s w = w
 played-well (e ∷ es) h b s w =
     played-well es (All-tail IsReported e es h) b (effect e s).state (effect-well e (All-head IsReported e es h) b s w)

@@ -197,7 +197,8 @@ written-scalar a bs e =
 -- ---- ground text
 
 char-reported : (c : ℕ) → IsScalar c → IsReported (char_event c)
-char-reported c h = cond_both (nat_lt c 0x20 || is_in_range 0x80 0x9F c) (Execute c) (Print c) IsReported (λ _. tt) (λ _. h)
+char-reported c h = cond_both (nat_lt c 0x20 || is_in_range 0x80 0x9F c) (Execute c) (Print c) IsReported (λ _. tt)
+    (λ _. h)
 
 malformed-reported : (n a : ℕ) → IsReported (malformed_event n a)
 malformed-reported n a = cond_both ((n == 1) && is_in_range 0x80 0x9F a) (Execute a) (Print 0xFFFD) IsReported (λ _. tt)
@@ -238,9 +239,11 @@ swallowed_end-reported cut (b ∷ rest) = aborted-reported cut b rest
 swallowed-reported : (cut : Bool) (s : List ℕ) → Reported (swallowed cut s)
 swallowed-reported cut s = swallowed_end-reported cut (from is_abort s)
 
-after-reported : (cut : Bool) (b : ℕ) (rest : List ℕ) → Reported (cond (is_abort b) (aborted cut b rest) (text cut rest))
+after-reported : (cut : Bool) (b : ℕ) (rest : List ℕ) → Reported (cond (is_abort b) (aborted cut b rest)
+    (text cut rest))
 after-reported cut b rest =
-    if-reported (is_abort b) (aborted cut b rest) (text cut rest) (aborted-reported cut b rest) (text-reported 0 cut rest)
+    if-reported (is_abort b) (aborted cut b rest) (text cut rest) (aborted-reported cut b rest)
+    (text-reported 0 cut rest)
 
 device_end-reported : (cut : Bool) (s : List ℕ) → Reported (device_end cut s)
 device_end-reported cut [] = if-reported cut (Unhook ∷ []) [] (one Unhook tt) none
@@ -254,7 +257,8 @@ device-reported cut s =
     (device_end-reported cut (from ends_device s))
 
 -- the byte after a header aborts it, or completes it if it is well formed
-header_end-reported : (cut : Bool) (h : List ℕ) (b : ℕ) (rest : List ℕ) (acts others : List Event) → Reported acts → Reported others
+header_end-reported : (cut : Bool) (h : List ℕ) (b : ℕ) (rest : List ℕ) (acts others : List Event) → Reported acts
+    → Reported others
     → Reported (cond (is_abort b) (aborted cut b rest) (cond (is_well_formed h) acts others))
 header_end-reported cut h b rest acts others p q =
     if-reported (is_abort b) (aborted cut b rest) (cond (is_well_formed h) acts others) (aborted-reported cut b rest)
@@ -280,7 +284,8 @@ csi-reported cut s =
     (csi_end-reported cut (filter is_header (before ends_header s)) (from ends_header s))
 
 osc_end-reported : (n : ℕ) (cut : Bool) (s t : List ℕ) → Reported (osc_end n cut s t)
-osc_end-reported n cut s [] = if-reported cut (Osc (osc_pieces n s) false ∷ []) [] (one (Osc (osc_pieces n s) false) tt) none
+osc_end-reported n cut s [] = if-reported cut (Osc (osc_pieces n s) false ∷ []) [] (one (Osc (osc_pieces n s) false) tt)
+    none
 osc_end-reported n cut s (b ∷ rest) =
     then-more (Osc (osc_pieces n s) (b == 0x07)) (cond (is_abort b) (aborted cut b rest) (text cut rest)) tt
     (after-reported cut b rest)
@@ -320,7 +325,8 @@ segments-reported : (n : ℕ) (f : Bool → List ℕ → List Event) → ((cut :
     → (s : List ℕ) (ts : List (List ℕ)) → Reported (segments n f s ts)
 segments-reported n f h s [] = h false s
 segments-reported n f h s (t ∷ ts) =
-    joined-reported (f true s) (segments n (escape n) t ts) (h true s) (segments-reported n (escape n) (escape-reported n) t ts)
+    joined-reported (f true s) (segments n (escape n) t ts) (h true s) (segments-reported n (escape n)
+    (escape-reported n) t ts)
 
 pub added-reported : (past bytes : List ℕ) → All IsReported (events_added past bytes)
 added-reported past bytes =

@@ -57,7 +57,8 @@ module _ (t : Traits) where
       → IsCleanSheet (cond b x y).grid
   scrolled-either b x y p q = cond_both b x y (λ (z : Scrolled). IsCleanSheet z.grid) (λ _. p) (λ _. q)
 
-  drawn-either : (b : Bool) (x y : PrintedGrid) → IsCleanSheet x.grid → IsCleanSheet y.grid → IsCleanSheet (cond b x y).grid
+  drawn-either : (b : Bool) (x y : PrintedGrid) → IsCleanSheet x.grid → IsCleanSheet y.grid
+      → IsCleanSheet (cond b x y).grid
   drawn-either b x y p q = cond_both b x y (λ (z : PrintedGrid). IsCleanSheet z.grid) (λ _. p) (λ _. q)
 
   positions-clean : (g : GridView) (f : ℕ → RowView) → IsCleanSheet g → ((r : ℕ) → IsCleanRow t (f r))

@@ -50,7 +50,8 @@ here g r c h w =
     ap (λ b. cond (b && nat_lt c g.width) x default_cell) (lt-ltb r g.height h)
     ∙ ap (λ b. cond b x default_cell) (lt-ltb c g.width w)
 
-outside : (g : GridView) (r c : ℕ) → (nat_lt r g.height && nat_lt c g.width) ≡ false → visible_lines g r c ≡ default_cell
+outside : (g : GridView) (r c : ℕ) → (nat_lt r g.height && nat_lt c g.width) ≡ false → visible_lines g r c
+    ≡ default_cell
 outside g r c e = ap (λ b. cond b (cell_at (visible_at g r).cells c) default_cell) e
 
 pub each-cell_is_reported : EachCellIsReported

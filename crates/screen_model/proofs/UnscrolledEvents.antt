@@ -30,15 +30,20 @@ use Rattle.screen_model.specs.Effect.{steps}
 use Rattle.screen_model.proofs.RowTraits.{IsKnown}
 use Rattle.screen_model.proofs.UnscrolledStates.{Bounds, IsUnscrolledState, well-with, Keeps, KeepsStepped}
 use Rattle.screen_model.proofs.UnscrolledStates.{well-typed, well-repeated}
-use Rattle.screen_model.proofs.UnscrolledStates.{well-moved_left, well-moved_right, well-tabbed, well-at_column, well-at_row}
+use Rattle.screen_model.proofs.UnscrolledStates.{well-moved_left, well-moved_right, well-tabbed, well-at_column}
+use Rattle.screen_model.proofs.UnscrolledStates.{well-at_row}
 use Rattle.screen_model.proofs.UnscrolledStates.{well-at_place, well-moved_up, well-moved_down, well-line_above}
 use Rattle.screen_model.proofs.UnscrolledStates.{well-line_below}
-use Rattle.screen_model.proofs.UnscrolledStates.{well-line_fed, well-line_fed_back, well-in_region, well-saved, well-restored}
-use Rattle.screen_model.proofs.UnscrolledStates.{well-erased_below, well-erased_above, well-erased_all, well-erased_kept}
-use Rattle.screen_model.proofs.UnscrolledStates.{well-erased_right, well-erased_left, well-erased_row, well-cells_erased}
+use Rattle.screen_model.proofs.UnscrolledStates.{well-line_fed, well-line_fed_back, well-in_region, well-saved}
+use Rattle.screen_model.proofs.UnscrolledStates.{well-restored}
+use Rattle.screen_model.proofs.UnscrolledStates.{well-erased_below, well-erased_above, well-erased_all}
+use Rattle.screen_model.proofs.UnscrolledStates.{well-erased_kept}
+use Rattle.screen_model.proofs.UnscrolledStates.{well-erased_right, well-erased_left, well-erased_row}
+use Rattle.screen_model.proofs.UnscrolledStates.{well-cells_erased}
 use Rattle.screen_model.proofs.UnscrolledStates.{well-cells_added, well-cells_taken, well-lines_added, well-lines_taken}
 use Rattle.screen_model.proofs.UnscrolledStates.{well-region_up, well-region_down, well-origin, well-alternate_shown}
-use Rattle.screen_model.proofs.UnscrolledStates.{well-main_shown, well-alternate_entered, well-alternate_left, well-made_anew}
+use Rattle.screen_model.proofs.UnscrolledStates.{well-main_shown, well-alternate_entered, well-alternate_left}
+use Rattle.screen_model.proofs.UnscrolledStates.{well-made_anew}
 use Rattle.screen_model.proofs.Tables.{Each, ◌&◌, Where, looked-up}
 use Rattle.screen_model.proofs.ProperLemmas.{sgr_read-proper}
 use Rattle.screen_model.proofs.ScalarEvents.{IsReported}
@@ -57,11 +62,17 @@ effect-or (Some f) k h b s w = h b s w
 attrs-well : (gs : List (List ℕ)) → Keeps (λ s. record s { attrs = (sgr_read gs s.attrs).attrs })
 attrs-well gs b s w =
     well-with b s _ _ _ _ w w.shown w.clean
-    (record { attrs = sgr_read-proper gs s.attrs w.drawn.attrs; saved_attrs = w.drawn.saved_attrs; last = w.drawn.last })
+    (record {
+      attrs = sgr_read-proper gs s.attrs w.drawn.attrs;
+      saved_attrs = w.drawn.saved_attrs;
+      last =
+          w.drawn.last;
+    })
 
 -- ---- private modes
 
-state-if : (b : Bounds) (p : Bool) (s t : State) → IsUnscrolledState b s → IsUnscrolledState b t → IsUnscrolledState b (cond p s t)
+state-if : (b : Bounds) (p : Bool) (s t : State) → IsUnscrolledState b s → IsUnscrolledState b t
+    → IsUnscrolledState b (cond p s t)
 state-if b p s t v w = cond_both p s t (λ x. IsUnscrolledState b x) (λ _. v) (λ _. w)
 
 mouse-reset : (m : MouseProtocolMode) → Keeps (mouse_reset m)
@@ -154,7 +165,8 @@ plains-keep =
 
 others-keep : Each KeepsOther other_rows
 others-keep =
-    (λ gs k. display-well (number_or 0 gs)) & (λ gs k. line-well (number_or 0 gs)) & (λ gs k. attrs-well gs) & window-well
+    (λ gs k. display-well (number_or 0 gs)) & (λ gs k. line-well (number_or 0 gs)) & (λ gs k. attrs-well gs) &
+    window-well
     & tt
 
 privates-keep : Each KeepsOther private_rows
@@ -189,7 +201,8 @@ csi-well gs (m ∷ ms) final b s w =
 
 controls-keep : Each KeepsEffect control_rows
 controls-keep =
-    same & well-moved_left 1 & well-tabbed & well-line_fed & well-line_fed & well-line_fed & well-at_column 0 & same & same
+    same & well-moved_left 1 & well-tabbed & well-line_fed & well-line_fed & well-line_fed & well-at_column 0 & same &
+    same
     & tt
 
 escapes-keep : Each KeepsEffect escape_rows

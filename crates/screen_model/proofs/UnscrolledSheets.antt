@@ -98,7 +98,8 @@ row-drawn l g r v d i = rows-drawn l g (set g.rows r v) d i (length-set g.rows r
 
 -- ---- lines that come in and go
 
-drawn-lines_opened : (l : Limits) (g : GridView) (first n : ℕ) → IsShownSheet l g → IsShownSheet l (lines_opened g first n)
+drawn-lines_opened : (l : Limits) (g : GridView) (first n : ℕ) → IsShownSheet l g
+    → IsShownSheet l (lines_opened g first n)
 drawn-lines_opened l g first n d = positions-drawn l g _ d (IsGrid-lines_opened g first n d.fine.grid d.some)
 
 pub drawn-lines_inserted : (l : Limits) (g : GridView) (n : ℕ) → IsShownSheet l g → IsShownSheet l (lines_inserted g n)
@@ -184,14 +185,16 @@ pub drawn-at : (l : Limits) (g : GridView) (row col : ℕ) → row < g.height �
 drawn-at l g row col r c d =
     cursors-drawn l g (record g { row = row; col = col }) d r c d.fine.grid.saved_row d.fine.grid.saved_col
 
-pub drawn-col : (l : Limits) (g : GridView) (col : ℕ) → col ≤ g.width → IsShownSheet l g → IsShownSheet l (record g { col = col })
+pub drawn-col : (l : Limits) (g : GridView) (col : ℕ) → col ≤ g.width → IsShownSheet l g
+    → IsShownSheet l (record g { col = col })
 drawn-col l g col c d = drawn-at l g g.row col d.fine.grid.cursor_row c d
 
 pub drawn-row : (l : Limits) (g : GridView) (row : ℕ) → row < g.height → IsShownSheet l g
     → IsShownSheet l (record g { row = row })
 drawn-row l g row r d = drawn-at l g row g.col r d.fine.grid.cursor_col d
 
-pub drawn-cursor_at : (l : Limits) (g : GridView) (row col : ℕ) → IsShownSheet l g → IsShownSheet l (cursor_at g row col)
+pub drawn-cursor_at : (l : Limits) (g : GridView) (row col : ℕ) → IsShownSheet l g
+    → IsShownSheet l (cursor_at g row col)
 drawn-cursor_at l g row col d =
     let i = d.fine.grid in
     drawn-at l g (cond g.origin (min (row + g.top) g.bottom) (min row (g.height - 1))) (min col (g.width - 1))
@@ -205,7 +208,8 @@ drawn-origin l g mode d =
     drawn-cursor_at l (record g { origin = mode }) 0 0
     (cursors-drawn l g (record g { origin = mode }) d i.cursor_row i.cursor_col i.saved_row i.saved_col)
 
-pub drawn-region : (l : Limits) (g : GridView) (top bottom : ℕ) → IsShownSheet l g → IsShownSheet l (with_region g top bottom)
+pub drawn-region : (l : Limits) (g : GridView) (top bottom : ℕ) → IsShownSheet l g
+    → IsShownSheet l (with_region g top bottom)
 drawn-region l g top bottom d =
     let i = d.fine.grid in
     let end = min bottom (g.height - 1) in

@@ -95,7 +95,8 @@ blank-rows l g d =
 
 pub drawn-allocated : (l : Limits) (g : GridView) → IsFineSheet l g → IsShownSheet l (allocated g)
 drawn-allocated l g d =
-    cond_both (length g.rows == 0) (record g { rows = replicate g.height (blank_row g.width) }) g (λ x. IsShownSheet l x)
+    cond_both (length g.rows == 0) (record g { rows = replicate g.height (blank_row g.width) }) g
+    (λ x. IsShownSheet l x)
     (λ _. blank-rows l g d)
     (λ e. record { fine = d; some = grind (arith, nat_tests) })
 
@@ -105,7 +106,8 @@ fine-cleared l g d =
     let n = length-replicate (length g.rows) (blank_row g.width) in
     record {
       grid = IsGrid-as g (cleared g) i
-          (IsSheet-blank g.height g.width (length g.rows) i.sheet.count i.few_cols) i.some_rows (omega arith) i.some_rows
+          (IsSheet-blank g.height g.width (length g.rows) i.sheet.count i.few_cols) i.some_rows (omega arith)
+          i.some_rows
           (omega arith) (omega arith) (omega (arith, i.some_rows)) (λ e. omega (arith, i.some_rows, e)) i.kept i.shown
           (λ z. ap cleared (i.fresh (sym n ∙ z)));
       limits = d.limits;
@@ -183,7 +185,8 @@ scrolled-fine l g height d some =
     subst (λ x. IsFineSheet l x) (scrolls-none (whole_screen g) up none whole.grid.kept whole.grid.shown) whole)
     (cases_lt 0 (length g.rows))
 
-lower-fine : (l : Limits) (g : GridView) (height width : ℕ) → IsFineSheet l g → 0 < height → height < g.height → 0 < width
+lower-fine : (l : Limits) (g : GridView) (height width : ℕ) → IsFineSheet l g → 0 < height → height < g.height
+    → 0 < width
     → width < 2 ^ 16
     → IsFineSheet (sized l height width)
     (with_width (shortened (scrolled_up (whole_screen g) (up_rows g height)).grid (up_rows g height) height) width)

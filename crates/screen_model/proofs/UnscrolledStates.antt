@@ -303,7 +303,8 @@ well-alternate_shown b s w =
     subst (λ g. IsShownSheet (limits b s.alternate) g) back w.shown in
     let clean = sheet-scrollback_shown sound s.shown 0 w.clean in
     cond_both s.alternate (with_shown s (scrollback_shown s.shown 0))
-    (record s { shown = allocated s.other; other = scrollback_shown s.shown 0; alternate = true }) (λ t. IsUnscrolledState b t)
+    (record s { shown = allocated s.other; other = scrollback_shown s.shown 0; alternate = true })
+    (λ t. IsUnscrolledState b t)
     (λ _. well-shown b s (scrollback_shown s.shown 0) w here clean)
     (λ e. record {
       bounds = w.bounds;
@@ -317,7 +318,8 @@ well-alternate_shown b s w =
 
 pub well-main_shown : Keeps main_shown
 well-main_shown b s w =
-    cond_both s.alternate (record s { shown = s.other; other = s.shown; alternate = false }) s (λ t. IsUnscrolledState b t)
+    cond_both s.alternate (record s { shown = s.other; other = s.shown; alternate = false }) s
+    (λ t. IsUnscrolledState b t)
     (λ e. record {
       bounds = w.bounds;
       shown = record { fine = fine-as b (not s.alternate) false s.other (ap not e) w.other; some = w.main e };
@@ -331,7 +333,8 @@ well-main_shown b s w =
 
 well-alternate_cleared : Keeps alternate_cleared
 well-alternate_cleared b s w =
-    cond_both s.alternate (with_shown s (cleared s.shown)) (record s { other = cleared s.other }) (λ t. IsUnscrolledState b t)
+    cond_both s.alternate (with_shown s (cleared s.shown)) (record s { other = cleared s.other })
+    (λ t. IsUnscrolledState b t)
     (λ _. well-shown b s (cleared s.shown) w (drawn-cleared _ s.shown w.shown)
     (sheet-cleared sound s.shown w.clean))
     (λ e. record {
@@ -389,7 +392,8 @@ well-made_anew b s w =
     ∙ ap (λ n. fresh_state g.height g.width n) (sym m.capacity) in
     subst (λ t. IsUnscrolledState b t) same (well-fresh b w.bounds)
 
-pub well-resized : (b : Bounds) (s : State) (height width : ℕ) → IsUnscrolledState b s → 0 < height → height < 2 ^ 16 → 0 < width
+pub well-resized : (b : Bounds) (s : State) (height width : ℕ) → IsUnscrolledState b s → 0 < height → height < 2 ^ 16
+    → 0 < width
     → width < 2 ^ 16 → IsUnscrolledState (record b { height = height; width = width }) (resized_to height width s).state
 well-resized b s height width w some_rows few_rows some_cols few_cols = record {
   bounds = record {

@@ -14,7 +14,8 @@ use Rattle.screen_model.specs.Call.{Call}
 use Rattle.screen_model.specs.Sgr.{sgr_read}
 use Rattle.screen_model.specs.PrivateModes.{modes_set, modes_reset}
 use Rattle.screen_model.specs.Step.{Report, Stepped, Partly, quietly, typed, repeated, moved_left, moved_right, tabbed}
-use Rattle.screen_model.specs.Step.{at_column, at_row, at_place, cursor_up, cursor_down, line_above, line_below, line_fed}
+use Rattle.screen_model.specs.Step.{at_column, at_row, at_place, cursor_up, cursor_down, line_above, line_below}
+use Rattle.screen_model.specs.Step.{line_fed}
 use Rattle.screen_model.specs.Step.{line_fed_back, in_region, saved, restored, erased_below, erased_above, erased_all}
 use Rattle.screen_model.specs.Step.{erased_kept, erased_right, erased_left, erased_row, cells_erased, cells_added}
 use Rattle.screen_model.specs.Step.{cells_taken, lines_added, lines_taken, region_up, region_down, with_keypad}

@@ -6,7 +6,8 @@
 
 ghost use Rattle.screen_model.specs.Holds.{MakesStates, MakesLastSize, MakesCapacity, MakesNoOffset, MakesCells};
 ghost use Rattle.screen_model.specs.Holds.{MakesProperCells, MakesByteColors, KeepsAtSameSize};
-ghost use Rattle.screen_model.specs.Shown.{EachCellIsReported, EachWrapIsReported, AlikeShowTheSame, EachCharacterIsReported};
+ghost use Rattle.screen_model.specs.Shown.{EachCellIsReported, EachWrapIsReported, AlikeShowTheSame};
+ghost use Rattle.screen_model.specs.Shown.{EachCharacterIsReported};
 
 /// A new terminal has a valid state after any bytes and resizes. Its main and its alternate screen have one size. The
 /// shown screen and the main one have their rows, and only the main one keeps rows that scroll off. The current, the

@@ -8,7 +8,8 @@ abbrev pub is_invocation : List (List ℕ) → Bool
 is_invocation (word ∷ []) = bytes_eq word (codes "run")
 is_invocation (rows ∷ cols ∷ []) = is_size rows && is_size cols
 is_invocation (rows ∷ cols ∷ capacity ∷ []) = is_size rows && (is_size cols && is_count capacity)
-is_invocation (rows ∷ cols ∷ capacity ∷ times ∷ []) = is_size rows && (is_size cols && (is_count capacity && is_count times))
+is_invocation (rows ∷ cols ∷ capacity ∷ times ∷ []) = is_size rows &&
+    (is_size cols && (is_count capacity && is_count times))
 is_invocation _ = false
 
 -- what is printed for any other command line

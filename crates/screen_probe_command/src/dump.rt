@@ -19,11 +19,11 @@ use vt100::{Cell, Color, Screen};
 /// wrapped ROW
 /// ```
 ///
-/// The line `updating` is there only while the program is in a synchronized update of its own. The lines of a row's cells
-/// that aren't default ones come before its wrapped line. A text is its UTF-8 in hexadecimal digits, or `-` where it is
-/// empty; `w` is a wide cell, `c` the second column of one. A colour is `d` by default, `i` and its number, or `r` and six
-/// hexadecimal digits. The flags are `bdiuv` for bold, dim, italic, underlined and inverse, each with `-` in its place
-/// where it is off.
+/// The line `updating` is there only while the program is in a synchronized update of its own. The lines of a row's
+/// cells that aren't default ones come before its wrapped line. A text is its UTF-8 in hexadecimal digits, or `-` where
+/// it is empty; `w` is a wide cell, `c` the second column of one. A colour is `d` by default, `i` and its number, or
+/// `r` and six hexadecimal digits. The flags are `bdiuv` for bold, dim, italic, underlined and inverse, each with `-`
+/// in its place where it is off.
 pub(crate) fn push_screen(out: &mut String, screen: &Screen) -> Result<(), AllocError> {
     let (rows, cols) = screen.size();
     let (height, width) = (rows.get(), cols.get());

@@ -12,7 +12,8 @@ use Rattle.vt100_forms.specs.Form.{mouse_number, encoding_number, style_number}
 use Rattle.vt100_cells.specs.Cell.{cell_of, columns_of}
 use Rattle.terminal_model.specs.FormText.{IsSentText}
 use Rattle.terminal_model.specs.Term.{Size, Modes, Term}
-use Rattle.terminal_model.specs.Apply.{with_line, erase, print, join, down, wrap, made_to_fit, is_dropped, input, inputs}
+use Rattle.terminal_model.specs.Apply.{with_line, erase, print, join, down, wrap, made_to_fit, is_dropped, input}
+use Rattle.terminal_model.specs.Apply.{inputs}
 use Rattle.terminal_model.specs.Apply.{switched, apply, run}
 use Rattle.forms_read.specs.Events.{events_of, events_of_all}
 use Rattle.forms_read.proofs.ReadForms.{list-read}
@@ -54,7 +55,8 @@ same-wrap z t = same-down z (record t { wrapped = _; col = 0 })
 
 same-fit : (z : Size) (n : ℕ) (t : Term) → SameModes t (made_to_fit z n t)
 unfolding made_to_fit
-same-fit z n t = cond_both (nat_le (t.col + n) z.cols) t (wrap z t) (λ u. SameModes t u) (λ _. same t) (λ _. same-wrap z t)
+same-fit z n t = cond_both (nat_le (t.col + n) z.cols) t (wrap z t) (λ u. SameModes t u) (λ _. same t)
+    (λ _. same-wrap z t)
 
 same-input : (z : Size) (c : ℕ) (t : Term) → SameModes t (input z c t)
 unfolding input join print with_line

@@ -219,7 +219,8 @@ pub record IsSound (g h : GridView) : Type 0 where
   pub plain : IsPlainGrid h
   pub size : grid_size h ≡ grid_size g
 
-pub sound-printed : (g : GridView) (c : ℕ) (x : Extras) → IsPlainGrid g → IsScalar c → IsSound g (printed g c x.attrs).grid
+pub sound-printed : (g : GridView) (c : ℕ) (x : Extras) → IsPlainGrid g → IsScalar c
+    → IsSound g (printed g c x.attrs).grid
 sound-printed g c x p scalar =
     let a = x.attrs in
     let n = columns_of c in

@@ -1,7 +1,10 @@
 //! Facts about forms, and about states and views that read them. Each function does nothing: its contract is the fact.
-ghost use Rattle.screen_view_laws.specs.StateLaws.{EachFormIsPlayed, EachListIsPlayed, EachWrittenFormIsMade, EachPlainStateIsRead};
-ghost use Rattle.screen_view_laws.specs.StateLaws.{EachSentListIsPlayed, EachSentWrittenFormIsMade, EachFreshStateIsBlank};
-ghost use Rattle.screen_view_laws.specs.Laws.{NewOnesAgree, EachWrittenFormIsAgreedOn, EachFeedIsAgreedOn, AgreeingModes};
+ghost use Rattle.screen_view_laws.specs.StateLaws.{EachFormIsPlayed, EachListIsPlayed, EachWrittenFormIsMade};
+ghost use Rattle.screen_view_laws.specs.StateLaws.{EachPlainStateIsRead};
+ghost use Rattle.screen_view_laws.specs.StateLaws.{EachSentListIsPlayed, EachSentWrittenFormIsMade};
+ghost use Rattle.screen_view_laws.specs.StateLaws.{EachFreshStateIsBlank};
+ghost use Rattle.screen_view_laws.specs.Laws.{NewOnesAgree, EachWrittenFormIsAgreedOn, EachFeedIsAgreedOn};
+ghost use Rattle.screen_view_laws.specs.Laws.{AgreeingModes};
 ghost use Rattle.screen_view_laws.specs.Laws.{EachSentWrittenFormIsAgreedOn};
 
 /// The test `is_plain` passes exactly for plain states: the states on which forms have their effect.

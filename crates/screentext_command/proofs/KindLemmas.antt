@@ -1,11 +1,16 @@
 -- `clap` names one kind of error at most for a command with no subcommand.
-use Rattle.std.proofs.Common.{◌≡◌, ℕ, zero, suc, Bool, true, false, not, cond, ◌&&◌, ◌||◌, ◌==◌, nat_lt, List, [], ◌∷◌, Option, Some, None, is_some, refl, sym, subst, length, drop, min, ◌+◌}
+use Rattle.std.proofs.Common.{◌≡◌, ℕ, zero, suc, Bool, true, false, not, cond, ◌&&◌, ◌||◌, ◌==◌, nat_lt, List, [], ◌∷◌}
+use Rattle.std.proofs.Common.{Option, Some, None, is_some, refl, sym, subst, length, drop, min, ◌+◌}
 use Rattle.std.specs.Char.{encode_utf8}
 use Rattle.std.specs.List.{list_any, slice_get}
 use Rattle.std.specs.Option.{option_map_or}
 use Rattle.std.specs.Str.{bytes_eq, chars}
 use Rattle.clap.specs.Facts.{explicit_source, parser_of_value, unwrap_or_range}
-use Rattle.clap.specs.Faults.{action_fault, bundle_fault, bundle_step_fault, check_fault, count_fault, default_fault, defaults_fault, fault_of, flag_word_fault, flags_fault, level_fault, long_fault, option_fault, other_fault, positional_fault, react_fault, repeat_fault, settle_fault, set_fault, short_fault, step_fault, stray_fault, turn_fault, use_fault, values_fault, walk_fault, given_default_fault}
+use Rattle.clap.specs.Faults.{action_fault, bundle_fault, bundle_step_fault, check_fault, count_fault, default_fault}
+use Rattle.clap.specs.Faults.{defaults_fault, fault_of, flag_word_fault, flags_fault, level_fault, long_fault}
+use Rattle.clap.specs.Faults.{option_fault, other_fault, positional_fault, react_fault, repeat_fault, settle_fault}
+use Rattle.clap.specs.Faults.{set_fault, short_fault, step_fault, stray_fault, turn_fault, use_fault, values_fault}
+use Rattle.clap.specs.Faults.{walk_fault, given_default_fault}
 use Rattle.clap.specs.Kinds.{Kinds, check_kinds, or_else, range_kinds, request_kinds, value_kinds, values_kinds}
 use Rattle.clap.specs.Lexer.{long_of, short_of}
 use Rattle.clap.specs.Matches.{count_text}
@@ -13,9 +18,13 @@ use Rattle.clap.specs.Simple.{Shape, argument_words, built}
 use Rattle.clap.specs.Takes.{is_given}
 use Rattle.clap.specs.Values.{refused_kind}
 use Rattle.clap.specs.ValueTests.{accepts}
-use Rattle.clap.specs.Walk.{Held, Row, Rule, Step, Text, Waiting, Walk, action_of, arg_by_id, arg_by_index, arg_by_long, arg_by_short, attached_value, count_of, finished, has_row, idle, is_empty, is_pending, most_values, nothing_held, reacted, settled, subcommand_met, takes_several, takes_values, value, values_or_missing, walk, walk_from, walked, with_default, word_met}
+use Rattle.clap.specs.Walk.{Held, Row, Rule, Step, Text, Waiting, Walk, action_of, arg_by_id, arg_by_index, arg_by_long}
+use Rattle.clap.specs.Walk.{arg_by_short, attached_value, count_of, finished, has_row, idle, is_empty, is_pending}
+use Rattle.clap.specs.Walk.{most_values, nothing_held, reacted, settled, subcommand_met, takes_several, takes_values}
+use Rattle.clap.specs.Walk.{value, values_or_missing, walk, walk_from, walked, with_default, word_met}
 use Rattle.clap.specs.declared.builder.ArgAction.{ArgAction}
-use Rattle.clap.specs.declared.builder.ArgAction.TheVariants.{Append, Count, Help, HelpLong, HelpShort, Set, SetFalse, SetTrue, Version}
+use Rattle.clap.specs.declared.builder.ArgAction.TheVariants.{Append, Count, Help, HelpLong, HelpShort, Set, SetFalse}
+use Rattle.clap.specs.declared.builder.ArgAction.TheVariants.{SetTrue, Version}
 use Rattle.clap.specs.declared.error.ErrorKind.TheVariants as kind
 use Rattle.clap.specs.declared.builder.ValueParser.{ValueParser}
 use Rattle.clap.proofs.FaultLemmas.{leaf_fault}
@@ -51,7 +60,8 @@ values-one i p (v ∷ vs) = then-one (value_kinds i p v) (values_kinds i p vs) (
 range-one : (least most n : ℕ) → IsSingle (range_kinds least most n)
 range-one least most n = go (nat_lt 0 least && n == 0) (least == most) (least == n) (nat_lt n least) (nat_lt most n)
   where
-    go : (p q r s t : Bool) → IsSingle (cond p (kind.InvalidValue ∷ []) (cond q (cond r [] (kind.WrongNumberOfValues ∷ []))
+    go : (p q r s t : Bool)
+        → IsSingle (cond p (kind.InvalidValue ∷ []) (cond q (cond r [] (kind.WrongNumberOfValues ∷ []))
         (cond s (kind.TooFewValues ∷ []) (cond t (kind.TooManyValues ∷ []) []))))
     go true q r s t = tt
     go false true true s t = tt
@@ -166,7 +176,8 @@ step-one s leaf position h value =
     maybe-one (arg_by_index s.rules position) (λ a. positional_fault s.rules s.args_override_self a h) (stray_fault s)
     (λ a. either-one (is_pending a h.pending && takes_several a) [] (settle_fault s.rules s.args_override_self h) tt
     (settle-one s.rules s.args_override_self h))
-    (subst (λ v. IsSingle (cond v (kind.UnknownArgument ∷ []) (kind.UnknownArgument ∷ kind.InvalidSubcommand ∷ []))) (sym leaf) tt)
+    (subst (λ v. IsSingle (cond v (kind.UnknownArgument ∷ []) (kind.UnknownArgument ∷ kind.InvalidSubcommand ∷ [])))
+    (sym leaf) tt)
 step-one s leaf position h _ = tt
 
 turn-one : (s : Shape) → s.is_leaf ≡ true → (w : Walk) (word : Text) → IsSingle (turn_fault s [] w word)
@@ -205,7 +216,8 @@ check-one false true a = tt
 check-one false false true = tt
 check-one false false false = tt
 
-level-one : (s : Shape) → s.is_leaf ≡ true → (h : Held) (words : List Text) → IsSingle (level_fault s [] h words false [])
+level-one : (s : Shape) → s.is_leaf ≡ true → (h : Held) (words : List Text)
+    → IsSingle (level_fault s [] h words false [])
 level-one s leaf h words =
     let end = (walk s.rules [] h words).held in
     let settled_end = settle_fault s.rules s.args_override_self end in

@@ -1,9 +1,11 @@
 -- How the words are described to `clap`.
-use Rattle.std.proofs.Common.{◌≡◌, ◌∙◌, ap, ap₂, Bool, false, ℕ, nat_lt, List, ◌++◌, map, inl, inr, true, refl, sym, [], ◌∷◌, subst, Err, Result, IfOk, Option, is_some}
+use Rattle.std.proofs.Common.{◌≡◌, ◌∙◌, ap, ap₂, Bool, false, ℕ, nat_lt, List, ◌++◌, map, inl, inr, true, refl, sym, []}
+use Rattle.std.proofs.Common.{◌∷◌, subst, Err, Result, IfOk, Option, is_some}
 use Rattle.std.proofs.lemmas.Result.{IfOk-weaker}
 use Rattle.std.proofs.lemmas.List.{map-append}
 use Rattle.std.specs.Borrow.{Bor}
-use Rattle.clap.specs.Words.{AddsAliases, AddsArg, App, IsAmong, Kinds, Row, Rule, Text, app_of, is_simple, is_simple_and_free}
+use Rattle.clap.specs.Words.{AddsAliases, AddsArg, App, IsAmong, Kinds, Row, Rule, Text, app_of, is_simple}
+use Rattle.clap.specs.Words.{is_simple_and_free}
 use Rattle.clap.specs.Words.{rule_of, with_rule}
 use Rattle.clap.specs.declared.error.ErrorKind.{ErrorKind}
 use Rattle.clap.proofs.OnLiterals.{clap_on_literals}
@@ -13,7 +15,8 @@ use Rattle.clap.specs.declared.Arg.{Arg}
 use Rattle.clap.specs.declared.Command.{Command}
 
 -- a command to which one more argument was added
-pub added : (old new : Command) (a : Arg) (before : App) (r : Rule) → AddsArg old a new → rule_of a ≡ r → a.global ≡ false
+pub added : (old new : Command) (a : Arg) (before : App) (r : Rule) → AddsArg old a new → rule_of a ≡ r → a.global
+    ≡ false
     → app_of old ≡ before → app_of new ≡ with_rule before r
 added old new a before r adds is local was = adds.shape local ∙ ap₂ with_rule was is
 
@@ -22,7 +25,8 @@ pub aliased : (old new : Arg) (xs : List (Bor Text × Bool)) → AddsAliases old
     → rule_of new ≡ record (rule_of old) { aliases = (rule_of old).aliases ++ map (λ x. x.0.now) xs }
 aliased old new xs adds =
     ap rule_of adds.0 ∙ ap (λ (names : List Text). record (rule_of old) { aliases = names })
-    (ap (map (λ (x : Bor Text × Bool). x.0.now)) adds.1 ∙ map-append (λ (x : Bor Text × Bool). x.0.now) old.aliases.items xs)
+    (ap (map (λ (x : Bor Text × Bool). x.0.now)) adds.1 ∙ map-append (λ (x : Bor Text × Bool). x.0.now)
+    old.aliases.items xs)
 
 pub known_is_simple : is_simple known ≡ true
 unfolding clap_on_literals
@@ -33,11 +37,13 @@ unfolding clap_on_literals
 known_is_free = refl
 
 -- words that `clap` takes, by their values
-pub taken : (kinds : Kinds) (rows reported : List Row) → kinds ≡ [] → reported ≡ rows → are_words reported ≡ is_invocation_of kinds rows
+pub taken : (kinds : Kinds) (rows reported : List Row) → kinds ≡ [] → reported ≡ rows → are_words reported
+    ≡ is_invocation_of kinds rows
 taken kinds rows reported none same = ap are_words same ∙ ap (λ ks. is_invocation_of ks rows) (sym none)
 
 -- words that it doesn't take, by the kind of its error
-pub not_taken : (k : ErrorKind) (kinds reported : Kinds) (rows : List Row) → reported ≡ kinds → IsSingle kinds → IsAmong k reported
+pub not_taken : (k : ErrorKind) (kinds reported : Kinds) (rows : List Row) → reported ≡ kinds → IsSingle kinds
+    → IsAmong k reported
     → is_request k ≡ is_invocation_of kinds rows
 not_taken k kinds reported rows same single among = go kinds single (subst (IsAmong k) same among)
   where
@@ -57,7 +63,8 @@ by_same_test r a b e = IfOk-weaker r (λ o. is_some o ≡ a) (λ o. is_some o �
 
 -- the form by the counts of its words
 pub form_counts : (a b c d e f g h : ℕ) → a ≡ e → b ≡ f → c ≡ g → d ≡ h
-    → is_form (nat_lt 0 a) (nat_lt 0 b) (nat_lt 0 c) (nat_lt 0 d) ≡ is_form (nat_lt 0 e) (nat_lt 0 f) (nat_lt 0 g) (nat_lt 0 h)
+    → is_form (nat_lt 0 a) (nat_lt 0 b) (nat_lt 0 c) (nat_lt 0 d) ≡ is_form (nat_lt 0 e) (nat_lt 0 f) (nat_lt 0 g)
+    (nat_lt 0 h)
 form_counts a b c d e f g h p q r s =
     ap₂ (λ x y. is_form (nat_lt 0 x) (nat_lt 0 y) (nat_lt 0 c) (nat_lt 0 d)) p q
     ∙ ap₂ (λ x y. is_form (nat_lt 0 e) (nat_lt 0 f) (nat_lt 0 x) (nat_lt 0 y)) r s

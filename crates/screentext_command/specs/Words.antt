@@ -1,7 +1,9 @@
 -- The words of the command line.
-use Rattle.std.specs.Prelude.{ℕ, nat_lt, Bool, true, false, not, ◌&&◌, ◌||◌, is_some, List, [], ◌∷◌, ◌++◌, Option, Some, None, codes}
+use Rattle.std.specs.Prelude.{ℕ, nat_lt, Bool, true, false, not, ◌&&◌, ◌||◌, is_some, List, [], ◌∷◌, ◌++◌, Option, Some}
+use Rattle.std.specs.Prelude.{None, codes}
 use Rattle.std.specs.Option.{option_map_or}
-use Rattle.clap.specs.Words.{App, Kinds, Row, Rule, Text, count_of, fault_of, first_of, matches_of, new_app, new_rule, with_rule}
+use Rattle.clap.specs.Words.{App, Kinds, Row, Rule, Text, count_of, fault_of, first_of, matches_of, new_app, new_rule}
+use Rattle.clap.specs.Words.{with_rule}
 use Rattle.clap.specs.declared.builder.ArgAction.TheVariants.{Count}
 use Rattle.clap.specs.declared.error.ErrorKind.{ErrorKind}
 use Rattle.clap.specs.declared.error.ErrorKind.TheVariants.{DisplayHelp, DisplayVersion}
@@ -29,11 +31,13 @@ program = let a = new_app (codes "screentext") in
     record a { top = record a.top { has_version = true; no_binary_name = true; args_override_self = true } }
 
 abbrev pub with_values : App → App
-with_values a = with_rule (with_rule (with_rule (with_rule (with_rule a (new_rule (codes "ROWS"))) (new_rule (codes "COLS")))
+with_values a = with_rule
+    (with_rule (with_rule (with_rule (with_rule a (new_rule (codes "ROWS"))) (new_rule (codes "COLS")))
     (value_rule (codes "at"))) (value_rule (codes "diff"))) (value_rule (codes "history"))
 
 abbrev pub with_flags : App → App
-with_flags a = with_rule (with_rule (with_rule (with_rule a (flag_rule (codes "joined"))) colors_rule) (flag_rule (codes "html")))
+with_flags a = with_rule (with_rule (with_rule (with_rule a (flag_rule (codes "joined"))) colors_rule)
+    (flag_rule (codes "html")))
     (flag_rule (codes "svg"))
 
 abbrev pub with_sources : App → App
@@ -41,7 +45,8 @@ with_sources a = with_rule (with_rule (with_rule (with_rule a (flag_rule (codes 
     (value_rule (codes "timing"))) (flag_rule (codes "no-line-drawing"))
 
 abbrev pub with_pictures : App → App
-with_pictures a = with_rule (with_rule (with_rule (with_rule a (flag_rule (codes "html-block"))) (value_rule (codes "theme")))
+with_pictures a = with_rule (with_rule (with_rule (with_rule a (flag_rule (codes "html-block")))
+    (value_rule (codes "theme")))
     (value_rule (codes "font"))) (flag_rule (codes "bold-is-bright"))
 
 abbrev pub with_films : App → App
@@ -50,8 +55,8 @@ with_films a = with_rule (with_rule (with_rule a (flag_rule (codes "animate"))) 
 
 -- the description for `clap` of
 -- `[ROWS COLS] [--at TIME] [--diff TIME] [--history N] [--joined] [--colours] [--html | --svg]
--- [--list] [--kind NAME] [--timing FILE] [--no-line-drawing] [--html-block] [--theme NAME] [--font NAME] [--bold-is-bright]
--- [--animate] [--speed N] [--idle SECONDS]`
+-- [--list] [--kind NAME] [--timing FILE] [--no-line-drawing] [--html-block] [--theme NAME] [--font NAME]
+-- [--bold-is-bright] [--animate] [--speed N] [--idle SECONDS]`
 abbrev pub known : App
 known = with_films (with_pictures (with_sources (with_flags (with_values program))))
 

@@ -3,7 +3,9 @@
 ghost use Rattle.std.specs.Prelude.{◌≡◌, [], ◌∷◌, false, codes, IfOk};
 ghost use Rattle.clap.specs.Words.{app_of, new_rule, rule_of, with_rule};
 ghost use Rattle.screentext_command.specs.Words.{colors_rule, flag_rule, known, program as program_app, value_rule};
-ghost use Rattle.screentext_command.specs.Words.{with_flags as with_flags_on, with_films as with_films_on, with_pictures as with_pictures_on, with_values as with_values_on, with_sources as with_sources_on};
+ghost use Rattle.screentext_command.specs.Words.{with_flags as with_flags_on, with_films as with_films_on};
+ghost use Rattle.screentext_command.specs.Words.{with_pictures as with_pictures_on, with_values as with_values_on};
+ghost use Rattle.screentext_command.specs.Words.{with_sources as with_sources_on};
 
 use clap::{Arg, ArgAction, Command};
 use std::alloc::{AllocError, Global};

@@ -1,6 +1,7 @@
 //! The command line of `screentext`: what a recorded terminal stream shows, at its end or at a moment.
 //!
-//! The stream comes from a reader, as raw bytes or as a recording: an asciicast, a typescript with its timing file, or a ttyrec.
+//! The stream comes from a reader, as raw bytes or as a recording: an asciicast, a typescript with its timing file, or
+//! a ttyrec.
 #![tactic(auto)]
 
 mod answer;

@@ -99,7 +99,8 @@ fn speed_of(alloc: Global, word: Option<&str>) -> Result<Option<u64>, AllocError
 
 // The longest time in which nothing changes, in microseconds, or none where there is no word.
 fn idle_of(alloc: Global, word: Option<&str>) -> Result<Option<Option<u64>>, AllocError>
-    ensures { IfOk result (λ t. is_some t ≡ option_map_or (λ w. is_some (time_in w)) (option_map (λ w. w.now) word.entry) true) }
+    ensures { IfOk result (λ t. is_some t ≡ option_map_or (λ w. is_some (time_in w))
+        (option_map (λ w. w.now) word.entry) true) }
 {
     match word {
         None => Ok(Some(None)),

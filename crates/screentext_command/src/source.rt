@@ -67,7 +67,8 @@ fn new_source(
 
 // The kind of this name, or none where there is no word.
 fn kind_of(word: Option<&str>) -> Option<Option<Kind>>
-    ensures { is_some result ≡ option_map_or (λ word. is_some (kind_named word)) (option_map (λ w. w.now) word.entry) true }
+    ensures { is_some result ≡ option_map_or (λ word. is_some (kind_named word)) (option_map (λ w. w.now) word.entry)
+        true }
 {
     match word {
         None => Some(None),

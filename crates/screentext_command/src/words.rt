@@ -7,7 +7,8 @@ ghost use Rattle.clap.specs.declared.error.ErrorKind.TheVariants.{OutOfMemory};
 ghost use Rattle.command_line.specs.Numbers.{is_count};
 ghost use Rattle.recordings.specs.Times.{json_in};
 ghost use Rattle.screentext_command.specs.declared.error.TextError.TheVariants.{Memory};
-ghost use Rattle.screentext_command.specs.Words.{are_values, are_words, is_form, is_moment, is_invocation, is_request, is_screen, is_time};
+ghost use Rattle.screentext_command.specs.Words.{are_values, are_words, is_form, is_moment, is_invocation, is_request};
+ghost use Rattle.screentext_command.specs.Words.{is_screen, is_time};
 
 use crate::error::TextError;
 use crate::known::known_words;

@@ -1,5 +1,5 @@
-//! Does one kind of work on a stream again and again, so that it can be timed from outside: `speed WORK ROWS COLS TIMES`,
-//! with the stream on standard input. What it prints is a count that depends on all that was done.
+//! Does one kind of work on a stream again and again, so that it can be timed from outside: `speed WORK ROWS COLS
+//! TIMES`, with the stream on standard input. What it prints is a count that depends on all that was done.
 //!
 //! - `events`: `vte_core` cuts the stream into events, which are counted, a text by its length.
 //! - `calls`: `vte` makes the calls of a handler of it, which are counted.

@@ -313,7 +313,8 @@ fn read_by_table(reading: &mut Reading, pieces: &[&[u8]]) -> Result<(), StepErro
     reading.log.check()
 }
 
-/// Each byte between a prefix and an end. Answers how many of the streams have the events of the table, and which don't.
+/// Each byte between a prefix and an end. Answers how many of the streams have the events of the table, and which
+/// don't.
 pub fn tell_states(
     alloc: Global,
     log: &mut Log,

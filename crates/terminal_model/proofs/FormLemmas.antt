@@ -25,7 +25,8 @@ use Rattle.terminal_model.specs.Position.{update}
 use Rattle.terminal_model.specs.Term.{Size, Shown, Saved, Term, IsTerm, IsShown, IsSaved, shown_of, saved_of}
 use Rattle.terminal_model.specs.Term.{term_of, none_saved}
 use Rattle.terminal_model.specs.Apply.{with_line, erase, down, switched, apply, run}
-use Rattle.terminal_model.specs.Laws.{EachEmptyFormIsIdle, EachListJoins, EachPathJoins, EachMoveLeads, EachChangeIsRead}
+use Rattle.terminal_model.specs.Laws.{EachEmptyFormIsIdle, EachListJoins, EachPathJoins, EachMoveLeads}
+use Rattle.terminal_model.specs.Laws.{EachChangeIsRead}
 use Rattle.terminal_model.proofs.Positions.{update-kept}
 use Rattle.terminal_model.proofs.TermLemmas.{IsTerm-elsewhere, IsTerm-run}
 

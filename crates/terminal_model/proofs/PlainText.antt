@@ -35,7 +35,8 @@ no_esc-char c h = no_esc-each (encode_utf8 c) (λ k l e.
 pub no_esc-all : (cs : List ℕ) → AllByRecursion is_no_esc cs → AllByRecursion is_no_esc (encode_utf8_all cs)
 unfolding is_no_esc
 no_esc-all [] h = tt
-no_esc-all (c ∷ cs) h = all-append is_no_esc (encode_utf8 c) (encode_utf8_all cs) (no_esc-char c h.0) (no_esc-all cs h.1)
+no_esc-all (c ∷ cs) h = all-append is_no_esc (encode_utf8 c) (encode_utf8_all cs) (no_esc-char c h.0)
+    (no_esc-all cs h.1)
 
 -- ESC isn't drawn, and takes a column
 esc_is : is_undrawable 27 ≡ true

@@ -115,7 +115,8 @@ all_zero z (d ∷ ds) y u whole h =
     let some = span-some y in
     let kept = kept_zero z d (print z y u) e (print-later z y u) in
     let none : (columns_of d == 0) ≡ true = eq-eqb (columns_of d) 0 e in
-    let one : input z d (print z y u) ≡ print z (appended_in_place y d) u = rw (kept, none) (joined-put z d y u whole) in
+    let one : input z d (print z y u) ≡ print z (appended_in_place y d) u = rw (kept, none)
+    (joined-put z d y u whole) in
     ap (inputs z ds) one ∙ all_zero z ds (appended_in_place y d) u (plain-continuation y d
     ∙ whole) (λ k c l. h (suc k) c (omega arith))
 

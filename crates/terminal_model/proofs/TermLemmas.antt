@@ -16,7 +16,8 @@ use Rattle.vt100_cells.proofs.JoinedCells.{base_col-whole, base_col-within, plai
 use Rattle.vt100_cells.proofs.JoinedCells.{plain-filled, Bounded-update, update-last}
 use Rattle.terminal_model.specs.Position.{update}
 use Rattle.terminal_model.specs.Term.{Size, Modes, Term, IsTerm}
-use Rattle.terminal_model.specs.Apply.{with_line, erase, print, join, down, wrap, made_to_fit, is_dropped, input, inputs}
+use Rattle.terminal_model.specs.Apply.{with_line, erase, print, join, down, wrap, made_to_fit, is_dropped, input}
+use Rattle.terminal_model.specs.Apply.{inputs}
 use Rattle.terminal_model.specs.Apply.{apply, run}
 
 -- ---- another line, another cursor

@@ -9,9 +9,11 @@ use Rattle.vt100_cells.specs.Cell.{CellView, columns_of, cell_of, appended_in_pl
 use Rattle.vt100_cells.specs.Line.{put, wiped, base_col}
 use Rattle.terminal_model.specs.Position.{update}
 use Rattle.terminal_model.specs.Term.{Size, Term}
-use Rattle.terminal_model.specs.Apply.{with_line, erase, print, join, down, wrap, made_to_fit, is_dropped, input, inputs}
+use Rattle.terminal_model.specs.Apply.{with_line, erase, print, join, down, wrap, made_to_fit, is_dropped, input}
+use Rattle.terminal_model.specs.Apply.{inputs}
 use Rattle.terminal_model.specs.Apply.{apply, run}
-use Rattle.terminal_model.specs.Touch.{put_touches, wipe_touches, is_last_row, input_touches, inputs_touch, form_touches}
+use Rattle.terminal_model.specs.Touch.{put_touches, wipe_touches, is_last_row, input_touches, inputs_touch}
+use Rattle.terminal_model.specs.Touch.{form_touches}
 use Rattle.terminal_model.specs.Touch.{touches, Within}
 use Rattle.terminal_model.specs.Laws.{EachUntouchedCellStays}
 use Rattle.terminal_model.proofs.TermLemmas.{neither}

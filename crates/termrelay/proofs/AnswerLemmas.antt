@@ -1,5 +1,6 @@
 -- The answers where a frame may be too long, and where none can be.
-use Rattle.std.proofs.Common.{◌≡◌, ℕ, ◌*◌, ◌≤◌, ◌&&◌, Bool, true, false, List, [], ◌∷◌, Option, Some, None, refl, sym, ◌∙◌}
+use Rattle.std.proofs.Common.{◌≡◌, ℕ, ◌*◌, ◌≤◌, ◌&&◌, Bool, true, false, List, [], ◌∷◌, Option, Some, None, refl, sym}
+use Rattle.std.proofs.Common.{◌∙◌}
 use Rattle.std.proofs.Common.{arith, length, if◌then◌else◌}
 use Rattle.std.specs.Prelude.{nat_lt}
 use Rattle.std.proofs.lemmas.Bool.{le-ltb}
@@ -11,7 +12,8 @@ use Rattle.termrelay.specs.declared.answer.Answer.{Answer}
 use Rattle.termrelay.specs.declared.answer.Answer.TheVariants.{Held, TooLong}
 use Rattle.termrelay.specs.Frame.{frame_text, IsShortFrame}
 use Rattle.termrelay.specs.Answers.{ClientState, is_frame, due, wanted_to, wanted_of, longest_frame}
-use Rattle.termrelay.specs.Answers.{is_too_long, unless_too_long, answer_to, answer_for, may_allocate, EachSmallScreenFits}
+use Rattle.termrelay.specs.Answers.{is_too_long, unless_too_long, answer_to, answer_for, may_allocate}
+use Rattle.termrelay.specs.Answers.{EachSmallScreenFits}
 use Rattle.termrelay.proofs.FrameLengths.{frame-short}
 
 -- ---- what is wanted

@@ -29,7 +29,8 @@ unfolding body_forms state_formatted
 full-text z now none = ap (λ b. bytes_of (body_forms z b now)) none
 
 pub difference-text : (z : Size) (now : Shown) {base : Shown} {last : Option Shown} {answer : Answer} → last ≡ Some base
-    → answer ≡ due z now last → answer ≡ Difference → bytes_of (body_forms z last now) ≡ bytes_of (state_diff z base now)
+    → answer ≡ due z now last → answer ≡ Difference → bytes_of (body_forms z last now)
+    ≡ bytes_of (state_diff z base now)
 difference-text z now {base = base} is due_is e = rw (is, difference-body z base now (rw is at (sym due_is ∙ e)))
 
 pub redraw-text : (z : Size) (now : Shown) {base : Shown} {last : Option Shown} {answer : Answer} → last ≡ Some base

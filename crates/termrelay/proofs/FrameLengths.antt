@@ -19,7 +19,8 @@ body-short z (Some base) now h small =
     let contents = contents_formatted z now in
     let modes = input_mode_diff base now in
     cond_both (is_unsure z base || is_unsure z now) (contents ++ modes) (state_diff z base now) (IsWithin z 1008)
-    (λ _. omega (arith, join-length contents modes, each.contents_formatted, each.input_mode_diff)) (λ _. each.state_diff)
+    (λ _. omega (arith, join-length contents modes, each.contents_formatted, each.input_mode_diff))
+    (λ _. each.state_diff)
 
 pub frame-short : EachFrameIsShort
 frame-short z base now h small =

@@ -10,7 +10,8 @@ use Rattle.termrelay.specs.Hub.{HubState, as_kept}
 use Rattle.termrelay.specs.Calls.{Call, call_of, IsCall, Serves}
 use Rattle.termrelay.specs.Log.{SessionView, LogView, sessions_after, RunsLogged, ServesLogged, MadeAll, RunsCalls}
 
-runs-more : (h g k : HubState as_kept) (ss ts us : List SessionView) (calls : List Call) (replies : List Reply) (call : Call)
+runs-more : (h g k : HubState as_kept) (ss ts us : List SessionView) (calls : List Call) (replies : List Reply)
+    (call : Call)
     (reply : Reply) → RunsLogged h ss calls replies g ts → IsCall call → Serves g call reply k
     → us ≡ sessions_after g call reply ts → RunsLogged h ss (calls ++ call ∷ []) (replies ++ reply ∷ []) k us
 runs-more h g k ss ts us [] [] call reply run is serves e =
@@ -31,7 +32,8 @@ made-one h g k l m o calls call (replies, are, runs) (reply, is, serves, reporte
   runs-more h g k l.sessions m.sessions o.sessions calls replies call reply runs is serves kept,
 )
 
-pub made-more : (h g k : HubState as_kept) (l m o : LogView) (calls : List Given) (n : ℕ) (call : Given) → n < length calls
+pub made-more : (h g k : HubState as_kept) (l m o : LogView) (calls : List Given) (n : ℕ) (call : Given)
+    → n < length calls
     → call ≡ get_or calls n call → MadeAll h l (map call_of (take n calls)) g m → ServesLogged g (call_of call) k m o
     → MadeAll h l (map call_of (take (n + 1) calls)) k o
 made-more h g k l m o calls n call lt is made serves =
@@ -43,7 +45,8 @@ pub made-all : (h g : HubState as_kept) (l m : LogView) (calls : List Given) (n 
 made-all h g l m calls n le made = rw (take_all n calls le) at made
 
 -- an allocation for the log of a call failed
-pub made-some : (h g k : HubState as_kept) (l m o : LogView) (calls : List Given) (n : ℕ) (result : Result (Unit {0}) HubError)
+pub made-some : (h g k : HubState as_kept) (l m o : LogView) (calls : List Given) (n : ℕ) (result : Result (Unit {0})
+    HubError)
     → n < length calls → MadeAll h l (map call_of (take n calls)) g m → k ≡ g → o ≡ m → result ≡ Err Memory
     → RunsCalls h l (map call_of calls) result k o
 made-some h g k l m o calls n result lt made same kept e =

@@ -67,7 +67,8 @@ taken-as-reported takes rest owed end n (some middle first k more pos reported l
 
 module _ {way : Telling} where
   -- the client at a key after it was put there
-  pub put-there : (h g : HubState way) (key : ℕ) (slot : Option ClientState) → Puts h key slot g → clients_in g key ≡ slot
+  pub put-there : (h g : HubState way) (key : ℕ) (slot : Option ClientState) → Puts h key slot g → clients_in g key
+      ≡ slot
   put-there h g key slot put =
       ap (λ (clients : ℕ → Option ClientState). clients key) put.1 ∙ rw (eq-eqb key key refl)
 
@@ -89,10 +90,11 @@ prefix-kept bytes owed n left is =
     rw (count, whole) (take-append_seam (bytes ++ take n owed) (drop n owed))
 
 -- how many of the bytes a client was owed are left after a pump, and which were taken
-pub record IsPumped {way : Telling} (h : HubState way) (key : ℕ) (takes : List Take) (owed : List ℕ) (left : ℕ) : Type 0 where
-  pub count : ℕ
-  pub rest : left ≡ length (drop count owed)
-  pub bytes : bytes_taken takes (clients_in h key) ≡ take count owed
+pub record IsPumped {way : Telling} (h : HubState way) (key : ℕ) (takes : List Take) (owed : List ℕ) (left : ℕ) : Type 0
+  where
+    pub count : ℕ
+    pub rest : left ≡ length (drop count owed)
+    pub bytes : bytes_taken takes (clients_in h key) ≡ take count owed
 
 pub pumped-by : {way : Telling} (h g : HubState way) (key : ℕ) (takes : List Take) (reply : Reply) (owed : List ℕ)
     (left : ℕ) (unknown : Type 0) → (unknown → ⊥) → (o : Option ClientState) → clients_in h key ≡ o

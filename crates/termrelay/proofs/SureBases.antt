@@ -1,5 +1,6 @@
 -- What is due if there is a sure base, and if there is none.
-use Rattle.std.proofs.Common.{◌≡◌, ◌∙◌, ℕ, List, Bool, true, false, Option, Some, None, refl, sym, ap, if◌then◌else◌, arith}
+use Rattle.std.proofs.Common.{◌≡◌, ◌∙◌, ℕ, List, Bool, true, false, Option, Some, None, refl, sym, ap, if◌then◌else◌}
+use Rattle.std.proofs.Common.{arith}
 use denote.Enum.Bare.{sameb}
 use Rattle.std.specs.Option.{option_map, IfSome}
 use Rattle.terminal_model.specs.Term.{Size, Shown, IsShown}

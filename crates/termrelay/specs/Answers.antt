@@ -11,7 +11,8 @@ use Rattle.screen_model.specs.State.{State}
 use Rattle.screen_model.specs.Shown.{shown_state}
 use Rattle.termrelay.specs.Frame.{is_unsure, frame_text, HasByteBase}
 use Rattle.termrelay.specs.declared.answer.Answer.{Answer}
-use Rattle.termrelay.specs.declared.answer.Answer.TheVariants.{Full, Difference, Unsure, Unchanged, Behind, Held, TooLong}
+use Rattle.termrelay.specs.declared.answer.Answer.TheVariants.{Full, Difference, Unsure, Unchanged, Behind, Held}
+use Rattle.termrelay.specs.declared.answer.Answer.TheVariants.{TooLong}
 
 -- ---- two screens of one size that show the same
 

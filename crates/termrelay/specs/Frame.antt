@@ -1,6 +1,7 @@
 -- The parts of a frame: the marks of a synchronized update, and between them the body. The body takes a client from
 -- what it shows to the present screen.
-use Rattle.std.specs.Prelude.{◌≡◌, ℕ, zero, suc, ◌+◌, ◌*◌, ◌≤◌, ◌==◌, ◌||◌, length, Bool, true, false, List, [], ◌++◌, codes, Option, Some}
+use Rattle.std.specs.Prelude.{◌≡◌, ℕ, zero, suc, ◌+◌, ◌*◌, ◌≤◌, ◌==◌, ◌||◌, length, Bool, true, false, List, [], ◌++◌}
+use Rattle.std.specs.Prelude.{codes, Option, Some}
 use Rattle.std.specs.Prelude.{None}
 use Rattle.std.specs.Prelude.{if◌then◌else◌, Contains}
 use Rattle.std.specs.List.{list_any}

@@ -13,6 +13,7 @@ TwoFeedsAreOne = (h g k : HubState as_kept) (a b : List ℕ) → Feeds h a (Ok t
 
 -- in a run the two feeds can be joined too: the log has one reply less, and the same sessions
 abbrev pub TwoFeedsRunAsOne : Type 0
-TwoFeedsRunAsOne = (h k : HubState as_kept) (ss ts : List SessionView) (a b : List ℕ) (calls : List Call) (replies : List Reply)
+TwoFeedsRunAsOne = (h k : HubState as_kept) (ss ts : List SessionView) (a b : List ℕ) (calls : List Call)
+    (replies : List Reply)
     → RunsLogged h ss (Feed a ∷ Feed b ∷ calls) (Done ∷ Done ∷ replies) k ts
     → RunsLogged h ss (Feed (a ++ b) ∷ calls) (Done ∷ replies) k ts

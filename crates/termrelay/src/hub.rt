@@ -1,5 +1,6 @@
 //! The hub.
-ghost use Rattle.std.specs.Prelude.{◌≡◌, ◌≢◌, ◌*◌, ◌≤◌, false, IfOk, IsOkAnd, OnOk, OnErr, Err, Some, None, MatchOption};
+ghost use Rattle.std.specs.Prelude.{◌≡◌, ◌≢◌, ◌*◌, ◌≤◌, false, IfOk, IsOkAnd, OnOk, OnErr, Err, Some, None};
+ghost use Rattle.std.specs.Prelude.{MatchOption};
 ghost use Rattle.std.specs.Prelude.{IsSome, IfSome, slice_index_or};
 ghost use Rattle.vt100.specs.Copies.{copy_of};
 ghost use Rattle.vt100.specs.WriterLaws.{IsUnscrolled};

@@ -1,5 +1,5 @@
-//! Runs: sequences of calls on a hub, with scripted writers, and logs of them. The theorem about frames speaks of these. A
-//! user of hubs needs none of them.
+//! Runs: sequences of calls on a hub, with scripted writers, and logs of them. The theorem about frames speaks of
+//! these. A user of hubs needs none of them.
 
 pub mod call;
 pub mod log;

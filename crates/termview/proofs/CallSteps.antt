@@ -24,7 +24,8 @@ calls-become (c ∷ cs) p q g =
     let rest = calls-become cs mid q g.2 in
     record {
       size = rest.size ∙ first.size;
-      shows = rest.shows ∙ ap (λ z. view_steps z cs (term_of_picture mid)) first.size ∙ ap (view_steps p.size cs) first.shows;
+      shows = rest.shows ∙ ap (λ z. view_steps z cs (term_of_picture mid)) first.size ∙ ap (view_steps p.size cs)
+          first.shows;
     }
 
 pub view_steps-append : (z : Size) (a b : List Call) (t : Term)

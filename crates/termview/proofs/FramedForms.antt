@@ -267,7 +267,8 @@ written_form-parsed fs moves past parsed hold g k e l =
 pub written_form-taken : {T : Type 0} (ticking : Ticking T) → WrittenFormsAreTaken ticking
 written_form-taken ticking fs past old new g k t =
     let l = t.leads in
-    let r = quiet-piece past (bytes_of fs) l.parsed' l.hold' l.calls l.ticks l.takes (opens_in-written_form past fs g k) in (
+    let r = quiet-piece past (bytes_of fs) l.parsed' l.hold' l.calls l.ticks l.takes (opens_in-written_form past fs g
+    k) in (
       subst (λ (xs : List ℕ). HoldsAt ticking new xs None) r.0
           (subst (λ (h : Option (List ℕ)). HoldsAt ticking new l.parsed' h) r.1 t.state_after),
       t.size,

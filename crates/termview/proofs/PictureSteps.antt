@@ -76,7 +76,8 @@ is_none true n e = refl
 is_none false n e = cc
 
 -- a control character
-pub drops-control : (p : PictureView) (c : ℕ) → drawn_columns c ≡ None → Becomes p p (input p.size c (term_of_picture p))
+pub drops-control : (p : PictureView) (c : ℕ) → drawn_columns c ≡ None
+    → Becomes p p (input p.size c (term_of_picture p))
 drops-control p c e =
     let b : is_undrawable c ≡ true = is_none (is_undrawable c) (columns_of c) e in
     record {
@@ -124,7 +125,8 @@ stays w col c n e h o =
     ∙ o
 
 -- a zero-width one joins
-pub joins-left : (p q : PictureView) (c : ℕ) → drawn_columns c ≡ Some 0 → 0 < p.col → Becomes p q (join c (term_of_picture p))
+pub joins-left : (p q : PictureView) (c : ℕ) → drawn_columns c ≡ Some 0 → 0 < p.col
+    → Becomes p q (join c (term_of_picture p))
     → Becomes p q (input p.size c (term_of_picture p))
 joins-left p q c e h b =
     let d = drawn-is c 0 e in
@@ -143,7 +145,8 @@ made-attrs z n t =
 
 -- one of one or two columns is put where it has room
 pub prints : (p q r : PictureView) (c n : ℕ) → drawn_columns c ≡ Some n → 0 < n → n ≤ p.size.cols
-    → Becomes p q (made_to_fit p.size n (term_of_picture p)) → Becomes q r (print q.size (cell_of c q.attrs) (term_of_picture q))
+    → Becomes p q (made_to_fit p.size n (term_of_picture p))
+    → Becomes q r (print q.size (cell_of c q.attrs) (term_of_picture q))
     → Becomes p r (input p.size c (term_of_picture p))
 prints p q r c n e some h b d =
     let w = drawn-is c n e in

@@ -85,14 +85,16 @@ printed-is p y n i e l =
     let at = with_line-is p (placed v p.col y p.attrs) (not (put_unflags p.size.cols f p.col y)) (here p i)
     (ap (λ m. v.wrapped && not (put_unflags m f p.col y)) r.wide) in
     ap (λ (t : Term). record t { col = p.col + n }) at
-    ∙ ap (λ h. record (with_line (term_of_picture p) h (not (put_unflags p.size.cols f p.col y))) { col = p.col + n }) line
+    ∙ ap (λ h. record (with_line (term_of_picture p) h (not (put_unflags p.size.cols f p.col y))) { col = p.col + n })
+    line
     ∙ ap (λ m. record (with_line (term_of_picture p) (put f p.col y p.attrs) (not (put_unflags p.size.cols f p.col y))) {
       col = p.col + m;
     }) e
 
 -- a zero-width character joins
 pub joined-is : (p : PictureView) (c : ℕ) → IsPicture p → 0 < p.col
-    → term_of_picture (record p { rows = set p.rows p.row (joined_in_place (cursor_row p) p.col c) }) ≡ join c (term_of_picture p)
+    → term_of_picture (record p { rows = set p.rows p.row (joined_in_place (cursor_row p) p.col c) })
+    ≡ join c (term_of_picture p)
 unfolding join update
 joined-is p c i h =
     let v = cursor_row p in

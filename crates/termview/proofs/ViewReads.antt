@@ -38,14 +38,16 @@ names = search rules
 named-is : (i : ℕ) → i < 16 → named_color (name_of i) ≡ Some (Idx i)
 named-is i l = each-below (λ j. named_color (name_of j) ≡ Some (Idx j)) 16 i names l
 
-fore-is : (c : Color) (x : Attrs) → with_attr (a.Foreground (color_reported n.Foreground c)) x ≡ record x { fgcolor = c }
+fore-is : (c : Color) (x : Attrs) → with_attr (a.Foreground (color_reported n.Foreground c)) x
+    ≡ record x { fgcolor = c }
 fore-is Default x = refl
 fore-is (Idx i) x =
     cond_both (nat_lt i 16) _ _ (λ y. with_attr (a.Foreground y) x ≡ record x { fgcolor = Idx i })
     (λ e. ap (λ o. with_foreground o x) (named-is i (ltb-true i 16 e))) (λ _. refl)
 fore-is (Rgb r g b) x = refl
 
-back-is : (c : Color) (x : Attrs) → with_attr (a.Background (color_reported n.Background c)) x ≡ record x { bgcolor = c }
+back-is : (c : Color) (x : Attrs) → with_attr (a.Background (color_reported n.Background c)) x
+    ≡ record x { bgcolor = c }
 back-is Default x = refl
 back-is (Idx i) x =
     cond_both (nat_lt i 16) _ _ (λ y. with_attr (a.Background y) x ≡ record x { bgcolor = Idx i })

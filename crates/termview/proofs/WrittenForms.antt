@@ -24,7 +24,8 @@ written_form-shown z past fs some_row some_col small g k =
     let t = seen z past in (
       seen-append z past (bytes_of fs)
           ∙ as-stepped z (calls_from past (bytes_of fs)) t
-          ∙ written_form_is_stepped view_step with_attr z (calls-read z) attributes-read small 1024 past (last_of past) fs t
+          ∙ written_form_is_stepped view_step with_attr z (calls-read z) attributes-read small 1024 past (last_of past)
+          fs t
           g (streams-show z past some_row some_col) k,
       (list-read 1024 past fs g (forms-readable fs k)).1,
     )

@@ -58,7 +58,8 @@ impl Picture {
     /// Changes one drawing attribute (SGR).
     #[inline(always)]
     pub(crate) fn set_attribute(&mut self, attr: Attr)
-        ensures { Becomes self.old self.new (record (term_of_picture self.old) { attrs = with_attr attr self.old.attrs }) }
+        ensures { Becomes self.old self.new (record (term_of_picture self.old)
+            { attrs = with_attr attr self.old.attrs }) }
     {
         set_attribute(&mut self.attrs, attr);
     }

@@ -1,5 +1,6 @@
 -- The text between two places of a screen, written row by row.
-use Rattle.std.proofs.Common.{◌≡◌, ℕ, zero, suc, ◌+◌, ◌-◌, ◌<◌, ◌≤◌, ◌==◌, Bool, true, false, cond, nat_lt, min, List, []}
+use Rattle.std.proofs.Common.{◌≡◌, ℕ, zero, suc, ◌+◌, ◌-◌, ◌<◌, ◌≤◌, ◌==◌, Bool, true, false, cond, nat_lt, min, List}
+use Rattle.std.proofs.Common.{[]}
 use Rattle.std.proofs.Common.{◌∷◌, ◌++◌, length, refl, sym, ap, ◌∙◌, arith, append_assoc, append-nil}
 use Rattle.std.proofs.Common.{subst, ⊎_elim}
 use Rattle.std.specs.Prelude.{encode_utf8_all, encode_utf8, Some}
@@ -143,7 +144,8 @@ pub between-row : (g : GridView) (r s q e k w : ℕ) (v : RowView) (start : ℕ)
 between-row g r s q e k w v start from before on ev ew es h =
     let m = min q (length g.rows) - r in
     let last = cond (nat_lt q (length g.rows)) (row_text (visible_at g q) (cond (r == q) s 0) e) [] in
-    let whole = between-whole g r s q e (nat_lt q (length g.rows)) last (le-ltb q r (omega (arith, from, before))) refl refl in
+    let whole = between-whole g r s q e (nat_lt q (length g.rows)) last (le-ltb q r (omega (arith, from, before))) refl
+    refl in
     let rows = both-empty (rows_from g r s m) last (sym whole ∙ h) in
     let at : r + (k - r) ≡ k = omega (arith, from) in
     let here = rows-empty g r s m (k - r) (omega (arith, from, before, on)) rows.0 in

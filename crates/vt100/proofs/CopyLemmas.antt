@@ -150,7 +150,8 @@ bool-refl b = grind arith
 pub extras-same : (s t : State) → ShowTheSame s t → same_extras s t ≡ true
 extras-same s t e =
     let hidden = ap (λ (x : Shown). bool_eq s.hidden x.hidden) (sym e.shown) ∙ bool-refl s.hidden in
-    let style = eq-eqb (style_number s.style) (style_number t.style) (ap (λ (x : Shown). style_number x.style) e.shown) in
+    let style = eq-eqb (style_number s.style) (style_number t.style) (ap (λ (x : Shown). style_number x.style)
+    e.shown) in
     let modes = modes-same s.modes t.modes (ap (λ (x : Shown). x.modes) e.shown) in
     let attrs = ap (λ (x : Shown). attrs_eq s.attrs x.attrs) (sym e.shown) ∙ attrs_eq-refl s.attrs in
     and_from (bool_eq s.hidden t.hidden) _ hidden

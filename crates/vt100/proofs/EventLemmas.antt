@@ -120,7 +120,8 @@ module _ {C : Type 0} {step : C → ScreenView → Call → C → ScreenView →
   -- a call of which parts can be unknown, and then the calls that report these
   does_unhandled : {t : Bool} {c d : C} {v w : ScreenView} (f : State → Partly) (k : Call) (n : ℕ) (b : C)
       (u : ScreenView) → v.failed ≡ false → Receives scrolls c (f v.state).reports b → u ≡ alive (f v.state).state
-      → n ≡ (f v.state).unhandled → MakesCalls step b u (replicate n k) d w → Does step scrolls (λ s. partly (f s) k) t c v d w
+      → n ≡ (f v.state).unhandled → MakesCalls step b u (replicate n k) d w → Does step scrolls (λ s. partly (f s) k) t
+      c v d w
   does_unhandled f k n b u h receives screen count calls =
       does_live (λ s. partly (f s) k) h (inl (b, receives, rw (count, screen) at calls))
 

@@ -103,12 +103,14 @@ of-shown Q old new o h e q =
 pub screen-sent : EachListIsSent
 screen-sent old new o h e known =
     of-shown AreSentForms old new o h e
-    (lists-sent (grid_size new.shown) (shown_state old) (shown_state new) o.state.attrs.colors (small-screen new h) known)
+    (lists-sent (grid_size new.shown) (shown_state old) (shown_state new) o.state.attrs.colors (small-screen new h)
+    known)
 
 pub screen-forms : EachListIsOfForms
 screen-forms old new o h e known plain =
     of-shown AreForms old new o h e
-    (lists-forms (grid_size new.shown) (shown_state old) (shown_state new) o.state.attrs.colors (small-screen new h) known
+    (lists-forms (grid_size new.shown) (shown_state old) (shown_state new) o.state.attrs.colors (small-screen new h)
+    known
     plain)
 
 -- which cells two lists of differences touch

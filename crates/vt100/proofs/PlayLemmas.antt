@@ -53,7 +53,8 @@ pub goes_reported : {C : Type 0} {step : C → ScreenView → Call → C → Scr
 unfolding added
 goes_reported {C} {step} {scrolls} {r} {p} {bytes} {q} t past state_after =
     subst (λ (es : List Event). GoesThrough step scrolls es p.callbacks p.screen q.callbacks q.screen)
-    (added-is 1024 past bytes t.reported (t.added past state_after)) (goes_through step scrolls t.reported p q t.performed)
+    (added-is 1024 past bytes t.reported (t.added past state_after)) (goes_through step scrolls t.reported p q
+    t.performed)
 
 -- ---- what acts make
 
@@ -176,7 +177,8 @@ module _ {C : Type 0} (step : C → ScreenView → Call → C → ScreenView →
         | inr x ↦ x
       ]
 
-  events_bounded : (b : Bounds) (es : List Event) → All IsReported es → (c : C) (v : ScreenView) (d : C) (w : ScreenView)
+  events_bounded : (b : Bounds) (es : List Event) → All IsReported es → (c : C) (v : ScreenView) (d : C)
+      (w : ScreenView)
       → v.failed ≡ false → IsUnscrolledState b v.state → GoesThrough step scrolls es c v d w
       → SameBounds v.state w.state
   events_bounded b [] reported c v d w h well g = rw g.1 (bounds_same v.state)
@@ -185,12 +187,14 @@ module _ {C : Type 0} (step : C → ScreenView → Call → C → ScreenView →
         | inl f ↦ rw (failed_same es m u d w f more) (one_failed e c v m u h one f).bounds
         | inr f ↦
             let is = ap (λ (x : ScreenView). x.state) (one_played e c v m u h one f) in
-            let next : IsUnscrolledState b u.state = rw is (effect-well e (All-head IsReported e es reported) b v.state well) in
+            let next : IsUnscrolledState b u.state = rw is (effect-well e (All-head IsReported e es reported) b v.state
+            well) in
             bounds_trans v.state u.state w.state (well-bounds b v.state u.state well next)
             (events_bounded b es (All-tail IsReported e es reported) m u d w f next more)
       ]
 
-  pub fed_bounded : (p : ParserView C) (q : WrappedScreen C) (bytes : List ℕ) → Reported (Steps step scrolls) 1024 p.reader
+  pub fed_bounded : (p : ParserView C) (q : WrappedScreen C) (bytes : List ℕ) → Reported (Steps step scrolls) 1024
+      p.reader
       (record { screen = p.screen; callbacks = p.callbacks }) bytes q
       → (rows cols capacity : ℕ) (acts : List Act) → AreActs rows cols capacity acts
       → ParserIsAfter p rows cols capacity acts → SameBounds p.screen.state q.screen.state
@@ -235,7 +239,8 @@ state_after_resized p q height width reader screen rows cols capacity acts at = 
       ∙ ap alive (sym (acts_follow rows cols capacity acts (Resized height width ∷ [])));
 }
 
-pub resized_state_after : {C : Type 0} (scrolls : C → RowView → Bool → C → Type 0) (p q : ParserView C) (height width : ℕ)
+pub resized_state_after : {C : Type 0} (scrolls : C → RowView → Bool → C → Type 0) (p q : ParserView C)
+    (height width : ℕ)
     (result : Result (Unit {0}) ScreenError) → q.reader ≡ p.reader
     → Tries scrolls (resized_to height width) p.screen p.callbacks result q.screen q.callbacks
     → (rows cols capacity : ℕ) (acts : List Act) → ParserIsAfter p rows cols capacity acts

@@ -56,7 +56,8 @@ allocated-cleared g some =
 
 proper-cleared : (g : GridView) → IsProperSheet g → IsProperSheet (cleared g)
 proper-cleared g p = record {
-  drawn = (proper_allocated (new_grid (length g.rows) g.width Disabled) (proper_new (length g.rows) g.width Disabled)).drawn;
+  drawn = (proper_allocated (new_grid (length g.rows) g.width Disabled) (proper_new (length g.rows) g.width
+      Disabled)).drawn;
   kept = p.kept;
 }
 

@@ -1,6 +1,8 @@
 -- Callbacks behind a sink of rows, and calls of a screen that go through or find no memory.
-use Rattle.std.proofs.Common.{◌≡◌, ◌∙◌, ℕ, Bool, true, false, List, [], ◌∷◌, ◌++◌, refl, ap, sym, subst, append-nil, nat_lt}
-use Rattle.std.proofs.Common.{Ok, Err, Result, OnOk, OnErr, arith, inl, inr, not, nat_le, ◌-◌, ◌^◌, ◌<◌, ◌==◌, ◌&&◌, ◌||◌}
+use Rattle.std.proofs.Common.{◌≡◌, ◌∙◌, ℕ, Bool, true, false, List, [], ◌∷◌, ◌++◌, refl, ap, sym, subst, append-nil}
+use Rattle.std.proofs.Common.{nat_lt}
+use Rattle.std.proofs.Common.{Ok, Err, Result, OnOk, OnErr, arith, inl, inr, not, nat_le, ◌-◌, ◌^◌, ◌<◌, ◌==◌, ◌&&◌}
+use Rattle.std.proofs.Common.{◌||◌}
 use Rattle.std.specs.Prelude.{IsOk, IsErr}
 use Rattle.std.proofs.lemmas.Bool.Decides.{nat_tests}
 use Rattle.std.proofs.lemmas.Bool.{cases_Bool, false≢true}
@@ -29,7 +31,8 @@ not-ok : {T E P : Type 0} (r : Result T E) → IsErr r → IsOk r → P
 not-ok (Ok x) e h = absurd (false≢true e)
 not-ok (Err x) e h = absurd (false≢true h)
 
-pub ok-along : {T E U F : Type 0} (answer : Result T E) (result : Result U F) → OnErr result (IsErr answer) → IsOk answer
+pub ok-along : {T E U F : Type 0} (answer : Result T E) (result : Result U F) → OnErr result (IsErr answer)
+    → IsOk answer
     → IsOk result
 ok-along answer (Ok x) refused done = refl
 ok-along answer (Err e) refused done = not-ok answer refused done
@@ -48,7 +51,8 @@ module _ {C : Type 0} (scrolls : C → RowView → Bool → C → Type 0) where
       (ap (λ (x : Reporter C). x.callbacks.now) h, ap (λ (x : Reporter C). x.callbacks.ghost_name) (sym h))
   receives_all s (v ∷ vs) t h =
       let rest = receives_all h.0 vs t h.2 in
-      let later = subst (λ (a : Bool). Receives scrolls h.0.callbacks.now (reports_of a vs) t.callbacks.now) h.1.1 rest.0 in
+      let later = subst (λ (a : Bool). Receives scrolls h.0.callbacks.now (reports_of a vs) t.callbacks.now) h.1.1
+      rest.0 in
       ((h.0.callbacks.now, h.1.0, later), rest.1 ∙ h.1.2)
 
   -- one list of reports after another
@@ -73,7 +77,8 @@ module _ {C : Type 0} (scrolls : C → RowView → Bool → C → Type 0) where
         grid = is;
         same = all.1;
         receives = on_ok result (λ _. all.0);
-        reported = on-err result (receives_whole s.callbacks.now (reports_of s.alternate_screen x.sunk) t.callbacks.now all.0);
+        reported = on-err result (receives_whole s.callbacks.now (reports_of s.alternate_screen x.sunk) t.callbacks.now
+            all.0);
         limits = limits;
         keeps_none = keeps;
         stays = stays;
@@ -134,9 +139,11 @@ module _ {C : Type 0} (scrolls : C → RowView → Bool → C → Type 0) where
         tries = record {
           live = t.live;
           screen = subst (λ (u : Stepped). OnOk result (q.screen ≡ alive u.state)) e t.screen;
-          receives = subst (λ (u : Stepped). OnOk result (Receives scrolls p.callbacks u.reports q.callbacks)) e t.receives;
+          receives = subst (λ (u : Stepped). OnOk result (Receives scrolls p.callbacks u.reports q.callbacks)) e
+              t.receives;
           memory = t.memory;
-          reported = λ m. subst (λ (u : Stepped). ReceivesPrefix scrolls p.callbacks u.reports q.callbacks) e (t.reported m);
+          reported = λ m. subst (λ (u : Stepped). ReceivesPrefix scrolls p.callbacks u.reports q.callbacks) e
+              (t.reported m);
           refused = t.refused;
           dead = t.dead;
         };

@@ -88,7 +88,8 @@ module _ {C : Type 0} (scrolls : C → RowView → Bool → C → Type 0) where
       record {
         tries = tries_ok scrolls (typed_times (suc i) ch) p.screen p.callbacks tt q.screen q.callbacks x.tries.live
             (rw x.tries.screen at y.tries.screen)
-            (receives_append scrolls p.callbacks t.reports (typed ch t.state).reports m.callbacks q.callbacks x.tries.receives
+            (receives_append scrolls p.callbacks t.reports (typed ch t.state).reports m.callbacks q.callbacks
+            x.tries.receives
             (rw x.tries.screen at y.tries.receives));
         bounds = bounds_trans p.screen.state m.screen.state q.screen.state x.bounds y.bounds;
         keeps_none = λ _ _. refl;

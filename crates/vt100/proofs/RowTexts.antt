@@ -235,7 +235,8 @@ row-differences_lead old new width o h same wide =
           draws-row new h i t _ (differing v x 0 width i false false from default_attrs) l
           (difference-is old new o h high width i l)
           (λ lists. (lists x 0 width i false false _ (omega (arith, l, h.state.shown.few_rows)) ((tt, tt), tt)).1) plain
-          (difference-drawn new.shown.height t v x i width false from default_attrs r.row (plain-row new h i plain) q.row
+          (difference-drawn new.shown.height t v x i width false from default_attrs r.row (plain-row new h i plain)
+          q.row
           (q.wide ∙ broad ∙ sym r.wide) l (omega (arith, r.wide, h.state.shown.some_cols))
           (omega (arith, r.wide, wide)) (record {
             cells = λ k. at.cells k ∙ ap (λ (f : ℕ → CellView). f k) (cells-of old o i);

@@ -1,5 +1,6 @@
 -- Characters that are printed at once, as event by event.
-use Rattle.std.proofs.Common.{◌≡◌, ◌∙◌, ◌^◌, ◌<◌, ◌==◌, ℕ, zero, suc, Bool, true, false, cond, List, [], ◌∷◌, ◌++◌, ap, sym}
+use Rattle.std.proofs.Common.{◌≡◌, ◌∙◌, ◌^◌, ◌<◌, ◌==◌, ℕ, zero, suc, Bool, true, false, cond, List, [], ◌∷◌, ◌++◌, ap}
+use Rattle.std.proofs.Common.{sym}
 use Rattle.std.proofs.Common.{Option, Some, Result, Ok, Err, OnOk, OnErr, length, map, refl, subst, inl, inr, arith}
 use Rattle.std.proofs.Common.{nat_lt, get_or, take, drop, ◌⊎◌, ◌&&◌, ◌||◌, ◌≤◌, not, append_assoc, append-nil}
 use Rattle.std.specs.Prelude.{All, IsOk}
@@ -273,9 +274,11 @@ module _ {C : Type 0} (step : C → ScreenView → Call → C → ScreenView →
   -- one character of a run
   goes-typed : (ch : ℕ) (c : C) (v : ScreenView) (d : C) (w : ScreenView) → is_unhandled ch ≡ false → v.failed ≡ false
       → (Receives scrolls c (typed ch v.state).reports d × (w ≡ alive (typed ch v.state).state)) ⊎ Fails scrolls
-      (keeps_row v.state (typed ch v.state).state) (typed ch v.state).reports c v d w → Goes step scrolls (Print ch) c v d w
+      (keeps_row v.state (typed ch v.state).state) (typed ch v.state).reports c v d w → Goes step scrolls (Print ch) c v
+      d w
   goes-typed ch c v d w p live h =
-      does_where (ap (λ (b : Bool). not b && keeps_row v.state (typed ch v.state).state) (sym p)) (does_as (λ t. steps (typed ch t))
+      does_where (ap (λ (b : Bool). not b && keeps_row v.state (typed ch v.state).state) (sym p))
+      (does_as (λ t. steps (typed ch t))
       (ap (λ (b : Bool). cond b (calling (said.unhandled_char ch ∷ []) v.state) (steps (typed ch v.state))) (sym p))
       (does_live (λ t. steps (typed ch t)) live (elim h [
         | inl a ↦ inl (d, a.0, (refl, a.1))
@@ -341,7 +344,13 @@ module _ {C : Type 0} (step : C → ScreenView → Call → C → ScreenView →
                 goes-typed x c v c (alive t.state) handled live
                     (inl (subst (λ (rows : List Report). Receives scrolls c rows c) (sym silent) refl, refl)),
                 goes-refused y ys c (alive t.state) d w others refl failed next
-                    (late-keeps s t.state all.state (capacity_typed x s) none.1 keeps) later ([], all.reports, refl, sym same),
+                    (late-keeps s t.state all.state (capacity_typed x s) none.1 keeps) later (
+                      [],
+                      all.reports,
+                      refl,
+                      sym
+                          same,
+                    ),
               )
         ]
         | inr h ↦ elim (cases_Bool (keeps_row t.state all.state)) [
@@ -406,7 +415,8 @@ module _ {C : Type 0} (step : C → ScreenView → Call → C → ScreenView →
       same_events (Steps step scrolls) p q (map Print bs) (map Print (chars bs))
       (ap (map Print) (sym (chars-IsAscii bs (printable-ascii bs printable))))
       (performs-goes (map Print bs) p q
-      (goes-typed_all bs result some (λ i e l. printable-handled (get_or bs i e) (printable i e l)) is (bytes-typed bs x)))
+      (goes-typed_all bs result some (λ i e l. printable-handled (get_or bs i e) (printable i e l))
+      is (bytes-typed bs x)))
 
   -- ---- the start of a text
 

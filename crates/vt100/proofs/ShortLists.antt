@@ -36,7 +36,8 @@ hides b = (form-small (HideCursor b) 6 tt (omega arith)).1
 
 hides-changed : (old new : Bool) → length (bytes_of (switch HideCursor old new)) ≤ 6
 hides-changed old new =
-    cond_both (bool_eq new old) [] (HideCursor new ∷ []) (λ fs. length (bytes_of fs) ≤ 6) (λ _. omega arith) (λ _. hides new)
+    cond_both (bool_eq new old) [] (HideCursor new ∷ []) (λ fs. length (bytes_of fs) ≤ 6) (λ _. omega arith)
+    (λ _. hides new)
 
 -- a list between two others
 three-joined : (fs gs hs : List Form)
@@ -52,7 +53,8 @@ redraw-short s h =
     let drawn = grid.contents_formatted s.shown in
     let a = (grid.redrawn s.shown).pen.attrs in
     let joined : length (bytes_of (contents_formatted s))
-    ≡ length (bytes_of hidden) + length (bytes_of (drawn ++ change a s.attrs)) = join-length hidden (drawn ++ change a s.attrs) in
+    ≡ length (bytes_of hidden) + length (bytes_of (drawn ++ change a s.attrs)) = join-length hidden (drawn
+    ++ change a s.attrs) in
     omega (
       arith,
       joined,

@@ -1,5 +1,6 @@
 -- What a screen's writers append, form by form.
-use Rattle.std.proofs.Common.{◌≡◌, ◌+◌, ◌<◌, ℕ, Bool, true, false, cond, List, [], ◌∷◌, ◌++◌, Result, Ok, Err, is_ok, OnOk, OnErr, IsOk}
+use Rattle.std.proofs.Common.{◌≡◌, ◌+◌, ◌<◌, ℕ, Bool, true, false, cond, List, [], ◌∷◌, ◌++◌, Result, Ok, Err, is_ok}
+use Rattle.std.proofs.Common.{OnOk, OnErr, IsOk}
 use Rattle.std.proofs.Common.{length, refl, sym, ap, ◌∙◌, arith, length-append}
 use Rattle.std.specs.Prelude.{String, string_len, string_capacity}
 use Rattle.row_drawing.proofs.WritesLemmas.{bytes_of-joined}
@@ -21,7 +22,8 @@ written_then (Err x) fs gs s t u a b = tt
 
 -- six times
 pub six_written : {T E : Type 0} (r : Result T E) (f1 f2 f3 f4 f5 f6 : List Form) (s t1 t2 t3 t4 t5 u : List ℕ)
-    → t1 ≡ s ++ bytes_of f1 → t2 ≡ t1 ++ bytes_of f2 → t3 ≡ t2 ++ bytes_of f3 → t4 ≡ t3 ++ bytes_of f4 → t5 ≡ t4 ++ bytes_of f5
+    → t1 ≡ s ++ bytes_of f1 → t2 ≡ t1 ++ bytes_of f2 → t3 ≡ t2 ++ bytes_of f3 → t4 ≡ t3 ++ bytes_of f4 → t5 ≡ t4
+    ++ bytes_of f5
     → u ≡ cond (is_ok r) (t5 ++ bytes_of f6) t5 → OnOk r (u ≡ s ++ bytes_of (f1 ++ f2 ++ f3 ++ (f4 ++ (f5 ++ f6))))
 six_written (Ok x) f1 f2 f3 f4 f5 f6 s t1 t2 t3 t4 t5 u a b c d e f =
     bytes_then (f1 ++ f2 ++ f3) (f4 ++ (f5 ++ f6)) s t3 u

@@ -21,7 +21,8 @@ pub record Draws {C A E : Type 0} (scrolls : C → RowView → Bool → C → Ty
   pub grid : OnOk result (h ≡ x.grid)
   pub same : t.callbacks.ghost_name ≡ s.callbacks.ghost_name
   pub receives : OnOk result (Receives scrolls s.callbacks.now (reports_of s.alternate_screen x.sunk) t.callbacks.now)
-  pub reported : OnErr result (ReceivesPrefix scrolls s.callbacks.now (reports_of s.alternate_screen x.sunk) t.callbacks.now)
+  pub reported : OnErr result (ReceivesPrefix scrolls s.callbacks.now (reports_of s.alternate_screen x.sunk)
+      t.callbacks.now)
   pub limits : SameLimits g h
   pub keeps_none : g.kept.capacity ≡ 0 → IsOk result
   pub stays : ScrollsNoneOff g x.grid → IsOk result

@@ -120,8 +120,8 @@ IsShortText z more text = length text ≤ 1024 * (z.rows * z.cols) + more
 
 -- ---- which cells they touch
 
--- The text is that of these forms. Read by a terminal that shows `old`, they touch local cells of the two pictures alone;
--- but where the cursor of `new` waits, also the last cell of one row.
+-- The text is that of these forms. Read by a terminal that shows `old`, they touch local cells of the two pictures
+-- alone; but where the cursor of `new` waits, also the last cell of one row.
 pub record IsLocalText (forms : List Form) (z : Size) (old new : Shown) (text : List ℕ) : Type 0 where
   pub written : text ≡ bytes_of forms
   pub touches : IsLocalList z old new forms

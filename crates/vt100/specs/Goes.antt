@@ -17,7 +17,8 @@ Either false P Q = Q
 
 -- Callbacks c and the screen v that they are lent have gone through these calls, in order and each once, and are d and
 -- w. `step` says what one call does; it may change the screen. Once the screen has failed no further call is made.
-abbrev pub MakesCalls : {C : Type 0} → (C → ScreenView → Call → C → ScreenView → Type 0) → C → ScreenView → List Call → C
+abbrev pub MakesCalls : {C : Type 0} → (C → ScreenView → Call → C → ScreenView → Type 0) → C → ScreenView → List Call
+    → C
     → ScreenView → Type 0
 MakesCalls step c v [] d w = (d ≡ c) × (w ≡ v)
 MakesCalls {C} step c v (k ∷ ks) d w =

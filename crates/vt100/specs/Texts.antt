@@ -18,8 +18,8 @@ pub record Gives {Z : Type 0} (bytes : List ℕ) (result : Result (String Z) Scr
   pub memory : OnErr result (result ≡ Err Memory)
   pub empty : bytes ≡ [] → IsOk result
 
--- an iterator over texts: the first of those that are left comes, or there was no memory for it, and it isn't empty; the
--- others are left
+-- an iterator over texts: the first of those that are left comes, or there was no memory for it, and it isn't empty;
+-- the others are left
 abbrev pub YieldsText : {S : Type 0} → (S → List ℕ) → List (List ℕ) → Option (Result S ScreenError) → List (List ℕ)
     → Type 0
 YieldsText bytes left item others =

@@ -1,5 +1,6 @@
 -- What calls do to a screen, and how they are refused.
-use Rattle.std.specs.Prelude.{◌≡◌, ◌⊎◌, ◌≤◌, ℕ, Bool, true, false, List, ◌++◌, Result, Err, OnOk, IfOk, IsOk, if◌then◌else◌}
+use Rattle.std.specs.Prelude.{◌≡◌, ◌⊎◌, ◌≤◌, ℕ, Bool, true, false, List, ◌++◌, Result, Err, OnOk, IfOk, IsOk}
+use Rattle.std.specs.Prelude.{if◌then◌else◌}
 use Rattle.vt100_rows.specs.Row.{RowView}
 use Rattle.vt100_core.specs.Grid.{SameLimits}
 use Rattle.vt100_core.specs.Scroll.{ScrollsNoneOff}

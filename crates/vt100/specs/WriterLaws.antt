@@ -124,7 +124,8 @@ pub record RowDifferencesLead (old new : State) (width : ℕ) : Type 0 where
   pub each : (i : ℕ) (t : Term) → i < new.shown.height
       → IsPlainLine ((shown_state new).cell i)
       → IsAtRow i ((shown_state old).cell i) ((shown_state old).wrapped i) None None t
-      → DrawsRow (grid_size new.shown) (text_at (rows_diff old.shown new.shown 0 width) i) ((shown_state new).cell i) i t
+      → DrawsRow (grid_size new.shown) (text_at (rows_diff old.shown new.shown 0 width) i) ((shown_state new).cell i) i
+      t
 
 abbrev pub EachRowDifferenceLeads : Type 0
 EachRowDifferenceLeads = (old new : State) (width : ℕ) → IsUnscrolled old → IsUnscrolled new

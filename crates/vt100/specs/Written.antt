@@ -51,8 +51,8 @@ module _ {Z : Type 0} where
     pub short : IsState s → IfOk result (λ string. IsShortText (grid_size s.shown) more (string_bytes string))
     pub memory : OnErr result (result ≡ Err Memory)
 
-  -- the same for what differs from an earlier screen: where both have one size and show no kept row, the forms are those
-  -- of their pictures, and where no cell shows U+FE0F, they touch local cells; an empty text takes no memory
+  -- the same for what differs from an earlier screen: where both have one size and show no kept row, the forms are
+  -- those of their pictures, and where no cell shows U+FE0F, they touch local cells; an empty text takes no memory
   pub record GivesDifference (forms : State → State → List Form) (pictured : Size → Shown → Shown → List Form)
       (more : ℕ) (old new : State) (result : Result (String Z) ScreenError) : Type 0 where
     pub text : IfOk result (λ string. string_bytes string ≡ bytes_of (forms old new))

@@ -30,8 +30,8 @@ pub fn screens_are_put_in()
     ensures { ResizedScreensArePutIn }
 {}
 
-/// If a live screen shows no kept row, the copy that [`clone_shown`](crate::Screen::clone_shown) makes of it has its size
-/// and shows the same.
+/// If a live screen shows no kept row, the copy that [`clone_shown`](crate::Screen::clone_shown) makes of it has its
+/// size and shows the same.
 pub fn copies_show_the_same()
     ensures { EachCopyShowsTheSame }
 {}

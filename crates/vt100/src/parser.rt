@@ -120,8 +120,8 @@ impl<CB: Callbacks> Parser<CB> {
     /// Where memory is refused, and where a call of the callbacks left a screen that has failed, the later events do
     /// nothing, and the answer is [`ScreenError::Memory`]; but for what the callbacks change, the screen keeps its size
     /// and its capacity. If an allocation fails during an event, the callbacks have got only the first of the rows that
-    /// leave by it, and no other call. Only events that allocate can fail (`allocates`). On a screen that had failed before
-    /// nothing is done.
+    /// leave by it, and no other call. Only events that allocate can fail (`allocates`). On a screen that had failed
+    /// before nothing is done.
     pub fn process(&mut self, bytes: &[u8]) -> Result<(), ScreenError>
         ensures alive { OnOk result (self.new.screen.failed ≡ false) }
         ensures memory { result ≡ Err Memory → (self.old.screen.failed ≡ false) × (self.new.screen.failed ≡ true) }
@@ -157,8 +157,8 @@ impl<CB: Callbacks> Parser<CB> {
     /// A screen that becomes lower first loses the rows under the cursor, and then lets its top rows scroll off. One
     /// that becomes higher gets as many rows back at its top as have scrolled off, blank where they weren't kept.
     ///
-    /// Refused is only what makes the screen wider or higher, or keeps a row more. Then the call has stopped at the sheet
-    /// that found no memory, whose size is open; the main one comes first.
+    /// Refused is only what makes the screen wider or higher, or keeps a row more. Then the call has stopped at the
+    /// sheet that found no memory, whose size is open; the main one comes first.
     pub fn set_size(&mut self, rows: NonZeroU16, cols: NonZeroU16) -> Result<(), ScreenError>
         ensures screen { Tries CB.scrolls (resized_to rows.value cols.value) self.old.screen self.old.callbacks
             result self.new.screen self.new.callbacks }

@@ -189,7 +189,8 @@ module _ (n : ℕ) (bs : List ℕ) (inside : Bool) (taken at : ℕ) (rest : List
       ∙ ap (λ (xs : List ℕ). length before + length xs) (encode_ascii 10 (omega arith))
       ∙ ap (λ k. k + 1) (sym h.place) in
       let rest : drop (at + 1) bs ≡ encode_utf8_all more =
-      ap (λ k. drop k bs) (sym size) ∙ ap (drop (length prefix)) whole ∙ drop-append_seam prefix (encode_utf8_all more) in
+      ap (λ k. drop k bs) (sym size) ∙ ap (drop (length prefix)) whole ∙ drop-append_seam prefix
+      (encode_utf8_all more) in
       let later : capture_rows n (drop (at + 1) bs) ≡ map encode_utf8_all (rows_from n false 0 [] more) =
       ap (capture_rows n) rest
       ∙ ap (λ xs. map encode_utf8_all (rows_from n false 0 [] xs)) (chars-encodes more good) in (

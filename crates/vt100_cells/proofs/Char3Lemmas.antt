@@ -1,6 +1,7 @@
 -- A character of at most three bytes, at the start of a text and in a cell's.
 use Rattle.std.proofs.Common.{◌≡◌, ℕ, ◌+◌, ◌-◌, ◌*◌, ◌/◌, ◌%◌, ◌<◌, ◌≤◌, true, List, [], ◌∷◌, ◌++◌, length, take, drop}
-use Rattle.std.proofs.Common.{set, replicate, slice_index, take_all, length-drop, refl, sym, ap, subst, ◌∙◌, arith, inl, inr}
+use Rattle.std.proofs.Common.{set, replicate, slice_index, take_all, length-drop, refl, sym, ap, subst, ◌∙◌, arith, inl}
+use Rattle.std.proofs.Common.{inr}
 use Rattle.std.specs.Prelude.{encode_utf8_all}
 use Rattle.std.specs.Char.{IsScalar, encode_utf8}
 use Rattle.std.specs.Str.{IsUtf8, chars, all_scalars}
@@ -15,8 +16,10 @@ use Rattle.printable.specs.Printable.{IsPrintable}
 use Rattle.vt100_cells.specs.Cell.{IsWide}
 use Rattle.vt100_cells.specs.Narrow.{IsNarrow}
 use Rattle.vt100_cells.specs.CellFields.{IsText, text_of}
-use Rattle.vt100_cells.specs.Char3Fields.{as_text, char_of, IsChar3, first_char, BeginsPrintable, BeginsTwoBytes, BeginsThreeBytes}
-use Rattle.vt100_cells.proofs.CellTextLemmas.{IsTextOf, len-text_of, encode-three, text-three, IsText-ascii, text_of-ascii}
+use Rattle.vt100_cells.specs.Char3Fields.{as_text, char_of, IsChar3, first_char, BeginsPrintable, BeginsTwoBytes}
+use Rattle.vt100_cells.specs.Char3Fields.{BeginsThreeBytes}
+use Rattle.vt100_cells.proofs.CellTextLemmas.{IsTextOf, len-text_of, encode-three, text-three, IsText-ascii}
+use Rattle.vt100_cells.proofs.CellTextLemmas.{text_of-ascii}
 use Rattle.vt100_cells.proofs.NarrowLemmas.{encode-two, text-two}
 use Rattle.vt100_cells.proofs.WideScripts.{drawn-wide}
 use Rattle.vt100_cells.proofs.NarrowScripts.{drawn-narrow}
@@ -311,7 +314,11 @@ wide-hangul c l h = sym (drawn-wide c (omega arith) (grind (arith, nat_tests)) (
 
 narrow-latin : (c : ℕ) → 0xC0 ≤ c → c ≤ 0x2FF → IsNarrow c
 unfolding in_ranges
-narrow-latin c l h = (grind (arith, nat_tests), sym (drawn-narrow c (omega arith) (grind (arith, nat_tests)) (omega arith)))
+narrow-latin c l h = (
+  grind (arith, nat_tests),
+  sym (drawn-narrow c (omega arith) (grind (arith, nat_tests))
+      (omega arith)),
+)
 
 narrow-cyrillic : (c : ℕ) → 0x380 ≤ c → c ≤ 0x47F → IsNarrow c
 unfolding in_ranges
@@ -320,7 +327,11 @@ narrow-cyrillic c l h =
 
 narrow-box : (c : ℕ) → 0x2500 ≤ c → c ≤ 0x25BF → IsNarrow c
 unfolding in_ranges
-narrow-box c l h = (grind (arith, nat_tests), sym (drawn-narrow c (omega arith) (grind (arith, nat_tests)) (omega arith)))
+narrow-box c l h = (
+  grind (arith, nat_tests),
+  sym (drawn-narrow c (omega arith) (grind (arith, nat_tests))
+      (omega arith)),
+)
 
 -- what the first bytes tell of the character
 pub record Told (P : ℕ → Type 0) (low c : ℕ) : Type 0 where

@@ -27,7 +27,8 @@ marks-zero : (c : ℕ) → c ≤ 0x10_FFFF → is_zero_there c ≡ true
 unfolding tables kind_stepped
 marks-zero =
     Stepped-always is_zero_there
-    (zip_stepped (λ inside k. not inside || is_zero_kind k) (in_ranges joining_marks) kind (of_ranges joining_marks refl) kind_stepped)
+    (zip_stepped (λ inside k. not inside || is_zero_kind k) (in_ranges joining_marks) kind
+    (of_ranges joining_marks refl) kind_stepped)
     refl
 
 of_zero : (c : ℕ) (k : Kind) → is_zero_kind k ≡ true → (of_kind false c k).0 ≡ 0
@@ -53,5 +54,6 @@ or-second b d e h = ap (λ x. not x || d) (sym e) ∙ h
 
 pub drawn-joining : (c : ℕ) → c ≤ 0x36F → in_ranges joining_marks c ≡ true → 0xA0 ≤ c → Some 0 ≡ drawn_columns c
 drawn-joining c l i h =
-    let w = width-zero c h (or-second (in_ranges joining_marks c) (is_zero_kind (kind c)) i (marks-zero c (omega arith))) in
+    let w = width-zero c h (or-second (in_ranges joining_marks c) (is_zero_kind (kind c)) i
+    (marks-zero c (omega arith))) in
     rw w refl

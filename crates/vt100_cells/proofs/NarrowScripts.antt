@@ -31,7 +31,8 @@ scripts-narrow : (c : ℕ) → c ≤ 0x10_FFFF → is_narrow_there c ≡ true
 unfolding tables kind_stepped
 scripts-narrow =
     Stepped-always is_narrow_there
-    (zip_stepped (λ inside k. not inside || is_narrow_kind k) (in_ranges narrow_scripts) kind (of_ranges narrow_scripts refl) kind_stepped)
+    (zip_stepped (λ inside k. not inside || is_narrow_kind k) (in_ranges narrow_scripts) kind
+    (of_ranges narrow_scripts refl) kind_stepped)
     refl
 
 of_narrow : (c : ℕ) (k : Kind) → is_narrow_kind k ≡ true → (of_kind false c k).0 ≡ 1
@@ -57,5 +58,6 @@ or-second b d e h = ap (λ x. not x || d) (sym e) ∙ h
 
 pub drawn-narrow : (c : ℕ) → c ≤ 0xF8FF → in_ranges narrow_scripts c ≡ true → 0xA0 ≤ c → Some 1 ≡ drawn_columns c
 drawn-narrow c l i h =
-    let w = width-narrow c h (or-second (in_ranges narrow_scripts c) (is_narrow_kind (kind c)) i (scripts-narrow c (omega arith))) in
+    let w = width-narrow c h (or-second (in_ranges narrow_scripts c) (is_narrow_kind (kind c)) i
+    (scripts-narrow c (omega arith))) in
     rw w refl

@@ -30,7 +30,8 @@ scripts-wide : (c : ℕ) → c ≤ 0x10_FFFF → is_wide_there c ≡ true
 unfolding tables kind_stepped
 scripts-wide =
     Stepped-always is_wide_there
-    (zip_stepped (λ inside k. not inside || is_wide_kind k) (in_ranges wide_scripts) kind (of_ranges wide_scripts refl) kind_stepped)
+    (zip_stepped (λ inside k. not inside || is_wide_kind k) (in_ranges wide_scripts) kind (of_ranges wide_scripts refl)
+    kind_stepped)
     refl
 
 of_wide : (c : ℕ) (k : Kind) → is_wide_kind k ≡ true → (of_kind false c k).0 ≡ 2
@@ -56,5 +57,6 @@ or-second b d e h = ap (λ x. not x || d) (sym e) ∙ h
 
 pub drawn-wide : (c : ℕ) → c ≤ 0xFFFF → in_ranges wide_scripts c ≡ true → 0x3000 ≤ c → Some 2 ≡ drawn_columns c
 drawn-wide c l i h =
-    let w = width-wide c h (or-second (in_ranges wide_scripts c) (is_wide_kind (kind c)) i (scripts-wide c (omega arith))) in
+    let w = width-wide c h (or-second (in_ranges wide_scripts c) (is_wide_kind (kind c)) i
+    (scripts-wide c (omega arith))) in
     rw w refl

@@ -1,5 +1,6 @@
 -- Lists of cells, and the lines that they are.
-use Rattle.std.specs.Prelude.{ℕ, ◌≡◌, ◌≤◌, ◌<◌, suc, ◌-◌, ◌==◌, ◌&&◌, nat_lt, min, List, [], ◌∷◌, length, map, slice_index_or}
+use Rattle.std.specs.Prelude.{ℕ, ◌≡◌, ◌≤◌, ◌<◌, suc, ◌-◌, ◌==◌, ◌&&◌, nat_lt, min, List, [], ◌∷◌, length, map}
+use Rattle.std.specs.Prelude.{slice_index_or}
 use Rattle.std.specs.Prelude.{if◌then◌else◌}
 use Rattle.std.specs.List.{range_with_len}
 use Rattle.vt100_cells.specs.Cell.{CellView, default_cell, is_default}

@@ -29,7 +29,8 @@ char3_of c = let t = fields_of (c ∷ []) in record { bytes = take 3 t.bytes; le
 
 pub char3_of-char_of : (s : Inside) → IsChar3 s → char3_of (char_of s) ≡ s
 char3_of-char_of s h =
-    let same : fields_of (char_of s ∷ []) ≡ as_text s = ap fields_of (sym h.one) ∙ fields_of-text_of (as_text s) h.text in
+    let same : fields_of (char_of s ∷ []) ≡ as_text s = ap fields_of (sym h.one) ∙ fields_of-text_of (as_text s)
+    h.text in
     let front : take 3 (s.bytes ++ replicate 18 0) ≡ s.bytes = take_at s.bytes (replicate 18 0) 3 h.whole in
     λ i. record { bytes = (ap (λ (t : TextInside). take 3 t.bytes) same ∙ front) i; len = (same i).len }
 

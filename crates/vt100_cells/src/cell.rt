@@ -328,7 +328,8 @@ impl Cell {
     #[inline(always)]
     pub(crate) fn has_start_of(&self, other: &Self) -> bool
         ensures value { result ≡ cell_start_eq self.now other.now }
-        ensures whole { cell_start_eq self.now other.now ≡ true → fits_start self.now.text ≡ true → self.now ≡ other.now }
+        ensures whole { cell_start_eq self.now other.now ≡ true → fits_start self.now.text ≡ true → self.now
+            ≡ other.now }
     {
         self.has_attrs_of(other) & (self.span == other.span) & self.text.has_start_of(&other.text)
     }

@@ -176,7 +176,8 @@ pub IsBegun-owed : {g : GridView} {n : ℕ} {from left : List RowView} {v : RowV
 IsBegun-owed {g = g} {v = v} {wrapping = wrapping} {old = old} {was = was} k now h cut grown begun =
     let written = encode_utf8_all (written_text v 0 g.width wrapping) in
     let part = replicate k 10 ++ written in
-    let next = IsBegun-row ((was ++ replicate k 10) ++ written) h cut (begun_whole (was ++ replicate k 10) written _ refl) in
+    let next = IsBegun-row ((was ++ replicate k 10) ++ written) h cut (begun_whole (was ++ replicate k 10) written _
+    refl) in
     let prefix : next.0 ≡ grown.0 ++ part = append_cancel_left old next.0 (grown.0 ++ part)
     (sym next.3 ∙ append_assoc was (replicate k 10) written ∙ ap (λ bs. bs ++ part) grown.1
     ∙ append_assoc old grown.0 part) in

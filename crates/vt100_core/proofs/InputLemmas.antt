@@ -398,7 +398,8 @@ pub IsNext-made : (g : GridView) (x : Extras) (n : ℕ) → IsDrawable g
     → IsNext g x (fitted (grid_size g) n (term_of_grid g x)) (made_to_fit g n true).grid
 unfolding fitted
 IsNext-made g x n d =
-    (elim (nat_le (g.col + n) g.width) as (λ b. IsNext g x (cond b (term_of_grid g x) (wrap (grid_size g) (term_of_grid g x)))
+    (elim (nat_le (g.col + n) g.width) as
+    (λ b. IsNext g x (cond b (term_of_grid g x) (wrap (grid_size g) (term_of_grid g x)))
     (cond b (let s : Scrolled = record { grid = g; sunk = [] } in s) (wrapped_on g true)).grid) [
       | true ↦ record { shows = refl; size = refl; drawable = d }
       | false ↦ IsNext-wrapped g x d
@@ -449,7 +450,8 @@ appended-narrow y c =
     ])
 
 pub joined-is : (g : GridView) (x : Extras) (c : ℕ) → IsDrawable g → 0 < g.col
-    → is_widening (row_of_cursor g) g.col c ≡ false → term_of_grid (joined g c x.attrs).grid x ≡ join c (term_of_grid g x)
+    → is_widening (row_of_cursor g) g.col c ≡ false → term_of_grid (joined g c x.attrs).grid x
+    ≡ join c (term_of_grid g x)
 unfolding join update
 joined-is g x c d h e =
     let v = row_of_cursor g in

@@ -1,6 +1,8 @@
 -- The newlines at the end of a text, and texts that don't end in one.
-use Rattle.std.proofs.Common.{◌≡◌, ℕ, zero, suc, ◌+◌, ◌-◌, ◌<◌, ◌≤◌, ◌==◌, ◌%◌, ◌/◌, Bool, true, false, cond, not, nat_lt}
-use Rattle.std.proofs.Common.{List, [], ◌∷◌, ◌++◌, length, take, replicate, refl, sym, ap, ◌∙◌, subst, arith, append_assoc}
+use Rattle.std.proofs.Common.{◌≡◌, ℕ, zero, suc, ◌+◌, ◌-◌, ◌<◌, ◌≤◌, ◌==◌, ◌%◌, ◌/◌, Bool, true, false, cond, not}
+use Rattle.std.proofs.Common.{nat_lt}
+use Rattle.std.proofs.Common.{List, [], ◌∷◌, ◌++◌, length, take, replicate, refl, sym, ap, ◌∙◌, subst, arith}
+use Rattle.std.proofs.Common.{append_assoc}
 use Rattle.std.proofs.Common.{append-nil, length-append, All, ◌&&◌, min, ⊎_elim}
 use Rattle.std.specs.Prelude.{encode_utf8_all, encode_utf8, reverse}
 use Rattle.std.specs.List.{prefix_len, suffix_len}
@@ -9,7 +11,8 @@ use Rattle.std.proofs.lemmas.Bool.{cases_lt, cond_both, ne_eqb, false≢true}
 use Rattle.std.proofs.lemmas.Bool.Decides.{nat_tests}
 use Rattle.std.proofs.lemmas.Str.{encodes-append, encode_ascii}
 use Rattle.std.proofs.lemmas.List.Elements.{All-drop}
-use Rattle.std.proofs.lemmas.List.{reverse-append, length-reverse, length-take, take-append-le, replicate-append-replicate}
+use Rattle.std.proofs.lemmas.List.{reverse-append, length-reverse, length-take, take-append-le}
+use Rattle.std.proofs.lemmas.List.{replicate-append-replicate}
 use Rattle.std.proofs.lemmas.List.Sums.{suffix_len-le-length}
 use Rattle.unicode_width.specs.Width.{char_width}
 use Rattle.vt100_cells.specs.Cell.{CellView, IsCell, IsCellText, columns_of, is_undrawable, has_text}
@@ -82,11 +85,13 @@ ends-encoded cs h =
 
 -- what stands behind such a text is cut, and nothing of it
 prefix-stops : (xs bs : List ℕ) (c : ℕ) → (c == 10) ≡ false → prefix_len is_newline (xs ++ c ∷ bs) ≤ length xs
-prefix-stops [] bs c e = let none : prefix_len is_newline (c ∷ bs) ≡ 0 = ap (λ b. cond b (1 + prefix_len is_newline bs) 0) e in
+prefix-stops [] bs c e = let none : prefix_len is_newline (c ∷ bs) ≡ 0 = ap (λ b. cond b (1 + prefix_len is_newline bs)
+    0) e in
     omega (arith, none)
 prefix-stops (a ∷ xs) bs c e =
     let more = prefix-stops xs bs c e in
-    cond_both (a == 10) (1 + prefix_len is_newline (xs ++ c ∷ bs)) 0 (λ n. n ≤ suc (length xs)) (λ _. omega (arith, more))
+    cond_both (a == 10) (1 + prefix_len is_newline (xs ++ c ∷ bs)) 0 (λ n. n ≤ suc (length xs))
+    (λ _. omega (arith, more))
     (λ _. omega arith)
 
 pub cut-behind : (xs rest : List ℕ) → EndsOtherwise xs → length xs ≤ length (newlines_cut (xs ++ rest))

@@ -91,7 +91,8 @@ shown_line-drawn g r k h some e =
     (cases_lt r g.height)
 
 -- at offset 0 a grid shows its rows
-pub visible_lines-drawn : (g : GridView) → IsGrid g → IsAllocated g → g.kept.offset ≡ 0 → visible_lines g ≡ lines_of g.rows
+pub visible_lines-drawn : (g : GridView) → IsGrid g → IsAllocated g → g.kept.offset ≡ 0 → visible_lines g
+    ≡ lines_of g.rows
 visible_lines-drawn g h some e = fun_ext (λ r. fun_ext (λ k. shown_line-drawn g r k h some e))
 
 shown_wrap-drawn : (g : GridView) (r : ℕ) → IsGrid g → IsAllocated g → g.kept.offset ≡ 0
@@ -101,5 +102,6 @@ shown_wrap-drawn g r h some e =
     ⊎_elim (λ (l : r < g.height). rw (lt-ltb r g.height l) (ap (λ (v : RowView). v.wrapped) (visible_at-drawn g r e)))
     (λ (l : g.height ≤ r). rw (le-ltb r g.height l) (sym (wraps-past g.rows r (omega arith)))) (cases_lt r g.height)
 
-pub visible_wraps-drawn : (g : GridView) → IsGrid g → IsAllocated g → g.kept.offset ≡ 0 → visible_wraps g ≡ wraps_of g.rows
+pub visible_wraps-drawn : (g : GridView) → IsGrid g → IsAllocated g → g.kept.offset ≡ 0 → visible_wraps g
+    ≡ wraps_of g.rows
 visible_wraps-drawn g h some e = fun_ext (λ r. shown_wrap-drawn g r h some e)

@@ -1,5 +1,6 @@
 -- How long the lists of a grid are, whichever rows it shows.
-use Rattle.std.proofs.Common.{ℕ, ◌+◌, ◌-◌, ◌*◌, ◌<◌, ◌≤◌, Bool, not, ◌&&◌, cond, nat_lt, [], ◌∷◌, length, min, refl, arith}
+use Rattle.std.proofs.Common.{ℕ, ◌+◌, ◌-◌, ◌*◌, ◌<◌, ◌≤◌, Bool, not, ◌&&◌, cond, nat_lt, [], ◌∷◌, length, min, refl}
+use Rattle.std.proofs.Common.{arith}
 use Rattle.std.proofs.lemmas.Bool.{cond_both, ltb-true}
 use Rattle.std.proofs.lemmas.Nat.{mul-le}
 use Rattle.vt100_forms.specs.declared.attrs.Attrs.{Attrs}

@@ -83,7 +83,8 @@ module _ {Z : Type 0} where
       let now = ap length e.bytes ∙ length-append (string_bytes s) (bytes_of fs) in
       record {
         begun = subst (λ bs. IsBegun (string_bytes s) bs (string_bytes u)) (sym (bytes_of-joined fs gs))
-            (begun-later (string_bytes s) (bytes_of fs) (bytes_of gs) (string_bytes t) (string_bytes u) e.bytes h.begun);
+            (begun-later (string_bytes s) (bytes_of fs) (bytes_of gs) (string_bytes t) (string_bytes u) e.bytes
+            h.begun);
         full = omega (arith, both, now, e.capacity, h.full, s.bytes.ok.0, t.bytes.ok.0);
       }
 

@@ -58,9 +58,9 @@ IsShortGrowth g old new = length new ≤ length old + (1024 * (g.height * g.widt
 
 -- ---- which cells they touch
 
--- These forms are appended to the text s, which becomes t. Read by a terminal that shows the earlier grid, and draws with
--- the attributes a, they touch local cells of the two pictures alone; but where the cursor waits, also the last cell of
--- one row.
+-- These forms are appended to the text s, which becomes t. Read by a terminal that shows the earlier grid, and draws
+-- with the attributes a, they touch local cells of the two pictures alone; but where the cursor waits, also the last
+-- cell of one row.
 pub record AppendsLocal (forms : List Form) (g old : GridView) (a : Attrs) (s t : List ℕ) : Type 0 where
   pub appended : t ≡ s ++ bytes_of forms
   pub touches : (x : Extras) → x.attrs ≡ a → IsLocalList (grid_size g) (picture_of old x) (drawn_on g) forms

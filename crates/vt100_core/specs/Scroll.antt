@@ -1,6 +1,7 @@
 -- Scrolling up, and the rows that leave the screen. A row that leaves for good is given to a sink; a result says which
 -- rows, in their order.
-use Rattle.std.specs.Prelude.{ℕ, ◌+◌, ◌-◌, ◌^◌, ◌<◌, ◌==◌, Bool, not, ◌&&◌, nat_le, min, List, [], ◌++◌, length, take, drop}
+use Rattle.std.specs.Prelude.{ℕ, ◌+◌, ◌-◌, ◌^◌, ◌<◌, ◌==◌, Bool, not, ◌&&◌, nat_le, min, List, [], ◌++◌, length, take}
+use Rattle.std.specs.Prelude.{drop}
 use Rattle.std.specs.Prelude.{◌≡◌, map, if◌then◌else◌, Result, OnOk, IsOk}
 use Rattle.vt100_cells.specs.Cell.{default_cell}
 use Rattle.vt100_rows.specs.Row.{RowView, grown, trimmed, with_wrap}
@@ -14,7 +15,8 @@ pub record Scrolled : Type 0 where
   pub grid : GridView
   pub sunk : List RowView
 
--- no row scrolls off at the top on the way from g to h, as the counts say; a count that has come to its end says nothing
+-- no row scrolls off at the top on the way from g to h, as the counts say; a count that has come to its end says
+-- nothing
 abbrev pub ScrollsNoneOff : GridView → GridView → Type 0
 ScrollsNoneOff g h = (g.kept.scrolled_off < 2 ^ 64 - 1) × (h.kept.scrolled_off ≡ g.kept.scrolled_off)
 

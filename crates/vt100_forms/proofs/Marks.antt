@@ -279,7 +279,8 @@ behind-nil r xs ys e = (xs, refl)
 
 pub marks_behind : MarksStandBehindForms
 marks_behind [] h = behind-nil
-marks_behind (f ∷ fs) h = behind-append (form_bytes f) (bytes_of fs) (behind-clear (form_bytes f) (clear-form_bytes f h.0))
+marks_behind (f ∷ fs) h = behind-append (form_bytes f) (bytes_of fs) (behind-clear (form_bytes f)
+    (clear-form_bytes f h.0))
     (marks_behind fs h.1)
 
 pub no_mark : NoMarkInForms

@@ -1,5 +1,5 @@
--- The forms that are sent to a terminal, and the bytes of each (`form_bytes`). A form is one escape sequence, or the text
--- of one cell.
+-- The forms that are sent to a terminal, and the bytes of each (`form_bytes`). A form is one escape sequence, or the
+-- text of one cell.
 use Rattle.std.specs.Prelude.{ℕ, ◌≡◌, ◌+◌, ◌-◌, ◌==◌, ◌&&◌, bit_and, bit_or, unwrap_or, List, [], ◌∷◌, ◌++◌, Bool, true}
 use Rattle.std.specs.Prelude.{false, if◌then◌else◌, nat_lt, decimal, codes, encode_utf8_all, Option, Some, None}
 use Rattle.std.specs.List.{flat_map}

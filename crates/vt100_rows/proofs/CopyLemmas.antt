@@ -53,7 +53,8 @@ rows-compared v w xs ys n end ex ey l b d flags le same differs =
           same-row v w (lines-equal v.cells w.cells end l b d
           (λ k lo hi. sym (left k) ∙ same k lo (omega arith) ∙ right k)) flags,
       λ e. ⊎_elim
-          (λ lt. let unlike : cell_eq (cell_at v.cells n) (cell_at w.cells n) ≡ false = rw (← left n, ← right n) (differs lt) in
+          (λ lt. let unlike : cell_eq (cell_at v.cells n) (cell_at w.cells n) ≡ false = rw (← left n, ← right n)
+          (differs lt) in
           absurd (lines-differ v.cells w.cells n unlike (ap (λ (x : RowView). x.cells) e)))
           (λ ge. eq-eqb n end (omega arith)) (cases_lt n end),
     )

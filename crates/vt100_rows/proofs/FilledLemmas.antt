@@ -1,6 +1,7 @@
 -- Edits of a line that is blank from some column on.
 use Rattle.std.proofs.Common.{◌≡◌, ◌∙◌, ℕ, ◌+◌, ◌-◌, ◌<◌, ◌≤◌, ◌==◌, true, false, List, ◌++◌, length, take, drop}
-use Rattle.std.proofs.Common.{sym, refl, ap, subst, take-append-drop, if◌then◌else◌, arith, ⊎_elim, nat_lt, min, length-append, length-take, length-drop}
+use Rattle.std.proofs.Common.{sym, refl, ap, subst, take-append-drop, if◌then◌else◌, arith, ⊎_elim, nat_lt, min}
+use Rattle.std.proofs.Common.{length-append, length-take, length-drop}
 use Rattle.std.proofs.lemmas.Bool.{cond_both, cases_lt, ltb-true, ltb-false, eqb-true}
 use Rattle.std.proofs.lemmas.List.{get_or-take, places}
 use Rattle.std.proofs.lemmas.Bool.Decides.{nat_tests}
@@ -32,7 +33,8 @@ wiped-left f s e m t k p b h out et lt =
 wiped-filled : (f : ℕ → CellView) (s e m t k : ℕ) → IsPaired f → ((j : ℕ) → m ≤ j → f j ≡ default_cell) → s < e
     → t ≡ min e m → wiped f s t default_attrs k ≡ wiped f s e default_attrs k
 wiped-filled f s e m t k p b h et =
-    ⊎_elim (λ lt. ⊎_elim (λ some. grind (arith, nat_tests)) (λ none. wiped-left f s e m t k p b h none et lt) (cases_lt s t))
+    ⊎_elim (λ lt. ⊎_elim (λ some. grind (arith, nat_tests)) (λ none. wiped-left f s e m t k p b h none et lt)
+    (cases_lt s t))
     (λ ge. let d = b k ge in wiped-blank f s t k d ∙ sym (wiped-blank f s e k d)) (cases_lt k m)
 
 wipes-default : (xs : List CellView) (s e m t : ℕ) → IsPaired (cell_at xs) → IsBlankFrom xs m → s < e
@@ -161,12 +163,14 @@ inserts-filled xs ws i count m t p b h l et e =
     let blank : IsBlankFrom xs t = λ k ge. ⊎_elim (λ lt. b k (omega (arith, ge, et, lt)))
     (λ past. cell_at_past xs k past) (cases_lt k (length xs)) in
     let is = prefix-inserted xs ws i count m t blank h l et e in
-    cond_both (nat_lt 0 n) (by_position (length xs) (cut (length xs) (opened f i n))) xs (λ cells. ws ++ drop t xs ≡ cells)
+    cond_both (nat_lt 0 n) (by_position (length xs) (cut (length xs) (opened f i n))) xs (λ cells. ws ++ drop t xs
+    ≡ cells)
     (λ some. prefixes xs ws t (cut t (opened f i n)) (cut (length xs) (opened f i n)) (omega (arith, et))
     (is ∙ ap (λ b. if b then by_position t (cut t (opened f i n)) else take t xs) some)
     (λ k lt. cut-prefix f i n m t (length xs) k p b h (omega (arith, et, h, l)) lt)
     (λ k ge q. cut-behind f i n m (length xs) k b h (omega (arith, et, ge, q)) q))
-    (λ none. ap (λ (zs : List CellView). zs ++ drop t xs) (is ∙ ap (λ b. if b then by_position t (cut t (opened f i n)) else take t xs) none)
+    (λ none. ap (λ (zs : List CellView). zs ++ drop t xs) (is ∙ ap (λ b. if b then by_position t (cut t (opened f i n))
+    else take t xs) none)
     ∙ take-append-drop t xs)
 
 opened-none : (f : ℕ → CellView) (i n m k : ℕ) → ((j : ℕ) → m ≤ j → f j ≡ default_cell) → m ≤ i → i ≤ k
@@ -180,7 +184,8 @@ cut-none : (f : ℕ → CellView) (i n m len k : ℕ) → IsPaired f → ((j : �
 cut-none f i n m len k p b past h lt =
     ⊎_elim (λ left. ⊎_elim (λ far. grind (arith, nat_tests))
     (λ near. let narrow = narrow-before f len k p past near in grind (arith, nat_tests)) (cases_lt (k + 1) len))
-    (λ ge. let d = b k (omega (arith, h, ge)) in let e = opened-none f i n m k b h ge in grind (arith, nat_tests)) (cases_lt k i)
+    (λ ge. let d = b k (omega (arith, h, ge)) in let e = opened-none f i n m k b h ge in grind (arith, nat_tests))
+    (cases_lt k i)
 
 pub inserts-none : (xs : List CellView) (i count m : ℕ) → IsPaired (cell_at xs) → IsBlankFrom xs m → m ≤ i
     → xs ≡ inserted_cells xs i count
@@ -224,7 +229,8 @@ blank-inserted xs i count m p b few =
     (λ cells. IsBlankFrom cells (min (m + count) 65535))
     (λ _. blank-line (length xs) (min (m + count) 65535) (cut (length xs) (opened f i n))
     (λ k ge lt. cut-blank (opened f i n) (length xs) k (opened-blank f i n m k b h (omega (arith, ge, lt, few)))))
-    (λ _. λ k ge. ⊎_elim (λ lt. b k (omega (arith, ge, lt, few))) (λ past. cell_at_past xs k past) (cases_lt k (length xs))))
+    (λ _. λ k ge. ⊎_elim (λ lt. b k (omega (arith, ge, lt, few))) (λ past. cell_at_past xs k past)
+    (cases_lt k (length xs))))
     (λ behind. subst (λ (zs : List CellView). IsBlankFrom zs m)
     (inserts-none xs i count m p b (ltb-false i m behind)) b)
 

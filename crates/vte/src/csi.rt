@@ -157,7 +157,7 @@ fn unmarked<H: Handler>(handler: &mut H, last: Option<char>, params: &Params, ac
 }
 
 /// Sequences without intermediates: those that move the cursor by a count, and any other.
-// It isn't inlined, and needs no stack. By the table alone text that is put here and there takes 8 % more instructions.
+// It isn't inlined, and needs no stack. By the table alone text that is put here and there takes 7 % more instructions.
 #[inline(never)]
 fn moving_unmarked<H: Handler>(handler: &mut H, last: Option<char>, params: &Params, action: char)
     ensures { Calls H.step handler.old (csi_calls last params.now [] action) handler.new }

@@ -1,7 +1,8 @@
 //! Control sequences by which cells and lines come in, go or are emptied.
 ghost use Rattle.std.specs.Prelude.{true, false};
 ghost use Rattle.vt100.specs.Tries.{Changes, Counts};
-ghost use Rattle.screen_model.specs.Step.{cells_added, cells_taken, cells_erased, lines_added, lines_taken, region_down};
+ghost use Rattle.screen_model.specs.Step.{cells_added, cells_taken, cells_erased, lines_added, lines_taken};
+ghost use Rattle.screen_model.specs.Step.{region_down};
 ghost use Rattle.screen_model.specs.Effect.{display_erased, line_erased};
 
 use crate::callbacks::Callbacks;

@@ -77,8 +77,8 @@ impl Screen {
         self.grid.visible_cell(Pos { row, col })
     }
 
-    /// The cells of the row that is shown at `row`, counted from 0, from the left: those that [`cell`](Self::cell) tells
-    /// of one by one. A kept row can be wider than the screen.
+    /// The cells of the row that is shown at `row`, counted from 0, from the left: those that [`cell`](Self::cell)
+    /// tells of one by one. A kept row can be wider than the screen.
     pub fn row_cells(&self, row: u16) -> Option<&[Cell]>
         ensures { option_copied result ≡ option_map (λ v. v.cells) (visible_row_at self.now.state.shown row) }
     {
@@ -88,8 +88,8 @@ impl Screen {
         }
     }
 
-    /// A column from which on each cell of the row that is shown at `row` is a default cell. Both are counted from 0. It
-    /// is 65,535 if none is known, and 0 if there is no such row.
+    /// A column from which on each cell of the row that is shown at `row` is a default cell. Both are counted from 0.
+    /// It is 65,535 if none is known, and 0 if there is no such row.
     pub fn row_filled(&self, row: u16) -> u16
         ensures { MatchOption (visible_row_at self.now.state.shown row) (result ≡ 0)
             (λ v. IsBlankFrom v.cells result) }

@@ -3,7 +3,8 @@ ghost use Rattle.std.specs.Prelude.{◌≡◌, ◌≢◌, ◌≤◌, ◌∷◌, 
 ghost use Rattle.std.specs.Int.{is_in_range};
 ghost use Rattle.vte_core.specs.Store.{each_alone};
 ghost use Rattle.vt100_forms.specs.declared.attrs.Attrs.{Attrs};
-ghost use Rattle.screen_model.specs.Sgr.{value, value_at, rgb, separate_color, code_row, read_on, read_groups, sgr_read};
+ghost use Rattle.screen_model.specs.Sgr.{value, value_at, rgb, separate_color, code_row, read_on, read_groups};
+ghost use Rattle.screen_model.specs.Sgr.{sgr_read};
 ghost use Rattle.screen_model.specs.Effect.{attributes_read};
 ghost use Rattle.vt100.specs.SgrReading.{read_of, group_led, color_led, code_applied, number_led, color_asked};
 ghost use Rattle.vt100.specs.Tries.{Counts};
@@ -20,7 +21,7 @@ impl<CB: Callbacks> WrappedScreen<CB> {
     /// those of 38 and 48 in one group or in groups of their own. Without any group the attributes become the default
     /// ones. A value past 255, or one that is missing, ends the reading; so does a kind of colour that is neither 2 nor
     /// 5. Answers how many groups were unhandled: such a kind, and any other group.
-    // Most sequences are these: with a call, coloured text takes 2 % more instructions.
+    // Most sequences are these. With a call here and one at text, coloured text takes 8 % more instructions.
     #[inline(always)]
     pub fn sgr(&mut self, params: &Params) -> usize
         ensures { Counts CB.scrolls (attributes_read params.now) self.old.screen self.old.callbacks result

@@ -21,8 +21,8 @@ impl Screen {
     /// program's ends. The same size changes nothing else.
     ///
     /// Refused is only what makes the screen wider or higher, or keeps a row more. Then the answer is
-    /// [`ScreenError::Memory`], the screen has failed, and the call has stopped at the sheet that found no memory, whose
-    /// size is open; the main sheet comes first. On a failed screen nothing is done, and the answer is
+    /// [`ScreenError::Memory`], the screen has failed, and the call has stopped at the sheet that found no memory,
+    /// whose size is open; the main sheet comes first. On a failed screen nothing is done, and the answer is
     /// [`ScreenError::Failed`].
     pub fn set_size(&mut self, rows: NonZeroU16, cols: NonZeroU16) -> Result<(), ScreenError>
         ensures tries { TriesAlone (λ s. (resized_to rows.value cols.value s).state) self.old result self.new }
@@ -175,8 +175,8 @@ impl<CB: Callbacks> WrappedScreen<CB> {
     /// Gives the screen another size, and reports the rows that leave it: those of the main sheet first.
     /// A synchronized update of the program's ends. The same size changes nothing else.
     ///
-    /// Refused is only what makes the screen wider or higher, or keeps a row more. Then the call has stopped at the sheet
-    /// that found no memory, whose size is open.
+    /// Refused is only what makes the screen wider or higher, or keeps a row more. Then the call has stopped at the
+    /// sheet that found no memory, whose size is open.
     pub fn set_size_with_cb(
         &mut self,
         rows: NonZeroU16,

@@ -36,8 +36,8 @@ impl Screen {
         Ok(contents)
     }
 
-    /// Appends the escape sequences of [`state_formatted`](Self::state_formatted) to a text. If an allocation fails, some
-    /// of them may have been appended.
+    /// Appends the escape sequences of [`state_formatted`](Self::state_formatted) to a text. If an allocation fails,
+    /// some of them may have been appended.
     pub fn write_state_formatted(&self, contents: &mut String) -> Result<(), ScreenError>
         ensures { AppendsRedraw state_formatted picture.state_formatted 1008 self.now.state contents.old result
             contents.new }
@@ -53,9 +53,9 @@ impl Screen {
     ///
     /// They are at most 1,024 bytes for each cell of the screen, and 1,008 more (`short`).
     ///
-    /// Where neither shows a kept row and no cell shows U+FE0F, they touch local cells alone: those that differ, and, in
-    /// rows that differ and right below them, empty ones and those of the first and the last column; each with its other
-    /// half. Where the cursor waits at the end of a row, they may also touch the last cell of one row (`local`).
+    /// Where neither shows a kept row and no cell shows U+FE0F, they touch local cells alone: those that differ, and,
+    /// in rows that differ and right below them, empty ones and those of the first and the last column; each with its
+    /// other half. Where the cursor waits at the end of a row, they may also touch the last cell of one row (`local`).
     pub fn state_diff(&self, prev: &Self) -> Result<String, ScreenError>
         ensures { GivesDifference state_diff picture.state_diff 1008 prev.now.state self.now.state result }
     {

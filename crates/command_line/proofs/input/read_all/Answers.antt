@@ -40,16 +40,22 @@ returns-then-ne-clause-faults g c =
 
 pub returns-then-ne-clause-lost : goal.returns-then-ne-clause-lost
 returns-then-ne-clause-lost g c =
-    let reported = returns-then-ne-clause-faults g c in
-    (reported.0, taken g.S.Source.left g.met.S.Source.tells c.args.input.now c.give.new.self (2 ^ 40) reported.0 _ reported.1)
+    let reported = returns-then-ne-clause-faults g c in (
+      reported.0,
+      taken g.S.Source.left g.met.S.Source.tells c.args.input.now c.give.new.self (2 ^ 40) reported.0 _
+          reported.1,
+    )
 
 pub returns-clause-faults : goal.returns-clause-faults
 returns-clause-faults g c = (_, at_most c.reads.invariant.goes_on (omega (arith, c.reads-test.false)))
 
 pub returns-clause-lost : goal.returns-clause-lost
 returns-clause-lost g c =
-    let reported = returns-clause-faults g c in
-    (reported.0, taken g.S.Source.left g.met.S.Source.tells c.args.input.now c.reads.input (2 ^ 40) reported.0 _ reported.1)
+    let reported = returns-clause-faults g c in (
+      reported.0,
+      taken g.S.Source.left g.met.S.Source.tells c.args.input.now c.reads.input (2 ^ 40) reported.0 _
+          reported.1,
+    )
 
 pub returns-in_err-extend_from_slice-in-Ok-clause-faults : goal.returns-in_err-extend_from_slice-in-Ok-clause-faults
 returns-in_err-extend_from_slice-in-Ok-clause-faults g c =

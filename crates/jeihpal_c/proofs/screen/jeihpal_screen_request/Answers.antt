@@ -2,4 +2,5 @@ use Rattle.jeihpal_c.proofs.Words.{on_some}
 use Rattle.jeihpal_c.proofs.screen.jeihpal_screen_request.Goals as goal
 
 pub returns-in-Some-clause-does : goal.returns-in-Some-clause-does
-returns-in-Some-clause-does c = on_some _ _ _ _ _ _ c.request.type_inv c.get_mut.ensures.held c.in-Some.is c.request.ensures.reported
+returns-in-Some-clause-does c = on_some _ _ _ _ _ _ c.request.type_inv c.get_mut.ensures.held c.in-Some.is
+    c.request.ensures.reported

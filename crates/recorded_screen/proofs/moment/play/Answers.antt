@@ -15,7 +15,8 @@ loop-event-preserved c = record {
       let e = c.event-item.result in
       let more : take (i + 1) es ≡ take i es ++ e ∷ [] =
       take_more es i e c.loop-event-test.true ∙ ap (λ x. take i es ++ x ∷ []) (sym c.event-item.is) in
-      let joined : acts ++ acts_until m (take (i + 1) es) ≡ (acts ++ acts_until m (take i es)) ++ acts_until m (e ∷ []) =
+      let joined : acts ++ acts_until m (take (i + 1) es) ≡ (acts ++ acts_until m (take i es))
+      ++ acts_until m (e ∷ []) =
       ap (λ xs. acts ++ acts_until m xs) more ∙ ap (λ ys. acts ++ ys) (acts_until-append m (take i es) (e ∷ []))
       ∙ sym (append_assoc acts (acts_until m (take i es)) (acts_until m (e ∷ []))) in
       subst (λ xs. ParserIsAfter c.step.new.parser rows cols capacity xs) (sym joined)

@@ -17,4 +17,5 @@ returns-clause-text c =
     let g = c.args.screen.now.state.shown in
     let end : c.loop-row.row ≡ c.args.screen.now.state.shown.height = omega arith in
     shows_page [] _ _ _ refl c.into_bytes.ensures.bytes
-    (before_markup _ _ _ _ (subst (λ n. Adds [] c.loop-row.page (lines_text g n)) end c.loop-row.invariant) c.in_ok-markup.ensures)
+    (before_markup _ _ _ _ (subst (λ n. Adds [] c.loop-row.page (lines_text g n)) end c.loop-row.invariant)
+    c.in_ok-markup.ensures)

@@ -4,7 +4,8 @@ use Rattle.std.specs.Option.{option_map}
 use Rattle.recordings.specs.Asciicast.{row_of_items}
 use Rattle.recordings.proofs.JsonLemmas.{not_three}
 use Rattle.recordings.proofs.asciicast.parse_event.Goals as goal
-use Rattle.recordings.proofs.asciicast.parse_event.Goals.{in_default-as_slice-via-then-as_slice-lt3, in_default-as_slice-via-else-as_slice-lt3+else-this-lt4}
+use Rattle.recordings.proofs.asciicast.parse_event.Goals.{in_default-as_slice-via-then-as_slice-lt3}
+use Rattle.recordings.proofs.asciicast.parse_event.Goals.{in_default-as_slice-via-else-as_slice-lt3+else-this-lt4}
 
 pub returns-in_default-as_slice : goal.returns-in_default-as_slice
 returns-in_default-as_slice c =

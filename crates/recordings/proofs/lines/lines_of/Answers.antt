@@ -13,5 +13,6 @@ returns-clause-lines c =
 pub returns-clause-some : goal.returns-clause-some
 returns-clause-some c =
     some_lines c.args.text.now c.collect.result (map_from_collect _ c.collect.ensures.ran
-    (YieldsList-from_slice_split _ (λ b. b == 10) c.args.text.now c.split.ensures.rest c.split.ensures.done c.split.ensures.closure
+    (YieldsList-from_slice_split _ (λ b. b == 10) c.args.text.now c.split.ensures.rest c.split.ensures.done
+    c.split.ensures.closure
     (λ x r q k. search (rules, tests))))

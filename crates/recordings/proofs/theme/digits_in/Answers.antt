@@ -22,8 +22,10 @@ pub loop-digit-preserved : goal.loop-digit-preserved
 loop-digit-preserved c =
     let here : c.from.result ≡ get_or c.args.digits.now c.loop-digit.digit-index 0 = cc in
     next_digit c.args.digits.now c.loop-digit.digit-index c.loop-digit.color c.in_ok-value.value (omega arith)
-    (subst (λ x. digit_value x < 16) here c.in_ok-value.ensures.value.0) (c.in_ok-value.ensures.value.1 ∙ ap digit_value here)
+    (subst (λ x. digit_value x < 16) here c.in_ok-value.ensures.value.0) (c.in_ok-value.ensures.value.1
+    ∙ ap digit_value here)
     c.loop-digit.invariant
 
 pub returns : goal.returns
-returns c = all_digits c.args.digits.now c.loop-digit.digit-index c.loop-digit.color (omega arith) c.loop-digit.invariant
+returns c = all_digits c.args.digits.now c.loop-digit.digit-index c.loop-digit.color (omega arith)
+    c.loop-digit.invariant

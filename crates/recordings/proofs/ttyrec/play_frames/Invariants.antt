@@ -6,4 +6,5 @@ use Rattle.recordings.proofs.ttyrec.play_frames.Given as goal
 
 abbrev pub invariant-loop-frame : goal.invariant-loop-frame
 invariant-loop-frame l =
-    IsStateAfter FromStart (rows_after (start_of (map piece_of l.frames)) (take l.frame-index (map piece_of l.frames))) l.timeline
+    IsStateAfter FromStart (rows_after (start_of (map piece_of l.frames)) (take l.frame-index (map piece_of l.frames)))
+    l.timeline

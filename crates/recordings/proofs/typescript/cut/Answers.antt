@@ -11,7 +11,11 @@ returns-in-Some c =
     let at = position_from_yields_List (λ b. b == 32) _ _ c.position.result c.position.ensures.ran
     (YieldsList-from_slice c.args.text.now cc) (λ x b q k. search (rules, tests)) in
     let same = found _ _ _ (sym c.in-Some.is ∙ at) in
-    record { word = ap (λ n. take n c.args.text.now) same; rest = take_rest c.args.text.now (c.in-Some.end + 1) ∙ ap (λ n. drop (n + 1) c.args.text.now) same }
+    record {
+      word = ap (λ n. take n c.args.text.now) same;
+      rest = take_rest c.args.text.now (c.in-Some.end + 1)
+          ∙ ap (λ n. drop (n + 1) c.args.text.now) same;
+    }
 
 pub returns-in-None : goal.returns-in-None
 returns-in-None c =

@@ -14,9 +14,11 @@ returns-in_default-clause-fault c =
     let same = ap texts c.deref-line-items.ensures.value ∙ c.in_ok-lines.ensures.lines in
     let left = c.loop-index.left.now in
     subst (λ (ls : List (List ℕ)). IsBadStep (output_of c.args.typescript.now) ls (c.loop-index.index + 1)) same
-    (bad_step (output_of c.args.typescript.now) c.deref-line-items.result.now c.loop-index.index (c.loop-index.index + 1) _ inv.0 left
+    (bad_step (output_of c.args.typescript.now) c.deref-line-items.result.now c.loop-index.index
+    (c.loop-index.index + 1) _ inv.0 left
     (omega arith) refl inv.1
-    (ap (λ (o : Option Step). option_and_then (taken left) o) (sym c.in_ok-step.ensures ∙ ap (option_map step_said) c.in_default.is)))
+    (ap (λ (o : Option Step). option_and_then (taken left) o) (sym c.in_ok-step.ensures ∙ ap (option_map step_said)
+    c.in_default.is)))
 
 pub returns-in-None-clause-fault : goal.returns-in-None-clause-fault
 returns-in-None-clause-fault c =
@@ -25,9 +27,11 @@ returns-in-None-clause-fault c =
     let left = c.loop-index.left.now in
     let none = rw c.in-None.is at c.in_ok-left.ensures in
     subst (λ (ls : List (List ℕ)). IsBadStep (output_of c.args.typescript.now) ls (c.loop-index.index + 1)) same
-    (bad_step (output_of c.args.typescript.now) c.deref-line-items.result.now c.loop-index.index (c.loop-index.index + 1) _ inv.0 left
+    (bad_step (output_of c.args.typescript.now) c.deref-line-items.result.now c.loop-index.index
+    (c.loop-index.index + 1) _ inv.0 left
     (omega arith) refl inv.1
-    (ap (λ (o : Option Step). option_and_then (taken left) o) (sym c.in_ok-step.ensures ∙ ap (option_map step_said) c.in-Some.is)
+    (ap (λ (o : Option Step). option_and_then (taken left) o) (sym c.in_ok-step.ensures ∙ ap (option_map step_said)
+    c.in-Some.is)
     ∙ none))
 
 pub loop-index-preserved : goal.loop-index-preserved
@@ -49,7 +53,8 @@ returns-clause-recording c =
     let same = ap texts c.deref-line-items.ensures.value ∙ c.in_ok-lines.ensures.lines in
     let items = c.deref-line-items.result.now in
     let n = length-map items (λ (x : Bor (List ℕ)). x.now) in
-    let all : take c.loop-index.index (texts items) ≡ texts items = take_all c.loop-index.index (texts items) (omega (arith, n)) in
+    let all : take c.loop-index.index (texts items) ≡ texts items = take_all c.loop-index.index (texts items)
+    (omega (arith, n)) in
     record {
       rows = inv.0;
       left = c.loop-index.left.now;

@@ -8,9 +8,11 @@ pub returns-in_ok-push-in-Some : goal.returns-in_ok-push-in-Some
 returns-in_ok-push-in-Some c =
     let same = c.in_ok-to_vec-in-Some.ensures.items_if_clones_equal (search rules) in (
       (c.in-Output.time, Some (writes c.in-Some.bytes.now)),
-      rw c.in-Output.is (bytes_taken c.args.left.now c.in-Some.bytes.now c.in-Some.after.now c.in-Output.time c.in-Output.count
+      rw c.in-Output.is (bytes_taken c.args.left.now c.in-Some.bytes.now c.in-Some.after.now c.in-Output.time
+          c.in-Output.count
           (search rules) (search rules) (search rules)),
-      λ rows h. subst (λ (bs : List ℕ). IsStateAfter FromLast (rows ++ (c.in-Output.time, Some (writes bs)) ∷ []) c.push.new.self)
+      λ rows h. subst (λ (bs : List ℕ). IsStateAfter FromLast (rows ++ (c.in-Output.time, Some (writes bs)) ∷ [])
+          c.push.new.self)
           same (c.in_ok-push-in-Some.ensures FromLast rows h),
     )
 

@@ -43,7 +43,8 @@ returns-in-Some c =
     let lookup = c.in-Some.ensures.lookup in
     let is : slice_get m.sessions c.args.session ≡ Some s =
     ap (λ (xs : List SessionView). slice_get xs c.args.session) (sym c.sessions.ensures)
-    ∙ slice_get-get_or c.sessions.result.now c.args.session s lookup.3.0 ∙ ap (λ (x : SessionView). Some x) (sym lookup.1) in
+    ∙ slice_get-get_or c.sessions.result.now c.args.session s lookup.3.0 ∙ ap (λ (x : SessionView). Some x)
+    (sym lookup.1) in
     let rows = c.args.rows.value in
     let cols = c.args.cols.value in
     let found = one-found rows cols calls h g m c.in_ok-hub.ensures.new ran fed c.args.session c.args.take

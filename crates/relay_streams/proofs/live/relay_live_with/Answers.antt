@@ -11,9 +11,11 @@ pub returns-in_err-hub : goal.returns-in_err-hub
 returns-in_err-hub g c =
     let is : c.from_residual.result ≡ Err Memory = search rules in
     let r : RelaysThrough c.args.lines g.S.Source.gives g.W.ByteSink.takes g.W.FlushSink.flushes c.args.rows.value
-    c.args.cols.value c.args.input.now c.args.output.now c.from_residual.result c.args.input.now c.args.output.now = rw is refused in
+    c.args.cols.value c.args.input.now c.args.output.now c.from_residual.result c.args.input.now c.args.output.now =
+    rw is refused in
     let reported = live-reported g.row.S.Denot g.row.W.Denot g.S.Source.gives g.W.ByteSink.takes g.W.FlushSink.flushes
-    g.W.FlushSink.contents g.S.Source.left g.met.S.Source.tells g.met.W.FlushSink.tells g.met.W.FlushSink.keeps c.args.rows.value
+    g.W.FlushSink.contents g.S.Source.left g.met.S.Source.tells g.met.W.FlushSink.tells g.met.W.FlushSink.keeps
+    c.args.rows.value
     c.args.cols.value c.args.lines _ _ _ _ _ (c.args.rows.ok, omega arith) (c.args.cols.ok, omega arith) r in
     record { relays = r; text = reported.0; prefix = reported.1 }
 
@@ -24,10 +26,12 @@ returns-in_err-client g c =
     let fault : c.from_residual-in_err-client.result ≡ Err (fault_of e) = search rules in
     let is : c.from_residual-in_err-client.result ≡ Err Memory = fault ∙ ap Err none in
     let r : RelaysThrough c.args.lines g.S.Source.gives g.W.ByteSink.takes g.W.FlushSink.flushes c.args.rows.value
-    c.args.cols.value c.args.input.now c.args.output.now c.from_residual-in_err-client.result c.args.input.now c.args.output.now =
+    c.args.cols.value c.args.input.now c.args.output.now c.from_residual-in_err-client.result c.args.input.now
+    c.args.output.now =
     rw is refused in
     let reported = live-reported g.row.S.Denot g.row.W.Denot g.S.Source.gives g.W.ByteSink.takes g.W.FlushSink.flushes
-    g.W.FlushSink.contents g.S.Source.left g.met.S.Source.tells g.met.W.FlushSink.tells g.met.W.FlushSink.keeps c.args.rows.value
+    g.W.FlushSink.contents g.S.Source.left g.met.S.Source.tells g.met.W.FlushSink.tells g.met.W.FlushSink.keeps
+    c.args.rows.value
     c.args.cols.value c.args.lines _ _ _ _ _ (c.args.rows.ok, omega arith) (c.args.cols.ok, omega arith) r in
     record { relays = r; text = reported.0; prefix = reported.1 }
 
@@ -38,6 +42,7 @@ returns g c =
     c.in_ok-client.ensures in
     let r = streamed (c.relay_reads.ensures c.args.rows.value c.args.cols.value c.args.lines at c.new-filter.ensures) in
     let reported = live-reported g.row.S.Denot g.row.W.Denot g.S.Source.gives g.W.ByteSink.takes g.W.FlushSink.flushes
-    g.W.FlushSink.contents g.S.Source.left g.met.S.Source.tells g.met.W.FlushSink.tells g.met.W.FlushSink.keeps c.args.rows.value
+    g.W.FlushSink.contents g.S.Source.left g.met.S.Source.tells g.met.W.FlushSink.tells g.met.W.FlushSink.keeps
+    c.args.rows.value
     c.args.cols.value c.args.lines _ _ _ _ _ (c.args.rows.ok, omega arith) (c.args.cols.ok, omega arith) r in
     record { relays = r; text = reported.0; prefix = reported.1 }

@@ -1,4 +1,5 @@
-use Rattle.std.proofs.Common.{◌≡◌, ◌∙◌, ℕ, List, [], ◌∷◌, ◌++◌, take, length, arith, ap, sym, subst, Ok, Err, None, refl, false}
+use Rattle.std.proofs.Common.{◌≡◌, ◌∙◌, ℕ, List, [], ◌∷◌, ◌++◌, take, length, arith, ap, sym, subst, Ok, Err, None}
+use Rattle.std.proofs.Common.{refl, false}
 use Rattle.std.proofs.Common.{rules}
 use Rattle.std.specs.List.{concat, list_any}
 use Rattle.charset_filter.specs.declared.lines.LineDrawing.{LineDrawing}
@@ -139,7 +140,8 @@ reads-preserved g c =
       most = tried-most c.read_some.ensures whole n c.in_ok-n.was;
       past = past ++ piece ∷ [];
       read = listens-on c.read_some.ensures whole n c.in_ok-n.was (omega arith) c.read_some.auto.room so_far.read;
-      passes = λ lines passes. subst (λ (xs : List ℕ). HasPassed c.pass.new.self lines xs) (sym (concat-push past piece))
+      passes = λ lines passes. subst (λ (xs : List ℕ). HasPassed c.pass.new.self lines xs)
+          (sym (concat-push past piece))
           (c.in_ok-pass.ensures lines (concat past) (so_far.passes lines passes)).0;
       at = λ rows cols lines at passes. (goes rows cols lines at passes).2;
       fits = λ rows cols lines at passes. (goes rows cols lines at passes).0;

@@ -8,7 +8,8 @@ use Rattle.relay_streams.proofs.printing.print_text.Goals as goal
 pub returns-in-Err-clause-prints : goal.returns-in-Err-clause-prints
 returns-in-Err-clause-prints g c =
     stopped c.in-Err.field-0
-    (subst (λ (r : Result (Unit {0}) Error). SendsText g.W.ByteSink.takes c.args.output.now c.args.text.now r c.pump.new.to)
+    (subst (λ (r : Result (Unit {0}) Error). SendsText g.W.ByteSink.takes c.args.output.now c.args.text.now r
+    c.pump.new.to)
     c.in-Err.is
     (text-one g.row.W.Denot g.W.ByteSink.takes c.args.output.now c.pump.new.to c.args.text.now c.pump.result.1
     c.pump.result.0 c.pump.ensures))
@@ -19,7 +20,8 @@ returns-in-Ok-finish g c =
     c.pump.new.to) c.in-Ok.is
     (text-one g.row.W.Denot g.W.ByteSink.takes c.args.output.now c.pump.new.to c.args.text.now c.pump.result.1
     c.pump.result.0 c.pump.ensures) in
-    let r : Prints g.W.ByteSink.takes g.W.FlushSink.flushes c.args.output.now c.args.text.now (Ok tt) c.finish.new.self =
+    let r : Prints g.W.ByteSink.takes g.W.FlushSink.flushes c.args.output.now c.args.text.now (Ok tt)
+    c.finish.new.self =
     printed c.pump.new.to sent c.in-Ok-finish.ensures.flushes in
     record {
       prints = r;

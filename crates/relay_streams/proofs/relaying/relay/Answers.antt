@@ -22,7 +22,8 @@ returns-in_err-client g c =
     c.args.input.now c.args.output.now c.from_residual-in_err-client.result c.args.input.now c.args.output.now =
     rw is refused in
     let reported = relays-reported g.row.S.Denot g.row.W.Denot g.S.Source.gives g.W.ByteSink.takes g.W.FlushSink.flushes
-    g.W.FlushSink.contents g.S.Source.left g.met.S.Source.tells g.met.W.FlushSink.tells g.met.W.FlushSink.keeps _ _ _ _ _ _ _ r in
+    g.W.FlushSink.contents g.S.Source.left g.met.S.Source.tells g.met.W.FlushSink.tells g.met.W.FlushSink.keeps _ _ _ _
+    _ _ _ r in
     record { relays = r; text = reported.0; prefix = reported.1; too_long = reported.2 }
 
 pub returns-in_err-relay_pieces : goal.returns-in_err-relay_pieces
@@ -37,7 +38,8 @@ returns-in_err-relay_pieces g c =
     c.relay_pieces.new.output =
     rw is (broken e (c.in_err-relay_pieces.ensures c.args.rows.value c.args.cols.value at)) in
     let reported = relays-reported g.row.S.Denot g.row.W.Denot g.S.Source.gives g.W.ByteSink.takes g.W.FlushSink.flushes
-    g.W.FlushSink.contents g.S.Source.left g.met.S.Source.tells g.met.W.FlushSink.tells g.met.W.FlushSink.keeps _ _ _ _ _ _ _ r in
+    g.W.FlushSink.contents g.S.Source.left g.met.S.Source.tells g.met.W.FlushSink.tells g.met.W.FlushSink.keeps _ _ _ _
+    _ _ _ r in
     record { relays = r; text = reported.0; prefix = reported.1; too_long = reported.2 }
 
 pub returns-in-Ok : goal.returns-in-Ok
@@ -50,7 +52,8 @@ returns-in-Ok g c =
     written c.relay_pieces.new.output
     (c.in_ok-relay_pieces.ensures c.args.rows.value c.args.cols.value at) c.in-Ok.ensures.flushes in
     let reported = relays-reported g.row.S.Denot g.row.W.Denot g.S.Source.gives g.W.ByteSink.takes g.W.FlushSink.flushes
-    g.W.FlushSink.contents g.S.Source.left g.met.S.Source.tells g.met.W.FlushSink.tells g.met.W.FlushSink.keeps _ _ _ _ _ _ _ r in
+    g.W.FlushSink.contents g.S.Source.left g.met.S.Source.tells g.met.W.FlushSink.tells g.met.W.FlushSink.keeps _ _ _ _
+    _ _ _ r in
     record { relays = r; text = reported.0; prefix = reported.1; too_long = reported.2 }
 
 pub returns-in-Err : goal.returns-in-Err
@@ -62,5 +65,6 @@ returns-in-Err g c =
     unflushed c.relay_pieces.new.output c.in-Err.field-0
     (c.in_ok-relay_pieces.ensures c.args.rows.value c.args.cols.value at) c.in-Err.ensures.flushes in
     let reported = relays-reported g.row.S.Denot g.row.W.Denot g.S.Source.gives g.W.ByteSink.takes g.W.FlushSink.flushes
-    g.W.FlushSink.contents g.S.Source.left g.met.S.Source.tells g.met.W.FlushSink.tells g.met.W.FlushSink.keeps _ _ _ _ _ _ _ r in
+    g.W.FlushSink.contents g.S.Source.left g.met.S.Source.tells g.met.W.FlushSink.tells g.met.W.FlushSink.keeps _ _ _ _
+    _ _ _ r in
     record { relays = r; text = reported.0; prefix = reported.1; too_long = reported.2 }

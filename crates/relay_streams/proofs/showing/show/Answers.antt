@@ -22,9 +22,11 @@ returns-in_err-read_view g c =
     record {
       shows = r;
       text = shows-text g.row.S.Denot g.row.W.Denot g.S.Source.gives g.W.ByteSink.takes g.W.FlushSink.flushes
-          g.W.FlushSink.contents g.S.Source.left g.met.S.Source.tells g.met.W.FlushSink.tells g.met.W.FlushSink.keeps _ _ _ _ _ _ r;
+          g.W.FlushSink.contents g.S.Source.left g.met.S.Source.tells g.met.W.FlushSink.tells g.met.W.FlushSink.keeps _
+          _ _ _ _ _ r;
       prefix = shows-prefix g.row.S.Denot g.row.W.Denot g.S.Source.gives g.W.ByteSink.takes g.W.FlushSink.flushes
-          g.W.FlushSink.contents g.S.Source.left g.met.S.Source.tells g.met.W.FlushSink.tells g.met.W.FlushSink.keeps _ _ _ _ _ _ r;
+          g.W.FlushSink.contents g.S.Source.left g.met.S.Source.tells g.met.W.FlushSink.tells g.met.W.FlushSink.keeps _
+          _ _ _ _ _ r;
     }
 
 pub returns : goal.returns
@@ -39,7 +41,9 @@ returns g c =
     record {
       shows = r;
       text = shows-text g.row.S.Denot g.row.W.Denot g.S.Source.gives g.W.ByteSink.takes g.W.FlushSink.flushes
-          g.W.FlushSink.contents g.S.Source.left g.met.S.Source.tells g.met.W.FlushSink.tells g.met.W.FlushSink.keeps _ _ _ _ _ _ r;
+          g.W.FlushSink.contents g.S.Source.left g.met.S.Source.tells g.met.W.FlushSink.tells g.met.W.FlushSink.keeps _
+          _ _ _ _ _ r;
       prefix = shows-prefix g.row.S.Denot g.row.W.Denot g.S.Source.gives g.W.ByteSink.takes g.W.FlushSink.flushes
-          g.W.FlushSink.contents g.S.Source.left g.met.S.Source.tells g.met.W.FlushSink.tells g.met.W.FlushSink.keeps _ _ _ _ _ _ r;
+          g.W.FlushSink.contents g.S.Source.left g.met.S.Source.tells g.met.W.FlushSink.tells g.met.W.FlushSink.keeps _
+          _ _ _ _ _ r;
     }

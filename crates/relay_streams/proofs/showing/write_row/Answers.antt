@@ -13,5 +13,6 @@ pub returns : goal.returns
 returns g c =
     text-more g.row.T.Denot g.T.ByteSink.takes _ c.row_text.new.to _ _ (0x0A ∷ []) (Ok tt) c.pump.result.1
     c.in_ok-row_text.ensures refl
-    (text-one g.row.T.Denot g.T.ByteSink.takes c.row_text.new.to c.pump.new.to (0x0A ∷ []) c.pump.result.1 c.pump.result.0
+    (text-one g.row.T.Denot g.T.ByteSink.takes c.row_text.new.to c.pump.new.to (0x0A ∷ []) c.pump.result.1
+    c.pump.result.0
     c.pump.ensures)

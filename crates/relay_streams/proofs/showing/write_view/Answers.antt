@@ -1,4 +1,5 @@
-use Rattle.std.proofs.Common.{ℕ, List, ap, subst, ◌≡◌, ◌++◌, ◌+◌, ◌-◌, ◌∙◌, [], Ok, Err, append_assoc, append-nil, arith, sym, refl, rules}
+use Rattle.std.proofs.Common.{ℕ, List, ap, subst, ◌≡◌, ◌++◌, ◌+◌, ◌-◌, ◌∙◌, [], Ok, Err, append_assoc, append-nil}
+use Rattle.std.proofs.Common.{arith, sym, refl, rules}
 use Rattle.byte_streams.specs.Sent.{SendsText, done}
 use Rattle.byte_streams.proofs.SendLemmas.{text-more, text-broken}
 use Rattle.termview.specs.Standing.{shown_by, view_size}

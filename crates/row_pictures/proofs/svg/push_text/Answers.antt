@@ -3,4 +3,5 @@ use Rattle.row_pictures.proofs.svg.push_text.Goals as goal
 
 pub returns : goal.returns
 returns c =
-    if_added _ _ _ _ _ c.in_ok-push_text_head.ensures (if_added _ _ _ _ _ c.in_ok-markup_if.ensures (if_added _ _ _ _ _ c.in_ok-markup.ensures (if_ended _ _ _ _ _ c.in_ok-push_cells.ensures c.markup-2.ensures)))
+    if_added _ _ _ _ _ c.in_ok-push_text_head.ensures (if_added _ _ _ _ _ c.in_ok-markup_if.ensures
+    (if_added _ _ _ _ _ c.in_ok-markup.ensures (if_ended _ _ _ _ _ c.in_ok-push_cells.ensures c.markup-2.ensures)))

@@ -7,6 +7,7 @@ pub returns : goal.returns
 returns c =
     let flag = c.flag-colors.ensures in
     let adds = c.in_ok-visible_alias.ensures in (
-      aliased c.flag-colors.result c.in_ok-visible_alias.field-0 _ adds ∙ ap (λ (r : Rule). record r { aliases = r.aliases ++ codes "colors" ∷ [] }) flag.rule,
+      aliased c.flag-colors.result c.in_ok-visible_alias.field-0 _ adds
+          ∙ ap (λ (r : Rule). record r { aliases = r.aliases ++ codes "colors" ∷ [] }) flag.rule,
       ap (λ a. a.global) adds.0 ∙ flag.local,
     )

@@ -19,7 +19,8 @@ loop-event-preserved c =
     ap said (take_more es i e c.loop-event-test.true ∙ ap (λ x. take i es ++ x ∷ []) (sym c.event-item.is))
     ∙ map-append (λ (x : Event). (x.time, deed_of x.change)) (take i es) (e ∷ []) in
     record {
-      reads = subst (λ bs. HasRead c.drawn_change.new.filter bs) (outputs-more before e.time deed ∙ ap outputs (sym more))
+      reads = subst (λ bs. HasRead c.drawn_change.new.filter bs) (outputs-more before e.time deed
+          ∙ ap outputs (sym more))
           (c.in_ok-change.ensures.reads _ inv.reads);
       drawn = ap said c.in_ok-push.ensures.items
           ∙ (map-append (λ (x : Event). (x.time, deed_of x.change)) _ _

@@ -11,7 +11,8 @@ pub returns-clause-request : goal.returns-clause-request
 returns-clause-request c =
     let f = found_of c.args.matches.now in
     let size = c.size_of-size.ensures
-    ∙ ap₂ is_screen (c.get_str.ensures ∙ first_value-rows f (codes "ROWS")) (c.get_str-2.ensures ∙ first_value-rows f (codes "COLS")) in
+    ∙ ap₂ is_screen (c.get_str.ensures ∙ first_value-rows f (codes "ROWS")) (c.get_str-2.ensures
+    ∙ first_value-rows f (codes "COLS")) in
     let moment = c.in_ok-moment.ensures.moment ∙ ap is_moment (c.get_str-3.ensures ∙ first_value-rows f (codes "at")) in
     let since = c.in_ok-since.ensures.moment ∙ ap is_moment (c.get_str-4.ensures ∙ first_value-rows f (codes "diff")) in
     let history = c.history_of-history.ensures
@@ -20,4 +21,5 @@ returns-clause-request c =
     ∙ form_counts _ _ _ _ _ _ _ _ c.get_count.ensures.value c.get_count-2.ensures.value c.get_count-3.ensures.value
     c.get_count-4.ensures.value in
     c.new_request.ensures
-    ∙ ap₂ (λ a b. a && b) size (ap₂ (λ a b. a && b) moment (ap₂ (λ a b. a && b) since (ap₂ (λ a b. a && b) history form)))
+    ∙ ap₂ (λ a b. a && b) size (ap₂ (λ a b. a && b) moment (ap₂ (λ a b. a && b) since (ap₂ (λ a b. a && b) history
+    form)))

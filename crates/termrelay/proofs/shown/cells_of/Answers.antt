@@ -7,7 +7,8 @@ use Rattle.termrelay.proofs.shown.cells_of.Goals as goal
 
 pub slice_bounds-result-end : goal.slice_bounds-result-end
 slice_bounds-result-end c =
-    let reported = cells-reported c.args.screen.now.state c.args.row c.requires.state c.requires.inside c.in-Some.cells.now
+    let reported = cells-reported c.args.screen.now.state c.args.row c.requires.state c.requires.inside
+    c.in-Some.cells.now
     (sym c.row_cells.ensures ∙ ap (λ o. option_copied o) c.in-Some.is) in
     let n = c.from.result in
     let here : n ≡ c.args.screen.now.state.shown.width = omega arith in
@@ -15,7 +16,8 @@ slice_bounds-result-end c =
 
 pub returns-in-Some : goal.returns-in-Some
 returns-in-Some c =
-    let reported = cells-reported c.args.screen.now.state c.args.row c.requires.state c.requires.inside c.in-Some.cells.now
+    let reported = cells-reported c.args.screen.now.state c.args.row c.requires.state c.requires.inside
+    c.in-Some.cells.now
     (sym c.row_cells.ensures ∙ ap (λ o. option_copied o) c.in-Some.is) in
     let n = c.from.result in
     let width = c.args.screen.now.state.shown.width in

@@ -6,7 +6,8 @@ use Rattle.termrelay.proofs.shown.has_same_cells.Goals as goal
 
 pub are_same-requires-clause-blank : goal.are_same-requires-clause-blank
 are_same-requires-clause-blank c k le lt =
-    let wide : c.args.other.now.state.shown.width ≡ c.args.screen.now.state.shown.width = sym (ap (λ z. z.cols) c.requires.size) in
+    let wide : c.args.other.now.state.shown.width ≡ c.args.screen.now.state.shown.width =
+    sym (ap (λ z. z.cols) c.requires.size) in
     c.cells_of.ensures.cells k (omega arith) (omega (arith, lt, c.cells_of.ensures.count))
     ∙ c.filled_cols.ensures k (omega (arith, le, c.max-filled.ensures))
     ∙ sym (c.cells_of-2.ensures.cells k (omega arith) (omega (arith, lt, wide, c.cells_of.ensures.count))

@@ -20,8 +20,10 @@ returns-in_err-pump g c =
     let is : c.from_residual.result ≡ Err e = search rules in
     let failed : c.pump.result.1 ≡ Err e = search rules in
     let fails = subst (λ (r : Result (Unit {0}) Error).
-    Pumps g.T.ByteSink.takes c.loop-col.to c.as_bytes.result.now r c.pump.result.0 c.pump.new.to) failed c.pump.ensures in
-    rw is (sent-broken g.row.T.Denot g.T.ByteSink.takes c.args.to.now c.loop-col.to c.pump.new.to (cell_at c.args.cells.now)
+    Pumps g.T.ByteSink.takes c.loop-col.to c.as_bytes.result.now r c.pump.result.0 c.pump.new.to) failed
+    c.pump.ensures in
+    rw is (sent-broken g.row.T.Denot g.T.ByteSink.takes c.args.to.now c.loop-col.to c.pump.new.to
+    (cell_at c.args.cells.now)
     n c.text_len-col-end.result c.pump.result.0 c.as_bytes.result.now
     (line_text (cell_at c.args.cells.now) 0 (length c.args.cells.now)) e (omega arith)
     (c.as_bytes.ensures.value ∙ c.cell_text.ensures ∙ ap (λ (x : CellView).
@@ -34,7 +36,8 @@ loop-col-preserved g c =
     let well : c.pump.result.1 ≡ Ok tt = search rules in
     let sends = subst (λ (r : Result (Unit {0}) Error).
     Pumps g.T.ByteSink.takes c.loop-col.to c.as_bytes.result.now r c.pump.result.0 c.pump.new.to) well c.pump.ensures in
-    sent-more g.row.T.Denot g.T.ByteSink.takes c.args.to.now c.loop-col.to c.pump.new.to (cell_at c.args.cells.now) n (n + 1)
+    sent-more g.row.T.Denot g.T.ByteSink.takes c.args.to.now c.loop-col.to c.pump.new.to (cell_at c.args.cells.now) n
+    (n + 1)
     c.pump.result.0 c.as_bytes.result.now refl
     (c.as_bytes.ensures.value ∙ c.cell_text.ensures ∙ ap (λ (x : CellView).
     encode_utf8_all (cell_text x (n == 0))) c.at.ensures)

@@ -6,16 +6,32 @@ use Rattle.vt100_cells.proofs.char3.is_common_two.Goals as goal
 
 pub returns-in-160-to-172-clause-narrow : goal.returns-in-160-to-172-clause-narrow
 unfolding in_ranges
-returns-in-160-to-172-clause-narrow c _ = (grind (arith, nat_tests), sym (drawn-narrow c.args.code (omega arith) (grind (arith, nat_tests)) (omega arith)))
+returns-in-160-to-172-clause-narrow c _ = (
+  grind (arith, nat_tests),
+  sym (drawn-narrow c.args.code (omega arith)
+      (grind (arith, nat_tests)) (omega arith)),
+)
 
 pub returns-in-160-to-172-2-clause-narrow : goal.returns-in-160-to-172-2-clause-narrow
 unfolding in_ranges
-returns-in-160-to-172-2-clause-narrow c _ = (grind (arith, nat_tests), sym (drawn-narrow c.args.code (omega arith) (grind (arith, nat_tests)) (omega arith)))
+returns-in-160-to-172-2-clause-narrow c _ = (
+  grind (arith, nat_tests),
+  sym (drawn-narrow c.args.code (omega arith)
+      (grind (arith, nat_tests)) (omega arith)),
+)
 
 pub returns-in-160-to-172-3-clause-narrow : goal.returns-in-160-to-172-3-clause-narrow
 unfolding in_ranges
-returns-in-160-to-172-3-clause-narrow c _ = (grind (arith, nat_tests), sym (drawn-narrow c.args.code (omega arith) (grind (arith, nat_tests)) (omega arith)))
+returns-in-160-to-172-3-clause-narrow c _ = (
+  grind (arith, nat_tests),
+  sym (drawn-narrow c.args.code (omega arith)
+      (grind (arith, nat_tests)) (omega arith)),
+)
 
 pub returns-in-160-to-172-4-clause-narrow : goal.returns-in-160-to-172-4-clause-narrow
 unfolding in_ranges
-returns-in-160-to-172-4-clause-narrow c _ = (grind (arith, nat_tests), sym (drawn-narrow c.args.code (omega arith) (grind (arith, nat_tests)) (omega arith)))
+returns-in-160-to-172-4-clause-narrow c _ = (
+  grind (arith, nat_tests),
+  sym (drawn-narrow c.args.code (omega arith)
+      (grind (arith, nat_tests)) (omega arith)),
+)

@@ -13,7 +13,8 @@ from_utf8_unchecked-requires c =
 
 pub returns-clause-parts : goal.returns-clause-parts
 returns-clause-parts c =
-    (split-one c.args.text.now c.as_bytes-bytes.result.now c.utf8.text c.requires c.as_bytes-bytes.ensures.value).parts _
+    (split-one c.args.text.now c.as_bytes-bytes.result.now c.utf8.text c.requires c.as_bytes-bytes.ensures.value).parts
+    _
     c.from_utf8_unchecked.ensures
 
 pub returns-clause-narrow : goal.returns-clause-narrow

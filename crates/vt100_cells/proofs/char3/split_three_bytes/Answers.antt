@@ -3,7 +3,8 @@ use Rattle.vt100_cells.proofs.char3.split_three_bytes.Goals as goal
 
 pub invariant_of-c : goal.invariant_of-c
 invariant_of-c c =
-    (split-three c.args.text.now c.as_bytes-bytes.result.now c.utf8.text c.requires c.as_bytes-bytes.ensures.value).short
+    (split-three c.args.text.now c.as_bytes-bytes.result.now c.utf8.text c.requires
+    c.as_bytes-bytes.ensures.value).short
 
 pub from_utf8_unchecked-requires : goal.from_utf8_unchecked-requires
 from_utf8_unchecked-requires c =
@@ -11,5 +12,6 @@ from_utf8_unchecked-requires c =
 
 pub returns-clause-parts : goal.returns-clause-parts
 returns-clause-parts c =
-    (split-three c.args.text.now c.as_bytes-bytes.result.now c.utf8.text c.requires c.as_bytes-bytes.ensures.value).parts _
+    (split-three c.args.text.now c.as_bytes-bytes.result.now c.utf8.text c.requires
+    c.as_bytes-bytes.ensures.value).parts _
     c.from_utf8_unchecked.ensures

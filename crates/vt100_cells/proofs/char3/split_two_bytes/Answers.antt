@@ -11,5 +11,6 @@ from_utf8_unchecked-requires c =
 
 pub returns-clause-parts : goal.returns-clause-parts
 returns-clause-parts c =
-    (split-two c.args.text.now c.as_bytes-bytes.result.now c.utf8.text c.requires c.as_bytes-bytes.ensures.value).parts _
+    (split-two c.args.text.now c.as_bytes-bytes.result.now c.utf8.text c.requires c.as_bytes-bytes.ensures.value).parts
+    _
     c.from_utf8_unchecked.ensures

@@ -1,4 +1,5 @@
-use Rattle.std.proofs.Common.{◌<◌, ◌≤◌, ◌+◌, rules, ◌≡◌, ◌∙◌, ◌++◌, ◌∷◌, [], ℕ, List, length, map, append_assoc, length-append, ap, sym, subst}
+use Rattle.std.proofs.Common.{◌<◌, ◌≤◌, ◌+◌, rules, ◌≡◌, ◌∙◌, ◌++◌, ◌∷◌, [], ℕ, List, length, map, append_assoc}
+use Rattle.std.proofs.Common.{length-append, ap, sym, subst}
 use Rattle.std.proofs.Common.{arith}
 use Rattle.std.specs.Prelude.{All}
 use Rattle.std.specs.Str.{chars}
@@ -22,7 +23,8 @@ loop-rest-preserved g c =
     ap (map code) pushed ∙ map-append code xs (x ∷ []) in
     let parts : chars c.args.text.now ≡ map code c.push.new.self.items ++ chars left =
     c.loop-rest.invariant.parts ∙ ap (λ (ys : List ℕ). map code xs ++ ys) first
-    ∙ sym (append_assoc (map code xs) (code x ∷ []) (chars left)) ∙ ap (λ (ys : List ℕ). ys ++ chars left) (sym codes) in
+    ∙ sym (append_assoc (map code xs) (code x ∷ []) (chars left)) ∙ ap (λ (ys : List ℕ). ys ++ chars left)
+    (sym codes) in
     let count : length c.push.new.self.items ≡ length xs + 1 = ap length pushed ∙ length-append xs (x ∷ []) in
     let less : length left < length c.loop-rest.rest.now = search rules in
     let shorter : length left + length c.push.new.self.items ≤ length c.args.text.now =

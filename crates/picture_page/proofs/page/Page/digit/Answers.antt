@@ -9,4 +9,5 @@ invariant_of-self-2 c =
     (grown _ _ (Digit (c.args.value % 16)) c.self.invariant (ap (λ d. d ∷ []) c.digit_of.ensures))
 
 pub returns : goal.returns
-returns c = rw (c.in_ok-push.ensures.items, ← c.self.view_is) (adds_part _ _ (Digit (c.args.value % 16)) (ap (λ d. d ∷ []) c.digit_of.ensures))
+returns c = rw (c.in_ok-push.ensures.items, ← c.self.view_is) (adds_part _ _ (Digit (c.args.value % 16))
+    (ap (λ d. d ∷ []) c.digit_of.ensures))

@@ -12,7 +12,8 @@ invariant_of-self-in-None c =
 
 pub returns-in_ok-extend_from_slice-in-Some : goal.returns-in_ok-extend_from_slice-in-Some
 returns-in_ok-extend_from_slice-in-Some c =
-    rw (c.in_ok-extend_from_slice-in-Some.ensures.items, ← c.self.view_is) (names_reference _ _ c.args.byte c.in-Some.ensures)
+    rw (c.in_ok-extend_from_slice-in-Some.ensures.items, ← c.self.view_is) (names_reference _ _ c.args.byte
+    c.in-Some.ensures)
 
 pub returns-in_ok-push-in-None : goal.returns-in_ok-push-in-None
 returns-in_ok-push-in-None c =

@@ -11,7 +11,8 @@ returns-then-not-owes_end c = appended_by (closing-none _ _ (sym c.if-not-owes_e
 pub mend-requires-clause-fits : goal.mend-requires-clause-fits
 mend-requires-clause-fits c =
     span_fits _ _ _ _ c.cell.ensures c.args.self.now.few c.args.self.now.paired
-    (last_inside (row_change_of c.args.self.now) _ c.requires c.last_col-col.ensures) (gone_col _ _ c.goto.ensures.written)
+    (last_inside (row_change_of c.args.self.now) _ c.requires c.last_col-col.ensures)
+    (gone_col _ _ c.goto.ensures.written)
 
 pub returns-in_err-move_to : goal.returns-in_err-move_to
 returns-in_err-move_to c =

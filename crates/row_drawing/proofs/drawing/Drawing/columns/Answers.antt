@@ -34,7 +34,8 @@ returns-in_err-make_room c =
     refused _ {f = columns j c.args.count} (columns j c.args.count) c.args.pen.now _ c.from_residual.ensures.0 refl
     (record {
       begun = (began_columns_moved j _ _ _ inv.within inv.drawn inv.begun c.in_err-make_room.ensures.moved).is;
-      full = full_within c.args.contents.now c.loop-n.contents c.loop-n.run _ inv.capacity c.in_err-make_room.ensures.full
+      full = full_within c.args.contents.now c.loop-n.contents c.loop-n.run _ inv.capacity
+          c.in_err-make_room.ensures.full
           (began_columns_all j _ c.args.count inv.within inv.drawn).is;
     })
 
@@ -65,7 +66,8 @@ pub loop-n-preserved-then-quiet-n : goal.loop-n-preserved-then-quiet-n
 loop-n-preserved-then-quiet-n c =
     record {
       within = c.after_quiet-quiet.ensures.within.1;
-      drawn = wrote_columns_quiet (row_change_of c.args.self.now) _ _ c.after_quiet-quiet.ensures.within.0 c.after_quiet-quiet.ensures.quiet
+      drawn = wrote_columns_quiet (row_change_of c.args.self.now) _ _ c.after_quiet-quiet.ensures.within.0
+          c.after_quiet-quiet.ensures.quiet
           c.loop-n.invariant.drawn;
       begun = c.loop-n.invariant.begun;
       capacity = c.loop-n.invariant.capacity;
@@ -92,7 +94,8 @@ returns-in_err-move_to c =
     let inv = c.loop-n.invariant in
     refused _ {f = columns j c.args.count} (columns j c.args.count) c.args.pen.now _
     c.from_residual-in_err-move_to.ensures.0 refl (record {
-      begun = subst (λ t. IsBegun (string_bytes c.args.contents.now) (bytes_of (columns j c.args.count c.args.pen.now).forms) t)
+      begun = subst (λ t. IsBegun (string_bytes c.args.contents.now)
+          (bytes_of (columns j c.args.count c.args.pen.now).forms) t)
           (sym c.in_err-move_to.ensures.bytes) inv.begun.is;
       full = full_within c.args.contents.now c.loop-n.contents c.loop-n.run _ inv.capacity c.in_err-move_to.ensures.full
           (began_columns_all j _ c.args.count inv.within inv.drawn).is;

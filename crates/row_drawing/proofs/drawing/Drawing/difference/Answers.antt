@@ -16,5 +16,6 @@ returns-in_err-redraw_behind c =
 
 pub returns : goal.returns
 returns c =
-    writes_last (row_difference (row_change_of c.args.self.now) c.args.count) c.args.pen.now _ _ _ _ (difference-is _ _ _)
+    writes_last (row_difference (row_change_of c.args.self.now) c.args.count) c.args.pen.now _ _ _ _
+    (difference-is _ _ _)
     c.in_ok-redraw_behind.ensures c.closing.ensures

@@ -8,7 +8,8 @@ use Rattle.row_drawing.proofs.drawing.Drawing.quiet_to.Goals as goal
 
 pub returns-in-Some-clause-quiet : goal.returns-in-Some-clause-quiet
 returns-in-Some-clause-quiet c =
-    erased_is_quiet (row_change_of c.args.self.now) c.args.pen.now c.args.from c.alike_to.result c.in-Some.erase c.empty.result
+    erased_is_quiet (row_change_of c.args.self.now) c.args.pen.now c.args.from c.alike_to.result c.in-Some.erase
+    c.empty.result
     c.in-Some.is c.empty.ensures c.alike_to.ensures.alike
 
 pub returns-in-None-clause-quiet : goal.returns-in-None-clause-quiet

@@ -12,7 +12,8 @@ pub returns-then-is_wide-clause-written : goal.returns-then-is_wide-clause-writt
 returns-then-is_wide-clause-written c =
     wrote_by (reprint-wide _ _ _ (sym c.has_contents.ensures ∙ c.if-not-has_contents.false)
     (sym c.is_wide.ensures.value ∙ c.if-is_wide.true))
-    (wrote_both c.print.ensures.written (wrote_both c.back-then-is_wide.ensures.written c.back-then-is_wide-2.ensures.written))
+    (wrote_both c.print.ensures.written (wrote_both c.back-then-is_wide.ensures.written
+    c.back-then-is_wide-2.ensures.written))
 
 pub returns-clause-written : goal.returns-clause-written
 returns-clause-written c =

@@ -23,7 +23,8 @@ invariant_of-self-2 c =
     let p = c.self.inside.parser in
     let q = c.process.new.self in
     let live : p.screen.failed ≡ false =
-    ap (λ (v : HubState as_kept). v.parser.screen.failed) c.self.view_is ∙ sym c.has_failed.ensures ∙ c.if-has_failed.false in
+    ap (λ (v : HubState as_kept). v.parser.screen.failed) c.self.view_is ∙ sym c.has_failed.ensures
+    ∙ c.if-has_failed.false in
     let step : GoesOn p (Fed c.args.bytes.now) q =
     λ rows cols capacity acts at. c.in_ok-process.ensures.made (λ a v k b w e. sym e) rows cols capacity acts at in
     let made = c.self.invariant.made live in

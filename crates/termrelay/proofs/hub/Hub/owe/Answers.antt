@@ -26,7 +26,8 @@ invariant_of-self c =
     let at : get s c.key.result ≡ Some c.in-Some.record.now =
     sym c.get_mut.ensures.value ∙ ap option_copied_mut c.in-Some.is in
     let next = record (c.self.inside) { clients = with_value s c.key.result c.owe.new.self } in
-    hub-spare next c.keep.new.spare (hub-put c.self.inside c.key.result c.in-Some.record.now c.owe.new.self i at (λ live _.
+    hub-spare next c.keep.new.spare (hub-put c.self.inside c.key.result c.in-Some.record.now c.owe.new.self i at
+    (λ live _.
     rw c.owe.ensures (present-served p c.args.text.items c.args.base (i.made live) is_base few)))
 
 put-seen : (h k : HubState as_kept) (at key : ℕ) (c d : ClientState) (f g : HubState as_kept) → h ≡ k → at ≡ key → c ≡ d
@@ -51,5 +52,6 @@ returns-in-Some c =
     ∙ ap (λ (x : Shown). record { owed = text; base = Some x })
     (copies-same c.args.self.now.parser.screen.state c.requires.unscrolled).same.shown in
     put-seen (holding p s) c.args.self.now c.key.result c.args.client (client_of new)
-    (owing text c.args.self.now.parser.screen) (holding p (with_value s c.key.result new)) _ c.self.view_is c.key.ensures
+    (owing text c.args.self.now.parser.screen) (holding p (with_value s c.key.result new)) _ c.self.view_is
+    c.key.ensures
     client refl put

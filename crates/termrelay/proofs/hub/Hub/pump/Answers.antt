@@ -35,7 +35,8 @@ returns g c =
       | in-Some+in-Ok w ↦
           rw (w.result-is, w.to-is, w.self-inside-is, ← c.self.view_is, ← c.key.ensures)
           (client-pumped step p s key w.in-Some.record.now w.pump.new.self from w.pump.new.to _ (Ok tt) w.pump.ensures.0
-          (sym c.get_mut.ensures.value ∙ ap option_copied_mut w.in-Some.is) w.in-Ok.is w.pump.ensures.1 w.pump.ensures.2)
+          (sym c.get_mut.ensures.value ∙ ap option_copied_mut w.in-Some.is) w.in-Ok.is w.pump.ensures.1
+          w.pump.ensures.2)
       | in-Some+in-Err w ↦
           rw (w.result-is, w.to-is, w.self-inside-is, ← c.self.view_is, ← c.key.ensures)
           (client-pumped step p s key w.in-Some.record.now w.pump.new.self from w.pump.new.to _ (Err w.in-Err.error)

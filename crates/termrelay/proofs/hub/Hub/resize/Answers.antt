@@ -21,7 +21,8 @@ invariant_of-self c =
     let rows = c.args.rows.value in
     let cols = c.args.cols.value in
     let live : p.screen.failed ≡ false =
-    ap (λ (v : HubState as_kept). v.parser.screen.failed) c.self.view_is ∙ sym c.has_failed.ensures ∙ c.if-has_failed.false in
+    ap (λ (v : HubState as_kept). v.parser.screen.failed) c.self.view_is ∙ sym c.has_failed.ensures
+    ∙ c.if-has_failed.false in
     let copy = c.in_ok-screen.ensures.screen ∙ c.screen.ensures in
     let is : w ≡ alive (resized_to rows cols p.screen.state).state =
     c.in_ok-set_size.ensures.tries.screen ∙ ap (λ (v : ScreenView). alive (resized_to rows cols v.state).state) copy in
@@ -41,7 +42,8 @@ returns c =
     let cols = c.args.cols.value in
     let copy = c.in_ok-screen.ensures.screen ∙ c.screen.ensures in
     let is : w ≡ alive (resized_to rows cols p.screen.state).state =
-    c.in_ok-set_size.ensures.tries.screen ∙ ap (λ (v : ScreenView). alive (resized_to rows cols v.state).state) copy in (
+    c.in_ok-set_size.ensures.tries.screen ∙ ap (λ (v : ScreenView). alive (resized_to rows cols v.state).state)
+    copy in (
       sym c.has_failed.ensures ∙ c.if-has_failed.false,
       ap (λ (v : ScreenView). v.failed) is,
       no-clients c.clear.new.self.slots c.clear.ensures.empty,

@@ -36,7 +36,8 @@ returns-then-len-gt0-clause-shown c =
     let p = c.args.self.now in
     let q = c.input_run.new.self in
     let printable : All IsPrintable (take n c.args.text.now) =
-    subst (λ (xs : List ℕ). All IsPrintable (take n xs)) c.as_bytes.ensures.value c.printable_len-len.ensures.printable in
+    subst (λ (xs : List ℕ). All IsPrintable (take n xs)) c.as_bytes.ensures.value
+    c.printable_len-len.ensures.printable in
     let bytes = c.as_bytes-then-len-gt0 in
     let shown = subst (λ (xs : List ℕ). Calls Does p (map input xs) q)
     (map-id (take n bytes.result.now) ∙ ap (take n) bytes.ensures.value) c.input_run.ensures in

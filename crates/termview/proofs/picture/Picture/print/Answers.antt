@@ -7,7 +7,8 @@ pub returns-then-columns-cols : goal.returns-then-columns-cols
 returns-then-columns-cols c =
     let p = c.args.self.now in
     let fits : c.args.columns ≤ p.size.cols = grind (arith, common_steps) in
-    prints p c.make_room.new.self c.print_spacing.new.self c.args.c c.args.columns c.requires.drawn c.requires.spacing fits
+    prints p c.make_room.new.self c.print_spacing.new.self c.args.c c.args.columns c.requires.drawn c.requires.spacing
+    fits
     c.make_room.ensures.picture c.print_spacing.ensures
 
 pub returns-else-columns-cols : goal.returns-else-columns-cols

@@ -11,7 +11,8 @@ invariant_of-self c =
     let p = c.args.self.now in
     let width = c.self.inside.size.cols.value in
     let moved = c.move_up.ensures width
-    (subst (λ (rows : List RowView). AreRowsOf width rows) (sym c.deref_mut.ensures.value) c.self.invariant.sheet.each) in
+    (subst (λ (rows : List RowView). AreRowsOf width rows) (sym c.deref_mut.ensures.value)
+    c.self.invariant.sheet.each) in
     IsPicture-at _ (scrolled_at p) (grind (arith, common_steps, moved))
     (IsPicture-scrolled p (rw (← c.self.view_is) c.self.invariant))
 
@@ -20,7 +21,8 @@ returns c =
     let p = c.args.self.now in
     let width = c.self.inside.size.cols.value in
     let moved = c.move_up.ensures width
-    (subst (λ (rows : List RowView). AreRowsOf width rows) (sym c.deref_mut.ensures.value) c.self.invariant.sheet.each) in
+    (subst (λ (rows : List RowView). AreRowsOf width rows) (sym c.deref_mut.ensures.value)
+    c.self.invariant.sheet.each) in
     Becomes-at p _ (scrolled_at p) _ (grind (arith, common_steps, moved))
     (record {
       size = refl;

@@ -22,7 +22,11 @@ returns-clause-advanced g c = λ parsed held s.
 
 pub returns-clause-exact : goal.returns-clause-exact
 returns-clause-exact g c = λ parsed hold exact h.
-    let a = c.advance.ensures.exact parsed hold exact (record { state_after = h.state_after.reads; awaits = h.awaits }) in
+    let a = c.advance.ensures.exact parsed hold exact (record {
+      state_after = h.state_after.reads;
+      awaits =
+          h.awaits;
+    }) in
     let l = a.leads in
     let p = taken_parsed parsed hold _ l.parsed' l.hold' l.calls l.ticks l.takes in
     let n = goes-on c.args.self.now.picture c.advance.new.handler parsed l.parsed' (clearings l.ticks) l.calls

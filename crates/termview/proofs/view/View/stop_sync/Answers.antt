@@ -11,6 +11,11 @@ returns-clause-emptied g c = λ parsed held s.
 pub returns-clause-exact : goal.returns-clause-exact
 returns-clause-exact g c = λ parsed hold exact h.
     let e = c.stop_sync.ensures.emptied parsed (held_of hold) h.state_after.reads in
-    let x = c.stop_sync.ensures.exact parsed hold exact (record { state_after = h.state_after.reads; awaits = h.awaits }) in
-    let n = emptied-on c.args.self.now.picture c.stop_sync.new.handler parsed (held_of hold) h.state_after.shows e.goes in
+    let x = c.stop_sync.ensures.exact parsed hold exact (record {
+      state_after = h.state_after.reads;
+      awaits =
+          h.awaits;
+    }) in
+    let n = emptied-on c.args.self.now.picture c.stop_sync.new.handler parsed (held_of hold) h.state_after.shows
+    e.goes in
     record { state_after = record { reads = x.state_after; shows = n.1 }; awaits = x.awaits }

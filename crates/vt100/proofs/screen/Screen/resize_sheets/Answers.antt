@@ -8,7 +8,8 @@ pub invariant_of-self : goal.invariant_of-self
 invariant_of-self g c =
     let r = c.resize_both-resized in
     settled_screen c.self.inside r.new.alternate r.new.main c.args.size.rows.value c.args.size.cols.value r.result
-    c.note_failure.result c.note_failure.new.failed c.self.invariant c.note_failure.ensures.done c.note_failure.ensures.same
+    c.note_failure.result c.note_failure.new.failed c.self.invariant c.note_failure.ensures.done
+    c.note_failure.ensures.same
     c.note_failure.ensures.failed r.ensures.alternate r.ensures.main r.ensures.alternate_keeps r.ensures.main_keeps
     r.ensures.alternate_allocated r.ensures.main_allocated
 
@@ -16,7 +17,8 @@ pub invariant_of-self-2 : goal.invariant_of-self-2
 invariant_of-self-2 g c =
     let r = c.resize_both-resized-2 in
     settled_screen c.self.inside r.new.main r.new.alternate c.args.size.rows.value c.args.size.cols.value r.result
-    c.note_failure-2.result c.note_failure-2.new.failed c.self.invariant c.note_failure-2.ensures.done c.note_failure-2.ensures.same
+    c.note_failure-2.result c.note_failure-2.new.failed c.self.invariant c.note_failure-2.ensures.done
+    c.note_failure-2.ensures.same
     c.note_failure-2.ensures.failed r.ensures.main r.ensures.alternate r.ensures.main_keeps r.ensures.alternate_keeps
     r.ensures.main_allocated r.ensures.alternate_allocated
 

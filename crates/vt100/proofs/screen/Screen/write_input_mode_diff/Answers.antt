@@ -23,7 +23,8 @@ returns-clause-text c =
     (where_changed x.keypad y.keypad c.new-keypad.result)
     (where_changed x.cursor_keys y.cursor_keys c.new-cursor_keys.result)
     (where_changed x.paste y.paste c.new-paste.result) (c.new.result ∷ []) (c.new-2.result ∷ []) (c.new-3.result ∷ [])
-    _ _ _ _ _ _ _ c.in_ok-write_change.ensures.text c.in_ok-write_change-2.ensures.text c.in_ok-write_change-3.ensures.text
+    _ _ _ _ _ _ _ c.in_ok-write_change.ensures.text c.in_ok-write_change-2.ensures.text
+    c.in_ok-write_change-3.ensures.text
     c.in_ok-write_buf.ensures.bytes c.in_ok-write_buf-2.ensures.bytes c.write_buf-3.ensures.bytes))
 
 pub returns-in_err-write_change-clause-empty : goal.returns-in_err-write_change-clause-empty
@@ -39,7 +40,8 @@ returns-in_err-write_change-2-clause-empty c =
     let x = (screen_inside c.prev.inside).state in
     let y = (screen_inside c.self.inside).state in
     rw (← c.self.view_is, ← c.prev.view_is) (λ none. absurd (false≢true (c.in_err-write_change-2.ensures.empty
-    (subst (λ f. bytes_of (where_changed x.modes.cursor_keys y.modes.cursor_keys f) ≡ []) (sym c.new-cursor_keys.ensures)
+    (subst (λ f. bytes_of (where_changed x.modes.cursor_keys y.modes.cursor_keys f) ≡ [])
+    (sym c.new-cursor_keys.ensures)
     (no-changes (shown_state x) (shown_state y) none).cursor_keys))))
 
 pub returns-in_err-write_change-3-clause-empty : goal.returns-in_err-write_change-3-clause-empty
@@ -54,7 +56,8 @@ pub returns-in_err-write_buf-clause-empty : goal.returns-in_err-write_buf-clause
 returns-in_err-write_buf-clause-empty c =
     let x = (screen_inside c.prev.inside).state in
     let y = (screen_inside c.self.inside).state in
-    rw (← c.self.view_is, ← c.prev.view_is) (λ none. absurd (some-full c.write_change-3.new.contents (bytes_of (c.new.result ∷ []))
+    rw (← c.self.view_is, ← c.prev.view_is) (λ none. absurd (some-full c.write_change-3.new.contents
+    (bytes_of (c.new.result ∷ []))
     c.in_err-write_buf.ensures.full (subst (λ f. bytes_of (f ∷ []) ≡ []) (sym c.new.ensures)
     (no-changes (shown_state x) (shown_state y) none).mouse)))
 
@@ -62,7 +65,8 @@ pub returns-in_err-write_buf-2-clause-empty : goal.returns-in_err-write_buf-2-cl
 returns-in_err-write_buf-2-clause-empty c =
     let x = (screen_inside c.prev.inside).state in
     let y = (screen_inside c.self.inside).state in
-    rw (← c.self.view_is, ← c.prev.view_is) (λ none. absurd (some-full c.write_buf.new.buf (bytes_of (c.new-2.result ∷ []))
+    rw (← c.self.view_is, ← c.prev.view_is)
+    (λ none. absurd (some-full c.write_buf.new.buf (bytes_of (c.new-2.result ∷ []))
     c.in_err-write_buf-2.ensures.full (subst (λ f. bytes_of (f ∷ []) ≡ []) (sym c.new-2.ensures)
     (no-changes (shown_state x) (shown_state y) none).encoding)))
 
@@ -70,6 +74,7 @@ pub returns-clause-empty : goal.returns-clause-empty
 returns-clause-empty c =
     let x = (screen_inside c.prev.inside).state in
     let y = (screen_inside c.self.inside).state in
-    rw (← c.self.view_is, ← c.prev.view_is) (λ none. fits-ok c.write_buf-3.result c.write_buf-2.new.buf (bytes_of (c.new-3.result ∷ []))
+    rw (← c.self.view_is, ← c.prev.view_is) (λ none. fits-ok c.write_buf-3.result c.write_buf-2.new.buf
+    (bytes_of (c.new-3.result ∷ []))
     c.write_buf-3.ensures.full (subst (λ f. bytes_of (f ∷ []) ≡ []) (sym c.new-3.ensures)
     (no-changes (shown_state x) (shown_state y) none).style))

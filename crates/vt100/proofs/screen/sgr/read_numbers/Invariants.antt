@@ -7,7 +7,8 @@ use Rattle.vt100.proofs.screen.sgr.read_numbers.Given as goal
 abbrev pub invariant-loop-rest : goal.invariant-loop-rest
 invariant-loop-rest l = record {
   few : l.unhandled + length l.rest ≤ length l.fn.numbers;
-  attrs : (read_groups (each_alone l.rest) 0 l.attrs).attrs ≡ (read_groups (each_alone l.fn.numbers) 0 l.fn.attrs).attrs;
+  attrs : (read_groups (each_alone l.rest) 0 l.attrs).attrs
+      ≡ (read_groups (each_alone l.fn.numbers) 0 l.fn.attrs).attrs;
   unhandled : l.unhandled + (read_groups (each_alone l.rest) 0 l.attrs).unhandled
       ≡ (read_groups (each_alone l.fn.numbers) 0 l.fn.attrs).unhandled;
 }

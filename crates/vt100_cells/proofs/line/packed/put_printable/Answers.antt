@@ -26,7 +26,11 @@ returns-then-was_wide c =
     let ys = c.clear_left.new.cells in
     let i = c.args.i in
     let a = c.args.attrs.now in
-    let l : i < length ys = omega (arith, reads_len (length xs) (left_cleared (cell_at xs) i) ys c.clear_left.ensures, c.requires.in_row) in
+    let l : i < length ys = omega (
+      arith,
+      reads_len (length xs) (left_cleared (cell_at xs) i) ys c.clear_left.ensures,
+      c.requires.in_row,
+    ) in
     let was : (cell_at xs i).wide ≡ true = cc in
     let wrote = written ys i c.args.c a c.space.result.now _ c.write.new.cell l c.space.ensures
     (get_or-set_same ys i c.space.result.now c.index-cells-i.result l) c.write.ensures.value in
@@ -41,8 +45,13 @@ returns-else-was_wide c =
     let ys = c.clear_left.new.cells in
     let i = c.args.i in
     let a = c.args.attrs.now in
-    let l : i < length ys = omega (arith, reads_len (length xs) (left_cleared (cell_at xs) i) ys c.clear_left.ensures, c.requires.in_row) in
+    let l : i < length ys = omega (
+      arith,
+      reads_len (length xs) (left_cleared (cell_at xs) i) ys c.clear_left.ensures,
+      c.requires.in_row,
+    ) in
     let was : (cell_at xs i).wide ≡ false = cc in
     written ys i c.args.c a c.space.result.now _ c.write.new.cell l c.space.ensures
     (get_or-set_same ys i c.space.result.now c.index-cells-i.result l) c.write.ensures.value
-    ∙ puts-narrow_narrow xs ys i (cell_of c.args.c a) a c.clear_left.ensures (narrow c.args.c a c.requires.printable) was
+    ∙ puts-narrow_narrow xs ys i (cell_of c.args.c a) a c.clear_left.ensures (narrow c.args.c a c.requires.printable)
+    was

@@ -10,7 +10,8 @@ pub invariant_of-self : goal.invariant_of-self
 invariant_of-self c =
     let width = c.self.inside.size.cols.value in
     let moved = c.move_up.ensures width
-    (subst (λ (rows : List RowView). AreRowsOf width rows) (sym c.deref_mut.ensures.value) c.self.invariant.sheet.each) in
+    (subst (λ (rows : List RowView). AreRowsOf width rows) (sym c.deref_mut.ensures.value)
+    c.self.invariant.sheet.each) in
     IsGrid-at
     (IsGrid-lines_closed c.args.self.now c.args.first c.args.count (rw (← c.self.view_is) c.self.invariant)
     c.requires.allocated)
@@ -20,7 +21,8 @@ pub returns-clause-grid : goal.returns-clause-grid
 returns-clause-grid c =
     let width = c.self.inside.size.cols.value in
     let moved = c.move_up.ensures width
-    (subst (λ (rows : List RowView). AreRowsOf width rows) (sym c.deref_mut.ensures.value) c.self.invariant.sheet.each) in
+    (subst (λ (rows : List RowView). AreRowsOf width rows) (sym c.deref_mut.ensures.value)
+    c.self.invariant.sheet.each) in
     grind (arith, common_steps, moved)
 
 pub returns-clause-allocated : goal.returns-clause-allocated

@@ -21,7 +21,8 @@ returns-in_err-redraw c =
     refused c.from_residual.result (lines_redraw c.args.self.now n) c.args.pen.now c.redraw.new.pen
     c.from_residual.ensures.0 refl
     (rows-begun _ _ n _ inside
-    (row-redraw c.loop-i.i c.shown_row-row.ensures c.place-place.ensures c.loop-i.invariant.wraps) c.loop-i.invariant.wrote c.in_err-redraw.ensures)
+    (row-redraw c.loop-i.i c.shown_row-row.ensures c.place-place.ensures c.loop-i.invariant.wraps)
+    c.loop-i.invariant.wrote c.in_err-redraw.ensures)
 
 pub loop-i-preserved : goal.loop-i-preserved
 loop-i-preserved c = record {

@@ -22,7 +22,8 @@ pub returns-then-is_printable : goal.returns-then-is_printable
 returns-then-is_printable g c =
     rw (printed-printable c.args.self.now c.args.c c.args.attrs (c.is_printable.ensures.0 c.if-is_printable.true)
     c.in_ok-make_room.ensures.wide) (record {
-      grid = c.print_spacing.ensures.grid ∙ ap (λ (h : GridView). put_at h (cell_of c.args.c c.args.attrs) c.args.attrs 1)
+      grid = c.print_spacing.ensures.grid ∙ ap (λ (h : GridView). put_at h (cell_of c.args.c c.args.attrs) c.args.attrs
+          1)
           c.in_ok-make_room.ensures.scrolls.grid;
       sink = c.in_ok-make_room.ensures.scrolls.sink;
       answer = refl;

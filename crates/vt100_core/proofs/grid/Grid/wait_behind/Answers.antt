@@ -3,7 +3,8 @@ use Rattle.screen_drawing.specs.Cursor.{arriving, end_cell, place, printed_with,
 use Rattle.vt100_rows.specs.Picture.{lines_of}
 use Rattle.vt100_core.specs.Grid.{GridView}
 use Rattle.vt100_core.specs.Picture.{grid_size}
-use Rattle.vt100_core.proofs.WriterLemmas.{appends_rest, refused_prefix, wait_behind-none, wait_behind-some, appends_nothing}
+use Rattle.vt100_core.proofs.WriterLemmas.{appends_rest, refused_prefix, wait_behind-none, wait_behind-some}
+use Rattle.vt100_core.proofs.WriterLemmas.{appends_nothing}
 use Rattle.vt100_core.proofs.grid.Grid.wait_behind.Goals as goal
 
 pub returns-then-is_at : goal.returns-then-is_at

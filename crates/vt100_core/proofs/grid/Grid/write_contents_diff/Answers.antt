@@ -38,7 +38,8 @@ returns-clause-attrs c =
 pub returns-clause-short : goal.returns-clause-short
 returns-clause-short c drawn shown k =
     grown-short c.args.self.now (differing c.args.self.now c.args.prev.now c.args.prev_attrs).forms _ _
-    ((grid-short c.args.self.now (rw (← c.self.view_is) c.self.invariant) drawn shown).difference c.args.prev.now c.args.prev_attrs k)
+    ((grid-short c.args.self.now (rw (← c.self.view_is) c.self.invariant) drawn shown).difference c.args.prev.now
+    c.args.prev_attrs k)
     (returns-clause-text c).bytes
 
 pub returns-clause-local : goal.returns-clause-local

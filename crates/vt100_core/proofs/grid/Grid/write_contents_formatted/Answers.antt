@@ -2,7 +2,8 @@ use Rattle.std.proofs.Common.{ap, false, is_ok, true, ◌∙◌, ◌∷◌, refl
 use Rattle.vt100_forms.specs.Form.{ClearAttrs, ClearScreen}
 use Rattle.screen_drawing.specs.Rows.{pen_at}
 use Rattle.vt100_core.specs.Writers.{contents_formatted, redrawn}
-use Rattle.vt100_core.proofs.WriterLemmas.{form_appends, placed-attrs, placed-cursor, placed-rows, refused, none_appends}
+use Rattle.vt100_core.proofs.WriterLemmas.{form_appends, placed-attrs, placed-cursor, placed-rows, refused}
+use Rattle.vt100_core.proofs.WriterLemmas.{none_appends}
 use Rattle.vt100_core.proofs.ShortLists.{grid-short}
 use Rattle.vt100_core.proofs.FormLists.{grown-short}
 use Rattle.vt100_core.proofs.grid.Grid.write_contents_formatted.Goals as goal
@@ -68,4 +69,5 @@ returns-clause-attrs c =
 pub returns-clause-short : goal.returns-clause-short
 returns-clause-short c drawn shown =
     grown-short c.args.self.now (contents_formatted c.args.self.now) _ _
-    (grid-short c.args.self.now (rw (← c.self.view_is) c.self.invariant) drawn shown).contents (returns-clause-text c).bytes
+    (grid-short c.args.self.now (rw (← c.self.view_is) c.self.invariant) drawn shown).contents
+    (returns-clause-text c).bytes

@@ -6,7 +6,8 @@ use Rattle.vt100_rows.specs.Picture.{lines_of}
 use Rattle.vt100_core.specs.Grid.{GridView}
 use Rattle.vt100_core.specs.Picture.{grid_size}
 use Rattle.vt100_core.specs.Writers.{Appends, cursor_position_formatted}
-use Rattle.vt100_core.proofs.WriterLemmas.{appends_as, appends_nothing, appends_rest, cursor-behind, cursor-inside, cursor-on_empty}
+use Rattle.vt100_core.proofs.WriterLemmas.{appends_as, appends_nothing, appends_rest, cursor-behind, cursor-inside}
+use Rattle.vt100_core.proofs.WriterLemmas.{cursor-on_empty}
 use Rattle.vt100_core.proofs.WriterLemmas.{cursor-there, refused_prefix}
 use Rattle.vt100_core.proofs.grid.Grid.write_cursor_position_formatted.Goals as goal
 

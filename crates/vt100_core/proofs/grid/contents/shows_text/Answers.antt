@@ -11,7 +11,9 @@ returns-then-has_contents c =
     let end : c.min-col-end.result ≡ min (length v.cells) c.args.width =
     omega (arith, c.min-col-end.ensures, c.from.ensures, cells) in
     let here = c.at.ensures ∙ ap (λ (xs : List CellView). cell_at xs c.loop-col.col) c.cells-cells.ensures in
-    sym (some-length _ (row-some v c.args.width c.loop-col.col c.min-col-end.result end (omega (arith, c.loop-col-test.true)) (sym (c.has_contents.ensures ∙ ap has_text here) ∙ c.if-has_contents.true)))
+    sym (some-length _ (row-some v c.args.width c.loop-col.col c.min-col-end.result end
+    (omega (arith, c.loop-col-test.true)) (sym (c.has_contents.ensures ∙ ap has_text here)
+    ∙ c.if-has_contents.true)))
 
 pub returns : goal.returns
 returns c =
@@ -20,4 +22,5 @@ returns c =
     let end : c.min-col-end.result ≡ min (length v.cells) c.args.width =
     omega (arith, c.min-col-end.ensures, c.from.ensures, cells) in
     let all : c.loop-col.col ≡ c.min-col-end.result = omega (arith, c.loop-col.auto.col-end, c.loop-col-test.false) in
-    sym (ap (λ (cs : List ℕ). not (length cs == 0)) (row-blank v c.args.width c.loop-col.col (all ∙ end) c.loop-col.invariant))
+    sym (ap (λ (cs : List ℕ). not (length cs == 0)) (row-blank v c.args.width c.loop-col.col (all ∙ end)
+    c.loop-col.invariant))

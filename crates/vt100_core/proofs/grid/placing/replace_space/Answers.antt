@@ -31,7 +31,8 @@ returns-in_err-write_buf c =
     let a = c.args.attrs in
     let b = c.args.own in
     refused c.from_residual-in_err-write_buf.result (replaced a b) _ _ c.from_residual-in_err-write_buf.ensures.0
-    (begun_rest (change a b) (from_save a b) _ _ _ (appended c.write_escape_code_diff.new.contents c.in_ok-write_escape_code_diff.ensures.bytes c.in_ok-write_escape_code_diff.ensures.capacity)
+    (begun_rest (change a b) (from_save a b) _ _ _ (appended c.write_escape_code_diff.new.contents
+    c.in_ok-write_escape_code_diff.ensures.bytes c.in_ok-write_escape_code_diff.ensures.capacity)
     (begun_none (SaveCursor ∷ []) (from_backspace a b) (from_save a b) _ _ refl c.in_err-write_buf.ensures.bytes
     c.in_err-write_buf.ensures.full))
 
@@ -40,8 +41,10 @@ returns-in_err-write_buf-2 c =
     let a = c.args.attrs in
     let b = c.args.own in
     refused c.from_residual-in_err-write_buf-2.result (replaced a b) _ _ c.from_residual-in_err-write_buf-2.ensures.0
-    (begun_rest (change a b) (from_save a b) _ _ _ (appended c.write_escape_code_diff.new.contents c.in_ok-write_escape_code_diff.ensures.bytes c.in_ok-write_escape_code_diff.ensures.capacity)
-    (begun_rest (SaveCursor ∷ []) (from_backspace a b) _ _ _ (appended c.write_buf.new.buf c.in_ok-write_buf.ensures.bytes c.in_ok-write_buf.ensures.capacity)
+    (begun_rest (change a b) (from_save a b) _ _ _ (appended c.write_escape_code_diff.new.contents
+    c.in_ok-write_escape_code_diff.ensures.bytes c.in_ok-write_escape_code_diff.ensures.capacity)
+    (begun_rest (SaveCursor ∷ []) (from_backspace a b) _ _ _ (appended c.write_buf.new.buf
+    c.in_ok-write_buf.ensures.bytes c.in_ok-write_buf.ensures.capacity)
     (begun_none (Backspace ∷ []) (from_erase a b) (from_backspace a b) _ _ refl c.in_err-write_buf-2.ensures.bytes
     c.in_err-write_buf-2.ensures.full)))
 
@@ -50,23 +53,31 @@ returns-in_err-write_buf-3 c =
     let a = c.args.attrs in
     let b = c.args.own in
     refused c.from_residual-in_err-write_buf-3.result (replaced a b) _ _ c.from_residual-in_err-write_buf-3.ensures.0
-    (begun_rest (change a b) (from_save a b) _ _ _ (appended c.write_escape_code_diff.new.contents c.in_ok-write_escape_code_diff.ensures.bytes c.in_ok-write_escape_code_diff.ensures.capacity)
-    (begun_rest (SaveCursor ∷ []) (from_backspace a b) _ _ _ (appended c.write_buf.new.buf c.in_ok-write_buf.ensures.bytes c.in_ok-write_buf.ensures.capacity)
-    (begun_rest (Backspace ∷ []) (from_erase a b) _ _ _ (appended c.write_buf-2.new.buf c.in_ok-write_buf-2.ensures.bytes c.in_ok-write_buf-2.ensures.capacity)
+    (begun_rest (change a b) (from_save a b) _ _ _ (appended c.write_escape_code_diff.new.contents
+    c.in_ok-write_escape_code_diff.ensures.bytes c.in_ok-write_escape_code_diff.ensures.capacity)
+    (begun_rest (SaveCursor ∷ []) (from_backspace a b) _ _ _ (appended c.write_buf.new.buf
+    c.in_ok-write_buf.ensures.bytes c.in_ok-write_buf.ensures.capacity)
+    (begun_rest (Backspace ∷ []) (from_erase a b) _ _ _ (appended c.write_buf-2.new.buf
+    c.in_ok-write_buf-2.ensures.bytes c.in_ok-write_buf-2.ensures.capacity)
     (begun_none (EraseChar 1 ∷ []) (from_restore a b) (from_erase a b) _ _ refl c.in_err-write_buf-3.ensures.bytes
     (subst (λ f. string_capacity c.write_buf-2.new.buf
-    < string_len c.write_buf-2.new.buf + length (bytes_of (f ∷ []))) c.new.ensures c.in_err-write_buf-3.ensures.full)))))
+    < string_len c.write_buf-2.new.buf + length (bytes_of (f ∷ []))) c.new.ensures
+    c.in_err-write_buf-3.ensures.full)))))
 
 pub returns-in_err-write_buf-4 : goal.returns-in_err-write_buf-4
 returns-in_err-write_buf-4 c =
     let a = c.args.attrs in
     let b = c.args.own in
     refused c.from_residual-in_err-write_buf-4.result (replaced a b) _ _ c.from_residual-in_err-write_buf-4.ensures.0
-    (begun_rest (change a b) (from_save a b) _ _ _ (appended c.write_escape_code_diff.new.contents c.in_ok-write_escape_code_diff.ensures.bytes c.in_ok-write_escape_code_diff.ensures.capacity)
-    (begun_rest (SaveCursor ∷ []) (from_backspace a b) _ _ _ (appended c.write_buf.new.buf c.in_ok-write_buf.ensures.bytes c.in_ok-write_buf.ensures.capacity)
-    (begun_rest (Backspace ∷ []) (from_erase a b) _ _ _ (appended c.write_buf-2.new.buf c.in_ok-write_buf-2.ensures.bytes c.in_ok-write_buf-2.ensures.capacity)
+    (begun_rest (change a b) (from_save a b) _ _ _ (appended c.write_escape_code_diff.new.contents
+    c.in_ok-write_escape_code_diff.ensures.bytes c.in_ok-write_escape_code_diff.ensures.capacity)
+    (begun_rest (SaveCursor ∷ []) (from_backspace a b) _ _ _ (appended c.write_buf.new.buf
+    c.in_ok-write_buf.ensures.bytes c.in_ok-write_buf.ensures.capacity)
+    (begun_rest (Backspace ∷ []) (from_erase a b) _ _ _ (appended c.write_buf-2.new.buf
+    c.in_ok-write_buf-2.ensures.bytes c.in_ok-write_buf-2.ensures.capacity)
     (begun_rest (EraseChar 1 ∷ []) (from_restore a b) _ _ _
-    (appended c.write_buf-3.new.buf (c.in_ok-write_buf-3.ensures.bytes ∙ ap (λ f. string_bytes c.write_buf-2.new.buf ++ bytes_of (f ∷ []))
+    (appended c.write_buf-3.new.buf (c.in_ok-write_buf-3.ensures.bytes ∙ ap (λ f. string_bytes c.write_buf-2.new.buf
+    ++ bytes_of (f ∷ []))
     c.new.ensures) c.in_ok-write_buf-3.ensures.capacity)
     (begun_none (RestoreCursor ∷ []) (change b a) (from_restore a b) _ _ refl c.in_err-write_buf-4.ensures.bytes
     c.in_err-write_buf-4.ensures.full)))))
@@ -77,12 +88,15 @@ returns c =
     let b = c.args.own in
     let ok = is_ok c.write_escape_code_diff-2.result in
     appends_rest (change a b) (from_save a b) (replaced a b) _ _ ok _ refl
-    (appended c.write_escape_code_diff.new.contents c.in_ok-write_escape_code_diff.ensures.bytes c.in_ok-write_escape_code_diff.ensures.capacity)
-    (appends_rest (SaveCursor ∷ []) (from_backspace a b) (from_save a b) _ _ ok _ refl (appended c.write_buf.new.buf c.in_ok-write_buf.ensures.bytes c.in_ok-write_buf.ensures.capacity)
+    (appended c.write_escape_code_diff.new.contents c.in_ok-write_escape_code_diff.ensures.bytes
+    c.in_ok-write_escape_code_diff.ensures.capacity)
+    (appends_rest (SaveCursor ∷ []) (from_backspace a b) (from_save a b) _ _ ok _ refl (appended c.write_buf.new.buf
+    c.in_ok-write_buf.ensures.bytes c.in_ok-write_buf.ensures.capacity)
     (appends_rest (Backspace ∷ []) (from_erase a b) (from_backspace a b) _ _ ok _ refl
     (appended c.write_buf-2.new.buf c.in_ok-write_buf-2.ensures.bytes c.in_ok-write_buf-2.ensures.capacity)
     (appends_rest (EraseChar 1 ∷ []) (from_restore a b) (from_erase a b) _ _ ok _ refl
-    (appended c.write_buf-3.new.buf (c.in_ok-write_buf-3.ensures.bytes ∙ ap (λ f. string_bytes c.write_buf-2.new.buf ++ bytes_of (f ∷ []))
+    (appended c.write_buf-3.new.buf (c.in_ok-write_buf-3.ensures.bytes ∙ ap (λ f. string_bytes c.write_buf-2.new.buf
+    ++ bytes_of (f ∷ []))
     c.new.ensures) c.in_ok-write_buf-3.ensures.capacity)
     (appends_rest (RestoreCursor ∷ []) (change b a) (from_restore a b) _ _ ok _ refl
     (appended c.write_buf-4.new.buf c.in_ok-write_buf-4.ensures.bytes c.in_ok-write_buf-4.ensures.capacity)

@@ -11,7 +11,8 @@ pub returns-then-is_drawn : goal.returns-then-is_drawn
 returns-then-is_drawn c =
     let drawn = c.is_drawn.ensures in
     let yes = c.if-is_drawn.true in
-    appended_none _ (wrote_difference_same c.args.self.now c.args.prev.now c.args.place.start c.args.place.width c.args.place.row c.args.place.above
+    appended_none _ (wrote_difference_same c.args.self.now c.args.prev.now c.args.place.start c.args.place.width
+    c.args.place.row c.args.place.above
     c.args.place.was_above c.args.pen.now (string_bytes c.args.contents.now) (drawn.row yes) (drawn.above yes)
     (drawn.closed yes) (drawn.kept yes))
 
@@ -21,11 +22,13 @@ returns-then-cols-place c =
     let earlier = c.args.prev.now in
     let outside : min (length v.cells) (length earlier.cells) ≤ c.args.place.start =
     omega (arith, c.cols.ensures, c.cols-2.ensures, c.min-cols.ensures) in
-    appended_none _ (wrote_difference_none v earlier c.args.place.start c.args.place.width c.args.place.row c.args.place.above c.args.place.was_above c.args.pen.now
+    appended_none _ (wrote_difference_none v earlier c.args.place.start c.args.place.width c.args.place.row
+    c.args.place.above c.args.place.was_above c.args.pen.now
     (string_bytes c.args.contents.now) outside)
 
 pub invariant_of-drawing : goal.invariant_of-drawing
 invariant_of-drawing c = record {
   few = subst (λ (xs : List CellView). length xs < 65536) (sym c.deref.ensures.value) c.self.invariant.row.narrow;
-  paired = subst (λ (xs : List CellView). IsPaired (cell_at xs)) (sym c.deref.ensures.value) c.self.invariant.row.paired;
+  paired = subst (λ (xs : List CellView). IsPaired (cell_at xs)) (sym c.deref.ensures.value)
+      c.self.invariant.row.paired;
 }

@@ -51,7 +51,8 @@ returns c =
 pub invariant_of-self : goal.invariant_of-self
 invariant_of-self c = record {
   row = IsRow-at _ (joined_in_place c.args.self.now c.args.col c.args.c) (returns c)
-      (IsRow-joined_in_place c.args.self.now c.args.col c.args.c (rw (← c.self.view_is) c.self.invariant.row) c.ranges.c.0
+      (IsRow-joined_in_place c.args.self.now c.args.col c.args.c (rw (← c.self.view_is) c.self.invariant.row)
+      c.ranges.c.0
       c.requires.zero_width c.requires.after_some c.requires.in_row);
   blank = blank-set c.self.inside.cells.items c.self.inside.filled c.max-self-inside.result c.base_col-base.result
       c.join_in_place.new.self c.self.invariant.blank (omega (arith, c.max-self-inside.ensures))

@@ -11,6 +11,8 @@ invariant_of-self c =
     (IsRow-placed c.args.self.now c.args.col c.args.cell c.args.attrs (rw (← c.self.view_is) c.self.invariant.row)
     c.puts_end.ensures.valid c.requires.text c.requires.in_row)
     (let r : IsRow c.args.self.now = rw (← c.self.view_is) c.self.invariant.row in
-    let b : IsBlankFrom c.args.self.now.cells c.self.inside.filled = subst (λ (v : RowView). IsBlankFrom v.cells c.self.inside.filled) c.self.view_is c.self.invariant.blank in
-    blank-put c.args.self.now.cells c.self.inside.filled c.max-filled.result c.args.col c.args.cell c.args.attrs r.narrow b
+    let b : IsBlankFrom c.args.self.now.cells c.self.inside.filled = subst (λ (v : RowView). IsBlankFrom v.cells
+    c.self.inside.filled) c.self.view_is c.self.invariant.blank in
+    blank-put c.args.self.now.cells c.self.inside.filled c.max-filled.result c.args.col c.args.cell c.args.attrs
+    r.narrow b
     (omega (arith, c.max-filled.ensures)) (λ h. grind (arith, common_steps)))

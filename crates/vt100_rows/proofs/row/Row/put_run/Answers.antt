@@ -41,12 +41,20 @@ invariant_of-self g c =
     (λ k d l. g.met.G.Glyph.drawn w _ (c.requires.drawn k d l)) in
     let span : w * length c.args.text.now ≡ w * length xs = ap (λ n. w * n) (sym few) in
     let r : IsRow v = rw (← c.self.view_is) c.self.invariant.row in
-    let b : IsBlankFrom v.cells c.self.inside.filled = subst (λ (u : RowView). IsBlankFrom u.cells c.self.inside.filled) c.self.view_is c.self.invariant.blank in
+    let b : IsBlankFrom v.cells c.self.inside.filled = subst (λ (u : RowView). IsBlankFrom u.cells c.self.inside.filled)
+    c.self.view_is c.self.invariant.blank in
     let kept : c.if-run_end.self-inside.filled ≡ c.self.inside.filled = elim c.if-run_end.branch [
       | then-run_end u ↦ ap (λ (x : Inside). x.filled) u.self-inside-is
       | else-run_end u ↦ ap (λ (x : Inside). x.filled) u.self-inside-is
     ] in
     let both = run_row-each xs v i a w o r drawn c.put_run.ensures.characters within in
     fields-at _ _ _ (placed_each w v i xs a) (returns-after-run_end-clause-each g c) both.1
-    (subst (λ (u : RowView). IsBlankFrom u.cells c.max-self-inside.result) both.0 (blank-run v.cells c.self.inside.filled c.max-self-inside.result i xs a w o r.narrow b
-    (omega (arith, kept, c.max-self-inside.ensures)) (λ h. omega (arith, span, h, c.saturating_add.ensures, c.max-self-inside.ensures))))
+    (subst (λ (u : RowView). IsBlankFrom u.cells c.max-self-inside.result) both.0
+    (blank-run v.cells c.self.inside.filled c.max-self-inside.result i xs a w o r.narrow b
+    (omega (arith, kept, c.max-self-inside.ensures)) (λ h. omega (
+      arith,
+      span,
+      h,
+      c.saturating_add.ensures,
+      c.max-self-inside.ensures,
+    ))))

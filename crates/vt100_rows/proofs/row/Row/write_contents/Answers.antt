@@ -1,5 +1,6 @@
 use Rattle.std.proofs.Common.{append_assoc, refl, replicate, ℕ}
-use Rattle.std.proofs.Common.{◌≡◌, ◌+◌, ◌<◌, ◌≤◌, ◌++◌, true, false, not, ◌&&◌, ◌==◌, ap, ◌∙◌, sym, arith, length, min, List}
+use Rattle.std.proofs.Common.{◌≡◌, ◌+◌, ◌<◌, ◌≤◌, ◌++◌, true, false, not, ◌&&◌, ◌==◌, ap, ◌∙◌, sym, arith, length, min}
+use Rattle.std.proofs.Common.{List}
 use Rattle.std.proofs.lemmas.List.{length-replicate}
 use Rattle.std.specs.Prelude.{string_bytes, string_len, string_capacity, encode_utf8_all}
 use Rattle.vt100_cells.specs.Cell.{CellView, has_text}
@@ -30,7 +31,8 @@ loop-col-preserved c =
           rw (w.contents-is, w.blanks-is, w.shown-is)
           (record {
             written = IsWritten-text f s k c.loop-col.blanks old was c.loop-col.shown c.loop-col.auto.col
-                c.loop-col.invariant.written (string_bytes w.push_spaces.new.contents) (string_bytes w.push_str.new.self)
+                c.loop-col.invariant.written (string_bytes w.push_spaces.new.contents)
+                (string_bytes w.push_str.new.self)
                 (sym has ∙ w.if-has_contents.true) w.in_ok-push_spaces.ensures.text
                 (w.in_ok-push_str.ensures.bytes ∙ ap (λ bs. string_bytes w.push_spaces.new.contents
                 ++ bs) (w.contents.ensures.bytes ∙ ap (λ (x : CellView). encode_utf8_all x.text) here));

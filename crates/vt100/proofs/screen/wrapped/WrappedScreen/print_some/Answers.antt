@@ -16,7 +16,8 @@ returns-then-len-gt0-clause-printed g c =
     let within = rw c.as_bytes.ensures.value at c.printable_len-len.ensures.within in
     let printable = rw c.as_bytes.ensures.value at c.printable_len-len.ensures.printable in
     rw c.range_from.ensures.value (prefix-run g.CB.Callbacks.step g.CB.Callbacks.scrolls c.args.text.now n _
-    c.if-len-gt0.true within printable c.is_live.ensures.live (rw c.as_bytes-then-len-gt0.ensures.value at c.run.ensures))
+    c.if-len-gt0.true within printable c.is_live.ensures.live (rw c.as_bytes-then-len-gt0.ensures.value at
+    c.run.ensures))
 
 pub run-requires-clause-drawn : goal.run-requires-clause-drawn
 run-requires-clause-drawn g c =

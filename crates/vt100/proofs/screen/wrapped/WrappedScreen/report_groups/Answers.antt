@@ -10,4 +10,5 @@ pub loop-i-preserved : goal.loop-i-preserved
 loop-i-preserved g c d w goes =
     let left : c.args.count - c.loop-i._i ≡ suc (c.args.count - (c.loop-i._i + 1)) = omega arith in
     (rw left at c.loop-i.invariant) d w
-    (tells_more g.CB.Callbacks.step _ _ _ _ _ _ _ _ (sym c.failed.ensures ∙ c.if-failed.false) c.report_csi.ensures goes)
+    (tells_more g.CB.Callbacks.step _ _ _ _ _ _ _ _ (sym c.failed.ensures ∙ c.if-failed.false) c.report_csi.ensures
+    goes)

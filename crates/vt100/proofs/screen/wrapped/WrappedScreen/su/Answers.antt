@@ -10,12 +10,15 @@ pub returns-in_err-note_failure : goal.returns-in_err-note_failure
 returns-in_err-note_failure g c =
     let is : c.from_residual.result ≡ Err Memory = search rules in
     let e = c.scroll_up-drawn.ensures in
-    rw is (rw (← c.self.view_is) (scroll_refused g.CB.Callbacks.scrolls (region_up c.args.count) _ c.scroll_up-drawn.result
-    c.if-self.false c.in_err-note_failure.ensures.failed c.in_err-note_failure.ensures.refused e.reported e.limits e.keeps_none
+    rw is (rw (← c.self.view_is) (scroll_refused g.CB.Callbacks.scrolls (region_up c.args.count) _
+    c.scroll_up-drawn.result
+    c.if-self.false c.in_err-note_failure.ensures.failed c.in_err-note_failure.ensures.refused e.reported e.limits
+    e.keeps_none
     e.stays))
 
 pub invariant_of-self-2 : goal.invariant_of-self-2
 invariant_of-self-2 g c =
     let e = c.scroll_up-drawn.ensures in
-    rw c.in_ok-note_failure.ensures.same (drawn_screen _ _ c.self.inside.0.0.last_char c.self.invariant e.allocated e.limits
+    rw c.in_ok-note_failure.ensures.same (drawn_screen _ _ c.self.inside.0.0.last_char c.self.invariant e.allocated
+    e.limits
     (rw (rw c.in_ok-note_failure.ensures.done at e.grid) (proper_scrolled_up c.self.inside.0.0.grid c.args.count)))

@@ -18,4 +18,5 @@ pub invariant_of-self-2 : goal.invariant_of-self-2
 invariant_of-self-2 g c =
     let e = c.print-drawn.ensures.drawn in
     rw c.in_ok-printed.ensures.same (drawn_screen _ _ _ c.self.invariant e.allocated e.limits
-    (rw (rw c.in_ok-printed.ensures.done at e.grid) (proper_printed c.self.inside.0.0.grid c.args.c _ c.self.invariant.attrs)))
+    (rw (rw c.in_ok-printed.ensures.done at e.grid) (proper_printed c.self.inside.0.0.grid c.args.c _
+    c.self.invariant.attrs)))
