@@ -27,7 +27,3 @@ pub record Gives (old : CharsetFilter) (bytes : List ℕ) (k : ℕ) (new : Chars
   pub within : k ≤ length bytes
   pub reads : (past : List ℕ) → HasRead old past → HasRead new (past ++ take k bytes)
   pub given : (past : List ℕ) → HasRead old past → after ≡ before ++ given_after past (take k bytes)
-
--- it has read some of the bytes at the start, and has appended what they give
-abbrev pub GivesPrefix : CharsetFilter → List ℕ → CharsetFilter → List ℕ → List ℕ → Type 0
-GivesPrefix old bytes new before after = (k : ℕ) × Gives old bytes k new before after

@@ -1,14 +1,15 @@
 //! The filter.
 
 ghost use Rattle.std.specs.Prelude.{◌≡◌, ◌<◌, ℕ, List, [], ◌∷◌, ◌++◌, length, false, true, None, Some, IsTrue};
-ghost use Rattle.std.specs.Prelude.{if◌then◌else◌, take, ◌+◌, ◌≤◌, vec_capacity, vec_len};
-ghost use Rattle.std.specs.Result.{OnOk, OnErr, IfOk};
-ghost use Rattle.charset_filter.specs.Filter.{Gives, GivesPrefix, HasRead};
+ghost use Rattle.std.specs.Prelude.{if◌then◌else◌, take, ◌+◌, ◌*◌, ◌≤◌, vec_capacity, vec_len};
+ghost use Rattle.std.specs.Result.{OnOk, OnErr, IfOk, IfErr};
+ghost use Rattle.charset_filter.specs.Filter.{Gives, HasRead};
 ghost use Rattle.charset_filter.specs.Given.{given_byte, is_drawable, last_drawn};
 ghost use Rattle.charset_filter.specs.Steady.{IsSteady, is_steady_run};
 ghost use Rattle.vte_core.specs.Bytes.{ends_escape, is_esc};
 ghost use Rattle.vte_core.specs.Pending.{events_of_byte, pending};
 
+use crate::error::AdvanceError;
 use crate::listener::Listener;
 use crate::sets::CharacterSets;
 use crate::steady::steady_len;
@@ -39,18 +40,25 @@ impl CharsetFilter {
         }
     }
 
-    /// Reads the next bytes, and appends to the output what they give.
+    /// Reads the next bytes, and appends to the output what they give, at most four bytes for each.
     ///
-    /// Where memory is refused, some of the bytes at the start have been read, and what these give is appended. The
-    /// others have not been read.
-    pub fn advance(&mut self, bytes: &[u8], output: &mut Vec<u8>) -> Result<(), AllocError>
+    /// Memory is refused only where the output has no room for four times as many bytes. Then the error tells how many
+    /// bytes at the start have been read, and what these give is appended. The others, at least one, have not been read.
+    pub fn advance(&mut self, bytes: &[u8], output: &mut Vec<u8>) -> Result<(), AdvanceError>
         ensures given { OnOk result (Gives self.old bytes.now (length bytes.now) self.new output.old.items
             output.new.items) }
-        ensures prefix { OnErr result (GivesPrefix self.old bytes.now self.new output.old.items output.new.items) }
+        ensures prefix { IfErr result (λ e. Gives self.old bytes.now e.read self.new output.old.items
+            output.new.items) }
+        ensures unread { IfErr result (λ e. e.read < length bytes.now) }
+        ensures full { OnErr result (vec_capacity output.old < vec_len output.old + 4 * length bytes.now) }
+        ensures short { vec_len output.new ≤ vec_len output.old + 4 * length bytes.now }
     {
         let mut read = 0;
         while read < bytes.len() {
-            read += self.read_some(&bytes[read..], output)?;
+            match self.read_some(&bytes[read..], output) {
+                Ok(some) => read += some,
+                Err(AllocError) => return Err(AdvanceError { read }),
+            }
         }
         Ok(())
     }
@@ -60,7 +68,11 @@ impl CharsetFilter {
         requires { 0 < length bytes.now }
         ensures some { IfOk result (λ k. 0 < k) }
         ensures given { IfOk result (λ k. Gives self.old bytes.now k self.new output.old.items output.new.items) }
-        ensures same { OnErr result ((self.new ≡ self.old) × (output.new.items ≡ output.old.items)) }
+        ensures grows { IfOk result (λ k. vec_len output.new ≤ vec_len output.old + 4 * k) }
+        ensures capacity { vec_capacity output.old ≤ vec_capacity output.new }
+        ensures same { OnErr result ((self.new ≡ self.old) × (output.new.items ≡ output.old.items)
+            × (vec_len output.new ≡ vec_len output.old)) }
+        ensures full { OnErr result (vec_capacity output.old < vec_len output.old + 4 * length bytes.now) }
     {
         if !self.in_escape && self.sets.is_steady() {
             let len = steady_len(bytes);
@@ -85,7 +97,11 @@ impl CharsetFilter {
         requires escape { self.old.in_escape ≡ false }
         requires run { is_steady_run false (take len bytes.now) ≡ true }
         ensures given { OnOk result (Gives self.old bytes.now len self.new output.old.items output.new.items) }
-        ensures same { OnErr result ((self.new ≡ self.old) × (output.new.items ≡ output.old.items)) }
+        ensures grows { OnOk result (vec_len output.new ≤ vec_len output.old + len) }
+        ensures capacity { vec_capacity output.old ≤ vec_capacity output.new }
+        ensures same { OnErr result ((self.new ≡ self.old) × (output.new.items ≡ output.old.items)
+            × (vec_len output.new ≡ vec_len output.old)) }
+        ensures full { OnErr result (vec_capacity output.old < vec_len output.old + len) }
     {
         let run = &bytes[..len];
         output.extend_from_slice(run)?;
@@ -97,7 +113,11 @@ impl CharsetFilter {
     fn read_byte(&mut self, bytes: &[u8], output: &mut Vec<u8>) -> Result<(), AllocError>
         requires { 0 < length bytes.now }
         ensures given { OnOk result (Gives self.old bytes.now 1 self.new output.old.items output.new.items) }
-        ensures same { OnErr result ((self.new ≡ self.old) × (output.new.items ≡ output.old.items)) }
+        ensures grows { OnOk result (vec_len output.new ≤ vec_len output.old + 4) }
+        ensures capacity { vec_capacity output.old ≤ vec_capacity output.new }
+        ensures same { OnErr result ((self.new ≡ self.old) × (output.new.items ≡ output.old.items)
+            × (vec_len output.new ≡ vec_len output.old)) }
+        ensures full { OnErr result (vec_capacity output.old < vec_len output.old + 4) }
     {
         output.reserve(4)?;
         let drawn = self.listen(bytes[0]);
@@ -137,7 +157,9 @@ fn is_in_escape(before: bool, byte: u8) -> bool
 /// prints.
 fn push_given(output: &mut Vec<u8>, byte: u8, drawn: Option<char>)
     requires { vec_len output.old + 4 ≤ vec_capacity output.old }
-    ensures { output.new.items ≡ output.old.items ++ given_byte byte drawn }
+    ensures items { output.new.items ≡ output.old.items ++ given_byte byte drawn }
+    ensures grows { vec_len output.new ≤ vec_len output.old + 4 }
+    ensures capacity { vec_capacity output.old ≤ vec_capacity output.new }
 {
     match drawn {
         Some(c) if is_drawable(byte) => {
@@ -158,7 +180,9 @@ fn is_drawable(byte: u8) -> bool
 /// Appends bytes where there is room for them.
 fn push_bytes(output: &mut Vec<u8>, bytes: &[u8])
     requires { vec_len output.old + length bytes.now ≤ vec_capacity output.old }
-    ensures { output.new.items ≡ output.old.items ++ bytes.now }
+    ensures items { output.new.items ≡ output.old.items ++ bytes.now }
+    ensures grows { vec_len output.new ≡ vec_len output.old + length bytes.now }
+    ensures capacity { vec_capacity output.old ≤ vec_capacity output.new }
 {
     let _appended = output.extend_from_slice(bytes);
 }

@@ -31,6 +31,7 @@
 //! too. After `ESC c` xterm keeps what was saved while the alternate screen was shown; here nothing is kept.
 #![tactic(auto)]
 
+mod error;
 mod filter;
 pub mod laws;
 mod lines;
@@ -38,5 +39,6 @@ mod listener;
 mod sets;
 mod steady;
 
+pub use error::AdvanceError;
 pub use filter::CharsetFilter;
 pub use lines::{LineDrawing, PieceFilter};

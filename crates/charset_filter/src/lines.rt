@@ -1,7 +1,9 @@
 //! A program's output on its way to a screen that knows no character sets.
 
-ghost use Rattle.std.specs.Prelude.{◌≡◌, ◌++◌, [], ℕ, List, OnOk};
+ghost use Rattle.std.specs.Prelude.{◌≡◌, ◌≤◌, ◌*◌, ◌++◌, [], ℕ, List, length, IsOk, OnErr, OnOk};
+ghost use Rattle.charset_filter.specs.Filter.{Gives};
 ghost use Rattle.charset_filter.specs.Lines.{HasPassed, passed, piece_of};
+ghost use Rattle.charset_filter.specs.declared.lines.LineDrawing.TheVariants.{Kept};
 
 use crate::CharsetFilter;
 use std::alloc::{AllocError, Global};
@@ -38,20 +40,42 @@ impl PieceFilter {
         }
     }
 
-    /// Reads the next piece. Then [`given`](PieceFilter::given) answers what it gives. Fails only if an allocation
-    /// fails.
+    /// Reads the next piece. Then [`given`](PieceFilter::given) answers what it gives.
+    ///
+    /// Where lines are drawn, it takes room for four times as many bytes as the piece has, and fails only if there is no
+    /// memory for that. Then the piece has not passed, and may be handed over again. Where they are kept it doesn't fail.
     pub fn pass(&mut self, piece: &[u8]) -> Result<(), AllocError>
-        ensures { OnOk result ((lines : LineDrawing) (past : List ℕ) → HasPassed self.old lines past
+        ensures passed { OnOk result ((lines : LineDrawing) (past : List ℕ) → HasPassed self.old lines past
             → HasPassed self.new lines (past ++ piece.now)
             × (piece_of self.new piece.now ≡ passed lines past piece.now)) }
+        ensures short { OnOk result (length (piece_of self.new piece.now) ≤ 4 * length piece.now) }
+        ensures kept { (past : List ℕ) → HasPassed self.old Kept past → IsOk result }
+        ensures none { piece.now ≡ [] → IsOk result }
+        ensures same { OnErr result ((lines : LineDrawing) (past : List ℕ) → HasPassed self.old lines past
+            → HasPassed self.new lines past) }
     {
         match self.lines {
             LineDrawing::Kept => Ok(()),
-            LineDrawing::Drawn => {
-                self.drawn.clear();
-                self.filter.advance(piece, &mut self.drawn)
-            }
+            LineDrawing::Drawn => self.draw(piece),
         }
+    }
+
+    /// Reads the next piece, and keeps what it gives. What the piece before it gave is dropped.
+    fn draw(&mut self, piece: &[u8]) -> Result<(), AllocError>
+        ensures short { OnOk result (length self.new.drawn.items ≤ 4 * length piece.now) }
+        ensures kind { self.new.lines ≡ self.old.lines }
+        ensures drawn { OnOk result (Gives self.old.filter piece.now (length piece.now) self.new.filter []
+            self.new.drawn.items) }
+        ensures none { piece.now ≡ [] → IsOk result }
+        ensures same { OnErr result (self.new.filter ≡ self.old.filter) }
+    {
+        let Some(room) = piece.len().checked_mul(4) else {
+            return Err(AllocError);
+        };
+        self.drawn.clear();
+        self.drawn.reserve(room)?;
+        self.filter.advance(piece, &mut self.drawn)?;
+        Ok(())
     }
 
     /// What the piece gives that passed last: itself, or what it is with its lines drawn.
