@@ -1,2 +1,3 @@
 pub mod PageLemmas
 mod SafeLemmas
+pub mod SeenLemmas

@@ -8,7 +8,7 @@ use Rattle.std.proofs.lemmas.List.Elements.{All-map}
 use Rattle.picture_page.specs.Page.{Part, Markup, Digit, RowEnd, Name, Text, IsPage, IsSafe, IsHarmless, IsPiece}
 use Rattle.picture_page.specs.Page.{begins_reference, digit_byte, escaped, part_bytes, parts_bytes, reference}
 
-both : (a b : Bool) → a && b ≡ true → (a ≡ true) × (b ≡ true)
+pub both : (a b : Bool) → a && b ≡ true → (a ≡ true) × (b ≡ true)
 both true b h = (refl, h)
 both false b h = absurd (true≢false (sym h))
 
@@ -21,7 +21,7 @@ last true false r s t u h = absurd (true≢false (sym h))
 last false q r s t u h = absurd (true≢false (sym h))
 
 -- the same, byte by byte
-abbrev is_harmless : List ℕ → Bool
+abbrev pub is_harmless : List ℕ → Bool
 is_harmless [] = true
 is_harmless (b ∷ bs) = not (nat_eq b 60) && (not (nat_eq b 62) && (not (nat_eq b 34) && (not (nat_eq b 39)
     && ((not (nat_eq b 38) || begins_reference (b ∷ bs)) && is_harmless bs))))
@@ -47,7 +47,7 @@ escaped_byte b rest h = go (nat_eq b 38) (nat_eq b 60) (nat_eq b 62) (nat_eq b 3
     go false false false false true _ _ _ _ _ = h
     go false false false false false p q r s t = by_itself b rest p q r s t h
 
-escaped_text : (text : List ℕ) → is_harmless (escaped text) ≡ true
+pub escaped_text : (text : List ℕ) → is_harmless (escaped text) ≡ true
 escaped_text [] = refl
 escaped_text (b ∷ bs) = escaped_byte b (escaped bs) (escaped_text bs)
 
@@ -55,7 +55,7 @@ alone : (b : ℕ) → b ≢ 38 → b ≢ 60 → b ≢ 62 → b ≢ 34 → b ≢ 
 alone b p q r s t =
     by_itself b [] (ne_eqb b 38 p) (ne_eqb b 60 q) (ne_eqb b 62 r) (ne_eqb b 34 s) (ne_eqb b 39 t) refl
 
-digit_alone : (d : ℕ) → is_harmless (digit_byte d ∷ []) ≡ true
+pub digit_alone : (d : ℕ) → is_harmless (digit_byte d ∷ []) ≡ true
 digit_alone d = go (nat_le d 9) refl
   where
     go : (v : Bool) → nat_le d 9 ≡ v → is_harmless (cond v (48 + d) (87 + d) ∷ []) ≡ true

@@ -1,2 +1,5 @@
+pub mod Bytes
+pub mod Examples
 pub mod Page
+pub mod Seen
 pub mod Tags

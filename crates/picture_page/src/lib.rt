@@ -1,6 +1,7 @@
 //! Pages of pictures: markup of the program's own, digits, and texts that are escaped.
 #![tactic(auto)]
 
+pub mod laws;
 mod page;
 mod tag;
 

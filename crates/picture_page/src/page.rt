@@ -1,10 +1,13 @@
 //! A picture as it is written: markup, digits and texts, and nothing else.
 
-ghost use Rattle.std.specs.Prelude.{◌≡◌, ◌∷◌, [], ◌%◌, ◌++◌, OnOk, encode_utf8, length};
+ghost use Rattle.std.specs.Prelude.{◌≡◌, ◌∷◌, [], ◌%◌, ◌++◌, OnOk, decimal, encode_utf8, if◌then◌else◌, length};
 ghost use Rattle.std.specs.Option.{option_map};
-ghost use Rattle.picture_page.specs.Page.{Adds, IsPage, IsSafe, digit_byte, reference as reference_of};
+ghost use Rattle.picture_page.specs.Bytes.{color_bytes, hexadecimal, numbers_bytes};
+ghost use Rattle.picture_page.specs.Page.{Adds, IsPage, IsSafe, digit_byte, escaped, reference as reference_of};
+ghost use Rattle.picture_page.specs.Tags.{tag_bytes};
 
 use crate::tag::Tag;
+use itoa::Buffer;
 use std::alloc::{AllocError, Global};
 use std::marker::Model;
 
@@ -48,7 +51,8 @@ impl Page {
 
     /// Appends a piece of markup.
     pub fn markup(&mut self, tag: Tag) -> Result<(), AllocError>
-        ensures { OnOk result (Adds self.old self.new []) }
+        ensures adds { OnOk result (Adds self.old self.new []) }
+        ensures bytes { OnOk result (self.new ≡ self.old ++ tag_bytes tag) }
     {
         self.bytes.extend_from_slice(tag.bytes())?;
         Ok(())
@@ -56,14 +60,16 @@ impl Page {
 
     /// Appends a piece of markup, if it is wanted.
     pub fn markup_if(&mut self, on: bool, tag: Tag) -> Result<(), AllocError>
-        ensures { OnOk result (Adds self.old self.new []) }
+        ensures adds { OnOk result (Adds self.old self.new []) }
+        ensures bytes { OnOk result (self.new ≡ self.old ++ (if on then tag_bytes tag else [])) }
     {
         if on { self.markup(tag) } else { Ok(()) }
     }
 
     /// Appends the newline that ends a row of cells.
     pub fn end_row(&mut self) -> Result<(), AllocError>
-        ensures { OnOk result (Adds self.old self.new (10 ∷ [])) }
+        ensures adds { OnOk result (Adds self.old self.new (10 ∷ [])) }
+        ensures bytes { OnOk result (self.new ≡ self.old ++ 10 ∷ []) }
     {
         self.bytes.push(b'\n')?;
         Ok(())
@@ -71,7 +77,8 @@ impl Page {
 
     /// Appends a digit. The value counts modulo 16.
     pub fn digit(&mut self, value: u8) -> Result<(), AllocError>
-        ensures { OnOk result (Adds self.old self.new []) }
+        ensures adds { OnOk result (Adds self.old self.new []) }
+        ensures bytes { OnOk result (self.new ≡ self.old ++ digit_byte (value % 16) ∷ []) }
     {
         self.bytes.push(digit_of(value))?;
         Ok(())
@@ -79,27 +86,19 @@ impl Page {
 
     /// Appends a number, in decimal.
     pub fn number(&mut self, number: u32) -> Result<(), AllocError>
-        ensures { OnOk result (Adds self.old self.new []) }
+        ensures adds { OnOk result (Adds self.old self.new []) }
+        ensures bytes { OnOk result (self.new ≡ self.old ++ decimal number) }
     {
-        let mut led = false;
-        for unit in UNITS {
-            let digit = number / unit % 10;
-            led = led || digit > 0 || unit == 1;
-            self.digit_if(led, digit as u8)?;
-        }
+        let mut digits = Buffer::new();
+        self.bytes
+            .extend_from_slice(digits.format(number).as_bytes())?;
         Ok(())
-    }
-
-    // Appends a digit, if it is wanted.
-    fn digit_if(&mut self, on: bool, value: u8) -> Result<(), AllocError>
-        ensures { OnOk result (Adds self.old self.new []) }
-    {
-        if on { self.digit(value) } else { Ok(()) }
     }
 
     /// Appends pieces of markup, each with the number that follows it.
     pub fn numbers(&mut self, numbers: &[(Tag, u32)]) -> Result<(), AllocError>
-        ensures { OnOk result (Adds self.old self.new []) }
+        ensures adds { OnOk result (Adds self.old self.new []) }
+        ensures bytes { OnOk result (self.new ≡ self.old ++ numbers_bytes numbers.now) }
     {
         for (tag, number) in numbers {
             self.markup_number(*tag, *number)?;
@@ -109,7 +108,8 @@ impl Page {
 
     // Appends a piece of markup and the number that follows it.
     fn markup_number(&mut self, tag: Tag, number: u32) -> Result<(), AllocError>
-        ensures { OnOk result (Adds self.old self.new []) }
+        ensures adds { OnOk result (Adds self.old self.new []) }
+        ensures bytes { OnOk result (self.new ≡ self.old ++ (tag_bytes tag ++ decimal number)) }
     {
         self.markup(tag)?;
         self.number(number)
@@ -117,7 +117,8 @@ impl Page {
 
     /// Appends a piece of markup and a colour, as six digits.
     pub fn color(&mut self, tag: Tag, color: Rgb) -> Result<(), AllocError>
-        ensures { OnOk result (Adds self.old self.new []) }
+        ensures adds { OnOk result (Adds self.old self.new []) }
+        ensures bytes { OnOk result (self.new ≡ self.old ++ (tag_bytes tag ++ color_bytes color)) }
     {
         self.markup(tag)?;
         self.hexadecimal(color.red)?;
@@ -127,7 +128,8 @@ impl Page {
 
     // Appends two digits of base 16.
     fn hexadecimal(&mut self, value: u8) -> Result<(), AllocError>
-        ensures { OnOk result (Adds self.old self.new []) }
+        ensures adds { OnOk result (Adds self.old self.new []) }
+        ensures bytes { OnOk result (self.new ≡ self.old ++ hexadecimal value) }
     {
         self.digit(value / 16)?;
         self.digit(value % 16)
@@ -135,7 +137,8 @@ impl Page {
 
     /// Appends a name that isn't a text of the screen, such as that of a font, escaped.
     pub fn name(&mut self, name: &str) -> Result<(), AllocError>
-        ensures { OnOk result (Adds self.old self.new []) }
+        ensures adds { OnOk result (Adds self.old self.new []) }
+        ensures bytes { OnOk result (self.new ≡ self.old ++ escaped name.now) }
     {
         for byte in name.as_bytes() {
             self.name_byte(*byte)?;
@@ -145,7 +148,8 @@ impl Page {
 
     // Appends a byte of a name, escaped.
     fn name_byte(&mut self, byte: u8) -> Result<(), AllocError>
-        ensures { OnOk result (Adds self.old self.new []) }
+        ensures adds { OnOk result (Adds self.old self.new []) }
+        ensures bytes { OnOk result (self.new ≡ self.old ++ escaped (byte ∷ [])) }
     {
         match reference(byte) {
             Some(text) => {
@@ -161,7 +165,8 @@ impl Page {
 
     /// Appends a text of the screen, escaped.
     pub fn text(&mut self, text: &str) -> Result<(), AllocError>
-        ensures { OnOk result (Adds self.old self.new text.now) }
+        ensures adds { OnOk result (Adds self.old self.new text.now) }
+        ensures bytes { OnOk result (self.new ≡ self.old ++ escaped text.now) }
     {
         for byte in text.as_bytes() {
             self.text_byte(*byte)?;
@@ -171,7 +176,8 @@ impl Page {
 
     // Appends a byte of a text, escaped.
     fn text_byte(&mut self, byte: u8) -> Result<(), AllocError>
-        ensures { OnOk result (Adds self.old self.new (byte ∷ [])) }
+        ensures adds { OnOk result (Adds self.old self.new (byte ∷ [])) }
+        ensures bytes { OnOk result (self.new ≡ self.old ++ escaped (byte ∷ [])) }
     {
         match reference(byte) {
             Some(text) => {
@@ -187,7 +193,8 @@ impl Page {
 
     /// Appends a character of the screen, escaped.
     pub fn character(&mut self, c: char) -> Result<(), AllocError>
-        ensures { OnOk result (Adds self.old self.new (encode_utf8 c)) }
+        ensures adds { OnOk result (Adds self.old self.new (encode_utf8 c)) }
+        ensures bytes { OnOk result (self.new ≡ self.old ++ escaped (encode_utf8 c)) }
     {
         let mut room = [0; 4];
         self.text(c.encode_utf8(&mut room))
@@ -217,20 +224,6 @@ impl Page {
         self.bytes
     }
 }
-
-// The units of a number of 32 bits, in decimal.
-const UNITS: [u32; 10] = [
-    1_000_000_000,
-    100_000_000,
-    10_000_000,
-    1_000_000,
-    100_000,
-    10_000,
-    1000,
-    100,
-    10,
-    1,
-];
 
 // What stands for a byte that isn't written as it is.
 fn reference(byte: u8) -> Option<&'static [u8]>

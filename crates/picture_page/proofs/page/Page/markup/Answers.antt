@@ -6,6 +6,6 @@ pub invariant_of-self-2 : goal.invariant_of-self-2
 invariant_of-self-2 c =
     rw c.in_ok-extend_from_slice.ensures.items (grown _ _ (Markup c.args.tag) c.self.invariant c.bytes.ensures)
 
-pub returns : goal.returns
-returns c = rw (c.in_ok-extend_from_slice.ensures.items, ← c.self.view_is) (adds_part _ _ (Markup c.args.tag)
+pub returns-clause-adds : goal.returns-clause-adds
+returns-clause-adds c = rw (c.in_ok-extend_from_slice.ensures.items, ← c.self.view_is) (adds_part _ _ (Markup c.args.tag)
     c.bytes.ensures)
