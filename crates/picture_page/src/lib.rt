@@ -2,6 +2,7 @@
 #![tactic(auto)]
 
 mod page;
+mod player;
 mod tag;
 
 pub use page::{Page, Rgb};
