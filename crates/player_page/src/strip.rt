@@ -132,9 +132,10 @@ impl Strip {
             look,
         )?;
         let (number, new) = self.known.insert_full(page.into_bytes())?;
+        let number = u32::try_from(number).map_err(|_| PlayerError::TooLong)?;
         push_line_if(new, &mut self.rows, screen, row, look)?;
         check_length(&self.rows)?;
-        u32::try_from(number).map_err(|_| PlayerError::TooLong)
+        Ok(number)
     }
 
     // Rows with these numbers are shown from this time on.
