@@ -17,7 +17,7 @@ LINE = 64  # bytes of a line of the processor's cache
 VERSION = "0.1.0"
 SHARED = f"libjeihpal.so.{ABI}"
 PYTHON = f"{HERE}/bindings/python"
-COMMANDS = ("share", "jeihpal-test")
+COMMANDS = ("share", "jeihpal-test", "screenplay")
 PKG_CONFIG = f"""prefix=${{pcfiledir}}/../..
 includedir=${{prefix}}/include
 libdir=${{prefix}}/lib
@@ -149,8 +149,8 @@ def install_licenses(folder):
 
 
 def install_python(folder):
-    """Copies the module and share, with a link to the shared library."""
-    for name in ("jeihpal", "jeihpal_share"):
+    """Copies the module, share and screenplay, with a link to the shared library."""
+    for name in ("jeihpal", "jeihpal_share", "jeihpal_play"):
         shutil.rmtree(f"{folder}/{name}", ignore_errors=True)
         shutil.copytree(f"{PYTHON}/{name}", f"{folder}/{name}", ignore=shutil.ignore_patterns("__pycache__"))
     link(f"../../../{SHARED}", f"{folder}/jeihpal/libjeihpal.so")

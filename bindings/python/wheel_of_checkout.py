@@ -13,7 +13,7 @@ import zipfile
 
 HERE = os.path.dirname(os.path.abspath(__file__))
 NAME, VERSION = "jeihpal", "0.1.0"
-PACKAGES = ("jeihpal", "jeihpal/testing", "jeihpal_share")
+PACKAGES = ("jeihpal", "jeihpal/testing", "jeihpal_share", "jeihpal_play")
 INFO = f"{NAME}-{VERSION}.dist-info"
 METADATA = f"""Metadata-Version: 2.1
 Name: {NAME}
@@ -24,6 +24,7 @@ Requires-Python: >=3.9
 """
 SCRIPTS = """[console_scripts]
 share = jeihpal_share.program:main
+screenplay = jeihpal_play.program:main
 jeihpal-test = jeihpal.testing._script:main
 
 [pytest11]

@@ -1,6 +1,7 @@
 -- The markup of pictures.
 use Rattle.std.specs.Prelude.{ℕ, List, codes}
 use Rattle.picture_page.specs.declared.tag.Tag.{Tag}
+use Rattle.picture_page.specs.declared.player.TheConstants.{PLAYER_CONTROLS, PLAYER_HEAD, PLAYER_SCRIPT, PLAYER_STYLE}
 use Rattle.picture_page.specs.declared.tag.Tag.TheVariants as tag
 
 abbrev pub tag_bytes : Tag → List ℕ
@@ -73,3 +74,23 @@ tag_bytes tag.Frame = codes "<g transform=\"translate("
 tag_bytes tag.FrameRows = codes ")\">"
 tag_bytes tag.FrameEnd = codes "</g>\n"
 tag_bytes tag.Use = codes "<use href=\"#r"
+tag_bytes tag.PlayerHead = PLAYER_HEAD.now
+tag_bytes tag.PlayerStyle = PLAYER_STYLE.now
+tag_bytes tag.PlayerLength = codes "</bdi></h1>\n<main id=\"player\" data-length=\""
+tag_bytes tag.PlayerIdle = codes "\" data-idle=\""
+tag_bytes tag.PlayerSpeed = codes "\" data-speed=\""
+tag_bytes tag.PlayerPoster = codes "\" data-poster=\""
+tag_bytes tag.PlayerRows = codes "\" style=\"--rows:"
+tag_bytes tag.PlayerCols = codes ";--cols:"
+tag_bytes tag.PlayerScreen = codes "\">\n<div id=\"screen\" lang=\"\" role=\"group\" aria-label=\"Screen\" tabindex=\"0\" style=\""
+tag_bytes tag.Line = codes "<div>"
+tag_bytes tag.LineEnd = codes "</div>"
+tag_bytes tag.PlayerControls = PLAYER_CONTROLS.now
+tag_bytes tag.MarkerTime = codes "<li><button type=\"button\" value=\""
+tag_bytes tag.MarkerName = codes "\"><bdi>"
+tag_bytes tag.MarkerEnd = codes "</bdi></button></li>\n"
+tag_bytes tag.PlayerTable = codes "</ol>\n</main>\n<template id=\"rows\">\n"
+tag_bytes tag.PlayerMoments = codes "</template>\n<template id=\"moments\">\n"
+tag_bytes tag.Whole = codes "="
+tag_bytes tag.Changed = codes ":"
+tag_bytes tag.PlayerScript = PLAYER_SCRIPT.now

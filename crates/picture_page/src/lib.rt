@@ -3,6 +3,7 @@
 
 pub mod laws;
 mod page;
+mod player;
 mod tag;
 
 pub use page::{Page, Rgb};

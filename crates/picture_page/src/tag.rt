@@ -3,6 +3,8 @@
 ghost use Rattle.std.specs.Prelude.{◌≡◌};
 ghost use Rattle.picture_page.specs.Tags.{tag_bytes};
 
+use crate::player::{PLAYER_CONTROLS, PLAYER_HEAD, PLAYER_SCRIPT, PLAYER_STYLE};
+
 /// A piece of markup: the only bytes of a picture that aren't digits, names or the escaped texts of cells.
 #[derive(Clone, Copy)]
 pub enum Tag {
@@ -140,6 +142,46 @@ pub enum Tag {
     FrameEnd,
     /// A row that was drawn elsewhere, before its number.
     Use,
+    /// What comes before the title of a page that plays.
+    PlayerHead,
+    /// What comes between its title and its heading.
+    PlayerStyle,
+    /// What comes between its heading and the length of the recording in seconds.
+    PlayerLength,
+    /// The longest time for which a moment stands.
+    PlayerIdle,
+    /// The speed at first.
+    PlayerSpeed,
+    /// The time of the moment that is shown at first.
+    PlayerPoster,
+    /// The most rows that the screen has.
+    PlayerRows,
+    /// The most columns that it has.
+    PlayerCols,
+    /// What comes between these and the colours of the screen.
+    PlayerScreen,
+    /// The beginning of a row that is an element.
+    Line,
+    /// What ends it.
+    LineEnd,
+    /// What comes between the screen and the markers.
+    PlayerControls,
+    /// The beginning of a marker, before its time.
+    MarkerTime,
+    /// What comes before its name.
+    MarkerName,
+    /// What ends it.
+    MarkerEnd,
+    /// What comes between the markers and the rows that are drawn.
+    PlayerTable,
+    /// What comes between these and the moments.
+    PlayerMoments,
+    /// What comes before the numbers of all rows of a moment.
+    Whole,
+    /// What comes before the rows that differ from those of the moment before, each with its number.
+    Changed,
+    /// The script that plays, and what ends the page.
+    PlayerScript,
 }
 
 impl Tag {
@@ -217,6 +259,27 @@ impl Tag {
             Tag::FrameRows => b")\">",
             Tag::FrameEnd => b"</g>\n",
             Tag::Use => b"<use href=\"#r",
+            Tag::PlayerHead => PLAYER_HEAD,
+            Tag::PlayerStyle => PLAYER_STYLE,
+            Tag::PlayerLength => b"</bdi></h1>\n<main id=\"player\" data-length=\"",
+            Tag::PlayerIdle => b"\" data-idle=\"",
+            Tag::PlayerSpeed => b"\" data-speed=\"",
+            Tag::PlayerPoster => b"\" data-poster=\"",
+            Tag::PlayerRows => b"\" style=\"--rows:",
+            Tag::PlayerCols => b";--cols:",
+            Tag::PlayerScreen =>
+                b"\">\n<div id=\"screen\" lang=\"\" role=\"group\" aria-label=\"Screen\" tabindex=\"0\" style=\"",
+            Tag::Line => b"<div>",
+            Tag::LineEnd => b"</div>",
+            Tag::PlayerControls => PLAYER_CONTROLS,
+            Tag::MarkerTime => b"<li><button type=\"button\" value=\"",
+            Tag::MarkerName => b"\"><bdi>",
+            Tag::MarkerEnd => b"</bdi></button></li>\n",
+            Tag::PlayerTable => b"</ol>\n</main>\n<template id=\"rows\">\n",
+            Tag::PlayerMoments => b"</template>\n<template id=\"moments\">\n",
+            Tag::Whole => b"=",
+            Tag::Changed => b":",
+            Tag::PlayerScript => PLAYER_SCRIPT,
         }
     }
 }

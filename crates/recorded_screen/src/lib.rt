@@ -7,8 +7,8 @@ mod picture;
 mod reel;
 
 pub use error::FilmError;
-pub use moment::{END, terminal_at};
-pub use picture::{html, html_block, svg};
+pub use moment::{END, act, terminal_at};
+pub use picture::{cells_of, cursor_in, html, html_block, push_font, svg};
 pub use recordings::{Change, Event, Kind, Recording, RecordingError, ScreenSize};
-pub use reel::{LONGEST_FILM, Pace, film};
+pub use reel::{LONGEST_FILM, Pace, begins_at_once, film, is_followed, push_decimal, widest};
 pub use row_pictures::{Look, Rgb, Style, Theme};

@@ -62,7 +62,7 @@ fn step(parser: &mut Parser<()>, event: &Event, moment: u64) -> Result<(), Scree
 }
 
 /// Does what an event does.
-pub(crate) fn act(parser: &mut Parser<()>, change: &Change) -> Result<(), ScreenError>
+pub fn act(parser: &mut Parser<()>, change: &Change) -> Result<(), ScreenError>
     requires live { parser.old.screen.failed ≡ false }
     ensures live { OnOk result (parser.new.screen.failed ≡ false) }
     ensures memory { OnErr result (result ≡ Err Memory) }

@@ -56,8 +56,8 @@ fn push_block_head(page: &mut Page, look: &Look) -> Result<(), AllocError>
     page.markup(Tag::BlockRows)
 }
 
-// Appends the name of the font between two pieces of markup, if there is one.
-fn push_font(page: &mut Page, look: &Look, before: Tag, after: Tag) -> Result<(), AllocError>
+/// Appends the name of the font between two pieces of markup, if there is one.
+pub fn push_font(page: &mut Page, look: &Look, before: Tag, after: Tag) -> Result<(), AllocError>
     ensures { OnOk result (Adds page.old page.new []) }
 {
     let Some(font) = &look.font else {
@@ -129,7 +129,7 @@ fn push_svg_line(page: &mut Page, screen: &Screen, row: u16, look: &Look) -> Res
 }
 
 /// The cells of a row of the screen. A kept row can be wider than the screen: what is beyond its width isn't shown.
-pub(crate) fn cells_of(screen: &Screen, row: u16) -> &[Cell]
+pub fn cells_of(screen: &Screen, row: u16) -> &[Cell]
     ensures { result.now ≡ cells_shown screen.now.state.shown row }
 {
     let (_, cols) = screen.size();
@@ -142,7 +142,7 @@ pub(crate) fn cells_of(screen: &Screen, row: u16) -> &[Cell]
 }
 
 /// The column of a row in which the cursor is shown, if it is. One behind the last column is shown there.
-pub(crate) fn cursor_in(screen: &Screen, row: u16) -> Option<usize> {
+pub fn cursor_in(screen: &Screen, row: u16) -> Option<usize> {
     let (cursor_row, cursor_col) = screen.cursor_position();
     let (_, cols) = screen.size();
     if screen.hide_cursor() || cursor_row != row {

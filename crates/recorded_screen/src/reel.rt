@@ -1,7 +1,7 @@
 //! Films: pictures in SVG that play a recording.
 
-ghost use Rattle.std.specs.Prelude.{◌≤◌, ◌<◌, IfOk, OnOk, length};
-ghost use Rattle.picture_page.specs.Page.{IsPage, IsSafe};
+ghost use Rattle.std.specs.Prelude.{◌≤◌, ◌<◌, [], IfOk, OnOk, length};
+ghost use Rattle.picture_page.specs.Page.{Adds, IsPage, IsSafe};
 
 use crate::error::FilmError;
 use crate::moment::act;
@@ -76,20 +76,20 @@ pub fn film(
     reel.develop(alloc, look)
 }
 
-// Whether there is no time before the first event.
-fn begins_at_once(events: &[Event]) -> bool {
+/// Whether there is no time before the first event.
+pub fn begins_at_once(events: &[Event]) -> bool {
     events.first().is_some_and(|event| event.time == 0)
 }
 
-// Whether the next event comes at the same time.
-fn is_followed(events: &[Event], i: usize) -> bool
+/// Whether the next event comes at the same time.
+pub fn is_followed(events: &[Event], i: usize) -> bool
     requires { i < length events.now }
 {
     i + 1 < events.len() && events[i + 1].time == events[i].time
 }
 
-// The most rows and columns that the screen has up to a moment.
-fn widest(size: ScreenSize, events: &[Event], moment: u64) -> ScreenSize {
+/// The most rows and columns that the screen has up to a moment.
+pub fn widest(size: ScreenSize, events: &[Event], moment: u64) -> ScreenSize {
     let mut widest = size;
     for event in events {
         if let Change::Resize(size) = &event.change
@@ -291,8 +291,10 @@ fn part_of(time: u64, length: u64) -> u64 {
     (time / unit).saturating_mul(10_000_000) / whole
 }
 
-// Appends a number that counts such parts of one, as a decimal.
-fn push_decimal(page: &mut Page, value: u64, unit: u32) -> Result<(), AllocError> {
+/// Appends a number that counts such parts of one, as a decimal. The unit is a power of ten.
+pub fn push_decimal(page: &mut Page, value: u64, unit: u32) -> Result<(), AllocError>
+    ensures { OnOk result (Adds page.old page.new []) }
+{
     let parts = u64::from(unit).max(1);
     page.number(u32::try_from(value / parts).unwrap_or(u32::MAX))?;
     page.markup(Tag::Point)?;

@@ -62,9 +62,10 @@ pub by_same_test : {X E : Type 0} (r : Result (Option X) E) (a b : Bool) → a �
 by_same_test r a b e = IfOk-weaker r (λ o. is_some o ≡ a) (λ o. is_some o ≡ b) (λ o is. is ∙ e)
 
 -- the form by the counts of its words
-pub form_counts : (a b c d e f g h : ℕ) → a ≡ e → b ≡ f → c ≡ g → d ≡ h
-    → is_form (nat_lt 0 a) (nat_lt 0 b) (nat_lt 0 c) (nat_lt 0 d) ≡ is_form (nat_lt 0 e) (nat_lt 0 f) (nat_lt 0 g)
-    (nat_lt 0 h)
-form_counts a b c d e f g h p q r s =
-    ap₂ (λ x y. is_form (nat_lt 0 x) (nat_lt 0 y) (nat_lt 0 c) (nat_lt 0 d)) p q
-    ∙ ap₂ (λ x y. is_form (nat_lt 0 e) (nat_lt 0 f) (nat_lt 0 x) (nat_lt 0 y)) r s
+pub form_counts : (a b c d p e f g h q : ℕ) → a ≡ e → b ≡ f → c ≡ g → d ≡ h → p ≡ q
+    → is_form (nat_lt 0 a) (nat_lt 0 b) (nat_lt 0 c) (nat_lt 0 d) (nat_lt 0 p)
+    ≡ is_form (nat_lt 0 e) (nat_lt 0 f) (nat_lt 0 g) (nat_lt 0 h) (nat_lt 0 q)
+form_counts a b c d p e f g h q v w x y z =
+    ap₂ (λ i j. is_form (nat_lt 0 i) (nat_lt 0 j) (nat_lt 0 c) (nat_lt 0 d) (nat_lt 0 p)) v w
+    ∙ (ap₂ (λ i j. is_form (nat_lt 0 e) (nat_lt 0 f) (nat_lt 0 i) (nat_lt 0 j) (nat_lt 0 p)) x y
+    ∙ ap (λ i. is_form (nat_lt 0 e) (nat_lt 0 f) (nat_lt 0 g) (nat_lt 0 h) (nat_lt 0 i)) z)

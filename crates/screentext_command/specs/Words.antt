@@ -53,12 +53,15 @@ abbrev pub with_films : App → App
 with_films a = with_rule (with_rule (with_rule a (flag_rule (codes "animate"))) (value_rule (codes "speed")))
     (value_rule (codes "idle"))
 
+abbrev pub with_player : App → App
+with_player a = with_rule a (flag_rule (codes "player"))
+
 -- the description for `clap` of
 -- `[ROWS COLS] [--at TIME] [--diff TIME] [--history N] [--joined] [--colours] [--html | --svg]
 -- [--list] [--kind NAME] [--timing FILE] [--no-line-drawing] [--html-block] [--theme NAME] [--font NAME]
--- [--bold-is-bright] [--animate] [--speed N] [--idle SECONDS]`
+-- [--bold-is-bright] [--animate] [--speed N] [--idle SECONDS] [--player]`
 abbrev pub known : App
-known = with_films (with_pictures (with_sources (with_flags (with_values program))))
+known = with_player (with_films (with_pictures (with_sources (with_flags (with_values program)))))
 
 -- both are numbers of rows and columns, or there is neither
 abbrev pub is_screen : Option Text → Option Text → Bool
@@ -74,11 +77,12 @@ abbrev pub is_moment : Option Text → Bool
 is_moment word = option_map_or (λ text. is_time (json_in text)) word true
 
 -- one form at most, and a film in SVG alone
-abbrev pub is_form : Bool → Bool → Bool → Bool → Bool
-is_form false false svg film = svg || not film
-is_form true false false false = true
-is_form false true false false = true
-is_form _ _ _ _ = false
+abbrev pub is_form : Bool → Bool → Bool → Bool → Bool → Bool
+is_form false false svg film false = svg || not film
+is_form true false false false false = true
+is_form false true false false false = true
+is_form false false false false true = true
+is_form _ _ _ _ _ = false
 
 -- the values of the words that `clap` takes
 abbrev pub are_values : List Row → Bool
@@ -86,7 +90,7 @@ are_values rows = is_screen (first_of (codes "ROWS") rows) (first_of (codes "COL
     && (is_moment (first_of (codes "at") rows) && (is_moment (first_of (codes "diff") rows)
     && (option_map_or is_count (first_of (codes "history") rows) true
     && is_form (nat_lt 0 (count_of (codes "html") rows)) (nat_lt 0 (count_of (codes "html-block") rows))
-    (nat_lt 0 (count_of (codes "svg") rows)) (nat_lt 0 (count_of (codes "animate") rows)))))
+    (nat_lt 0 (count_of (codes "svg") rows)) (nat_lt 0 (count_of (codes "animate") rows)) (nat_lt 0 (count_of (codes "player") rows)))))
 
 abbrev pub are_sources : List Row → Bool
 are_sources rows = option_map_or (λ word. is_some (kind_named word)) (first_of (codes "kind") rows) true
@@ -119,7 +123,7 @@ is_invocation words = is_invocation_of (fault_of known words) (matches_of known 
 
 -- what is printed for words that aren't understood
 abbrev pub usage_line : List ℕ
-usage_line = codes "usage: screentext [ROWS COLS] [--at SECONDS] [--diff SECONDS] [--history N] [--joined] [--colours] [--html | --html-block | --svg [--animate]] [--speed N] [--idle SECONDS] [--theme NAME] [--font NAME] [--bold-is-bright] [--list] [--kind NAME] [--timing FILE] [--no-line-drawing]"
+usage_line = codes "usage: screentext [ROWS COLS] [--at SECONDS] [--diff SECONDS] [--history N] [--joined] [--colours] [--html | --html-block | --player | --svg [--animate]] [--speed N] [--idle SECONDS] [--theme NAME] [--font NAME] [--bold-is-bright] [--list] [--kind NAME] [--timing FILE] [--no-line-drawing]"
     ++ 0x0A ∷ []
 
 -- what is printed where memory is refused

@@ -5,6 +5,7 @@ use crate::error::TextError;
 use crate::pictures::Pictures;
 use crate::text::push_lines;
 use crate::words::{Form, Request};
+use player_page::{Play, player};
 use recorded_screen::{
     Look, Recording, ScreenSize, Theme, film, html, html_block, svg, terminal_at,
 };
@@ -16,10 +17,14 @@ use vt100::{Parser, Screen};
 pub(crate) fn answer_of(
     alloc: Global,
     recording: &Recording,
+    title: String,
     request: Request,
     pictures: &Pictures,
 ) -> Result<Vec<u8>, TextError> {
     let size = size_of(recording, request);
+    if let Form::Player = request.form {
+        return player_of(alloc, recording, title, size, request.moment, pictures);
+    }
     if let Form::Film = request.form {
         return film_of(alloc, recording, size, request.moment, pictures);
     }
@@ -57,6 +62,25 @@ fn film_of(
     Ok(film(alloc, size, &recording.events, moment, &look, pictures.pace)?)
 }
 
+// The page that plays the recording, with the screen at a moment on it.
+fn player_of(
+    alloc: Global,
+    recording: &Recording,
+    title: String,
+    size: ScreenSize,
+    moment: u64,
+    pictures: &Pictures,
+) -> Result<Vec<u8>, TextError> {
+    let look = pictures.look(alloc, theme_of(recording))?;
+    let play = Play {
+        title,
+        length: recording.length,
+        poster: moment,
+        pace: pictures.pace,
+    };
+    Ok(player(alloc, size, &recording.events, &look, &play)?)
+}
+
 // What the terminal shows, in the form that is asked for.
 fn picture_of(
     alloc: Global,
@@ -66,7 +90,7 @@ fn picture_of(
 ) -> Result<Vec<u8>, TextError> {
     match request.form {
         Form::Text => lines_of(alloc, terminal, request),
-        Form::Html => Ok(html(alloc, terminal.screen(), look)?),
+        Form::Html | Form::Player => Ok(html(alloc, terminal.screen(), look)?),
         Form::HtmlBlock => Ok(html_block(alloc, terminal.screen(), look)?),
         Form::Svg | Form::Film => Ok(svg(alloc, terminal.screen(), look)?),
     }

@@ -12,6 +12,7 @@ use crate::list::list_of;
 use crate::outputs::with_lines_drawn;
 use crate::source::{Source, with_markers};
 use crate::streams::write_all;
+use crate::title::title_of;
 use crate::words::{Invocation, parse};
 use byte_streams::{ByteSink, FlushSink};
 use command_line::{FAULT, SUCCESS, USAGE, read_all, report};
@@ -24,8 +25,8 @@ const MEMORY_LINE: &[u8] = b"screentext: memory\n";
 
 const USAGE_LINE: &[u8] =
     b"usage: screentext [ROWS COLS] [--at SECONDS] [--diff SECONDS] [--history N] [--joined] \
-[--colours] [--html | --html-block | --svg [--animate]] [--speed N] [--idle SECONDS] \
-[--theme NAME] [--font NAME] [--bold-is-bright] [--list] [--kind NAME] [--timing FILE] \
+[--colours] [--html | --html-block | --player | --svg [--animate]] [--speed N] \
+[--idle SECONDS] [--theme NAME] [--font NAME] [--bold-is-bright] [--list] [--kind NAME] [--timing FILE] \
 [--no-line-drawing]\n";
 
 /// Runs the program where no file can be read: [`command_with`] without a timing file.
@@ -114,41 +115,42 @@ fn obey<F: Files, R: Read, W: FlushSink>(
     match invocation {
         Invocation::Tell(text) => write_all(output, text.as_bytes()),
         Invocation::Print(request, source, pictures) => {
-            let recording = recording_of(alloc, &source, files, input)?;
+            let (recording, title) = recording_of(alloc, &source, files, input)?;
             let request = with_markers(alloc, &recording, &source, request)?;
             let answer = if source.list {
                 list_of(alloc, &recording)?
             } else {
-                answer_of(alloc, &recording, request, &pictures)?
+                answer_of(alloc, &recording, title, request, &pictures)?
             };
             write_all(output, &answer)
         }
     }
 }
 
-// What is recorded, with boxes as box characters unless the words say otherwise.
+// What is recorded, with boxes as box characters unless the words say otherwise, and its title.
 fn recording_of<F: Files, R: Read>(
     alloc: Global,
     source: &Source,
     files: &F,
     input: &mut R,
-) -> Result<Recording, TextError> {
-    let recording = read_recording(alloc, source, files, input)?;
+) -> Result<(Recording, String), TextError> {
+    let bytes = read_all(alloc, input)?;
+    let title = title_of(alloc, &bytes)?;
+    let recording = read_recording(alloc, source, files, bytes)?;
     if source.draws_lines {
-        Ok(with_lines_drawn(alloc, &recording)?)
+        Ok((with_lines_drawn(alloc, &recording)?, title))
     } else {
-        Ok(recording)
+        Ok((recording, title))
     }
 }
 
 // What is recorded in the input, and in the timing file if the words have one.
-fn read_recording<F: Files, R: Read>(
+fn read_recording<F: Files>(
     alloc: Global,
     source: &Source,
     files: &F,
-    input: &mut R,
+    bytes: Vec<u8>,
 ) -> Result<Recording, TextError> {
-    let bytes = read_all(alloc, input)?;
     let Some(path) = &source.timing else {
         return Ok(parse_recording(alloc, bytes, None, source.kind)?);
     };

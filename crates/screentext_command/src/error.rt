@@ -4,9 +4,11 @@ ghost use Rattle.std.specs.Prelude.{◌≡◌};
 ghost use Rattle.screentext_command.specs.Faults.{input_fault};
 ghost use Rattle.screentext_command.specs.declared.error.TextError.TheVariants.{Memory};
 ghost use Rattle.recorded_screen.specs.declared.error.FilmError.TheVariants.{Memory as NoMemory};
+ghost use Rattle.player_page.specs.declared.error.PlayerError.TheVariants.{Memory as NoRoom};
 ghost use Rattle.recordings.specs.declared.error.RecordingError.TheVariants.{Memory as Refused};
 
 use command_line::InputError;
+use player_page::PlayerError;
 use recorded_screen::FilmError;
 use recordings::RecordingError;
 use std::alloc::{AllocError, AllocFailed};
@@ -34,6 +36,9 @@ pub enum TextError {
     /// The film would be longer than the longest one.
     #[error("the film has more than 8 MiB")]
     Film,
+    /// The page that plays would be longer than the longest one.
+    #[error("the page has more than 32 MiB")]
+    Player,
     /// What was read is no recording.
     #[error("{0}")]
     Recording(RecordingError),
@@ -82,6 +87,17 @@ impl From<FilmError> for TextError {
         match error {
             FilmError::Memory => TextError::Memory,
             FilmError::TooLong => TextError::Film,
+        }
+    }
+}
+
+impl From<PlayerError> for TextError {
+    ghost from_gives = { λ old e. old ≡ NoRoom → e ≡ Memory };
+
+    fn from(error: PlayerError) -> Self {
+        match error {
+            PlayerError::Memory => TextError::Memory,
+            PlayerError::TooLong => TextError::Player,
         }
     }
 }

@@ -5,7 +5,7 @@ ghost use Rattle.clap.specs.Words.{app_of, new_rule, rule_of, with_rule};
 ghost use Rattle.screentext_command.specs.Words.{colors_rule, flag_rule, known, program as program_app, value_rule};
 ghost use Rattle.screentext_command.specs.Words.{with_flags as with_flags_on, with_films as with_films_on};
 ghost use Rattle.screentext_command.specs.Words.{with_pictures as with_pictures_on, with_values as with_values_on};
-ghost use Rattle.screentext_command.specs.Words.{with_sources as with_sources_on};
+ghost use Rattle.screentext_command.specs.Words.{with_player as with_player_on, with_sources as with_sources_on};
 
 use clap::{Arg, ArgAction, Command};
 use std::alloc::{AllocError, Global};
@@ -27,6 +27,7 @@ Examples:
   screentext --html-block < demo.cast            a block to be pasted into a page
   screentext --svg --theme nord < demo.cast      a picture in other colours
   screentext --svg --animate --idle 2 < demo.cast > demo.svg   a film for a README
+  screentext --player --idle 2 < demo.cast > demo.html         a page that plays it
   screentext --timing times 24 80 < typescript   a session that script(1) recorded
   screentext --list < game.ttyrec                its kind, length and markers
 
@@ -37,10 +38,18 @@ pub(crate) fn known_words<'a>(alloc: Global) -> Result<Command<'a>, AllocError>
     ensures { IfOk result (λ c. app_of c ≡ known) }
 {
     let with_words = with_flags(alloc, with_values(alloc, program(alloc))?)?;
-    with_films(
+    let with_looks = with_pictures(alloc, with_sources(alloc, with_words)?)?;
+    with_player(alloc, with_films(alloc, with_looks)?)
+}
+
+fn with_player<'a>(alloc: Global, command: Command<'a>) -> Result<Command<'a>, AllocError>
+    ensures { IfOk result (λ c. app_of c ≡ with_player_on (app_of command.entry)) }
+{
+    Ok(command.arg(flag(
         alloc,
-        with_pictures(alloc, with_sources(alloc, with_words)?)?,
-    )
+        "player",
+        "A page in HTML that plays the recording, 32 MiB at most; --at is what it shows at first",
+    ))?)
 }
 
 fn with_pictures<'a>(alloc: Global, command: Command<'a>) -> Result<Command<'a>, AllocError>

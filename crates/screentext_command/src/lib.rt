@@ -17,6 +17,7 @@ mod sgr;
 mod source;
 mod streams;
 mod text;
+mod title;
 mod words;
 
 pub use commands::{command, command_with, report_fault};

@@ -44,6 +44,8 @@ pub(crate) enum Form {
     Svg,
     /// A film in SVG.
     Film,
+    /// A page in HTML that plays.
+    Player,
 }
 
 /// How the rows of a screen are written as text.
@@ -129,6 +131,7 @@ fn request_of(alloc: Global, matches: &ArgMatches<'_>) -> Result<Option<Request>
         matches.get_count("html-block") > 0,
         matches.get_count("svg") > 0,
         matches.get_count("animate") > 0,
+        matches.get_count("player") > 0,
     );
     let look = Look {
         joined: matches.get_count("joined") > 0,
@@ -207,15 +210,16 @@ fn history_of(word: Option<&str>) -> Option<usize>
     }
 }
 
-fn form_of(html: bool, block: bool, svg: bool, film: bool) -> Option<Form>
-    ensures { is_some result ≡ is_form html block svg film }
+fn form_of(html: bool, block: bool, svg: bool, film: bool, player: bool) -> Option<Form>
+    ensures { is_some result ≡ is_form html block svg film player }
 {
-    match (html, block, svg, film) {
-        (false, false, false, false) => Some(Form::Text),
-        (true, false, false, false) => Some(Form::Html),
-        (false, true, false, false) => Some(Form::HtmlBlock),
-        (false, false, true, false) => Some(Form::Svg),
-        (false, false, true, true) => Some(Form::Film),
+    match (html, block, svg, film, player) {
+        (false, false, false, false, false) => Some(Form::Text),
+        (true, false, false, false, false) => Some(Form::Html),
+        (false, true, false, false, false) => Some(Form::HtmlBlock),
+        (false, false, true, false, false) => Some(Form::Svg),
+        (false, false, true, true, false) => Some(Form::Film),
+        (false, false, false, false, true) => Some(Form::Player),
         _ => None,
     }
 }

@@ -18,8 +18,8 @@ returns-clause-request c =
     let history = c.history_of-history.ensures
     ∙ ap (λ o. option_map_or is_count o true) (c.get_str-5.ensures ∙ first_value-rows f (codes "history")) in
     let form = c.form_of-form.ensures
-    ∙ form_counts _ _ _ _ _ _ _ _ c.get_count.ensures.value c.get_count-2.ensures.value c.get_count-3.ensures.value
-    c.get_count-4.ensures.value in
+    ∙ form_counts _ _ _ _ _ _ _ _ _ _ c.get_count.ensures.value c.get_count-2.ensures.value c.get_count-3.ensures.value
+    c.get_count-4.ensures.value c.get_count-5.ensures.value in
     c.new_request.ensures
     ∙ ap₂ (λ a b. a && b) size (ap₂ (λ a b. a && b) moment (ap₂ (λ a b. a && b) since (ap₂ (λ a b. a && b) history
     form)))

@@ -1,0 +1,162 @@
+//! The page that plays a recording.
+
+ghost use Rattle.std.specs.Prelude.{◌≤◌, ℕ, [], List, IfOk, OnOk, length};
+ghost use Rattle.picture_page.specs.Page.{Adds, IsPage, IsSafe};
+ghost use Rattle.recordings.specs.declared.recording.Event.{Event};
+ghost use Rattle.recorded_screen.specs.Picture.{cells_shown};
+ghost use Rattle.player_page.specs.Rows.{AddsRows, IsRowOf, ShowsRows};
+
+use crate::error::PlayerError;
+use crate::strip::{Strip, push_line, strip_of};
+use recorded_screen::{END, Pace, push_decimal, push_font, terminal_at, widest};
+use recordings::{Change, Event, ScreenSize};
+use row_pictures::{Look, Page, Tag, push_html_colors};
+use std::alloc::{AllocError, Global};
+use vt100::Screen;
+
+/// The longest page, in bytes.
+pub const LONGEST_PLAYER: usize = 32 << 20;
+
+/// How a recording is played.
+#[derive(Drop)]
+pub struct Play {
+    /// The title of the page. It may be empty.
+    pub title: String,
+    /// The length of the recording, in microseconds.
+    pub length: u64,
+    /// The time of the moment that is shown before it is played, in microseconds of the recording.
+    pub poster: u64,
+    /// How fast it is played at first, and how long a moment may stand.
+    pub pace: Pace,
+}
+
+/// A page in HTML that plays the events, and needs nothing else. It has rows of the recording's screens, each drawn
+/// once, moments as numbers, the names of the markers, and a fixed script.
+pub fn player(
+    alloc: Global,
+    size: ScreenSize,
+    events: &[Event],
+    look: &Look,
+    play: &Play,
+) -> Result<Vec<u8>, PlayerError>
+    ensures rows { IfOk result (λ bytes. ShowsRows size.rows.value size.cols.value events.now bytes.items) }
+    ensures page { IfOk result (λ bytes. IsPage bytes.items) }
+    ensures safe { IfOk result (λ bytes. IsSafe bytes.items) }
+    ensures short { IfOk result (λ bytes. length bytes.items ≤ LONGEST_PLAYER) }
+{
+    let strip = strip_of(alloc, size, events, look)?;
+    let poster = terminal_at(alloc, size, 0, events, play.poster)?;
+    let mut page = Page::new(alloc);
+    push_head(&mut page, play)?;
+    push_size(&mut page, widest(size, events, END), look)?;
+    push_screen(&mut page, poster.screen(), look)?;
+    push_markers(&mut page, events)?;
+    push_strip(&mut page, &strip)?;
+    check_length(&page)?;
+    Ok(page.into_bytes())
+}
+
+/// A page that gets longer than the longest one is given up.
+pub(crate) fn check_length(page: &Page) -> Result<(), PlayerError>
+    ensures { OnOk result (length page.now ≤ LONGEST_PLAYER) }
+{
+    if page.len() > LONGEST_PLAYER {
+        return Err(PlayerError::TooLong);
+    }
+    Ok(())
+}
+
+// Appends what comes before the screen: the title and how it is played.
+fn push_head(page: &mut Page, play: &Play) -> Result<(), AllocError>
+    ensures { OnOk result (Adds page.old page.new []) }
+{
+    page.markup(Tag::PlayerHead)?;
+    page.name(play.title.as_str())?;
+    page.markup(Tag::PlayerStyle)?;
+    page.name(play.title.as_str())?;
+    push_seconds(page, Tag::PlayerLength, play.length)?;
+    push_idle(page, play.pace.idle)?;
+    push_seconds(page, Tag::PlayerSpeed, play.pace.speed)?;
+    push_seconds(page, Tag::PlayerPoster, play.poster.min(play.length))
+}
+
+// Appends the longest time for which a moment stands, if there is one.
+fn push_idle(page: &mut Page, idle: Option<u64>) -> Result<(), AllocError>
+    ensures { OnOk result (Adds page.old page.new []) }
+{
+    match idle {
+        Some(idle) => push_seconds(page, Tag::PlayerIdle, idle),
+        None => Ok(()),
+    }
+}
+
+// Appends a piece of markup and millionths as a decimal.
+fn push_seconds(page: &mut Page, tag: Tag, millionths: u64) -> Result<(), AllocError>
+    ensures { OnOk result (Adds page.old page.new []) }
+{
+    page.markup(tag)?;
+    push_decimal(page, millionths, 1_000_000)
+}
+
+// Appends the size of the screen, its colours and its font.
+fn push_size(page: &mut Page, size: ScreenSize, look: &Look) -> Result<(), AllocError>
+    ensures { OnOk result (Adds page.old page.new []) }
+{
+    let rows = u32::from(size.rows.get());
+    let cols = u32::from(size.cols.get());
+    page.numbers(&[(Tag::PlayerRows, rows), (Tag::PlayerCols, cols)])?;
+    page.markup(Tag::PlayerScreen)?;
+    push_html_colors(page, look.theme.fgcolor, look.theme.bgcolor)?;
+    push_font(page, look, Tag::BlockFont, Tag::BlockFontEnd)?;
+    page.markup(Tag::BlockRows)
+}
+
+// Appends the rows of a screen.
+fn push_screen(page: &mut Page, screen: &Screen, look: &Look) -> Result<(), AllocError>
+    ensures { OnOk result ((rows cols : ℕ) (events : List Event)
+        → ((r : ℕ) → IsRowOf rows cols events (cells_shown screen.now.state.shown r))
+        → AddsRows rows cols events page.old page.new) }
+{
+    let (rows, _) = screen.size();
+    for row in 0..rows.get() {
+        push_line(page, screen, row, look)?;
+    }
+    Ok(())
+}
+
+// Appends the controls and the markers.
+fn push_markers(page: &mut Page, events: &[Event]) -> Result<(), AllocError>
+    ensures { OnOk result (Adds page.old page.new []) }
+{
+    page.markup(Tag::PlayerControls)?;
+    for event in events {
+        push_marker(page, event)?;
+    }
+    Ok(())
+}
+
+// Appends an event, if it is a marker.
+fn push_marker(page: &mut Page, event: &Event) -> Result<(), AllocError>
+    ensures { OnOk result (Adds page.old page.new []) }
+{
+    let Change::Marker(name) = &event.change else {
+        return Ok(());
+    };
+    push_seconds(page, Tag::MarkerTime, event.time)?;
+    page.markup(Tag::MarkerName)?;
+    page.name(name.as_str())?;
+    page.markup(Tag::MarkerEnd)
+}
+
+// Appends the rows and the moments, and the script that reads them.
+fn push_strip(page: &mut Page, strip: &Strip) -> Result<(), AllocError>
+    ensures { OnOk result ((rows cols : ℕ) (events : List Event)
+        → AddsRows rows cols events [] strip.now.rows → Adds [] strip.now.moments []
+        → AddsRows rows cols events page.old page.new) }
+{
+    page.markup(Tag::PlayerTable)?;
+    page.append(&strip.rows)?;
+    page.markup(Tag::PlayerMoments)?;
+    page.append(&strip.moments)?;
+    page.markup(Tag::PlayerScript)
+}
