@@ -12,10 +12,10 @@ mod timeline;
 mod ttyrec;
 mod typescript;
 
-pub use asciicast::parse_asciicast;
+pub use asciicast::{parse_asciicast, read_asciicast};
 pub use error::RecordingError;
 pub use kind::{guess_kind, parse_recording};
-pub use recording::{Change, Event, Kind, Recording, ScreenSize};
+pub use recording::{Change, Event, Kind, Reading, Recording, ScreenSize};
 pub use theme::RecordedTheme;
 pub use time::{microseconds, parse_json, parse_seconds};
 pub use ttyrec::parse_ttyrec;
