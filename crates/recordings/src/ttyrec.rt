@@ -72,10 +72,7 @@ pub(crate) fn begins_ttyrec(bytes: &[u8]) -> bool
 }
 
 // The frames up to one that isn't whole: then it is told too where that begins.
-fn read_frames(
-    alloc: Global,
-    bytes: &[u8],
-) -> Result<(Vec<Frame<'_>>, Option<u64>), AllocError>
+fn read_frames(alloc: Global, bytes: &[u8]) -> Result<(Vec<Frame<'_>>, Option<u64>), AllocError>
     ensures { IfOk result (λ read. AreFrames bytes.now (map piece_of read.0.items) read.1) }
 {
     let mut frames = Vec::new(alloc);

@@ -153,11 +153,7 @@ fn push_step<'a>(
     }
 }
 
-fn parse_step(
-    alloc: Global,
-    shared: bool,
-    line: &[u8],
-) -> Result<Option<TimingLine>, AllocError>
+fn parse_step(alloc: Global, shared: bool, line: &[u8]) -> Result<Option<TimingLine>, AllocError>
     ensures { IfOk result (λ step. option_map step_said step ≡ step_in shared line.now) }
 {
     if is_blank(line) {
@@ -194,11 +190,7 @@ fn output_step(alloc: Global, text: &[u8]) -> Result<Option<TimingLine>, AllocEr
 }
 
 // What was typed: its bytes stand among the output if both are in one file.
-fn input_step(
-    alloc: Global,
-    shared: bool,
-    text: &[u8],
-) -> Result<Option<TimingLine>, AllocError>
+fn input_step(alloc: Global, shared: bool, text: &[u8]) -> Result<Option<TimingLine>, AllocError>
     ensures { IfOk result (λ step. option_map step_said step ≡ input_in shared text.now) }
 {
     if !shared {
@@ -270,7 +262,10 @@ fn header_in(lines: &[&[u8]], name: &[u8]) -> Option<NonZeroU16>
 fn shares_log(lines: &[&[u8]]) -> bool
     ensures { result ≡ shares_log_of (map (λ x. x.now) lines.now) }
 {
-    match (value_in(lines, b"INPUT_LOG"), value_in(lines, b"OUTPUT_LOG")) {
+    match (
+        value_in(lines, b"INPUT_LOG"),
+        value_in(lines, b"OUTPUT_LOG"),
+    ) {
         (Some(input), Some(output)) => input == output,
         _ => false,
     }
