@@ -1,17 +1,22 @@
 -- Frames of ttyrec, one after another.
 use Rattle.std.proofs.Common.{◌≡◌, ◌∙◌, ◌<◌, ◌+◌, ◌-◌, ◌^◌, ℕ, zero, suc, List, [], ◌∷◌, ◌++◌, map, length, take, drop}
 use Rattle.std.proofs.Common.{get_or, length-append, nat_le, ◌&&◌, true, false, refl, sym, ap, ap₂, subst, Some}
-use Rattle.std.proofs.Common.{append_assoc, arith}
+use Rattle.std.proofs.Common.{append_assoc, arith, Option, None}
 use Rattle.std.specs.Int.{to_le_bytes, from_le_bytes, w32}
 use Rattle.std.proofs.Math.Numerals.{add-one}
-use Rattle.std.proofs.Math.Seq.{take-suc}
+use Rattle.std.proofs.Math.Seq.{take-append_seam, take-suc}
+use Rattle.std.specs.Option.{option_map}
 use Rattle.std.proofs.lemmas.Grind.{flat_map-append}
 use Rattle.std.proofs.lemmas.List.{append-nil, get_or-map, length-map, length-take-le, map-append, take-append-drop}
 use Rattle.std.proofs.lemmas.Bool.Decides.{nat_tests}
 use Rattle.std.proofs.lemmas.Nat.{from_le_bytes-to_le_bytes_4, le_bytes_4}
-use Rattle.recordings.specs.Recorded.{Row, IsStateAfter, writes}
-use Rattle.recordings.specs.Ttyrec.{IsNoFrame, Piece, begins_with_frame, clock, piece_of, rows_after, stored}
-use Rattle.recordings.specs.Ttyrec.{stored_one}
+use Rattle.recordings.specs.Recorded.{Row, IsStateAfter, said, writes}
+use Rattle.recordings.specs.Ttyrec.{AreFrames, IsNoFrame, IsReadTtyrec, IsTtyrec, Piece, begins_with_frame, clock}
+use Rattle.recordings.specs.Ttyrec.{piece_of, rows_after, start_of, stored, stored_one}
+use Rattle.recordings.specs.declared.error.RecordingError.{RecordingError}
+use Rattle.recordings.specs.declared.error.RecordingError.TheVariants.{Byte}
+use Rattle.recordings.specs.declared.recording.Kind.TheVariants.{Ttyrec as AsTtyrec}
+use Rattle.recordings.specs.declared.recording.Recording.{Recording}
 use Rattle.recordings.specs.declared.timeline.Pace.TheVariants.{FromStart}
 use Rattle.recordings.specs.declared.timeline.Timeline.{Timeline}
 use Rattle.recordings.specs.declared.ttyrec.Frame.{Frame}
@@ -62,6 +67,34 @@ next_played frames i d start time text t lt when what state_after =
     let last = ap₂ (λ (k : ℕ) bs. rows_after start (take i (map piece_of frames)) ++ (k, Some (writes bs)) ∷ []) when
     what in
     subst (λ (rs : List Row). IsStateAfter FromStart rs t) (last ∙ sym rows) state_after
+
+-- ---- what is read up to a fault
+
+plays : (bytes : List ℕ) (pieces : List Piece) (t : Timeline) (r : Recording) → bytes ≡ stored pieces
+    → IsStateAfter FromStart (rows_after (start_of pieces) pieces) t → r.kind ≡ AsTtyrec → r.size ≡ None → r.theme ≡ None
+    → r.events ≡ t.events → r.length ≡ t.time → IsTtyrec bytes r
+plays bytes pieces t r whole state_after kind size theme events length = record {
+  pieces = pieces;
+  whole = whole;
+  kind = kind;
+  size = size;
+  theme = theme;
+  moments = ap (λ es. said es.items) events ∙ state_after.moments;
+  length = length ∙ state_after.last;
+}
+
+pub frames_read : (bytes : List ℕ) (pieces : List Piece) (cut : Option ℕ) (t : Timeline) (r : Recording)
+    (fault : Option RecordingError) → AreFrames bytes pieces cut
+    → IsStateAfter FromStart (rows_after (start_of pieces) pieces) t → r.kind ≡ AsTtyrec → r.size ≡ None → r.theme ≡ None
+    → r.events ≡ t.events → r.length ≡ t.time → fault ≡ option_map Byte cut → IsReadTtyrec bytes r fault
+frames_read bytes pieces None t r fault frames state_after kind size theme events length is =
+    subst (IsReadTtyrec bytes r) (sym is) (plays bytes pieces t r frames state_after kind size theme events length)
+frames_read bytes pieces (Some n) t r fault frames state_after kind size theme events length is =
+    let before = ap₂ (λ k bs. take k bs) frames.number frames.whole ∙ take-append_seam (stored pieces) frames.left in
+    subst (IsReadTtyrec bytes r) (sym is) (
+      (pieces, frames),
+      plays (take n bytes) pieces t r before state_after kind size theme events length,
+    )
 
 -- ---- whether the bytes begin with a frame
 

@@ -1,5 +1,5 @@
 -- Values in JSON.
-use Rattle.std.proofs.Common.{◌≡◌, ◌≢◌, ℕ, Bool, true, false, List, [], ◌∷◌, None, length, refl, ap}
+use Rattle.std.proofs.Common.{◌≡◌, ◌<◌, ℕ, Bool, true, false, List, [], ◌∷◌, None, length, refl, ap, arith}
 use Rattle.std.specs.Prelude.{if◌then◌else◌}
 use Rattle.std.specs.Str.{IsUtf8, is_utf8}
 use Rattle.std.proofs.lemmas.Str.{IsUtf8-from_is_utf8, is_utf8-from_IsUtf8}
@@ -19,10 +19,8 @@ no_json bs h = go (is_utf8 bs) refl
     go true e = absurd (h (IsUtf8-from_is_utf8 bs e))
     go false e = refl
 
--- an event has three parts
-pub not_three : (vs : List Value) → length vs ≢ 3 → row_of_items (items_view vs) ≡ None
-not_three [] h = refl
-not_three (a ∷ []) h = refl
-not_three (a ∷ b ∷ []) h = refl
-not_three (a ∷ b ∷ c ∷ []) h = absurd (h refl)
-not_three (a ∷ b ∷ c ∷ d ∷ vs) h = refl
+-- an event has two parts at least
+pub too_few : (vs : List Value) → length vs < 2 → row_of_items (items_view vs) ≡ None
+too_few [] h = refl
+too_few (a ∷ []) h = refl
+too_few (a ∷ b ∷ vs) h = absurd (omega (arith, h))

@@ -1,3 +1,4 @@
+mod CastLemmas
 mod FrameLemmas
 mod JsonLemmas
 mod LineLemmas

@@ -1,7 +1,7 @@
 -- Steps of a typescript, one after another.
 use Rattle.std.proofs.Common.{◌≡◌, ◌∙◌, ◌<◌, ◌+◌, ℕ, suc, List, [], ◌∷◌, ◌++◌, length, take, drop, get_or, refl, sym}
 use Rattle.std.proofs.Common.{ap, nat_le, ◌≤◌, ◌&&◌, ◌⊎◌, inl, inr, cond, codes, ap₂, add-one, drop-cons, Bool, true}
-use Rattle.std.proofs.Common.{false, Option, Some, None, arith}
+use Rattle.std.proofs.Common.{false, Option, Some, None, arith, subst}
 use Rattle.std.specs.Borrow.{Bor}
 use Rattle.std.specs.Prelude.{option_and_then}
 use Rattle.std.specs.Option.{option_map}
@@ -14,9 +14,17 @@ use Rattle.std.proofs.lemmas.Str.{IsUtf8-from_ascii}
 use Rattle.command_line.specs.Numbers.{count_of, size_in}
 use Rattle.command_line.proofs.NumberLemmas.{own}
 use Rattle.std.proofs.lemmas.List.{get_or-map, length-map, length-take-le}
-use Rattle.recordings.specs.Recorded.{Row, writes}
-use Rattle.recordings.specs.Typescript.{IsBadStep, event_of, events_of, gives, is_field, rest_of, side_named, taken}
-use Rattle.recordings.specs.Typescript.{word_of}
+use Rattle.recordings.specs.Lines.{lines_in}
+use Rattle.recordings.specs.Recorded.{IsStateAfter, Row, said, size_said, writes}
+use Rattle.recordings.specs.Typescript.{AreSteps, IsBadStep, IsReadScript, SaysRows, event_of, events_of, gives}
+use Rattle.recordings.specs.Typescript.{is_field, output_of, rest_of, shares_log, size_named, skips, taken}
+use Rattle.recordings.specs.Typescript.{value_named, word_of}
+use Rattle.recordings.specs.declared.error.RecordingError.{RecordingError}
+use Rattle.recordings.specs.declared.error.RecordingError.TheVariants.{Step as AStep}
+use Rattle.recordings.specs.declared.recording.Kind.TheVariants.{Script}
+use Rattle.recordings.specs.declared.recording.Recording.{Recording}
+use Rattle.recordings.specs.declared.timeline.Pace.TheVariants.{FromLast}
+use Rattle.recordings.specs.declared.timeline.Timeline.{Timeline}
 use Rattle.recordings.proofs.LineLemmas.{parts_at, taken_next, texts}
 
 abbrev Events : Type 0
@@ -43,62 +51,70 @@ row_first : (row : Row) (o : Option Events) (more : List ℕ → Option Events)
 row_first row None more = refl
 row_first row (Some p) more = one_first row p.0 (more p.1)
 
-by_event : (xs ys : List (List ℕ)) → ((l : List ℕ)
-    → events_of l (xs ++ ys) ≡ option_and_then (λ p. option_map (after_rows p.0) (events_of p.1 ys)) (events_of l xs))
+by_event : (shared : Bool) (xs ys : List (List ℕ)) → ((l : List ℕ)
+    → events_of shared l (xs ++ ys) ≡ option_and_then (λ p. option_map (after_rows p.0) (events_of shared p.1 ys))
+    (events_of shared l xs))
     → (o : Option (Row × List ℕ)) → option_and_then (λ event. option_map (after_row event.0)
-    (events_of event.1 (xs ++ ys))) o
-    ≡ option_and_then (λ p. option_map (after_rows p.0) (events_of p.1 ys))
-    (option_and_then (λ event. option_map (after_row event.0) (events_of event.1 xs)) o)
-by_event xs ys more None = refl
-by_event xs ys more (Some event) =
-    ap (option_map (after_row event.0)) (more event.1) ∙ row_first event.0 (events_of event.1 xs) (λ l. events_of l ys)
+    (events_of shared event.1 (xs ++ ys))) o
+    ≡ option_and_then (λ p. option_map (after_rows p.0) (events_of shared p.1 ys))
+    (option_and_then (λ event. option_map (after_row event.0) (events_of shared event.1 xs)) o)
+by_event shared xs ys more None = refl
+by_event shared xs ys more (Some event) =
+    ap (option_map (after_row event.0)) (more event.1)
+    ∙ row_first event.0 (events_of shared event.1 xs) (λ l. events_of shared l ys)
 
-pub events_of-append : (left : List ℕ) (xs ys : List (List ℕ))
-    → events_of left (xs ++ ys) ≡ option_and_then (λ p. option_map (after_rows p.0) (events_of p.1 ys))
-    (events_of left xs)
-events_of-append left [] ys = none_first (events_of left ys)
-events_of-append left (x ∷ xs) ys = by_event xs ys (λ l. events_of-append l xs ys) (event_of left x)
+pub events_of-append : (shared : Bool) (left : List ℕ) (xs ys : List (List ℕ))
+    → events_of shared left (xs ++ ys) ≡ option_and_then (λ p. option_map (after_rows p.0) (events_of shared p.1 ys))
+    (events_of shared left xs)
+events_of-append shared left [] ys = none_first (events_of shared left ys)
+events_of-append shared left (x ∷ xs) ys =
+    by_event shared xs ys (λ l. events_of-append shared l xs ys) (event_of shared left x)
 
 -- one line more
-pub events_of-push : (output : List ℕ) (lines : List (List ℕ)) (line : List ℕ) (rows : List Row) (left : List ℕ)
-    (row : Row)
-    (after : List ℕ) → events_of output lines ≡ Some (rows, left) → event_of left line ≡ Some (row, after)
-    → events_of output (lines ++ line ∷ []) ≡ Some (rows ++ row ∷ [], after)
-events_of-push output lines line rows left row after so_far one =
-    events_of-append output lines (line ∷ [])
-    ∙ ap (option_and_then (λ (p : Events). option_map (after_rows p.0) (events_of p.1 (line ∷ [])))) so_far
+pub events_of-push : (shared : Bool) (output : List ℕ) (lines : List (List ℕ)) (line : List ℕ) (rows : List Row)
+    (left : List ℕ) (row : Row)
+    (after : List ℕ) → events_of shared output lines ≡ Some (rows, left) → event_of shared left line ≡ Some (row, after)
+    → events_of shared output (lines ++ line ∷ []) ≡ Some (rows ++ row ∷ [], after)
+events_of-push shared output lines line rows left row after so_far one =
+    events_of-append shared output lines (line ∷ [])
+    ∙ ap (option_and_then (λ (p : Events). option_map (after_rows p.0) (events_of shared p.1 (line ∷ [])))) so_far
     ∙ ap (λ (o : Option (Row × List ℕ)). option_map (after_rows rows)
-    (option_and_then (λ event. option_map (after_row event.0) (events_of event.1 [])) o)) one
+    (option_and_then (λ event. option_map (after_row event.0) (events_of shared event.1 [])) o)) one
 
 -- the first line that is no step
-pub bad_step : (output : List ℕ) (lines : List (Bor (List ℕ))) (i n : ℕ) (d : Bor (List ℕ)) (rows : List Row)
-    (left : List ℕ)
-    → i < length lines → n ≡ i + 1 → events_of output (take i (texts lines)) ≡ Some (rows, left)
-    → event_of left (get_or lines i d).now ≡ None → IsBadStep output (texts lines) n
-bad_step output lines i n d rows left lt number fine ill =
+pub stopped : (shared : Bool) (output : List ℕ) (lines : List (Bor (List ℕ))) (i n : ℕ) (d : Bor (List ℕ))
+    (rows : List Row)
+    (left : List ℕ) (t : Timeline)
+    → i < length lines → n ≡ i + 1 → events_of shared output (take i (texts lines)) ≡ Some (rows, left)
+    → event_of shared left (get_or lines i d).now ≡ None → IsStateAfter FromLast rows t
+    → AreSteps shared output (texts lines) t (Some n)
+stopped shared output lines i n d rows left t lt number fine ill state_after =
     let m = length-map lines (λ (x : Bor (List ℕ)). x.now) in
-    let k = length-take-le i (texts lines) (omega (arith, m)) in
-    record {
-      before = take i (texts lines);
-      line = (get_or lines i d).now;
-      after = drop (suc i) (texts lines);
-      parts = parts_at lines i d lt;
-      number = omega (arith, k);
-      rows = rows;
-      left = left;
-      fine = fine;
-      ill = ill;
-    }
+    let k = length-take-le i (texts lines) (omega (arith, m)) in (
+      record {
+        before = take i (texts lines);
+        line = (get_or lines i d).now;
+        after = drop (suc i) (texts lines);
+        parts = parts_at lines i d lt;
+        number = omega (arith, k);
+        rows = rows;
+        left = left;
+        fine = fine;
+        ill = ill;
+      },
+      state_after,
+    )
 
 -- one more line of those that are lent
-pub next_step : (output : List ℕ) (lines : List (Bor (List ℕ))) (i : ℕ) (d : Bor (List ℕ)) (rows : List Row)
+pub next_step : (shared : Bool) (output : List ℕ) (lines : List (Bor (List ℕ))) (i : ℕ) (d : Bor (List ℕ))
+    (rows : List Row)
     (left : List ℕ) (row : Row)
-    (after : List ℕ) → i < length lines → events_of output (take i (texts lines)) ≡ Some (rows, left)
-    → event_of left (get_or lines i d).now ≡ Some (row, after)
-    → events_of output (take (i + 1) (texts lines)) ≡ Some (rows ++ row ∷ [], after)
-next_step output lines i d rows left row after lt so_far one =
-    ap (events_of output) (taken_next lines i d lt)
-    ∙ events_of-push output (take i (texts lines)) (get_or lines i d).now rows left row after so_far one
+    (after : List ℕ) → i < length lines → events_of shared output (take i (texts lines)) ≡ Some (rows, left)
+    → event_of shared left (get_or lines i d).now ≡ Some (row, after)
+    → events_of shared output (take (i + 1) (texts lines)) ≡ Some (rows ++ row ∷ [], after)
+next_step shared output lines i d rows left row after lt so_far one =
+    ap (events_of shared output) (taken_next lines i d lt)
+    ∙ events_of-push shared output (take i (texts lines)) (get_or lines i d).now rows left row after so_far one
 
 -- the bytes of an output
 pub bytes_taken : (left bytes after : List ℕ) (time count : ℕ) → count ≤ length left → bytes ≡ take count left → after
@@ -107,6 +123,54 @@ pub bytes_taken : (left bytes after : List ℕ) (time count : ℕ) → count ≤
 bytes_taken left bytes after time count le is rest =
     let whole : nat_le count (length left) ≡ true = grind (arith, nat_tests) in
     rw (whole, is, rest) refl
+
+pub bytes_skipped : (left after : List ℕ) (time count : ℕ) → count ≤ length left → after ≡ drop count left
+    → taken left (skips time count) ≡ Some ((time, None), after)
+bytes_skipped left after time count le rest =
+    let whole : nat_le count (length left) ≡ true = grind (arith, nat_tests) in
+    rw (whole, rest) refl
+
+-- ---- what is read up to a fault
+
+says_rows : (timing : List ℕ) (rows : List Row) (t : Timeline) (r : Recording) → IsStateAfter FromLast rows t
+    → r.kind ≡ Script → option_map size_said r.size ≡ size_named (lines_in timing) → r.theme ≡ None
+    → r.events ≡ t.events → r.length ≡ t.time → SaysRows timing rows r
+says_rows timing rows t r state_after kind size theme events end = record {
+  kind = kind;
+  size = size;
+  theme = theme;
+  moments = ap (λ es. said es.items) events ∙ state_after.moments;
+  length = end ∙ state_after.last;
+}
+
+read_by : (typescript timing : List ℕ) (t : Timeline) (n : Option ℕ) (r : Recording)
+    → AreSteps (shares_log (lines_in timing)) (output_of typescript) (lines_in timing) t n
+    → r.kind ≡ Script → option_map size_said r.size ≡ size_named (lines_in timing) → r.theme ≡ None
+    → r.events ≡ t.events → r.length ≡ t.time → IsReadScript typescript timing r (option_map AStep n)
+read_by typescript timing t None r read kind size theme events end = record {
+  rows = read.0;
+  left = read.1;
+  steps = read.2;
+  says = says_rows timing read.0 t r read.3 kind size theme events end;
+}
+read_by typescript timing t (Some n) r read kind size theme events end = (
+  read.0,
+  says_rows timing read.0.rows t r read.1 kind size theme events end,
+)
+
+pub steps_read : (typescript timing output : List ℕ) (shared : Bool) (lines : List (List ℕ)) (t : Timeline)
+    (n : Option ℕ) (r : Recording) (fault : Option RecordingError) → output ≡ output_of typescript
+    → lines ≡ lines_in timing → shared ≡ shares_log lines → AreSteps shared output lines t n → r.kind ≡ Script
+    → option_map size_said r.size ≡ size_named lines → r.theme ≡ None
+    → r.events ≡ t.events → r.length ≡ t.time → fault ≡ option_map AStep n → IsReadScript typescript timing r fault
+steps_read typescript timing output shared lines t n r fault output_is lines_is shared_is read kind size theme events
+    end is =
+    let by_output = subst (λ (o : List ℕ). AreSteps shared o lines t n) output_is read in
+    let by_shared = subst (λ (b : Bool). AreSteps b (output_of typescript) lines t n) shared_is by_output in
+    let by_lines = subst (λ (ls : List (List ℕ)). AreSteps (shares_log ls) (output_of typescript) ls t n) lines_is
+    by_shared in
+    subst (λ (o : Option RecordingError). IsReadScript typescript timing r o) (sym is)
+    (read_by typescript timing t n r by_lines kind (size ∙ ap size_named lines_is) theme events end)
 
 -- words that aren't UTF-8 are no numbers
 digits_are_text : (word : List ℕ) → all_ascii_digits word ≡ true → IsUtf8 word
@@ -141,11 +205,11 @@ one a b (inl p) = rw p refl
 one true b (inr q) = q
 one false b (inr q) = refl
 
-abbrev value_in : List ℕ → Option ℕ
-value_in line = size_in (rest_of (rest_of (rest_of line)))
+abbrev value_of : List ℕ → List ℕ
+value_of line = rest_of (rest_of (rest_of line))
 
-abbrev found_in : List ℕ → List (List ℕ) → Option ℕ
-found_in name lines = option_and_then value_in (find (is_field name) lines)
+abbrev found_in : List ℕ → List (List ℕ) → Option (List ℕ)
+found_in name lines = option_map value_of (find (is_field name) lines)
 
 parted : (lines : List (Bor (List ℕ))) (i : ℕ) (d : Bor (List ℕ)) → i < length lines
     → drop i (texts lines) ≡ (get_or lines i d).now ∷ drop (i + 1) (texts lines)
@@ -160,7 +224,7 @@ pub field_at : (name : List ℕ) (lines : List (Bor (List ℕ))) (i : ℕ) (d : 
     → first ≡ word_of (get_or lines i d).now → rest ≡ rest_of (get_or lines i d).now → field ≡ rest_of rest → found
     ≡ word_of field
     → value ≡ rest_of field → i < length lines → bytes_eq first (codes "H") ≡ true → bytes_eq found name ≡ true
-    → side_named name (drop i (texts lines)) ≡ size_in value
+    → value_named name (drop i (texts lines)) ≡ Some value
 field_at name lines i d first rest field found value a b e f g lt p q =
     let line = (get_or lines i d).now in
     let third : field ≡ rest_of (rest_of line) = e ∙ ap rest_of b in
@@ -168,15 +232,15 @@ field_at name lines i d first rest field found value a b e f g lt p q =
     (bytes_eq (word_of (rest_of (rest_of line))) name)
     (ap (λ w. bytes_eq w (codes "H")) (sym a) ∙ p) (ap (λ w. bytes_eq w name) (sym (f ∙ ap word_of third)) ∙ q) in
     ap (found_in name) (parted lines i d lt)
-    ∙ ap (λ h. option_and_then value_in (cond h (Some line) (find (is_field name) (drop (i + 1) (texts lines))))) hit
-    ∙ ap size_in (sym (g ∙ ap rest_of third))
+    ∙ ap (λ h. option_map value_of (cond h (Some line) (find (is_field name) (drop (i + 1) (texts lines))))) hit
+    ∙ ap (λ v. Some v) (sym (g ∙ ap rest_of third))
 
 pub field_not_at : (name : List ℕ) (lines : List (Bor (List ℕ))) (i : ℕ) (d : Bor (List ℕ))
     (first rest field found : List ℕ)
     → first ≡ word_of (get_or lines i d).now → rest ≡ rest_of (get_or lines i d).now → field ≡ rest_of rest → found
     ≡ word_of field
     → i < length lines → (bytes_eq first (codes "H") ≡ false) ⊎ (bytes_eq found name ≡ false)
-    → side_named name (drop i (texts lines)) ≡ side_named name (drop (i + 1) (texts lines))
+    → value_named name (drop i (texts lines)) ≡ value_named name (drop (i + 1) (texts lines))
 field_not_at name lines i d first rest field found a b e f lt other =
     let line = (get_or lines i d).now in
     let third : field ≡ rest_of (rest_of line) = e ∙ ap rest_of b in
@@ -185,4 +249,4 @@ field_not_at name lines i d first rest field found a b e f lt other =
     (⊎_elim (λ p. inl (ap (λ w. bytes_eq w (codes "H")) (sym a) ∙ p))
     (λ q. inr (ap (λ w. bytes_eq w name) (sym (f ∙ ap word_of third)) ∙ q)) other) in
     ap (found_in name) (parted lines i d lt)
-    ∙ ap (λ h. option_and_then value_in (cond h (Some line) (find (is_field name) (drop (i + 1) (texts lines))))) miss
+    ∙ ap (λ h. option_map value_of (cond h (Some line) (find (is_field name) (drop (i + 1) (texts lines))))) miss

@@ -9,8 +9,9 @@ use Rattle.std.specs.Str.{bytes_eq}
 use Rattle.serde_json.specs.Data.{Data, Items, item, no_items}
 use Rattle.serde_json.specs.Find.{as_array, as_number, as_str, as_u64, get}
 use Rattle.command_line.specs.Numbers.{size_in}
-use Rattle.recordings.specs.Lines.{first_line, lines_in}
-use Rattle.recordings.specs.Recorded.{Deed, Row, deed_of, ended, marks, resizes, said, size_said, reported, writes}
+use Rattle.recordings.specs.Lines.{first_line, lines_in, unmarked}
+use Rattle.recordings.specs.Recorded.{Deed, IsStateAfter, Row, deed_of, ended, marks, resizes, said, size_said}
+use Rattle.recordings.specs.Recorded.{reported, writes}
 use Rattle.recordings.specs.Themes.{theme_in, theme_reported}
 use Rattle.recordings.specs.Times.{json_in, time_of}
 use Rattle.recordings.specs.declared.asciicast.Entry.{Entry}
@@ -22,6 +23,7 @@ use Rattle.recordings.specs.declared.recording.Kind.TheVariants.{Asciicast as As
 use Rattle.recordings.specs.declared.recording.Recording.{Recording}
 use Rattle.recordings.specs.declared.timeline.Pace.{Pace}
 use Rattle.recordings.specs.declared.timeline.Pace.TheVariants.{FromStart, FromLast}
+use Rattle.recordings.specs.declared.timeline.Timeline.{Timeline}
 
 -- ---- the header
 
@@ -66,21 +68,27 @@ resize_in text =
     else option_and_then (λ cols. option_map (λ rows. (rows, cols)) (size_in (after_first (λ b. b == 0x78) text)))
     (size_in (before_first (λ b. b == 0x78) text))
 
--- what an event of this code does with this text; other codes are of no account to a screen or a reader
-abbrev pub deed_in : List ℕ → List ℕ → Option (Option Deed)
+-- what an event of this code does with its text; other codes are of no account to a screen or a reader, and need none
+abbrev pub deed_in : List ℕ → Option (List ℕ) → Option (Option Deed)
 deed_in code text =
-    if bytes_eq code (codes "o") then Some (Some (writes text))
-    else (if bytes_eq code (codes "m") then Some (Some (marks text))
-    else (if bytes_eq code (codes "r") then option_map (λ size. Some (resizes size.0 size.1)) (resize_in text)
+    if bytes_eq code (codes "o") then option_map (λ bytes. Some (writes bytes)) text
+    else (if bytes_eq code (codes "m") then option_map (λ name. Some (marks name)) text
+    else (if bytes_eq code (codes "r") then option_map (λ size. Some (resizes size.0 size.1))
+    (option_and_then resize_in text)
     else Some None))
 
 abbrev pub row_of_parts : Option ℕ → Option (List ℕ) → Option (List ℕ) → Option Row
-row_of_parts (Some time) (Some code) (Some text) = option_map (λ deed. (time, deed)) (deed_in code text)
+row_of_parts (Some time) (Some code) text = option_map (λ deed. (time, deed)) (deed_in code text)
 row_of_parts _ _ _ = None
 
--- `[TIME, CODE, TEXT]`
+-- the first value, if it is a text
+abbrev pub text_in : Items → Option (List ℕ)
+text_in (item text more) = as_str text
+text_in no_items = None
+
+-- `[TIME, CODE, TEXT]`; what follows is of no account
 abbrev pub row_of_items : Items → Option Row
-row_of_items (item time (item code (item text no_items))) = row_of_parts (time_of time) (as_str code) (as_str text)
+row_of_items (item time (item code more)) = row_of_parts (time_of time) (as_str code) (text_in more)
 row_of_items _ = None
 
 abbrev pub row_in : Data → Option (List Row)
@@ -115,9 +123,15 @@ pub record Says (header : Pace × (ℕ × ℕ)) (colors : Option (List ℕ)) (li
     pub moments : said r.events.items ≡ reported header.0 0 (rows_of header.0 lines)
     pub length : r.length ≡ ended header.0 0 (rows_of header.0 lines)
 
+-- the line of the header, and the lines after it
+abbrev pub head : List ℕ → List ℕ
+head text = first_line (unmarked text)
+
+abbrev pub body : List ℕ → List (List ℕ)
+body text = drop 1 (lines_in (unmarked text))
+
 abbrev pub IsAsciicast : List ℕ → Recording → Type 0
-IsAsciicast text r = IsSomeAnd (header_in (first_line text)) (λ header. Says header (theme_said (first_line text))
-    (drop 1 (lines_in text)) r)
+IsAsciicast text r = IsSomeAnd (header_in (head text)) (λ header. Says header (theme_said (head text)) (body text) r)
 
 -- the first line that is no event, counted from 1 for the header
 pub record IsBadLine (pace : Pace) (lines : List (List ℕ)) (n : ℕ) : Type 0 where
@@ -137,15 +151,37 @@ IsFaultIn pace lines _ = ⊥
 
 -- why a text isn't read: it has no header, or a line after that is no event
 abbrev pub IsFault : List ℕ → RecordingError → Type 0
-IsFault text error.Header = header_in (first_line text) ≡ None
-IsFault text e = IsSomeAnd (header_in (first_line text)) (λ header. IsFaultIn header.0 (drop 1 (lines_in text)) e)
-    ⊎ (e ≡ error.Memory)
+IsFault text error.Header = header_in (head text) ≡ None
+IsFault text e = IsSomeAnd (header_in (head text)) (λ header. IsFaultIn header.0 (body text) e) ⊎ (e ≡ error.Memory)
+
+-- ---- up to a fault
+
+-- what is read of lines: what all of them say, or what those before the first say that is no event
+abbrev pub AreRead : Pace → List (List ℕ) → Timeline → Option ℕ → Type 0
+AreRead pace lines t None = AreEvents pace lines × IsStateAfter pace (rows_of pace lines) t
+AreRead pace lines t (Some n) = (bad : IsBadLine pace lines n) × IsStateAfter pace (rows_of pace bad.before) t
+
+-- what is read of the lines after a header: with a fault what the lines before it say
+abbrev pub IsReadOf : Pace × (ℕ × ℕ) → Option (List ℕ) → List (List ℕ) → Recording → Option RecordingError → Type 0
+IsReadOf header colors lines r None = Says header colors lines r
+IsReadOf header colors lines r (Some (error.Line n)) =
+    (bad : IsBadLine header.0 lines n) × Says header colors bad.before r
+IsReadOf header colors lines r _ = ⊥
+
+abbrev pub IsReadCast : List ℕ → Recording → Option RecordingError → Type 0
+IsReadCast text r fault =
+    IsSomeAnd (header_in (head text)) (λ header. IsReadOf header (theme_said (head text)) (body text) r fault)
+
+-- why nothing is read
+abbrev pub IsUnreadCast : List ℕ → RecordingError → Type 0
+IsUnreadCast text error.Header = header_in (head text) ≡ None
+IsUnreadCast text e = e ≡ error.Memory
 
 -- ---- its kind
 
 -- the first line is an object that has a version
 abbrev pub is_header : List ℕ → Bool
-is_header text = is_some (option_and_then (get (codes "version")) (json_in (first_line text)))
+is_header text = is_some (option_and_then (get (codes "version")) (json_in (head text)))
 
 abbrev pub entry_said : Entry → Option (List Row)
 entry_said entry.Blank = Some []

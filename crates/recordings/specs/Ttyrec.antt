@@ -1,6 +1,6 @@
 -- Ttyrecs: frames with a header of 12 bytes each.
 use Rattle.std.specs.Prelude.{◌≡◌, ℕ, ◌+◌, ◌-◌, ◌*◌, ◌<◌, nat_le, ◌&&◌, Bool, List, [], ◌∷◌, ◌++◌, map, take, drop}
-use Rattle.std.specs.Prelude.{length, Some, None, ◌⊎◌}
+use Rattle.std.specs.Prelude.{length, Option, Some, None, ◌⊎◌}
 use Rattle.std.specs.Int.{to_le_bytes, from_le_bytes, w32}
 use Rattle.std.specs.List.{flat_map}
 use Rattle.recordings.specs.Recorded.{Row, ended, said, reported, writes}
@@ -53,17 +53,30 @@ pub record IsTtyrec (bytes : List ℕ) (r : Recording) : Type 0 where
 abbrev pub IsNoFrame : List ℕ → Type 0
 IsNoFrame bytes = (length bytes < 12) ⊎ (length bytes < 12 + from_le_bytes w32 (take 4 (drop 8 bytes)))
 
--- frames, and then, from byte n on, what begins with none
-pub record IsCutAt (bytes : List ℕ) (n : ℕ) : Type 0 where
-  pub pieces : List Piece
+-- these frames, and then, from byte n on, what begins with none
+pub record IsCutAfter (pieces : List Piece) (bytes : List ℕ) (n : ℕ) : Type 0 where
   pub left : List ℕ
   pub whole : bytes ≡ stored pieces ++ left
   pub number : n ≡ length (stored pieces)
   pub none : IsNoFrame left
 
+abbrev pub IsCutAt : List ℕ → ℕ → Type 0
+IsCutAt bytes n = (pieces : List Piece) × IsCutAfter pieces bytes n
+
 abbrev pub IsCut : List ℕ → RecordingError → Type 0
 IsCut bytes (error.Byte n) = IsCutAt bytes n
 IsCut bytes _ = ⊥
+
+-- the frames of the bytes: all, or those before the first that isn't whole
+abbrev pub AreFrames : List ℕ → List Piece → Option ℕ → Type 0
+AreFrames bytes pieces None = bytes ≡ stored pieces
+AreFrames bytes pieces (Some n) = IsCutAfter pieces bytes n
+
+-- what is read: with a fault what the bytes before it say
+abbrev pub IsReadTtyrec : List ℕ → Recording → Option RecordingError → Type 0
+IsReadTtyrec bytes r None = IsTtyrec bytes r
+IsReadTtyrec bytes r (Some (error.Byte n)) = IsCutAt bytes n × IsTtyrec (take n bytes) r
+IsReadTtyrec bytes r _ = ⊥
 
 -- a whole frame that isn't empty, and whose microseconds are less than a second
 abbrev pub begins_with_frame : List ℕ → Bool

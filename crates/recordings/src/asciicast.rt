@@ -1,19 +1,20 @@
 //! Asciicasts: a header and an event a line, each a value in JSON.
 
-ghost use Rattle.std.specs.Prelude.{◌≡◌, ◌++◌, ◌+◌, ◌^◌, ◌<◌, ◌⊎◌, ◌==◌, [], List, map, drop, length, true, None};
+ghost use Rattle.std.specs.Prelude.{◌≡◌, ◌++◌, ◌+◌, ◌^◌, ◌<◌, ◌==◌, [], List, map, drop, length, None, Some};
 ghost use Rattle.std.specs.Prelude.{is_some, unwrap_or, slice_index, IfOk, IfErr, IfSome, OnOk};
-ghost use Rattle.serde_json.specs.View.{view};
+ghost use Rattle.serde_json.specs.View.{items_view, view};
 ghost use Rattle.std.specs.Option.{option_map};
 ghost use Rattle.recordings.specs.Recorded.{Row, IsStateAfter, deed_of, size_said};
-ghost use Rattle.recordings.specs.Asciicast.{AreEvents, IsAsciicast, IsFault, IsFaultIn, comments, deed_in, entry_said};
-ghost use Rattle.recordings.specs.Asciicast.{header_in, header_of as header_of_data, header_said, is_header, resize_in};
-ghost use Rattle.recordings.specs.Asciicast.{row_in, rows_in, rows_of, side_in, sides_in, theme_said};
+ghost use Rattle.recordings.specs.Asciicast.{AreRead, IsAsciicast, IsFault, IsReadCast, IsUnreadCast, comments, deed_in};
+ghost use Rattle.recordings.specs.Asciicast.{entry_said, header_in, header_of as header_of_data, header_said};
+ghost use Rattle.recordings.specs.Asciicast.{is_header, resize_in, row_in, rows_in, side_in, sides_in, text_in};
+ghost use Rattle.recordings.specs.Asciicast.{theme_said};
+ghost use Rattle.recordings.specs.declared.error.RecordingError.TheVariants.{Line};
 ghost use Rattle.recordings.specs.Themes.{theme_in as theme_in_data, theme_reported};
-ghost use Rattle.recordings.specs.declared.error.RecordingError.TheVariants.{Line, Memory};
 
 use crate::error::RecordingError;
-use crate::lines::{first_line, is_blank, lines_of};
-use crate::recording::{Change, Kind, Recording, ScreenSize};
+use crate::lines::{first_line, is_blank, lines_of, unmarked};
+use crate::recording::{Change, Kind, Reading, Recording, ScreenSize};
 use crate::theme::{RecordedTheme, theme_in};
 use crate::time::{microseconds, parse_json};
 use crate::timeline::{Pace, Timeline};
@@ -27,25 +28,56 @@ pub fn parse_asciicast(alloc: Global, text: &[u8]) -> Result<Recording, Recordin
     ensures recording { IfOk result (IsAsciicast text.now) }
     ensures fault { IfErr result (IsFault text.now) }
 {
+    read_asciicast(alloc, text)?.whole()
+}
+
+/// Reads an asciicast of version 2 or 3 up to the first line that is no event.
+pub fn read_asciicast(alloc: Global, text: &[u8]) -> Result<Reading, RecordingError>
+    ensures reading { IfOk result (λ r. IsReadCast text.now r.recording r.fault) }
+    ensures fault { IfErr result (IsUnreadCast text.now) }
+{
+    let text = unmarked(text);
     let Some(header) = parse_header(alloc, first_line(text))? else {
         return Err(RecordingError::Header);
     };
     let lines = lines_of(alloc, text)?;
-    let timeline = read_lines(alloc, header.pace, &lines[1..])?;
-    Ok(Recording {
-        kind: Kind::Asciicast,
-        size: Some(header.size),
-        theme: header.theme,
-        events: timeline.events,
-        length: timeline.time,
+    let (timeline, fault) = read_lines(alloc, header.pace, later(&lines))?;
+    Ok(Reading {
+        recording: Recording {
+            kind: Kind::Asciicast,
+            size: Some(header.size),
+            theme: header.theme,
+            events: timeline.events,
+            length: timeline.time,
+        },
+        fault: line_fault(fault),
     })
+}
+
+// The lines after the first.
+fn later<'a, 'b>(lines: &'b [&'a [u8]]) -> &'b [&'a [u8]]
+    requires { 0 < length lines.now }
+    ensures lines { map (λ x. x.now) result.now ≡ drop 1 (map (λ x. x.now) lines.now) }
+    ensures fewer { length result.now < length lines.now }
+{
+    &lines[1..]
+}
+
+// The fault of this line, if there is one.
+fn line_fault(line: Option<u64>) -> Option<RecordingError>
+    ensures { result ≡ option_map Line line }
+{
+    match line {
+        Some(line) => Some(RecordingError::Line(line)),
+        None => None,
+    }
 }
 
 /// Whether a text begins with an object in JSON that has a version.
 pub(crate) fn begins_asciicast(alloc: Global, text: &[u8]) -> Result<bool, AllocError>
     ensures { IfOk result (λ begins. begins ≡ is_header text.now) }
 {
-    match parse_json(alloc, first_line(text))? {
+    match parse_json(alloc, first_line(unmarked(text)))? {
         Some(header) => Ok(header.get("version").is_some()),
         None => Ok(false),
     }
@@ -108,41 +140,45 @@ fn side(object: &Value, name: &str) -> Option<NonZeroU16>
     }
 }
 
-// The events in the lines after the first.
-fn read_lines(alloc: Global, pace: Pace, lines: &[&[u8]]) -> Result<Timeline, RecordingError>
+// The events in the lines after the first, up to one that is none: then its number is told too.
+fn read_lines(
+    alloc: Global,
+    pace: Pace,
+    lines: &[&[u8]],
+) -> Result<(Timeline, Option<u64>), AllocError>
     requires { length lines.now + 1 < 2 ^ 64 }
-    ensures events { IfOk result (λ t. AreEvents pace (map (λ x. x.now) lines.now)
-        × IsStateAfter pace (rows_of pace (map (λ x. x.now) lines.now)) t) }
-    ensures fault { IfErr result (IsFaultIn pace (map (λ x. x.now) lines.now)) }
+    ensures { IfOk result (λ read. AreRead pace (map (λ x. x.now) lines.now) read.0 read.1) }
 {
     let mut timeline = Timeline::new(alloc, pace);
     let mut number: u64 = 1;
     for line in lines {
         number += 1;
-        push_line(alloc, &mut timeline, pace, line, number)?;
+        if !push_line(alloc, &mut timeline, pace, line)? {
+            return Ok((timeline, Some(number)));
+        }
     }
-    Ok(timeline)
+    Ok((timeline, None))
 }
 
-// Appends the event in a line, if it has one.
+// Appends the event in a line, if it has one. Answers whether the line makes sense.
 fn push_line(
     alloc: Global,
     timeline: &mut Timeline,
     pace: Pace,
     line: &[u8],
-    number: u64,
-) -> Result<(), RecordingError>
-    ensures event { OnOk result (is_some (rows_in pace line.now) ≡ true) }
+) -> Result<bool, AllocError>
+    ensures event { IfOk result (λ fine. fine ≡ is_some (rows_in pace line.now)) }
     ensures pushed { OnOk result ((rows : List Row) → IsStateAfter pace rows timeline.old
         → IsStateAfter pace (rows ++ unwrap_or (rows_in pace line.now) []) timeline.new) }
-    ensures fault { IfErr result (λ e. (e ≡ Memory) ⊎ ((e ≡ Line number) × (rows_in pace line.now ≡ None))) }
 {
     match parse_line(alloc, pace, line)? {
-        Entry::Blank => {}
-        Entry::Row(time, change) => timeline.push(time, change)?,
-        Entry::Fault => return Err(RecordingError::Line(number)),
+        Entry::Blank => Ok(true),
+        Entry::Row(time, change) => {
+            timeline.push(time, change)?;
+            Ok(true)
+        }
+        Entry::Fault => Ok(false),
     }
-    Ok(())
 }
 
 /// What a line of an asciicast is.
@@ -178,29 +214,58 @@ fn is_comment(pace: Pace, line: &[u8]) -> bool
     }
 }
 
-// Reads `[TIME, CODE, DATA]`.
+// Reads `[TIME, CODE, TEXT]`. What follows is passed over.
 fn parse_event(alloc: Global, value: &Value) -> Result<Entry, AllocError>
     ensures { IfOk result (λ entry. entry_said entry ≡ row_in (view value.now)) }
 {
     let Some(parts) = value.as_array() else {
         return Ok(Entry::Fault);
     };
-    let [time, code, text] = parts.as_slice() else {
+    let [time, code, rest @ ..] = parts.as_slice() else {
         return Ok(Entry::Fault);
     };
-    let (Some(time), Some(code), Some(text)) = (microseconds(time), code.as_str(), text.as_str())
-    else {
+    let (Some(time), Some(code)) = (microseconds(time), code.as_str()) else {
         return Ok(Entry::Fault);
     };
-    match parse_change(alloc, code, text)? {
+    match parse_change(alloc, code, first_text(rest))? {
         Some(change) => Ok(Entry::Row(time, change)),
         None => Ok(Entry::Fault),
     }
 }
 
+// The first of the values, if it is a text.
+fn first_text(values: &[Value]) -> Option<&str>
+    ensures { option_map (λ text. text.now) result ≡ text_in (items_view values.now) }
+{
+    values.first()?.as_str()
+}
+
 // What an event does: nothing to a screen or a reader where its code is another.
-fn parse_change(alloc: Global, code: &str, text: &str) -> Result<Option<Option<Change>>, AllocError>
-    ensures { IfOk result (λ change. option_map (option_map deed_of) change ≡ deed_in code.now text.now) }
+fn parse_change(
+    alloc: Global,
+    code: &str,
+    text: Option<&str>,
+) -> Result<Option<Option<Change>>, AllocError>
+    ensures { IfOk result (λ change. option_map (option_map deed_of) change
+        ≡ deed_in code.now (option_map (λ t. t.now) text.entry)) }
+{
+    match text {
+        Some(text) => change_with(alloc, code, text),
+        None => Ok(change_without_text(code)),
+    }
+}
+
+fn change_without_text(code: &str) -> Option<Option<Change>>
+    ensures { option_map (option_map deed_of) result ≡ deed_in code.now None }
+{
+    match code {
+        "o" | "m" | "r" => None,
+        _ => Some(None),
+    }
+}
+
+fn change_with(alloc: Global, code: &str, text: &str) -> Result<Option<Option<Change>>, AllocError>
+    ensures { IfOk result (λ change. option_map (option_map deed_of) change ≡ deed_in code.now (Some text.now)) }
 {
     match code {
         "o" => Ok(Some(Some(Change::Output(text.as_bytes().to_vec(alloc)?)))),

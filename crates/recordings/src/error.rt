@@ -7,6 +7,19 @@ use std::alloc::{AllocError, AllocFailed};
 use std::error::Error;
 use std::fmt;
 
+/// A program that compresses files.
+#[derive(Clone, Copy, Debug, PartialEq, Eq)]
+pub enum Packer {
+    /// `gzip`.
+    Gzip,
+    /// `bzip2`.
+    Bzip2,
+    /// `xz`.
+    Xz,
+    /// `zstd`.
+    Zstd,
+}
+
 /// Why a recording isn't read. Lines are counted from 1, bytes from 0.
 #[derive(Clone, Copy, Debug, PartialEq, Eq)]
 pub enum RecordingError {
@@ -22,6 +35,8 @@ pub enum RecordingError {
     Step(u64),
     /// A typescript has no timing file.
     NoTiming,
+    /// The first bytes are those of a file that this program has compressed.
+    Packed(Packer),
 }
 
 impl fmt::Display for RecordingError {
@@ -43,6 +58,18 @@ impl fmt::Display for RecordingError {
             }
             RecordingError::NoTiming => {
                 write!(f, "a typescript needs its timing file: --timing FILE")
+            }
+            RecordingError::Packed(Packer::Gzip) => {
+                write!(f, "compressed by gzip: use `zcat FILE |`")
+            }
+            RecordingError::Packed(Packer::Bzip2) => {
+                write!(f, "compressed by bzip2: use `bzcat FILE |`")
+            }
+            RecordingError::Packed(Packer::Xz) => {
+                write!(f, "compressed by xz: use `xzcat FILE |`")
+            }
+            RecordingError::Packed(Packer::Zstd) => {
+                write!(f, "compressed by zstd: use `zstdcat FILE |`")
             }
         }
     }

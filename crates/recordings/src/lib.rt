@@ -12,11 +12,11 @@ mod timeline;
 mod ttyrec;
 mod typescript;
 
-pub use asciicast::parse_asciicast;
-pub use error::RecordingError;
-pub use kind::{guess_kind, parse_recording};
-pub use recording::{Change, Event, Kind, Recording, ScreenSize};
+pub use asciicast::{parse_asciicast, read_asciicast};
+pub use error::{Packer, RecordingError};
+pub use kind::{guess_kind, packer_of, parse_recording, read_recording};
+pub use recording::{Change, Event, Kind, Reading, Recording, ScreenSize};
 pub use theme::RecordedTheme;
 pub use time::{microseconds, parse_json, parse_seconds};
-pub use ttyrec::parse_ttyrec;
-pub use typescript::parse_typescript;
+pub use ttyrec::{parse_ttyrec, read_ttyrec};
+pub use typescript::{parse_typescript, read_typescript};

@@ -3,9 +3,19 @@
 ghost use Rattle.std.specs.Prelude.{◌≡◌, ◌<◌, length, map, IfOk};
 ghost use Rattle.std.specs.List.{list_all};
 ghost use Rattle.std.specs.Char.{is_ascii_whitespace};
-ghost use Rattle.recordings.specs.Lines.{first_line as first_line_in, lines_in};
+ghost use Rattle.recordings.specs.Lines.{first_line as first_line_in, lines_in, unmarked as unmarked_text};
 
 use std::alloc::{AllocError, Global};
+
+/// A text without the byte order mark that some editors put before it.
+pub(crate) fn unmarked(text: &[u8]) -> &[u8]
+    ensures { result.now ≡ unmarked_text text.now }
+{
+    match text.strip_prefix(&[0xEF, 0xBB, 0xBF]) {
+        Some(rest) => rest,
+        None => text,
+    }
+}
 
 /// The parts between the newlines.
 pub(crate) fn lines_of(alloc: Global, text: &[u8]) -> Result<Vec<&[u8]>, AllocError>

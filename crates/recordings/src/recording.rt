@@ -1,8 +1,9 @@
 //! Recordings of what a program writes to its terminal.
 
-ghost use Rattle.std.specs.Prelude.{◌≡◌, Some};
+ghost use Rattle.std.specs.Prelude.{◌≡◌, IfErr, IfOk, None, Some};
 ghost use Rattle.recordings.specs.Kinds.{kind_named};
 
+use crate::error::RecordingError;
 use crate::theme::RecordedTheme;
 use std::num::NonZeroU16;
 
@@ -71,6 +72,28 @@ impl Kind {
             "ttyrec" => Some(Kind::Ttyrec),
             "raw" => Some(Kind::Raw),
             _ => None,
+        }
+    }
+}
+
+/// What is read of a recording that may have been cut, or may stop making sense.
+#[derive(Drop)]
+pub struct Reading {
+    /// What is recorded up to the first fault.
+    pub recording: Recording,
+    /// The first fault, if there is one.
+    pub fault: Option<RecordingError>,
+}
+
+impl Reading {
+    /// The recording, if all of it was read.
+    pub fn whole(self) -> Result<Recording, RecordingError>
+        ensures recording { IfOk result (λ r. (r ≡ self.recording) × (self.fault ≡ None)) }
+        ensures fault { IfErr result (λ e. self.fault ≡ Some e) }
+    {
+        match self.fault {
+            None => Ok(self.recording),
+            Some(fault) => Err(fault),
         }
     }
 }

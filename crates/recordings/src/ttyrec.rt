@@ -1,16 +1,17 @@
 //! Ttyrecs: frames of output, each behind its time and its length.
 
-ghost use Rattle.std.specs.Prelude.{◌≡◌, ◌++◌, ◌<◌, ◌^◌, ◌*◌, ◌+◌, List, length, map, take, MatchOption, IfOk, IfErr};
+ghost use Rattle.std.specs.Prelude.{◌≡◌, ◌++◌, ◌<◌, ◌^◌, ◌+◌, length, map, MatchOption, IfOk, IfErr};
 ghost use Rattle.std.specs.Prelude.{◌⊎◌};
 ghost use Rattle.std.specs.Int.{to_le_bytes, w32};
+ghost use Rattle.std.specs.Option.{option_map};
 ghost use Rattle.recordings.specs.Recorded.{IsStateAfter};
-ghost use Rattle.recordings.specs.Ttyrec.{IsCut, IsNoFrame, IsTtyrec, Piece, begins_with_frame, piece_of, start_of};
-ghost use Rattle.recordings.specs.Ttyrec.{stored, rows_after, clock, stored_one};
+ghost use Rattle.recordings.specs.Ttyrec.{AreFrames, IsCut, IsNoFrame, IsReadTtyrec, IsTtyrec, begins_with_frame};
+ghost use Rattle.recordings.specs.Ttyrec.{clock, piece_of, rows_after, start_of, stored_one};
 ghost use Rattle.recordings.specs.declared.error.RecordingError.TheVariants.{Byte, Memory};
 ghost use Rattle.recordings.specs.declared.timeline.Pace.TheVariants.{FromStart as From};
 
 use crate::error::RecordingError;
-use crate::recording::{Change, Kind, Recording};
+use crate::recording::{Change, Kind, Reading, Recording};
 use crate::timeline::{Pace, Timeline};
 use std::alloc::{AllocError, Global};
 
@@ -29,15 +30,35 @@ pub fn parse_ttyrec(alloc: Global, bytes: &[u8]) -> Result<Recording, RecordingE
     ensures recording { IfOk result (IsTtyrec bytes.now) }
     ensures fault { IfErr result (λ e. (e ≡ Memory) ⊎ IsCut bytes.now e) }
 {
-    let frames = read_frames(alloc, bytes)?;
+    read_ttyrec(alloc, bytes)?.whole()
+}
+
+/// Reads a ttyrec up to the first frame that isn't whole. Times count from the first frame.
+pub fn read_ttyrec(alloc: Global, bytes: &[u8]) -> Result<Reading, AllocError>
+    ensures { IfOk result (λ r. IsReadTtyrec bytes.now r.recording r.fault) }
+{
+    let (frames, cut) = read_frames(alloc, bytes)?;
     let timeline = play_frames(alloc, &frames)?;
-    Ok(Recording {
-        kind: Kind::Ttyrec,
-        size: None,
-        theme: None,
-        events: timeline.events,
-        length: timeline.time,
+    Ok(Reading {
+        recording: Recording {
+            kind: Kind::Ttyrec,
+            size: None,
+            theme: None,
+            events: timeline.events,
+            length: timeline.time,
+        },
+        fault: byte_fault(cut),
     })
+}
+
+// The fault at this byte, if there is one.
+fn byte_fault(byte: Option<u64>) -> Option<RecordingError>
+    ensures { result ≡ option_map Byte byte }
+{
+    match byte {
+        Some(byte) => Some(RecordingError::Byte(byte)),
+        None => None,
+    }
 }
 
 /// Whether the bytes begin with a frame that isn't empty, and whose microseconds are less than a second.
@@ -50,9 +71,9 @@ pub(crate) fn begins_ttyrec(bytes: &[u8]) -> bool
     }
 }
 
-fn read_frames(alloc: Global, bytes: &[u8]) -> Result<Vec<Frame<'_>>, RecordingError>
-    ensures frames { IfOk result (λ frames. bytes.now ≡ stored (map piece_of frames.items)) }
-    ensures fault { IfErr result (λ e. (e ≡ Memory) ⊎ IsCut bytes.now e) }
+// The frames up to one that isn't whole: then it is told too where that begins.
+fn read_frames(alloc: Global, bytes: &[u8]) -> Result<(Vec<Frame<'_>>, Option<u64>), AllocError>
+    ensures { IfOk result (λ read. AreFrames bytes.now (map piece_of read.0.items) read.1) }
 {
     let mut frames = Vec::new(alloc);
     let mut left = bytes;
@@ -62,10 +83,10 @@ fn read_frames(alloc: Global, bytes: &[u8]) -> Result<Vec<Frame<'_>>, RecordingE
                 frames.push(frame)?;
                 left = after;
             }
-            None => return Err(RecordingError::Byte((bytes.len() - left.len()) as u64)),
+            None => return Ok((frames, Some((bytes.len() - left.len()) as u64))),
         }
     }
-    Ok(frames)
+    Ok((frames, None))
 }
 
 fn play_frames(alloc: Global, frames: &[Frame<'_>]) -> Result<Timeline, AllocError>

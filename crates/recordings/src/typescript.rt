@@ -1,18 +1,19 @@
 //! Typescripts of `script`: the output in one file, and its times in another.
 
-ghost use Rattle.std.specs.Prelude.{◌≡◌, ◌⊎◌, ◌∷◌, ◌++◌, [], List, map, MatchOption, None, Some, IfOk, IfErr};
+ghost use Rattle.std.specs.Prelude.{◌≡◌, ◌∷◌, ◌++◌, [], List, map, MatchOption, None, Some, IfOk, IfErr};
 ghost use Rattle.std.specs.Option.{option_map};
 ghost use Rattle.command_line.specs.Numbers.{count_of, size_in as size_of};
 ghost use Rattle.recordings.specs.Recorded.{Row, IsStateAfter, size_said};
-ghost use Rattle.recordings.specs.Typescript.{IsFaultOfStep, IsTypescript, events_of, other_in, output_in, output_of};
-ghost use Rattle.recordings.specs.Typescript.{rest_of, side_named, signal_in, size_named, step_in, step_said, taken};
+ghost use Rattle.recordings.specs.Typescript.{AreSteps, IsFaultOfStep, IsReadScript, IsTypescript, counted_in, input_in};
+ghost use Rattle.recordings.specs.Typescript.{other_in, output_in, output_of, rest_of, shares_log as shares_log_of};
+ghost use Rattle.recordings.specs.Typescript.{side_named, signal_in, size_named, step_in, step_said, taken, value_named};
 ghost use Rattle.recordings.specs.Typescript.{window_in as window_of, word_of};
-ghost use Rattle.recordings.specs.declared.error.RecordingError.TheVariants.{Memory};
+ghost use Rattle.recordings.specs.declared.error.RecordingError.TheVariants.{Step};
 ghost use Rattle.recordings.specs.declared.timeline.Pace.TheVariants.{FromLast as Last};
 
 use crate::error::RecordingError;
 use crate::lines::{is_blank, lines_of};
-use crate::recording::{Change, Kind, Recording, ScreenSize};
+use crate::recording::{Change, Kind, Reading, Recording, ScreenSize};
 use crate::time::parse_seconds;
 use crate::timeline::{Pace, Timeline};
 use command_line::{parse_count, parse_size};
@@ -30,25 +31,64 @@ pub fn parse_typescript(
     ensures recording { IfOk result (IsTypescript typescript.now timing.now) }
     ensures fault { IfErr result (IsFaultOfStep typescript.now timing.now) }
 {
-    let lines = lines_of(alloc, timing)?;
+    read_typescript(alloc, typescript, timing)?.whole()
+}
+
+/// Reads a typescript as [`parse_typescript`] does, up to the first line of the timing file that is no step of it.
+pub fn read_typescript(
+    alloc: Global,
+    typescript: &[u8],
+    timing: &[u8],
+) -> Result<Reading, AllocError>
+    ensures { IfOk result (λ r. IsReadScript typescript.now timing.now r.recording r.fault) }
+{
+    let all = lines_of(alloc, timing)?;
+    let lines = all.as_slice();
+    let shared = shares_log(lines);
+    let (timeline, fault) = read_steps(alloc, shared, lines, after_line(typescript))?;
+    Ok(Reading {
+        recording: Recording {
+            kind: Kind::Script,
+            size: size_in(lines),
+            theme: None,
+            events: timeline.events,
+            length: timeline.time,
+        },
+        fault: step_fault(fault),
+    })
+}
+
+// The fault of this line, if there is one.
+fn step_fault(line: Option<u64>) -> Option<RecordingError>
+    ensures { result ≡ option_map Step line }
+{
+    match line {
+        Some(line) => Some(RecordingError::Step(line)),
+        None => None,
+    }
+}
+
+// The events of the lines, up to one that is no step: then its number is told too.
+fn read_steps(
+    alloc: Global,
+    shared: bool,
+    lines: &[&[u8]],
+    output: &[u8],
+) -> Result<(Timeline, Option<u64>), AllocError>
+    ensures { IfOk result (λ read. AreSteps shared output.now (map (λ x. x.now) lines.now) read.0 read.1) }
+{
     let mut timeline = Timeline::new(alloc, Pace::FromLast);
-    let mut left = after_line(typescript);
+    let mut left = output;
     for (index, line) in lines.iter().enumerate() {
-        let Some(step) = parse_step(alloc, line)? else {
-            return Err(RecordingError::Step(index as u64 + 1));
+        let Some(step) = parse_step(alloc, shared, line)? else {
+            return Ok((timeline, Some(index as u64 + 1)));
         };
         left = match push_step(alloc, &mut timeline, step, left)? {
             Some(left) => left,
-            None => return Err(RecordingError::Step(index as u64 + 1)),
+            None => return Ok((timeline, Some(index as u64 + 1))),
         };
     }
-    Ok(Recording {
-        kind: Kind::Script,
-        size: size_in(&lines),
-        theme: None,
-        events: timeline.events,
-        length: timeline.time,
-    })
+    Ok((timeline, None))
 }
 
 // What comes after the first line.
@@ -66,6 +106,8 @@ fn after_line(text: &[u8]) -> &[u8]
 pub enum TimingLine {
     /// After so many microseconds the program writes so many bytes.
     Output(u64, usize),
+    /// After so many microseconds so many bytes follow that aren't output.
+    Skip(u64, usize),
     /// After so many microseconds the terminal gets this size.
     Resize(u64, ScreenSize),
     /// So many microseconds pass.
@@ -79,8 +121,8 @@ fn push_step<'a>(
     step: TimingLine,
     left: &'a [u8],
 ) -> Result<Option<&'a [u8]>, AllocError>
-    ensures { IfOk result (λ rest. MatchOption rest (taken left.now (step_said step) ≡ None) (λ after.
-        (row : Row) × (taken left.now (step_said step) ≡ Some (row, after.now))
+    ensures { IfOk result (λ rest. MatchOption rest
+        ((taken left.now (step_said step) ≡ None) × (timeline.new ≡ timeline.old)) (λ after. (row : Row) × (taken left.now (step_said step) ≡ Some (row, after.now))
         × ((rows : List Row) → IsStateAfter Last rows timeline.old → IsStateAfter Last (rows ++ row ∷ [])
         timeline.new))) }
 {
@@ -89,6 +131,13 @@ fn push_step<'a>(
             Some((bytes, after)) => {
                 let output = Change::Output(bytes.to_vec(alloc)?);
                 timeline.push(time, Some(output))?;
+                Ok(Some(after))
+            }
+            None => Ok(None),
+        },
+        TimingLine::Skip(time, count) => match left.split_at_checked(count) {
+            Some((_, after)) => {
+                timeline.push(time, None)?;
                 Ok(Some(after))
             }
             None => Ok(None),
@@ -104,8 +153,8 @@ fn push_step<'a>(
     }
 }
 
-fn parse_step(alloc: Global, line: &[u8]) -> Result<Option<TimingLine>, AllocError>
-    ensures { IfOk result (λ step. option_map step_said step ≡ step_in line.now) }
+fn parse_step(alloc: Global, shared: bool, line: &[u8]) -> Result<Option<TimingLine>, AllocError>
+    ensures { IfOk result (λ step. option_map step_said step ≡ step_in shared line.now) }
 {
     if is_blank(line) {
         return Ok(Some(TimingLine::Other(0)));
@@ -114,19 +163,42 @@ fn parse_step(alloc: Global, line: &[u8]) -> Result<Option<TimingLine>, AllocErr
     match first {
         b"O" => output_step(alloc, rest),
         b"S" => signal_step(alloc, rest),
-        b"H" | b"I" => other_step(alloc, rest),
+        b"H" => other_step(alloc, rest),
+        b"I" => input_step(alloc, shared, rest),
         _ => output_step(alloc, line),
     }
 }
 
 // Reads `DELAY BYTES`.
-fn output_step(alloc: Global, text: &[u8]) -> Result<Option<TimingLine>, AllocError>
-    ensures { IfOk result (λ step. option_map step_said step ≡ output_in text.now) }
+fn counted(alloc: Global, text: &[u8]) -> Result<Option<(u64, usize)>, AllocError>
+    ensures { IfOk result (λ p. p ≡ counted_in text.now) }
 {
     let (delay, count) = cut(text);
     match (parse_seconds(alloc, delay)?, count_in(count)) {
-        (Some(time), Some(count)) => Ok(Some(TimingLine::Output(time, count))),
+        (Some(time), Some(count)) => Ok(Some((time, count))),
         _ => Ok(None),
+    }
+}
+
+fn output_step(alloc: Global, text: &[u8]) -> Result<Option<TimingLine>, AllocError>
+    ensures { IfOk result (λ step. option_map step_said step ≡ output_in text.now) }
+{
+    match counted(alloc, text)? {
+        Some((time, count)) => Ok(Some(TimingLine::Output(time, count))),
+        None => Ok(None),
+    }
+}
+
+// What was typed: its bytes stand among the output if both are in one file.
+fn input_step(alloc: Global, shared: bool, text: &[u8]) -> Result<Option<TimingLine>, AllocError>
+    ensures { IfOk result (λ step. option_map step_said step ≡ input_in shared text.now) }
+{
+    if !shared {
+        return other_step(alloc, text);
+    }
+    match counted(alloc, text)? {
+        Some((time, count)) => Ok(Some(TimingLine::Skip(time, count))),
+        None => Ok(None),
     }
 }
 
@@ -183,12 +255,32 @@ fn size_in(lines: &[&[u8]]) -> Option<ScreenSize>
 fn header_in(lines: &[&[u8]], name: &[u8]) -> Option<NonZeroU16>
     ensures { option_map (λ n. n.value) result ≡ side_named name.now (map (λ x. x.now) lines.now) }
 {
+    side_in(value_in(lines, name)?)
+}
+
+// Whether what was typed is in the same file as the output.
+fn shares_log(lines: &[&[u8]]) -> bool
+    ensures { result ≡ shares_log_of (map (λ x. x.now) lines.now) }
+{
+    match (
+        value_in(lines, b"INPUT_LOG"),
+        value_in(lines, b"OUTPUT_LOG"),
+    ) {
+        (Some(input), Some(output)) => input == output,
+        _ => false,
+    }
+}
+
+// The value of this name in the header.
+fn value_in<'a>(lines: &[&'a [u8]], name: &[u8]) -> Option<&'a [u8]>
+    ensures { option_map (λ v. v.now) result ≡ value_named name.now (map (λ x. x.now) lines.now) }
+{
     for line in lines {
         let (first, rest) = cut(line);
         let (_, field) = cut(rest);
         let (found, value) = cut(field);
         if first == b"H".as_slice() && found == name {
-            return side_in(value);
+            return Some(value);
         }
     }
     None

@@ -1,7 +1,7 @@
 use Rattle.std.proofs.Common.{ℕ, ◌∷◌, ◌++◌, [], List, Some, None, refl, subst, rules}
 use Rattle.recordings.specs.Recorded.{IsStateAfter, resizes, writes}
 use Rattle.recordings.specs.declared.timeline.Pace.TheVariants.{FromLast}
-use Rattle.recordings.proofs.TypescriptLemmas.{bytes_taken}
+use Rattle.recordings.proofs.TypescriptLemmas.{bytes_skipped, bytes_taken}
 use Rattle.recordings.proofs.typescript.push_step.Goals as goal
 
 pub returns-in_ok-push-in-Some : goal.returns-in_ok-push-in-Some
@@ -28,4 +28,12 @@ returns-in_ok-push-in-Other c = (
   (c.in-Other.time, None),
   rw c.in-Other.is refl,
   λ rows h. c.in_ok-push-in-Other.ensures FromLast rows h,
+)
+
+pub returns-in_ok-push-in-Some-split_at_checked : goal.returns-in_ok-push-in-Some-split_at_checked
+returns-in_ok-push-in-Some-split_at_checked c = (
+  (c.in-Skip.time, None),
+  rw c.in-Skip.is (bytes_skipped c.args.left.now c.in-Some-split_at_checked.after.now c.in-Skip.time c.in-Skip.count
+      (search rules) (search rules)),
+  λ rows h. c.in_ok-push-in-Some-split_at_checked.ensures FromLast rows h,
 )

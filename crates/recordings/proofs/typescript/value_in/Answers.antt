@@ -1,12 +1,11 @@
 use Rattle.std.proofs.Common.{◌∙◌, sym, inl, inr, arith}
 use Rattle.recordings.proofs.TypescriptLemmas.{field_at, field_not_at}
-use Rattle.recordings.proofs.typescript.header_in.Goals as goal
-use Rattle.recordings.proofs.typescript.header_in.Goals.{else-eq-via-then-eq+else-eq-2, else-eq-via-else-eq}
+use Rattle.recordings.proofs.typescript.value_in.Goals as goal
+use Rattle.recordings.proofs.typescript.value_in.Goals.{else-eq-via-then-eq+else-eq-2, else-eq-via-else-eq}
 
 pub returns-then-eq-2 : goal.returns-then-eq-2
 returns-then-eq-2 c =
-    c.side_in.ensures
-    ∙ sym (field_at c.args.name.now c.args.lines.now c.loop-line.line-index _ c.cut.result.0.now c.cut.result.1.now
+    sym (field_at c.args.name.now c.args.lines.now c.loop-line.line-index _ c.cut.result.0.now c.cut.result.1.now
     c.cut-in-loop-line.result.1.now c.cut-in-loop-line-2.result.0.now c.cut-in-loop-line-2.result.1.now
     c.cut.ensures.word
     c.cut.ensures.rest c.cut-in-loop-line.ensures.rest c.cut-in-loop-line-2.ensures.word
