@@ -4,8 +4,12 @@
 They lie below the folder that is named: man/man1, bash-completion/completions,
 zsh/site-functions and fish/vendor_completions.d.
 """
+import importlib.util
 import os
 import sys
+
+sys.path.insert(0, os.path.dirname(os.path.dirname(os.path.realpath(__file__))))
+from scripts import asked  # noqa: E402
 
 SIZE = [("ROWS", "The rows of the screen"), ("COLS", "Its columns")]
 FILES = "files"
@@ -13,7 +17,25 @@ NO_LINE_DRAWING = (
     "no-line-drawing", None, None, "Letters stay where a program draws lines with DEC's special graphics",
 )
 HELP = ("help", None, None, "Print the help")
+VERSION = ("version", None, None, "Print the version")
 THEMES = "xterm light asciinema dracula gruvbox-dark monokai nord solarized-dark solarized-light tango"
+
+
+def share_options():
+    """The options of share, as its own command line has them. No library is wanted for that."""
+    top = os.path.dirname(os.path.dirname(os.path.realpath(__file__)))
+    spec = importlib.util.spec_from_file_location("share_options", f"{top}/bindings/python/jeihpal_share/options.py")
+    module = importlib.util.module_from_spec(spec)
+    sys.modules[spec.name] = module
+    spec.loader.exec_module(module)
+    options = []
+    for action in module._parser()._actions:
+        if action.option_strings:
+            name = action.option_strings[-1].removeprefix("--")
+            completes = FILES if action.metavar in ("FILE", "PATH", "SOCKET") else None
+            options.append((name, action.metavar, completes, action.help[:1].upper() + action.help[1:]))
+    return options
+
 
 # Each program: what it does, its words in order, its options (name, value, what completes the value, help), and notes.
 PROGRAMS = {
@@ -58,14 +80,38 @@ PROGRAMS = {
             ("kind", "NAME", "asciicast script ttyrec raw", "What the recording is"),
             ("timing", "FILE", FILES, "The timing file of a typescript"),
             NO_LINE_DRAWING,
+            ("strict", None, None, "A recording that was cut, or stops making sense, is a fault"),
+            ("max-cells", "N", None, "A size in the recording has N cells at most: 4,000,000 without this option"),
             HELP,
-            ("version", None, None, "Print the version"),
+            VERSION,
         ],
-        "Reads standard input to its end: an asciicast v2 or v3, a typescript, a ttyrec, or raw bytes.",
+        "Reads standard input to its end: an asciicast v2 or v3, a typescript, a ttyrec, or raw bytes. "
+        "A recording that was cut, or stops making sense, is shown up to there, and a line on standard error says where.",
     ),
 }
+# Scripts over the library for C, which take other words.
+SCRIPTS = {
+    "share": (
+        "show a program's terminal to other terminals and browsers",
+        [("COMMAND", "The command, with its words, after --")],
+        share_options(),
+        "Runs a command in a pseudo-terminal, and sends its screen in whole frames to those who watch.",
+    ),
+    "jeihpal-test": (
+        "play scripts of tests of programs in a terminal",
+        [("SCRIPT|FOLDER", "What is played")],
+        [
+            ("update-screens", None, None, "Write the screens that the tests leave"),
+            ("failed-screens", "FOLDER", FILES, "Where the screens of failed tests go"),
+            HELP,
+        ],
+        "Plays each script, and prints TAP.",
+    ),
+}
+ALL = {**PROGRAMS, **SCRIPTS}
 
-STATUS = "0 at success, 1 at a fault, 2 for words that aren't understood."
+STATUS = "0 at success, 1 at a fault, 2 for words that aren't understood"
+STATUSES = {"screentext": STATUS + ", 3 for a recording of which only a part was read."}
 SHORT = {"help": "h", "version": "V"}
 EXAMPLES = {
     "screenrelay": [
@@ -89,8 +135,30 @@ EXAMPLES = {
 }
 
 
+def usage(name):
+    """How the program is called."""
+    _, words, options, _ = ALL[name]
+    file = " [FILE]" if name in PROGRAMS else ""
+    return f"{name} " + " ".join(word for word, _ in words) + (" [OPTIONS]" if options else "") + file
+
+
+def plain(name):
+    """The help, as text."""
+    about, _, options, notes = ALL[name]
+    lines = [about[0].upper() + about[1:] + ".", "", f"Usage: {usage(name)}", ""]
+    if name in PROGRAMS:
+        lines += ["Without FILE, and with -, standard input is read.", ""]
+    lines += [notes, "", *["Options:"] * bool(options)]
+    for option, value, completes, text in options:
+        shown = f"--{option}" + (f" {value}" if value else "")
+        lines.append(f"  {shown:<22} {text}" + (f": {completes}" if completes and completes != FILES else ""))
+    lines += ["", *["Examples:"] * bool(EXAMPLES.get(name))]
+    lines += [f"  {command}\n      {text}" for command, text in EXAMPLES.get(name, [])]
+    return "\n".join(lines + ["", f"The status is {STATUSES.get(name, STATUS + '.')}", ""])
+
+
 def man(name):
-    about, words, options, notes = PROGRAMS[name]
+    about, words, options, notes = ALL[name]
     roff = [f'.TH {name.upper()} 1 "" "Jeihpal 0.1"', ".SH NAME", f"{name} \\- {about}", ".SH SYNOPSIS"]
     roff.append(f".B {name}\n" + " ".join(word for word, _ in words) + (" [OPTIONS]" if options else ""))
     roff += [".SH DESCRIPTION", notes, *[".SH OPTIONS"] * bool(options)]
@@ -98,10 +166,10 @@ def man(name):
         short = f"\\fB\\-{SHORT[option]}\\fR, " if option in SHORT else ""
         shown = f"{short}\\fB\\-\\-{option}\\fR" + (f" \\fI{value}\\fR" if value else "")
         roff += [".TP", shown, text + "."]
-    roff.append(".SH EXAMPLES")
-    for command, text in EXAMPLES[name]:
+    roff += [".SH EXAMPLES"] * bool(EXAMPLES.get(name))
+    for command, text in EXAMPLES.get(name, []):
         roff += [".TP", "\\fB" + command.replace("-", "\\-").replace(" ", "\\ ") + "\\fR", text + "."]
-    return "\n".join(roff + [".SH EXIT STATUS", STATUS, ""])
+    return "\n".join(roff + [".SH EXIT STATUS", STATUSES.get(name, STATUS + "."), ""])
 
 
 # An option and its value are one word for the shell, or with a = between them three.
@@ -112,7 +180,7 @@ BASH_VALUE = """\
 
 
 def bash(name):
-    _, words, options, _ = PROGRAMS[name]
+    _, words, options, _ = ALL[name]
     known = " ".join(f"--{option}" for option, *_ in options) or words[0][0].replace("|", " ")
     cases = []
     for option, value, completes, _ in options:
@@ -129,7 +197,7 @@ def quoted(text):
 
 
 def zsh(name):
-    _, words, options, _ = PROGRAMS[name]
+    _, words, options, _ = ALL[name]
     lines = [f"#compdef {name}", "_arguments \\"]
     for option, value, completes, text in options:
         action = "_files" if completes == FILES else f"({completes})" if completes else " "
@@ -143,7 +211,7 @@ def zsh(name):
 
 
 def fish(name):
-    _, words, options, _ = PROGRAMS[name]
+    _, words, options, _ = ALL[name]
     lines = [f"complete -c {name} -f"]
     for option, value, completes, text in options:
         kind = "" if not value else " -r -F" if completes == FILES else f" -x -a '{completes or ''}'"
@@ -162,18 +230,29 @@ PLACES = {
 }
 
 
-def main():
-    if len(sys.argv) != 2:
-        sys.exit("usage: pages.py FOLDER")
-    top = sys.argv[1]
-    for name in PROGRAMS:
+def write_pages(top, names):
+    """Writes the pages and completions of these programs below a folder. Answers their paths."""
+    paths = []
+    for name in names:
         for place, write in PLACES.items():
             path = os.path.join(top, place.format(name))
             os.makedirs(os.path.dirname(path), exist_ok=True)
             with open(path, "w", encoding="utf-8") as file:
                 file.write(write(name))
-            print(path)
+            paths.append(path)
+    return paths
+
+
+def main():
+    words = sys.argv[1:]
+    if asked.for_help(words, f"{__doc__}\nusage: pages.py FOLDER"):
+        return 0
+    if len(words) != 1 or words[0].startswith("-"):
+        print("usage: pages.py FOLDER; try --help", file=sys.stderr)
+        return 2
+    print(*write_pages(words[0], ALL), sep="\n")
+    return 0
 
 
 if __name__ == "__main__":
-    main()
+    sys.exit(main())

@@ -1,0 +1,49 @@
+"""Ends what a script has started when the script is ended."""
+import contextlib
+import os
+import signal
+import sys
+import time
+
+PATIENCE = 3  # seconds that a process may take to end when it is told to
+
+
+def descendants(top):
+    """The processes that a process has started, and those that these have."""
+    children = {}
+    for name in os.listdir("/proc"):
+        if name.isdigit():
+            with contextlib.suppress(OSError), open(f"/proc/{name}/stat", encoding="utf-8", errors="replace") as file:
+                parent = int(file.read().rpartition(")")[2].split()[1])
+                children.setdefault(parent, []).append(int(name))
+    found, left = [], [top]
+    while left:
+        more = children.get(left.pop(), [])
+        found += more
+        left += more
+    return found
+
+
+def tell(processes, number):
+    """Sends a signal to those that are there."""
+    for process in processes:
+        with contextlib.suppress(ProcessLookupError):
+            os.kill(process, number)
+
+
+def end(number, _frame):
+    """Ends what was started, and then this script."""
+    started = descendants(os.getpid())
+    tell(started, signal.SIGTERM)
+    before = time.monotonic()
+    while time.monotonic() - before < PATIENCE and any(os.path.exists(f"/proc/{it}") for it in started):
+        time.sleep(0.1)
+    tell(started, signal.SIGKILL)
+    sys.stdout.flush()
+    os._exit(128 + number)
+
+
+def end_with_this():
+    """From here on a signal that ends this script ends what it has started."""
+    for number in (signal.SIGTERM, signal.SIGHUP, signal.SIGINT):
+        signal.signal(number, end)
