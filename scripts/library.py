@@ -28,6 +28,28 @@ Version: {VERSION}
 Cflags: -I${{includedir}}
 Libs: -L${{libdir}} -ljeihpal
 """
+# For find_package(jeihpal): the targets jeihpal::jeihpal, which is shared, and jeihpal::static.
+CMAKE = f"""get_filename_component(_jeihpal_prefix "${{CMAKE_CURRENT_LIST_DIR}}/../../.." ABSOLUTE)
+if(NOT TARGET jeihpal::jeihpal)
+  add_library(jeihpal::jeihpal SHARED IMPORTED)
+  set_target_properties(jeihpal::jeihpal PROPERTIES
+    IMPORTED_LOCATION "${{_jeihpal_prefix}}/lib/{SHARED}"
+    IMPORTED_SONAME "{SHARED}"
+    INTERFACE_INCLUDE_DIRECTORIES "${{_jeihpal_prefix}}/include")
+  add_library(jeihpal::static STATIC IMPORTED)
+  set_target_properties(jeihpal::static PROPERTIES
+    IMPORTED_LOCATION "${{_jeihpal_prefix}}/lib/libjeihpal.a"
+    INTERFACE_INCLUDE_DIRECTORIES "${{_jeihpal_prefix}}/include")
+endif()
+set(jeihpal_FOUND TRUE)
+"""
+CMAKE_VERSION = f"""set(PACKAGE_VERSION "{VERSION}")
+if(PACKAGE_FIND_VERSION VERSION_GREATER PACKAGE_VERSION)
+  set(PACKAGE_VERSION_COMPATIBLE FALSE)
+else()
+  set(PACKAGE_VERSION_COMPATIBLE TRUE)
+endif()
+"""
 
 
 class Missing(Exception):
@@ -121,7 +143,9 @@ def make():
         file.write(PKG_CONFIG)
     with tempfile.TemporaryDirectory() as folder:
         archive = aligned(archive, folder)
-        return [make_static(archive, memory), make_shared(archive, memory), f"{OUT}/jeihpal.pc"]
+        made = [make_static(archive, memory), make_shared(archive, memory), f"{OUT}/jeihpal.pc"]
+    keep_licenses(f"{OUT}/licenses")
+    return made
 
 
 def toolchain_libraries():
@@ -140,12 +164,27 @@ def toolchain_libraries():
     return sorted(found - set(uses))
 
 
-def install_licenses(folder):
-    """Copies the license here, and those of the toolchain's libraries that the archive holds."""
-    shutil.copy(f"{HERE}/LICENSE", folder)
+def keep_licenses(folder):
+    """Copies the licenses of the toolchain's libraries that the archive holds, for what is packed of it."""
+    os.makedirs(folder, exist_ok=True)
     for name in toolchain_libraries():
         for path in glob.glob(f"{toolchain()}/rattle/{name}/LICENSE*"):
             shutil.copy(path, f"{folder}/{os.path.basename(path)}-{name}")
+
+
+def install_licenses(folder):
+    """Copies the license here, and those of the toolchain's libraries that the archive holds."""
+    shutil.copy(f"{HERE}/LICENSE", folder)
+    keep_licenses(folder)
+
+
+def install_cmake(folder):
+    """Writes what find_package(jeihpal) reads."""
+    os.makedirs(folder, exist_ok=True)
+    for name, text in (("jeihpal-config", CMAKE), ("jeihpal-config-version", CMAKE_VERSION)):
+        with open(f"{folder}/{name}.cmake", "w", encoding="utf-8") as file:
+            file.write(text)
+    return f"{folder}/jeihpal-config.cmake"
 
 
 def install_python(folder):
@@ -184,6 +223,8 @@ def install(prefix):
         shutil.copy(f"{OUT}/{SHARED}", f"{prefix}/lib"),
         shutil.copy(f"{OUT}/jeihpal.pc", f"{prefix}/lib/pkgconfig"),
         shutil.copy(f"{HERE}/bindings/include/jeihpal.h", f"{prefix}/include"),
+        shutil.copy(f"{HERE}/bindings/include/jeihpal.hpp", f"{prefix}/include"),
+        install_cmake(f"{prefix}/lib/cmake/jeihpal"),
     ]
     install_licenses(f"{prefix}/share/doc/jeihpal")
     install_configurations(f"{prefix}/share/doc/jeihpal/nginx")

@@ -151,6 +151,129 @@ static void screens(void) {
     jeihpal_screen_close(&screen);
 }
 
+/* A row's cells are those that the calls for one cell give, and as many as fit. */
+static void row_cells(void) {
+    jeihpal_hub hub = JEIHPAL_INIT;
+    jeihpal_view view = JEIHPAL_INIT;
+    jeihpal_screen screen = JEIHPAL_INIT;
+    jeihpal_cell cells[8], cell;
+    size_t count = 77;
+    uint8_t wrapped = 77;
+    CHECK(jeihpal_screen_row_cells(&screen, 0, cells, 8, &count, &wrapped) == JEIHPAL_CLOSED);
+    CHECK(jeihpal_hub_new(&hub, 2, 5) == JEIHPAL_OK && jeihpal_view_new(&view, 2, 5) == JEIHPAL_OK);
+    CHECK(jeihpal_screen_new(&screen, 2, 5, 3) == JEIHPAL_OK);
+    CHECK(jeihpal_screen_row_cells((jeihpal_screen *)&hub, 0, cells, 8, &count, &wrapped) ==
+          JEIHPAL_OTHER_KIND);
+    CHECK(jeihpal_screen_row_cells(&screen, 2, cells, 8, &count, &wrapped) == JEIHPAL_NO_CELL);
+    CHECK(jeihpal_hub_row_cells(&hub, 2, cells, 8, &count, &wrapped) == JEIHPAL_NO_CELL);
+    CHECK(jeihpal_view_row_cells(&view, 2, cells, 8, &count, &wrapped) == JEIHPAL_NO_CELL);
+    CHECK(count == 77 && wrapped == 77);
+#define WIDE "\x1b[1;31ma\xe7\xb1\xb3\x1b[mbcd"
+    CHECK(jeihpal_hub_feed(&hub, BYTES(WIDE)) == JEIHPAL_OK);
+    CHECK(jeihpal_view_advance(&view, BYTES(WIDE)) == JEIHPAL_OK);
+    CHECK(jeihpal_screen_process(&screen, BYTES(WIDE)) == JEIHPAL_OK);
+    for (uint16_t row = 0; row < 2; row++) {
+        for (int kind = 0; kind < 3; kind++) {
+            memset(cells, 0x55, sizeof cells);
+            CHECK((kind == 0   ? jeihpal_hub_row_cells(&hub, row, cells, 8, &count, &wrapped)
+                   : kind == 1 ? jeihpal_view_row_cells(&view, row, cells, 8, &count, &wrapped)
+                               : jeihpal_screen_row_cells(&screen, row, cells, 8, &count, &wrapped)) == JEIHPAL_OK);
+            CHECK(count == 5 && wrapped == (row == 0) && cells[5].text[0] == 0x55);
+            for (uint16_t col = 0; col < 5; col++) {
+                memset(&cell, 0, sizeof cell);
+                CHECK(jeihpal_screen_cell(&screen, row, col, &cell) == JEIHPAL_OK);
+                CHECK(memcmp(&cell, &cells[col], sizeof cell) == 0);
+            }
+        }
+    }
+    CHECK(jeihpal_screen_row_cells(&screen, 0, cells, 2, &count, &wrapped) == JEIHPAL_OK && count == 5);
+    CHECK(cells[1].width == 2 && is_text(cells[1].text, cells[1].length, "\xe7\xb1\xb3"));
+    /* A kept row keeps the width that it had; its cells are those in the screen's columns. */
+    CHECK(jeihpal_screen_process(&screen, BYTES("\r\n\r\n")) == JEIHPAL_OK);
+    CHECK(jeihpal_screen_resize(&screen, 2, 3) == JEIHPAL_OK && jeihpal_screen_scroll(&screen, 9) == JEIHPAL_OK);
+    CHECK(jeihpal_screen_row_cells(&screen, 0, cells, 8, &count, &wrapped) == JEIHPAL_OK && count == 3);
+    jeihpal_hub_close(&hub);
+    jeihpal_view_close(&view);
+    jeihpal_screen_close(&screen);
+}
+
+static void copies(void) {
+    jeihpal_screen screen = JEIHPAL_INIT, copy = JEIHPAL_INIT;
+    jeihpal_view view = JEIHPAL_INIT;
+    jeihpal_request request;
+    jeihpal_look look, other;
+    uint8_t text[128];
+    size_t length, rows, lengths[4] = {0};
+    CHECK(jeihpal_screen_clone(&copy, &screen) == JEIHPAL_CLOSED && !copy.held);
+    CHECK(jeihpal_view_new(&view, 2, 5) == JEIHPAL_OK && jeihpal_screen_new(&screen, 2, 5, 3) == JEIHPAL_OK);
+    CHECK(jeihpal_screen_clone(&copy, (jeihpal_screen *)&view) == JEIHPAL_OTHER_KIND && !copy.held);
+    CHECK(jeihpal_screen_state_diff(&screen, &copy, text, sizeof text, &length) == JEIHPAL_CLOSED);
+    CHECK(jeihpal_screen_contents_diff(&copy, &screen, text, sizeof text, &length) == JEIHPAL_CLOSED);
+    CHECK(jeihpal_screen_input_mode_diff(&screen, (jeihpal_screen *)&view, text, sizeof text, &length) ==
+          JEIHPAL_OTHER_KIND);
+    CHECK(jeihpal_screen_process(&screen, BYTES("a\r\nb\r\nc\a")) == JEIHPAL_OK);
+    CHECK(jeihpal_screen_clone(&copy, &screen) == JEIHPAL_OK && copy.held && copy.held != screen.held);
+    CHECK(jeihpal_screen_look(&screen, &look) == JEIHPAL_OK && jeihpal_screen_look(&copy, &other) == JEIHPAL_OK);
+    CHECK(memcmp(&look, &other, offsetof(jeihpal_look, failed) + 1) == 0 && look.kept == 1);
+    CHECK(jeihpal_screen_request(&copy, text, sizeof text, &request) == JEIHPAL_NO_REQUEST);
+    CHECK(jeihpal_screen_request(&screen, text, sizeof text, &request) == JEIHPAL_BELL);
+    CHECK(jeihpal_screen_process(&copy, BYTES("\x1b[?2004h\x1b[Hx")) == JEIHPAL_OK);
+    CHECK(jeihpal_screen_contents_diff(&copy, &screen, text, sizeof text, &length) == JEIHPAL_OK);
+    CHECK(is_text(text, length, "\x1b[Hx"));
+    CHECK(jeihpal_screen_state_diff(&copy, &screen, text, sizeof text, &length) == JEIHPAL_OK);
+    CHECK(is_text(text, length, "\x1b[Hx\x1b[?2004h"));
+    CHECK(jeihpal_screen_input_mode_diff(&copy, &screen, text, sizeof text, &length) == JEIHPAL_OK);
+    CHECK(is_text(text, length, "\x1b[?2004h"));
+    CHECK(jeihpal_screen_rows_diff(&copy, &screen, 0, 5, text, sizeof text, &length, lengths, 4, &rows) ==
+          JEIHPAL_OK);
+    CHECK(is_text(text, length, "x") && rows == 2 && lengths[0] == 1 && lengths[1] == 0 && lengths[2] == 0);
+    CHECK(jeihpal_screen_rows_diff(&copy, (jeihpal_screen *)&view, 0, 5, text, 9, &length, lengths, 4, &rows) ==
+          JEIHPAL_OTHER_KIND);
+    CHECK(jeihpal_screen_contents(&screen, text, sizeof text, &length) == JEIHPAL_OK);
+    CHECK(is_text(text, length, "b\nc")); /* the other one is as it was */
+    CHECK(jeihpal_screen_clone(&copy, &screen) == JEIHPAL_OK); /* what it held is closed */
+    CHECK(jeihpal_screen_state_diff(&copy, &screen, text, sizeof text, &length) == JEIHPAL_OK && length == 0);
+    CHECK(jeihpal_screen_clear_scrollback(&copy) == JEIHPAL_OK);
+    CHECK(jeihpal_screen_look(&copy, &other) == JEIHPAL_OK && other.kept == 0);
+    CHECK(jeihpal_screen_look(&screen, &look) == JEIHPAL_OK && look.kept == 1);
+    CHECK(jeihpal_screen_clear_scrollback((jeihpal_screen *)&view) == JEIHPAL_OTHER_KIND);
+    jeihpal_screen_close(&screen);
+    jeihpal_screen_close(&copy);
+    CHECK(jeihpal_screen_clear_scrollback(&screen) == JEIHPAL_CLOSED);
+    jeihpal_view_close(&view);
+}
+
+/* The parts of what redraws a screen; the bytes are those of the Rust crate vt100. */
+static void parts(void) {
+    jeihpal_screen screen = JEIHPAL_INIT;
+    jeihpal_drawing drawing;
+    uint8_t text[128];
+    size_t length, rows, lengths[3];
+    CHECK(jeihpal_screen_drawing(&screen, &drawing) == JEIHPAL_CLOSED);
+    CHECK(jeihpal_screen_input_mode_formatted(&screen, text, sizeof text, &length) == JEIHPAL_CLOSED);
+    CHECK(jeihpal_screen_new(&screen, 3, 5, 10) == JEIHPAL_OK);
+    CHECK(jeihpal_screen_process(&screen, BYTES("abcdefg\r\n\x1b[1;31mred\x1b[?2004h\x1b[4m")) == JEIHPAL_OK);
+    CHECK(jeihpal_screen_drawing(&screen, &drawing) == JEIHPAL_OK);
+    CHECK(drawing.foreground.kind == JEIHPAL_COLOR_INDEXED && drawing.foreground.red_or_index == 1);
+    CHECK(drawing.background.kind == JEIHPAL_COLOR_DEFAULT && drawing.bold && drawing.underlined);
+    CHECK(!drawing.dim && !drawing.italic && !drawing.inverse);
+    CHECK(jeihpal_screen_attributes_formatted(&screen, text, sizeof text, &length) == JEIHPAL_OK);
+    CHECK(is_text(text, length, "\x1b[m\x1b[31;1;4m"));
+    CHECK(jeihpal_screen_input_mode_formatted(&screen, text, sizeof text, &length) == JEIHPAL_OK);
+    CHECK(is_text(text, length, "\x1b>\x1b[?1l\x1b[?2004h"));
+    CHECK(jeihpal_screen_cursor_state_formatted(&screen, text, sizeof text, &length) == JEIHPAL_OK);
+    CHECK(is_text(text, length, "\x1b[?25h\x1b[3;4H"));
+    CHECK(jeihpal_screen_contents_formatted_basic(&screen, text, sizeof text, &length) == JEIHPAL_OK);
+    CHECK(is_text(text, length, "abcdefg\n\x1b[31;1mred"));
+    CHECK(jeihpal_screen_rows_formatted(&screen, 0, 5, text, sizeof text, &length, lengths, 3, &rows) == JEIHPAL_OK);
+    CHECK(is_text(text, length, "abcdefg\x1b[31;1mred") && rows == 3);
+    CHECK(lengths[0] == 5 && lengths[1] == 2 && lengths[2] == length - 7);
+    lengths[1] = 77;
+    CHECK(jeihpal_screen_rows_formatted(&screen, 0, 5, text, 0, &length, lengths, 1, &rows) == JEIHPAL_OK);
+    CHECK(rows == 3 && lengths[0] == 5 && lengths[1] == 77 && text[0] == 'a');
+    jeihpal_screen_close(&screen);
+}
+
 static void scrollback(void) {
     jeihpal_screen screen = JEIHPAL_INIT;
     jeihpal_look look;
@@ -251,6 +374,9 @@ int main(int count, char **words) {
     other_answers();
     view_cells();
     screens();
+    row_cells();
+    copies();
+    parts();
     scrollback();
     requests();
     if (count > 1) {

@@ -67,6 +67,30 @@ static void use_hub(jeihpal_hub *hub, jeihpal_view *view) {
     noted(jeihpal_hub_resize(hub, 6, 9));
 }
 
+/* A copy, and what is read of both. A refused copy leaves the word as it was. */
+static void use_copy(jeihpal_screen *screen) {
+    jeihpal_screen copy = JEIHPAL_INIT;
+    size_t length, rows, lengths[9];
+    if (noted(jeihpal_screen_clone(&copy, screen)) < 0) {
+        CHECK(!copy.held);
+        return;
+    }
+    noted(jeihpal_screen_process(&copy, BYTES("\x1b[?2004h\x1b[31mx")));
+    noted(jeihpal_screen_contents_diff(&copy, screen, to, sizeof to, &length));
+    noted(jeihpal_screen_state_diff(&copy, screen, to, sizeof to, &length));
+    noted(jeihpal_screen_input_mode_diff(&copy, screen, to, sizeof to, &length));
+    noted(jeihpal_screen_rows_diff(&copy, screen, 0, 20, to, sizeof to, &length, lengths, 9, &rows));
+    noted(jeihpal_screen_rows_formatted(&copy, 0, 20, to, sizeof to, &length, lengths, 9, &rows));
+    noted(jeihpal_screen_contents_formatted_basic(&copy, to, sizeof to, &length));
+    noted(jeihpal_screen_input_mode_formatted(&copy, to, sizeof to, &length));
+    noted(jeihpal_screen_attributes_formatted(&copy, to, sizeof to, &length));
+    noted(jeihpal_screen_cursor_state_formatted(&copy, to, sizeof to, &length));
+    noted(jeihpal_screen_clear_scrollback(&copy));
+    void *before = copy.held;
+    if (noted(jeihpal_screen_clone(&copy, screen)) < 0) CHECK(copy.held == before);
+    jeihpal_screen_close(&copy);
+}
+
 static void use_screen(jeihpal_screen *screen) {
     size_t length;
     jeihpal_request request;
@@ -79,6 +103,7 @@ static void use_screen(jeihpal_screen *screen) {
     noted(jeihpal_screen_state(screen, to, sizeof to, &length));
     noted(jeihpal_screen_contents(screen, to, sizeof to, &length));
     noted(jeihpal_screen_contents_between(screen, 0, 0, 3, 1, to, sizeof to, &length));
+    use_copy(screen);
     noted(jeihpal_screen_scroll(screen, 1));
     noted(jeihpal_screen_resize(screen, 7, 21));
 }

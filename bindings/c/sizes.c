@@ -12,6 +12,8 @@ static void print_sizes(void) {
     SIZE(color), FIELD(color, kind), FIELD(color, red_or_index), FIELD(color, green), FIELD(color, blue);
     SIZE(cell), FIELD(cell, text), FIELD(cell, length), FIELD(cell, width), FIELD(cell, attributes);
     FIELD(cell, reserved), FIELD(cell, foreground), FIELD(cell, background);
+    SIZE(drawing), FIELD(drawing, foreground), FIELD(drawing, background), FIELD(drawing, bold);
+    FIELD(drawing, dim), FIELD(drawing, italic), FIELD(drawing, underlined), FIELD(drawing, inverse);
     SIZE(look), FIELD(look, kept), FIELD(look, scrolled), FIELD(look, rows), FIELD(look, cols),
         FIELD(look, row);
     FIELD(look, col), FIELD(look, hidden), FIELD(look, style), FIELD(look, mouse), FIELD(look, encoding);
@@ -27,6 +29,7 @@ typedef union {
     jeihpal_cell cell;
     jeihpal_look look;
     jeihpal_request request;
+    jeihpal_drawing drawing;
 } room;
 
 /* Whether the library writes each byte up to `end`, and none from `size` on. */
@@ -40,22 +43,24 @@ static int is_filled(const room *one, const room *other, size_t end, size_t size
 
 int main(void) {
     jeihpal_screen screen = JEIHPAL_INIT;
-    room filled[3][2];
+    room filled[4][2];
     uint8_t text[8];
     print_sizes();
     CHECK(jeihpal_screen_new(&screen, 3, 4, 0) == JEIHPAL_OK &&
           jeihpal_screen_process(&screen, BYTES("x")) == JEIHPAL_OK);
     for (int time = 0; time < 2; time++) {
-        for (int kind = 0; kind < 3; kind++) memset(&filled[kind][time], time ? 0xAA : 0x55, sizeof(room));
+        for (int kind = 0; kind < 4; kind++) memset(&filled[kind][time], time ? 0xAA : 0x55, sizeof(room));
         CHECK(jeihpal_screen_cell(&screen, 0, 0, &filled[0][time].cell) == JEIHPAL_OK);
         CHECK(jeihpal_screen_look(&screen, &filled[1][time].look) == JEIHPAL_OK);
         CHECK(jeihpal_screen_request(&screen, text, sizeof text, &filled[2][time].request) ==
               JEIHPAL_NO_REQUEST);
+        CHECK(jeihpal_screen_drawing(&screen, &filled[3][time].drawing) == JEIHPAL_OK);
     }
     CHECK(is_filled(&filled[0][0], &filled[0][1], sizeof(jeihpal_cell), sizeof(jeihpal_cell)));
     CHECK(is_filled(&filled[1][0], &filled[1][1], offsetof(jeihpal_look, failed) + 1, sizeof(jeihpal_look)));
     CHECK(is_filled(&filled[2][0], &filled[2][1], offsetof(jeihpal_request, kind) + 1,
                     sizeof(jeihpal_request)));
+    CHECK(is_filled(&filled[3][0], &filled[3][1], sizeof(jeihpal_drawing), sizeof(jeihpal_drawing)));
     jeihpal_screen_close(&screen);
     return 0;
 }

@@ -1,4 +1,4 @@
-/* Two threads with objects of their own, at once. */
+/* Two threads with objects of their own, at once; and a view and a screen that go from thread to thread. */
 #include "tried.h"
 #include <pthread.h>
 
@@ -25,10 +25,56 @@ static void *use(void *words) {
     return NULL;
 }
 
+static pthread_mutex_t turn = PTHREAD_MUTEX_INITIALIZER;
+static jeihpal_screen shared_screen = JEIHPAL_INIT;
+static jeihpal_view shared_view = JEIHPAL_INIT;
+static int taken;
+
+/* Uses both a thousand times, under the lock. The last one closes them. */
+static void *share(void *nothing) {
+    (void)nothing;
+    for (int time = 0; time < 1000; time++) {
+        uint8_t text[64];
+        size_t length;
+        jeihpal_screen copy = JEIHPAL_INIT;
+        CHECK(pthread_mutex_lock(&turn) == 0);
+        char line[64];
+        int count = snprintf(line, sizeof line, "\x1b[H%d\x1b[K", taken);
+        CHECK(jeihpal_screen_process(&shared_screen, (const uint8_t *)line, (size_t)count) == JEIHPAL_OK);
+        CHECK(jeihpal_view_advance(&shared_view, (const uint8_t *)line, (size_t)count) == JEIHPAL_OK);
+        CHECK(jeihpal_view_row_text(&shared_view, 0, text, sizeof text, &length) == JEIHPAL_OK);
+        CHECK(jeihpal_screen_clone(&copy, &shared_screen) == JEIHPAL_OK);
+        snprintf(line, sizeof line, "%d", taken++);
+        CHECK(is_text(text, length, line));
+        CHECK(pthread_mutex_unlock(&turn) == 0);
+        CHECK(jeihpal_screen_row_text(&copy, 0, text, sizeof text, &length) == JEIHPAL_OK);
+        CHECK(is_text(text, length, line));
+        jeihpal_screen_close(&copy);
+    }
+    return NULL;
+}
+
+static void *end(void *nothing) {
+    jeihpal_screen_close(&shared_screen);
+    jeihpal_view_close(&shared_view);
+    return nothing;
+}
+
+static void hand_round(void) {
+    pthread_t threads[4], last;
+    CHECK(jeihpal_screen_new(&shared_screen, 5, 20, 10) == JEIHPAL_OK);
+    CHECK(jeihpal_view_new(&shared_view, 5, 20) == JEIHPAL_OK);
+    for (int i = 0; i < 4; i++) CHECK(pthread_create(&threads[i], NULL, share, NULL) == 0);
+    for (int i = 0; i < 4; i++) CHECK(pthread_join(threads[i], NULL) == 0);
+    CHECK(taken == 4000);
+    CHECK(pthread_create(&last, NULL, end, NULL) == 0 && pthread_join(last, NULL) == 0);
+}
+
 int main(void) {
     pthread_t first, second;
     CHECK(pthread_create(&first, NULL, use, "a") == 0 && pthread_create(&second, NULL, use, "b") == 0);
     CHECK(pthread_join(first, NULL) == 0 && pthread_join(second, NULL) == 0);
+    hand_round();
     puts("threads: well");
     return 0;
 }

@@ -9,9 +9,10 @@
  * error of the caller's, and so is a word that is forgotten while it holds something: its memory is never freed.
  * Nothing but these calls may look into a word.
  *
- * Threads. An object stays on the thread that made it, and there is one call on it at a time. Objects share nothing,
- * so each thread may have its own. jeihpal_abi may be called on any thread. No call waits, reads a file, writes one, or
- * calls back. Memory comes from malloc, so no call belongs into a signal handler.
+ * Threads. There is one call at a time on an object, and reading is a call too. A view and a screen may be handed to
+ * another thread, by a lock, or by a thread's start or end. A hub stays on the thread that made it. Objects share
+ * nothing, so each thread may have its own. jeihpal_abi may be called on any thread. No call waits, reads or writes a
+ * file, or calls back. Memory comes from malloc, so no call belongs into a signal handler.
  *
  * Bytes. A pointer points to as many bytes or objects of the caller's as its call says, for the time of the call alone.
  * None is ever null, also where its length is 0. None overlaps a word, or what another pointer of the call points to.
@@ -42,6 +43,14 @@ extern "C" {
 
 /* The number of the library's interface. A caller can compare it with JEIHPAL_ABI. */
 uint32_t jeihpal_abi(void);
+
+#if defined(__GNUC__) && defined(__x86_64__)
+/* Whether this processor can run the library's code, which is for x86-64-v2. A program can ask before its first
+ * call. */
+static inline int jeihpal_runs_here(void) {
+    return __builtin_cpu_supports("sse4.2") && __builtin_cpu_supports("popcnt");
+}
+#endif
 
 /* ---- answers */
 
@@ -120,6 +129,17 @@ typedef struct jeihpal_cell {
     jeihpal_color background;
 } jeihpal_cell;
 
+/* How the next character is drawn. A switch is 0 or 1. */
+typedef struct jeihpal_drawing {
+    jeihpal_color foreground;
+    jeihpal_color background;
+    uint8_t bold;
+    uint8_t dim;
+    uint8_t italic;
+    uint8_t underlined;
+    uint8_t inverse;
+} jeihpal_drawing;
+
 enum jeihpal_mouse {
     JEIHPAL_MOUSE_NONE = 0,
     JEIHPAL_MOUSE_PRESS = 1,         /* a button going down (xterm's mode 9) */
@@ -160,16 +180,16 @@ typedef struct jeihpal_look {
  * is refused. BAD_SIZE, MEMORY: the word holds nothing. */
 int32_t jeihpal_hub_new(jeihpal_hub *hub, uint16_t rows, uint16_t cols);
 
-/* Gives the program's next bytes to the screen. They may be cut anywhere. MEMORY: the hub has failed; no frame is made
- * any more, but what is owed can be sent. FAILED: it had failed before. */
+/* Gives the program's next bytes to the screen. They may be cut anywhere. MEMORY: the hub has failed; no frame is
+ * made any more, but what is owed can be sent. FAILED: it had failed before. */
 int32_t jeihpal_hub_feed(jeihpal_hub *hub, const uint8_t *bytes, size_t count);
 
-/* Gives the screen another size, or the same, and ends the program's synchronized update. Every client ends. BAD_SIZE,
- * MEMORY, FAILED. */
+/* Gives the screen another size, or the same, and ends the program's synchronized update. Every client ends.
+ * BAD_SIZE, MEMORY, FAILED. */
 int32_t jeihpal_hub_resize(jeihpal_hub *hub, uint16_t rows, uint16_t cols);
 
-/* A new client, which has had no frame. Its key goes to *client; the key of a client that has ended may be given again.
- * MEMORY, FAILED. */
+/* A new client, which has had no frame. Its key goes to *client; the key of a client that has ended may be given
+ * again. MEMORY, FAILED. */
 int32_t jeihpal_hub_attach(jeihpal_hub *hub, size_t *client);
 
 /* The client ends, and what it is owed is gone. UNKNOWN_CLIENT. */
@@ -193,6 +213,11 @@ int32_t jeihpal_hub_look(jeihpal_hub *hub, jeihpal_look *look);
 /* The cell at a place of it. NO_CELL. */
 int32_t jeihpal_hub_cell(jeihpal_hub *hub, uint16_t row, uint16_t col, jeihpal_cell *cell);
 
+/* The cells of a row of it, in its columns: as many as fit are copied into `cells`, and *count is how many there
+ * are. *wrapped is 1 where the row's text goes on in the next row, else 0. NO_CELL: there is no such row. */
+int32_t jeihpal_hub_row_cells(jeihpal_hub *hub, uint16_t row, jeihpal_cell *cells, size_t capacity, size_t *count,
+                              uint8_t *wrapped);
+
 /* The text of a row of it, as UTF-8, without the empty columns at its end; nothing past the last row. MEMORY. */
 int32_t jeihpal_hub_row_text(jeihpal_hub *hub, uint16_t row, uint8_t *to, size_t capacity, size_t *length);
 
@@ -204,8 +229,8 @@ void jeihpal_hub_close(jeihpal_hub *hub);
 
 /* ---- views: a small far terminal that reads frames */
 
-/* Makes a view of this size that shows nothing. What the word held is closed, also where the call is refused. It takes
- * all the memory that the view needs, but for texts. BAD_SIZE, MEMORY: the word holds nothing. */
+/* Makes a view of this size that shows nothing. What the word held is closed, also where the call is refused. It
+ * takes all the memory that the view needs, but for texts. BAD_SIZE, MEMORY: the word holds nothing. */
 int32_t jeihpal_view_new(jeihpal_view *view, uint16_t rows, uint16_t cols);
 
 /* Reads the next bytes. They may be cut anywhere. What a frame changes is shown once its last byte was read. */
@@ -223,6 +248,10 @@ int32_t jeihpal_view_look(jeihpal_view *view, jeihpal_look *look);
 /* The cell at a place. NO_CELL. */
 int32_t jeihpal_view_cell(jeihpal_view *view, uint16_t row, uint16_t col, jeihpal_cell *cell);
 
+/* The cells of a row, as jeihpal_hub_row_cells. NO_CELL. */
+int32_t jeihpal_view_row_cells(jeihpal_view *view, uint16_t row, jeihpal_cell *cells, size_t capacity, size_t *count,
+                               uint8_t *wrapped);
+
 /* The text of a row, as UTF-8, without the empty columns at its end; nothing past the last row. MEMORY. */
 int32_t jeihpal_view_row_text(jeihpal_view *view, uint16_t row, uint8_t *to, size_t capacity, size_t *length);
 
@@ -235,23 +264,29 @@ void jeihpal_view_close(jeihpal_view *view);
  * also where the call is refused. BAD_SIZE, MEMORY: the word holds nothing. */
 int32_t jeihpal_screen_new(jeihpal_screen *screen, uint16_t rows, uint16_t cols, size_t scrollback);
 
-/* Reads the program's next bytes. They may be cut anywhere. MEMORY: the screen has failed; it can still be read, but no
- * bytes change it any more. FAILED: it had failed before. */
+/* Reads the program's next bytes. They may be cut anywhere. MEMORY: the screen has failed; it can still be read, but
+ * no bytes change it any more. FAILED: it had failed before. */
 int32_t jeihpal_screen_process(jeihpal_screen *screen, const uint8_t *bytes, size_t count);
 
 /* Gives the screen another size, or the same, ends the program's synchronized update, and forgets the mark. BAD_SIZE,
  * FAILED: nothing has changed. MEMORY: the screen has failed. */
 int32_t jeihpal_screen_resize(jeihpal_screen *screen, uint16_t rows, uint16_t cols);
 
-/* Shows the newest `rows` of the kept rows above the others, or all of them where there are fewer. What the calls below
- * say of cells and texts is read there. FAILED: nothing has changed. MEMORY: the screen has failed. */
+/* Shows the newest `rows` of the kept rows above the others, or all of them where there are fewer. What the calls
+ * below say of cells and texts is read there. Redraws and differences draw these rows too, but bring the cursor to where
+ * it is in the rows that are drawn on. So they lead a terminal to the picture only where no kept row is shown. FAILED:
+ * nothing has changed. MEMORY: the screen has failed. */
 int32_t jeihpal_screen_scroll(jeihpal_screen *screen, size_t rows);
 
 /* The size, the cursor and the modes. */
 int32_t jeihpal_screen_look(jeihpal_screen *screen, jeihpal_look *look);
 
-/* The cell at a place. NO_CELL. */
+/* The cell at a place. A kept row that is wider than the screen has cells past its columns too. NO_CELL. */
 int32_t jeihpal_screen_cell(jeihpal_screen *screen, uint16_t row, uint16_t col, jeihpal_cell *cell);
+
+/* The cells of a row, as jeihpal_hub_row_cells. NO_CELL. */
+int32_t jeihpal_screen_row_cells(jeihpal_screen *screen, uint16_t row, jeihpal_cell *cells, size_t capacity,
+                                 size_t *count, uint8_t *wrapped);
 
 /* The text of a row, as UTF-8, without the empty columns at its end; nothing past the last row. MEMORY. */
 int32_t jeihpal_screen_row_text(jeihpal_screen *screen, uint16_t row, uint8_t *to, size_t capacity, size_t *length);
@@ -260,8 +295,8 @@ int32_t jeihpal_screen_row_text(jeihpal_screen *screen, uint16_t row, uint8_t *t
  * row that doesn't go on in the next, and without newlines at its own end. MEMORY. */
 int32_t jeihpal_screen_contents(jeihpal_screen *screen, uint8_t *to, size_t capacity, size_t *length);
 
-/* The text from one place up to another. Places past the screen show nothing, and where the end doesn't come after the
- * start there is none. MEMORY. */
+/* The text from one place up to another. Places past the screen show nothing, and where the end doesn't come after
+ * the start there is none. MEMORY. */
 int32_t jeihpal_screen_contents_between(jeihpal_screen *screen, uint16_t start_row, uint16_t start_col,
                                         uint16_t end_row, uint16_t end_col, uint8_t *to, size_t capacity,
                                         size_t *length);
@@ -275,9 +310,60 @@ int32_t jeihpal_screen_state(jeihpal_screen *screen, uint8_t *to, size_t capacit
 /* Keeps a copy of the screen as it is now, its mark, in place of an earlier one. MEMORY: the earlier one stays. */
 int32_t jeihpal_screen_mark(jeihpal_screen *screen);
 
-/* The escape sequences that take a terminal from what the mark shows to what the screen shows. Without a mark they are
- * those of jeihpal_screen_state. The mark stays. MEMORY. */
+/* The escape sequences that take a terminal from what the mark shows to what the screen shows. Without a mark they
+ * are those of jeihpal_screen_state. The mark stays. MEMORY. */
 int32_t jeihpal_screen_difference(jeihpal_screen *screen, uint8_t *to, size_t capacity, size_t *length);
+
+/* Makes a copy of the screen in `from`, and puts it into `screen`. It shows the same and keeps the same rows. It has
+ * no mark and no requests, and has read nothing of a character or a sequence. What `screen` held is closed, unless
+ * the call is refused. CLOSED and OTHER_KIND speak of `from`. The two words aren't the same. MEMORY. */
+int32_t jeihpal_screen_clone(jeihpal_screen *screen, jeihpal_screen *from);
+
+/* Drops the kept rows of what is shown. FAILED. */
+int32_t jeihpal_screen_clear_scrollback(jeihpal_screen *screen);
+
+/* How the next character is drawn. */
+int32_t jeihpal_screen_drawing(jeihpal_screen *screen, jeihpal_drawing *drawing);
+
+/* The rows as text with its attributes: no control sequences but SGR, and no control characters but a newline after
+ * each row but the last that doesn't go on in the next. MEMORY. */
+int32_t jeihpal_screen_contents_formatted_basic(jeihpal_screen *screen, uint8_t *to, size_t capacity, size_t *length);
+
+/* The escape sequences that set the modes and the cursor's style, where these are as in a fresh terminal. MEMORY. */
+int32_t jeihpal_screen_input_mode_formatted(jeihpal_screen *screen, uint8_t *to, size_t capacity, size_t *length);
+
+/* The escape sequences that set how the next character is drawn. MEMORY. */
+int32_t jeihpal_screen_attributes_formatted(jeihpal_screen *screen, uint8_t *to, size_t capacity, size_t *length);
+
+/* The escape sequences that bring the cursor to where it is, and hide or show it. MEMORY. */
+int32_t jeihpal_screen_cursor_state_formatted(jeihpal_screen *screen, uint8_t *to, size_t capacity, size_t *length);
+
+/* The escape sequences that draw each row on a row of default cells: `width` columns from column `start` on. They
+ * stand one behind the other in `to`, and *length is how many bytes there are in all. `lengths` gets how many each
+ * row has, as many of these numbers as fit into `most`, and *rows is how many rows there are. Before each row the
+ * cursor is brought to the row's column `start`, and the attributes are the default ones. MEMORY. */
+int32_t jeihpal_screen_rows_formatted(jeihpal_screen *screen, uint16_t start, uint16_t width, uint8_t *to,
+                                      size_t capacity, size_t *length, size_t *lengths, size_t most, size_t *rows);
+
+/* The differences of two screens. Both are read, and neither changes; they are two words. CLOSED and OTHER_KIND
+ * speak of either. The first: the escape sequences that take a terminal from the picture of `earlier` to that of
+ * `screen`. MEMORY. */
+int32_t jeihpal_screen_contents_diff(jeihpal_screen *screen, jeihpal_screen *earlier, uint8_t *to, size_t capacity,
+                                     size_t *length);
+
+/* Those that also change the modes and the cursor's style. MEMORY. */
+int32_t jeihpal_screen_state_diff(jeihpal_screen *screen, jeihpal_screen *earlier, uint8_t *to, size_t capacity,
+                                  size_t *length);
+
+/* Those that change the modes and the cursor's style alone. MEMORY. */
+int32_t jeihpal_screen_input_mode_diff(jeihpal_screen *screen, jeihpal_screen *earlier, uint8_t *to, size_t capacity,
+                                       size_t *length);
+
+/* Those that draw each row over the one that `earlier` shows there, as jeihpal_screen_rows_formatted has them; as
+ * many rows as both have. MEMORY. */
+int32_t jeihpal_screen_rows_diff(jeihpal_screen *screen, jeihpal_screen *earlier, uint16_t start, uint16_t width,
+                                 uint8_t *to, size_t capacity, size_t *length, size_t *lengths, size_t most,
+                                 size_t *rows);
 
 /* What a program asks of its terminal beyond drawing. */
 enum jeihpal_request_kind {
@@ -304,10 +390,11 @@ typedef struct jeihpal_request {
 #define JEIHPAL_MOST_REQUESTS 256
 #define JEIHPAL_MOST_REQUEST_BYTES 1024
 
-/* Takes the oldest request out of the screen's queue, and answers its kind; NO_REQUEST where none waits, and then all
- * of *request but `dropped` is 0. As much of the text as fits is copied into `to`; where it is longer than `capacity`,
- * the request stays the oldest of the queue. A request is dropped and counted where as many wait as can, where its text
- * is too long, and where there is no memory for its text. A text is as the program wrote it, and needn't be UTF-8. */
+/* Takes the oldest request out of the screen's queue, and answers its kind; NO_REQUEST where none waits, and then
+ * all of *request but `dropped` is 0. As much of the text as fits is copied into `to`; where it is longer than
+ * `capacity`, the request stays the oldest of the queue. A request is dropped and counted where as many wait as can,
+ * where its text is too long, and where there is no memory for its text. A text is as the program wrote it, and
+ * needn't be UTF-8. */
 int32_t jeihpal_screen_request(jeihpal_screen *screen, uint8_t *to, size_t capacity, jeihpal_request *request);
 
 /* Closes the word: what it holds, of any kind, is freed. */

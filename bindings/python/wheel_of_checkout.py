@@ -1,14 +1,18 @@
-"""Makes a wheel of this folder and the shared library, for `pip install`. It needs nothing but the standard library.
+"""Makes a wheel of this folder and the shared library, for `pip install`, also one that points here (`-e`), and an
+sdist of the sources. It needs nothing but the standard library.
 
-The library is what JEIHPAL_LIBRARY names, or what ./build --library has left in the checkout.
+The library is what JEIHPAL_LIBRARY names, or what ./build --library has left in the checkout. An sdist has none: what
+is built of it wants JEIHPAL_LIBRARY.
 """
 
 from __future__ import annotations
 
 import base64
 import hashlib
+import io
 import os
 import sysconfig
+import tarfile
 import zipfile
 
 HERE = os.path.dirname(os.path.abspath(__file__))
@@ -20,6 +24,7 @@ Name: {NAME}
 Version: {VERSION}
 Summary: Terminal screens that arrive whole, proved in Rattle
 License: MIT
+License-File: LICENSE
 Requires-Python: >=3.9
 """
 SCRIPTS = """[console_scripts]
@@ -45,6 +50,18 @@ def _library() -> bytes:
         return file.read()
 
 
+def _licenses() -> dict[str, bytes]:
+    """The license here, and those of the toolchain's libraries that the shared library holds, where they are known."""
+    found = {}
+    for folder in (HERE, os.path.join(HERE, "..", ".."), os.path.join(HERE, "..", "out", "licenses")):
+        if os.path.isdir(folder):
+            for name in sorted(os.listdir(folder)):
+                if name.startswith("LICENSE"):
+                    with open(os.path.join(folder, name), "rb") as file:
+                        found[name] = file.read()
+    return found
+
+
 def _packaged() -> dict[str, bytes]:
     """The packages' files, by their names in the wheel."""
     found = {}
@@ -60,7 +77,8 @@ def _packaged() -> dict[str, bytes]:
 def _information() -> dict[str, bytes]:
     wheel = f"Wheel-Version: 1.0\nGenerator: {NAME}\nRoot-Is-Purelib: false\nTag: {_tag()}\n"
     texts = {"METADATA": METADATA, "WHEEL": wheel, "entry_points.txt": SCRIPTS}
-    return {f"{INFO}/{name}": text.encode() for name, text in texts.items()}
+    files = {f"{INFO}/{name}": text.encode() for name, text in texts.items()}
+    return {**files, **{f"{INFO}/licenses/{name}": data for name, data in _licenses().items()}}
 
 
 def _record(files: dict[str, bytes]) -> bytes:
@@ -72,12 +90,38 @@ def _record(files: dict[str, bytes]) -> bytes:
     return "\n".join([*lines, f"{INFO}/RECORD,,", ""]).encode()
 
 
-def build_wheel(wheel_directory: str, config_settings: object = None, metadata_directory: object = None) -> str:
-    """Makes the wheel in a folder, and answers its name."""
-    files = {**_packaged(), "jeihpal/libjeihpal.so": _library(), **_information()}
+def _written(files: dict[str, bytes], folder: str) -> str:
+    """Writes a wheel of these files, and answers its name."""
+    files = {**files, **_information()}
     files[f"{INFO}/RECORD"] = _record(files)
     made = f"{NAME}-{VERSION}-{_tag()}.whl"
-    with zipfile.ZipFile(os.path.join(wheel_directory, made), "w", zipfile.ZIP_DEFLATED) as wheel:
+    with zipfile.ZipFile(os.path.join(folder, made), "w", zipfile.ZIP_DEFLATED) as wheel:
         for name, data in files.items():
             wheel.writestr(zipfile.ZipInfo(name), data)
     return made
+
+
+def build_wheel(wheel_directory: str, config_settings: object = None, metadata_directory: object = None) -> str:
+    """Makes the wheel in a folder, and answers its name."""
+    return _written({**_packaged(), "jeihpal/libjeihpal.so": _library()}, wheel_directory)
+
+
+def build_editable(wheel_directory: str, config_settings: object = None, metadata_directory: object = None) -> str:
+    """Makes a wheel that has the module found here, so that an edit is seen at once."""
+    _library()
+    return _written({f"{NAME}.pth": f"{HERE}\n".encode()}, wheel_directory)
+
+
+def build_sdist(sdist_directory: str, config_settings: object = None) -> str:
+    """Makes an archive of the sources in a folder, and answers its name."""
+    top = f"{NAME}-{VERSION}"
+    files = {**_packaged(), **_licenses(), "PKG-INFO": METADATA.encode()}
+    for name in ("pyproject.toml", os.path.basename(__file__)):
+        with open(os.path.join(HERE, name), "rb") as file:
+            files[name] = file.read()
+    with tarfile.open(os.path.join(sdist_directory, f"{top}.tar.gz"), "w:gz", format=tarfile.PAX_FORMAT) as sdist:
+        for name, data in files.items():
+            entry = tarfile.TarInfo(f"{top}/{name}")
+            entry.size = len(data)
+            sdist.addfile(entry, io.BytesIO(data))
+    return f"{top}.tar.gz"

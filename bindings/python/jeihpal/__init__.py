@@ -12,15 +12,15 @@ terminal that reads frames. A `Screen` is a terminal's screen from bytes, with w
 True
 '[####      ]  40%'
 
-Each object stays on the thread that made it. No call waits. Close an object, or use it in a `with`; one that is let go
-is closed too. Rows and columns are counted from 0. A refused call raises an exception, and has changed nothing unless
-its description says so.
+A view and a screen may be used on any thread, each with a lock of its own; a hub stays on the thread that made it. No
+call waits for anything else. Close an object, or use it in a `with`; one that is let go is closed too. Rows and columns
+are counted from 0. A refused call raises an exception, and has changed nothing unless its description says so.
 """
 
-from ._cells import Attributes, Cell, Color, Encoding, Look, Mouse, Rgb
+from ._cells import Attributes, Cell, Color, Cursor, Drawing, Encoding, Look, Modes, Mouse, Rgb, Row, Size
 from ._errors import Failed, JeihpalError, NotOwed, UnknownClient
 from ._hub import Answer, Hub
-from ._screen import Request, RequestKind, Screen
+from ._screen import History, Request, RequestKind, Screen
 from ._view import View
 
 __all__ = [
@@ -28,17 +28,23 @@ __all__ = [
     "Attributes",
     "Cell",
     "Color",
+    "Cursor",
+    "Drawing",
     "Encoding",
     "Failed",
+    "History",
     "Hub",
     "JeihpalError",
     "Look",
+    "Modes",
     "Mouse",
     "NotOwed",
     "Request",
     "RequestKind",
     "Rgb",
+    "Row",
     "Screen",
+    "Size",
     "UnknownClient",
     "View",
 ]

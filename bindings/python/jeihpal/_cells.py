@@ -3,10 +3,25 @@
 from __future__ import annotations
 
 import enum
-import functools
-from typing import NamedTuple, Union
+import ctypes
+import struct
+from typing import NamedTuple, TypeVar, Union
 
-from ._library import RawCell, RawColor, RawLook
+from ._library import RawCell, RawColor, RawDrawing, RawLook
+
+Open = TypeVar("Open", bound="OpenEnum")
+
+
+class OpenEnum(enum.IntEnum):
+    """Numbers with names. One that a later library adds is a member too, without a name of its own."""
+
+    @classmethod
+    def _missing_(cls: type[Open], value: object) -> Open | None:
+        if not isinstance(value, int):
+            return None
+        member = int.__new__(cls, value)
+        member._name_, member._value_ = f"UNKNOWN_{value}", value
+        return cls._value2member_map_.setdefault(value, member)  # type: ignore[return-value]
 
 
 class Rgb(NamedTuple):
@@ -43,7 +58,7 @@ class Cell(NamedTuple):
     attributes: Attributes
 
 
-class Mouse(enum.IntEnum):
+class Mouse(OpenEnum):
     """Which mouse events a program asks for."""
 
     NONE = 0
@@ -53,12 +68,78 @@ class Mouse(enum.IntEnum):
     ANY_MOTION = 4
 
 
-class Encoding(enum.IntEnum):
+class Encoding(OpenEnum):
     """How mouse events are written."""
 
     DEFAULT = 0
     UTF8 = 1
     SGR = 2
+
+
+class Size(NamedTuple):
+    """How many rows and columns there are."""
+
+    rows: int
+    cols: int
+
+
+class Cursor(NamedTuple):
+    """The cursor."""
+
+    row: int
+    col: int
+    """It is the number of columns where the next character goes to the next row."""
+    hidden: bool
+    style: int
+    """How it looks: the number of DECSCUSR, 0 to 6."""
+
+    @property
+    def x(self) -> int:
+        """The column."""
+        return self.col
+
+    @property
+    def y(self) -> int:
+        """The row."""
+        return self.row
+
+
+class Modes(NamedTuple):
+    """The modes that a program has set."""
+
+    mouse: Mouse
+    encoding: Encoding
+    keypad: bool
+    """The keypad sends application sequences."""
+    cursor_keys: bool
+    """The cursor keys do."""
+    paste: bool
+    """Pasted text is marked as such (private mode 2004)."""
+    alternate: bool
+    """The alternate screen is shown; never in a view."""
+    updating: bool
+    """The program is in a synchronized update of its own (private mode 2026); never in a view."""
+
+
+class Row(NamedTuple):
+    """A row of a screen."""
+
+    cells: tuple[Cell, ...]
+    wrapped: bool
+    """Its text goes on in the next row."""
+
+    @property
+    def text(self) -> str:
+        """Its text, with a space for each empty column."""
+        return "".join([cell.text or " " for cell in self.cells if cell.width])
+
+
+class Drawing(NamedTuple):
+    """How the next character is drawn."""
+
+    foreground: Color
+    background: Color
+    attributes: Attributes
 
 
 class Look(NamedTuple):
@@ -102,18 +183,45 @@ def color_of(raw: RawColor) -> Color:
     if raw.kind == 0:
         return None
     if raw.kind == 1:
-        return raw.red_or_index
+        return int(raw.red_or_index)
     return Rgb(raw.red_or_index, raw.green, raw.blue)
+
+
+class _Cells(dict[bytes, Cell]):
+    """Cells by the bytes of the library's struct: those of a screen are much alike."""
+
+    def __missing__(self, data: bytes) -> Cell:
+        if len(self) >= _MOST_CELLS:
+            self.clear()
+        cell = self[data] = _cell_of(data)
+        return cell
+
+
+_MOST_CELLS = 8192
+_CELL = struct.Struct(f"{ctypes.sizeof(RawCell)}s")
+CELL_SIZE = _CELL.size
+_known = _Cells()
+
+
+def cells_of(data: bytes) -> tuple[Cell, ...]:
+    """The cells that the library's structs say, one behind the other."""
+    known = _known
+    return tuple([known[it] for it, in _CELL.iter_unpack(data)])
+
+
+def drawing_of(raw: RawDrawing) -> Drawing:
+    """The drawing that the library's struct says."""
+    switches = (raw.bold, raw.dim, raw.italic, raw.underlined, raw.inverse)
+    number = sum(1 << place for place, switch in enumerate(switches) if switch)
+    return Drawing(color_of(raw.foreground), color_of(raw.background), _BY_NUMBER[number])
 
 
 def cell_of(raw: RawCell) -> Cell:
     """The cell that the library's struct says."""
-    return _cell_of(bytes(raw))
+    return _known[bytes(raw)]
 
 
-@functools.lru_cache(maxsize=4096)
 def _cell_of(data: bytes) -> Cell:
-    """The same; cells of a screen are much alike."""
     raw = RawCell.from_buffer_copy(data)
     text = bytes(raw.text[: raw.length]).decode() if raw.length else ""
     attributes = _BY_NUMBER[raw.attributes]

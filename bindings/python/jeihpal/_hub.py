@@ -2,12 +2,13 @@
 
 from __future__ import annotations
 
-import enum
+import ctypes
 
+from ._cells import OpenEnum
 from ._object import Object, checked_count, checked_size
 
 
-class Answer(enum.IntEnum):
+class Answer(OpenEnum):
     """What a request for a frame is answered."""
 
     UNCHANGED = 0
@@ -32,9 +33,10 @@ class Answer(enum.IntEnum):
 
 
 class Hub(Object):
-    """One program's screen, and clients that are sent frames of it."""
+    """One program's screen, and clients that are sent frames of it. It stays on the thread that made it."""
 
     _kind = "hub"
+    _moves = False
 
     def __init__(self, rows: int, cols: int) -> None:
         """A blank screen of this size, without clients."""
@@ -53,8 +55,9 @@ class Hub(Object):
 
     def attach(self) -> int:
         """A new client, by its key. The key of one that has ended may be given again."""
-        self._call("attach", self._count)
-        return self._count.value
+        client = ctypes.c_size_t()
+        self._call("attach", client)
+        return client.value
 
     def detach(self, client: int) -> None:
         """Ends a client; what it is owed is gone."""

@@ -4,6 +4,7 @@ from __future__ import annotations
 
 import ctypes
 import os
+from typing import Any
 
 ABI = 1
 
@@ -51,6 +52,15 @@ class RawLook(ctypes.Structure):
     ]
 
 
+class RawDrawing(ctypes.Structure):
+    """jeihpal_drawing."""
+
+    _fields_ = [
+        *[(name, RawColor) for name in ("foreground", "background")],
+        *[(name, ctypes.c_uint8) for name in ("bold", "dim", "italic", "underlined", "inverse")],
+    ]
+
+
 class RawRequest(ctypes.Structure):
     """jeihpal_request."""
 
@@ -67,9 +77,12 @@ _OUT_SIZE = ctypes.POINTER(_SIZE)
 _TEXT = [ctypes.c_void_p, _SIZE, _OUT_SIZE]
 _LOOK = [ctypes.POINTER(RawLook)]
 _CELL = [_U16, _U16, ctypes.POINTER(RawCell)]
+_WORD = ctypes.POINTER(Word)
+_ROW_CELLS = [_U16, ctypes.c_void_p, _SIZE, _OUT_SIZE, ctypes.POINTER(ctypes.c_uint8)]
+_ROWS = [_U16, _U16, *_TEXT, ctypes.c_void_p, _SIZE, _OUT_SIZE]
 
 # Of each function the parameters after the word.
-PARAMETERS = {
+PARAMETERS: dict[str, list[Any]] = {
     "hub_new": [_U16, _U16],
     "hub_feed": _BYTES,
     "hub_resize": [_U16, _U16],
@@ -80,6 +93,7 @@ PARAMETERS = {
     "hub_sent": [_SIZE, _SIZE],
     "hub_look": _LOOK,
     "hub_cell": _CELL,
+    "hub_row_cells": _ROW_CELLS,
     "hub_row_text": [_U16, *_TEXT],
     "hub_contents": _TEXT,
     "view_new": [_U16, _U16],
@@ -88,6 +102,7 @@ PARAMETERS = {
     "view_held": [_OUT_SIZE],
     "view_look": _LOOK,
     "view_cell": _CELL,
+    "view_row_cells": _ROW_CELLS,
     "view_row_text": [_U16, *_TEXT],
     "screen_new": [_U16, _U16, _SIZE],
     "screen_process": _BYTES,
@@ -95,6 +110,7 @@ PARAMETERS = {
     "screen_scroll": [_SIZE],
     "screen_look": _LOOK,
     "screen_cell": _CELL,
+    "screen_row_cells": _ROW_CELLS,
     "screen_row_text": [_U16, *_TEXT],
     "screen_contents": _TEXT,
     "screen_contents_between": [_U16, _U16, _U16, _U16, *_TEXT],
@@ -102,6 +118,18 @@ PARAMETERS = {
     "screen_state": _TEXT,
     "screen_mark": [],
     "screen_difference": _TEXT,
+    "screen_clone": [_WORD],
+    "screen_clear_scrollback": [],
+    "screen_drawing": [ctypes.POINTER(RawDrawing)],
+    "screen_contents_formatted_basic": _TEXT,
+    "screen_input_mode_formatted": _TEXT,
+    "screen_attributes_formatted": _TEXT,
+    "screen_cursor_state_formatted": _TEXT,
+    "screen_rows_formatted": _ROWS,
+    "screen_contents_diff": [_WORD, *_TEXT],
+    "screen_state_diff": [_WORD, *_TEXT],
+    "screen_input_mode_diff": [_WORD, *_TEXT],
+    "screen_rows_diff": [_WORD, *_ROWS],
     "screen_request": [ctypes.c_void_p, _SIZE, ctypes.POINTER(RawRequest)],
 }
 CLOSES = ("hub_close", "view_close", "screen_close")
@@ -117,20 +145,31 @@ def _found() -> str:
     raise ImportError(f"there is no libjeihpal.so at {' or '.join(places)}: ./build --library makes it")
 
 
+def _check_processor() -> None:
+    """Refuses a processor that lacks what the library's code needs."""
+    try:
+        with open("/proc/cpuinfo", encoding="ascii", errors="replace") as file:
+            flags = next((line for line in file if line.startswith("flags")), "")
+    except OSError:
+        return
+    if flags and not {"sse4_2", "popcnt"} <= set(flags.split()):
+        raise ImportError("the library is for processors with SSE4.2 (x86-64-v2), which this one isn't")
+
+
 def _loaded() -> ctypes.CDLL:
     """The library with its functions' types set."""
     path = _found()
+    _check_processor()
     library = ctypes.CDLL(path)
     library.jeihpal_abi.restype, library.jeihpal_abi.argtypes = ctypes.c_uint32, []
     if library.jeihpal_abi() != ABI:
         raise ImportError(f"{path} has interface {library.jeihpal_abi()}, and this module is for {ABI}")
-    word = ctypes.POINTER(Word)
     for name, parameters in PARAMETERS.items():
         function = getattr(library, f"jeihpal_{name}")
-        function.restype, function.argtypes = ctypes.c_int32, [word, *parameters]
+        function.restype, function.argtypes = ctypes.c_int32, [_WORD, *parameters]
     for name in CLOSES:
         function = getattr(library, f"jeihpal_{name}")
-        function.restype, function.argtypes = None, [word]
+        function.restype, function.argtypes = None, [_WORD]
     return library
 
 

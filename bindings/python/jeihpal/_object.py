@@ -2,11 +2,13 @@
 
 from __future__ import annotations
 
+import contextlib
 import ctypes
 import threading
-from typing import Any, Callable, TypeVar
+from collections import deque
+from typing import Any, Callable, ClassVar, Iterator, Optional, TypeVar, overload
 
-from ._cells import Cell, Look, cell_of, look_of
+from ._cells import CELL_SIZE, Cell, Cursor, Look, Modes, Row, Size, cell_of, cells_of, look_of
 from ._errors import refusal
 from ._library import RawCell, RawLook, Word, library
 
@@ -35,27 +37,63 @@ def checked_count(number: int) -> int:
     return number
 
 
-class Object:
-    """A word of the library's, closed with this object. It stays on the thread that made it."""
+@contextlib.contextmanager
+def locked(*objects: Object) -> Iterator[None]:
+    """Keeps other threads from these objects. Whoever wants the same ones takes their locks in the same order."""
+    with contextlib.ExitStack() as stack:
+        for it in sorted(objects, key=id):
+            stack.enter_context(it._lock)
+        yield
 
-    _kind = ""
+
+class _Mine(threading.local):
+    """The words that other threads have let go, of objects that only this thread may free."""
+
+    def __init__(self) -> None:
+        self.words: deque[tuple[Callable[..., Any], Any]] = deque()
+
+
+_mine = _Mine()
+
+
+class Object:
+    """A word of the library's, closed with this object.
+
+    It may be used on any thread, which takes its lock for each call. A hub stays on the thread that made it.
+    """
+
+    _kind: ClassVar[str] = ""
+    _moves: ClassVar[bool] = True
 
     def __init__(self, *arguments: Any) -> None:
-        self._word = ctypes.pointer(Word())
-        self._thread = threading.get_ident()
-        self._count = ctypes.c_size_t()
-        self._room = ctypes.create_string_buffer(_FIRST_ROOM)
+        self._begin()
         self._call("new", *arguments)
+
+    def _begin(self) -> None:
+        """What all objects have, before the library fills the word."""
+        # A signal's handler may call in the midst of a call on its thread, so the lock is one that lets it in.
+        self._lock = threading.RLock()
+        self._thread = threading.get_ident()
+        self._left = _mine.words
+        self._known_rows: dict[bytes, Row] = {}
+        self._word = ctypes.pointer(Word())
+        while self._left:
+            close, word = self._left.popleft()
+            close(word)
 
     @classmethod
     def _function(cls, name: str) -> Callable[..., Any]:
-        return getattr(library, f"jeihpal_{cls._kind}_{name}")
+        return getattr(library, f"jeihpal_{cls._kind}_{name}")  # type: ignore[no-any-return]
+
+    def _check_thread(self) -> None:
+        if not self._moves and threading.get_ident() != self._thread:
+            raise RuntimeError("a hub stays on the thread that made it")
 
     def _call(self, name: str, *arguments: Any) -> int:
         """Calls one of the library's functions on this word. Raises what it refuses."""
-        if threading.get_ident() != self._thread:
-            raise RuntimeError("an object stays on the thread that made it")
-        code = self._function(name)(self._word, *arguments)
+        self._check_thread()
+        with self._lock:
+            code: int = self._function(name)(self._word, *arguments)
         if code < 0:
             raise refusal(code)
         return code
@@ -65,14 +103,16 @@ class Object:
         data = data if isinstance(data, bytes) else bytes(memoryview(data))
         self._call(name, data, len(data))
 
-    def _text(self, name: str, *arguments: int, most: int | None = None) -> bytes:
-        """What a function copies out: all of it, or at most so many bytes of its front."""
-        self._call(name, *arguments, self._room, len(self._room), self._count)
-        count = self._count.value if most is None else min(most, self._count.value)
-        if count > len(self._room):
-            self._room = ctypes.create_string_buffer(2 * count)
-            self._call(name, *arguments, self._room, len(self._room), self._count)
-        return ctypes.string_at(self._room, count)
+    def _text(self, name: str, *arguments: Any, most: int | None = None, after: tuple[Any, ...] = ()) -> bytes:
+        """What a function copies out: all of it, or at most so many bytes of its front. The room for it belongs to
+        this call alone."""
+        room, count = ctypes.create_string_buffer(_FIRST_ROOM), ctypes.c_size_t()
+        while True:
+            self._call(name, *arguments, room, len(room), count, *after)
+            wanted = count.value if most is None else min(most, count.value)
+            if wanted <= len(room):
+                return ctypes.string_at(room, wanted)
+            room = ctypes.create_string_buffer(2 * wanted)
 
     def look(self) -> Look:
         """The size, the cursor and the modes."""
@@ -80,20 +120,79 @@ class Object:
         self._call("look", raw)
         return look_of(raw)
 
+    @property
+    def size(self) -> Size:
+        """How many rows and columns there are."""
+        look = self.look()
+        return Size(look.rows, look.cols)
+
+    @property
+    def cursor(self) -> Cursor:
+        """The cursor."""
+        look = self.look()
+        return Cursor(look.row, look.col, look.hidden, look.style)
+
+    @property
+    def modes(self) -> Modes:
+        """The modes that the program has set."""
+        look = self.look()
+        return Modes(
+            *(look.mouse, look.encoding, look.keypad, look.cursor_keys, look.paste, look.alternate, look.updating)
+        )
+
     def cell(self, row: int, col: int) -> Cell:
         """The cell at a place. Raises IndexError outside of the screen."""
         raw = RawCell()
         self._call("cell", checked_place(row), checked_place(col), raw)
         return cell_of(raw)
 
-    def cells(self, row: int) -> list[Cell]:
-        """The cells of a row, from the first column to the last. Raises IndexError outside of the screen."""
-        raw, cols = RawCell(), self.look().cols
-        cells = []
-        for col in range(cols):
-            self._call("cell", checked_place(row), col, raw)
-            cells.append(cell_of(raw))
-        return cells
+    def _data(self, rows: range, cols: int) -> Iterator[tuple[bytes, int]]:
+        """Of each of these rows the library's structs, and whether it goes on in the next."""
+        size = cols * CELL_SIZE
+        room, count, wrapped = ctypes.create_string_buffer(max(size, 1)), ctypes.c_size_t(), ctypes.c_uint8()
+        for row in rows:
+            self._call("row_cells", row, room, cols, count, wrapped)
+            yield ctypes.string_at(room, size), wrapped.value
+
+    def _rows_of(self, rows: range, cols: int) -> list[Row]:
+        known, made = self._known_rows, []
+        seen: dict[bytes, Row] = {}
+        for data, wrapped in self._data(rows, cols):
+            key = data + b"\1" if wrapped else data
+            row = seen.get(key) or known.get(key) or Row(cells_of(data), bool(wrapped))
+            seen[key] = row
+            made.append(row)
+        if len(rows) > 1:
+            self._known_rows = seen  # those that stay are not made again
+        return made
+
+    def row(self, row: int) -> Row:
+        """A row: its cells, from the first column to the last, and whether it goes on in the next row. Raises
+        IndexError outside of the screen."""
+        with self._lock:
+            return self._rows_of(range(checked_place(row), row + 1), self.look().cols)[0]
+
+    @overload
+    def cells(self) -> list[Row]: ...
+
+    @overload
+    def cells(self, row: int) -> list[Cell]: ...
+
+    def cells(self, row: int | None = None) -> list[Cell] | list[Row]:
+        """The cells of a row, from the first column to the last; or without a number the rows, each with its cells.
+
+        A row's cells are a list, and all rows are a list of `Row`. Raises IndexError outside of the screen.
+        """
+        if row is not None:
+            return list(self.row(row).cells)
+        with self._lock:
+            rows, cols = self.size
+            return self._rows_of(range(rows), cols)
+
+    @property
+    def display(self) -> list[str]:
+        """The text of each row, with a space for each empty column."""
+        return [row.text for row in self.cells()]
 
     def row_text(self, row: int) -> str:
         """The text of a row without the empty columns at its end; nothing past the last row."""
@@ -101,9 +200,9 @@ class Object:
 
     def close(self) -> None:
         """Frees it. A later call raises ValueError, and another close does nothing."""
-        if threading.get_ident() != self._thread:
-            raise RuntimeError("an object stays on the thread that made it")
-        self._function("close")(self._word)
+        self._check_thread()
+        with self._lock:
+            self._function("close")(self._word)
 
     def __enter__(self: Self) -> Self:
         return self
@@ -112,11 +211,15 @@ class Object:
         self.close()
 
     def __del__(self) -> None:
-        # One that another thread lets go is never freed.
-        if hasattr(self, "_word") and threading.get_ident() == self._thread:
-            self.close()
+        word: Optional[Any] = getattr(self, "_word", None)
+        if word is None:
+            return
+        if self._moves or threading.get_ident() == self._thread:
+            self._function("close")(word)
+        else:
+            self._left.append((self._function("close"), word))  # its thread frees it
 
-    def __copy__(self) -> None:
+    def __copy__(self) -> Object:
         raise TypeError(f"a {type(self).__name__} can't be copied")
 
     def __reduce__(self) -> str:

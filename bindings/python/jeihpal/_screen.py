@@ -3,14 +3,19 @@
 from __future__ import annotations
 
 import ctypes
-import enum
-from typing import Iterator, NamedTuple
+from collections import deque
+from typing import Any, Callable, Iterator, NamedTuple, TypeVar
 
-from ._library import RawRequest
-from ._object import Object, checked_count, checked_size
+from ._cells import Drawing, OpenEnum, Row, drawing_of
+from ._library import RawDrawing, RawRequest
+from ._object import Object, checked_count, checked_place, checked_size, locked
+
+_MOST_REQUESTS = 256
+_FIRST_ROOM = 4096
+Made = TypeVar("Made")
 
 
-class RequestKind(enum.IntEnum):
+class RequestKind(OpenEnum):
     """What a program asks of its terminal beyond drawing."""
 
     BELL = 1
@@ -44,8 +49,32 @@ class Screen(Object):
 
     def __init__(self, rows: int, cols: int, scrollback: int = 0) -> None:
         """A blank screen of this size that keeps up to `scrollback` rows that scroll off."""
-        self.dropped_requests = 0
+        self._prepare()
         super().__init__(checked_size(rows), checked_size(cols), checked_count(scrollback))
+
+    def _prepare(self) -> None:
+        self.dropped_requests = self._overfull = 0
+        self._waiting: deque[Request] = deque()
+        self._names = {RequestKind.TITLE: "", RequestKind.ICON_NAME: ""}
+        self._clean: tuple[list[tuple[bytes, int]], int] = ([], 0)
+        self._scanner: Any = None
+
+    def clone(self) -> Screen:
+        """A copy of the screen, without its mark, its requests, and what it has read of a character or a sequence."""
+        copy = type(self).__new__(type(self))
+        copy._prepare()
+        copy._begin()
+        with self._lock:
+            copy._call("clone", self._word)
+            copy._names, copy._clean = dict(self._names), self._clean
+        return copy
+
+    __copy__ = clone
+
+    def __deepcopy__(self, _: object) -> Screen:
+        return self.clone()
+
+    # ---- what changes it
 
     def process(self, data: bytes) -> None:
         """Reads the program's next bytes. They may be cut anywhere.
@@ -54,13 +83,41 @@ class Screen(Object):
         """
         self._give("process", data)
 
+    def answer(self, data: bytes) -> bytes:
+        """Reads the program's next bytes, as `process` does, and answers what a terminal sends back for them.
+
+        Programs ask for the cursor's place (DSR), what the terminal is (DA), its size, modes and colours, and some
+        wait for the answer. Each is given with the screen as it was where the question was read.
+        """
+        from .testing._answers import Scanner, answer, is_update
+
+        data = data if isinstance(data, bytes) else bytes(memoryview(data))
+        said = b""
+        with self._lock:
+            if self._scanner is None:
+                self._scanner = Scanner()
+            for piece in self._scanner.pieces(data):
+                self.process(piece.data)
+                if piece.asked is not None and not is_update(piece.asked):
+                    said += answer(piece.asked, self.look())
+        return said
+
     def resize(self, rows: int, cols: int) -> None:
         """Gives the screen another size, or the same, ends the program's synchronized update, and forgets the mark."""
         self._call("resize", checked_size(rows), checked_size(cols))
 
     def scroll(self, rows: int) -> None:
-        """Shows the newest `rows` of the kept rows above the others, or all where there are fewer."""
+        """Shows the newest `rows` of the kept rows above the others, or all where there are fewer.
+
+        Redraws and differences lead a terminal to the picture only where none is shown.
+        """
         self._call("scroll", checked_count(rows))
+
+    def clear_scrollback(self) -> None:
+        """Drops the kept rows."""
+        self._call("clear_scrollback")
+
+    # ---- what it shows
 
     def contents(self) -> str:
         """The text of the rows that are shown."""
@@ -71,33 +128,187 @@ class Screen(Object):
         places = [checked_size(number) for number in (*start, *end)]
         return self._text("contents_between", *places).decode()
 
+    @property
+    def drawing(self) -> Drawing:
+        """How the next character is drawn."""
+        raw = RawDrawing()
+        self._call("drawing", raw)
+        return drawing_of(raw)
+
+    @property
+    def history(self) -> History:
+        """The rows that have scrolled off and are kept, the oldest first. Reading them moves nothing."""
+        return History(self)
+
+    # ---- what has changed
+
+    def clean(self) -> None:
+        """Has `dirty` compare with the screen as it is now."""
+        with self._lock:
+            rows, cols = self.size
+            self._clean = list(self._data(range(rows), cols)), cols
+
+    @property
+    def dirty(self) -> set[int]:
+        """The numbers of the rows that differ from what they were at the last `clean`: all rows without one, and after
+        another number of columns."""
+        with self._lock:
+            rows, cols = self.size
+            before, cols_before = self._clean
+            if cols_before != cols:
+                return set(range(rows))
+            now = list(self._data(range(rows), cols))
+        return {row for row, data in enumerate(now) if row >= len(before) or data != before[row]}
+
+    # ---- what redraws it
+
     def contents_formatted(self) -> bytes:
         """What takes a terminal of this size to the picture, whatever it showed before."""
         return self._text("contents_formatted")
+
+    def contents_formatted_basic(self) -> bytes:
+        """The rows as text with its attributes alone: nothing but SGR and newlines between the characters."""
+        return self._text("contents_formatted_basic")
 
     def state(self) -> bytes:
         """What takes a fresh terminal of this size to the picture, the modes and the cursor's style."""
         return self._text("state")
 
+    def input_mode_formatted(self) -> bytes:
+        """What sets the modes and the cursor's style."""
+        return self._text("input_mode_formatted")
+
+    def attributes_formatted(self) -> bytes:
+        """What sets how the next character is drawn."""
+        return self._text("attributes_formatted")
+
+    def cursor_state_formatted(self) -> bytes:
+        """What brings a terminal's cursor to the screen's, and hides or shows it."""
+        return self._text("cursor_state_formatted")
+
+    def rows_formatted(self, start: int = 0, width: int | None = None) -> list[bytes]:
+        """What draws each row on a row of default cells: `width` columns from column `start` on, or all."""
+        return self._texts("rows_formatted", [], start, width)
+
     def mark(self) -> None:
         """Keeps a copy of the screen as it is now, in place of an earlier one."""
         self._call("mark")
 
-    def difference(self) -> bytes:
-        """What takes a terminal from what the mark shows to what the screen shows. Without a mark: `state`."""
-        return self._text("difference")
+    def difference(self, earlier: Screen | None = None) -> bytes:
+        """What takes a terminal from what an earlier screen shows to what this one shows.
+
+        Without one it is what the mark shows, and without a mark this is `state`.
+        """
+        return self._text("difference") if earlier is None else self._from(earlier, "state_diff")
+
+    def contents_difference(self, earlier: Screen) -> bytes:
+        """The same of the pictures alone."""
+        return self._from(earlier, "contents_diff")
+
+    def input_mode_difference(self, earlier: Screen) -> bytes:
+        """The same of the modes and the cursor's style alone."""
+        return self._from(earlier, "input_mode_diff")
+
+    def rows_difference(self, earlier: Screen, start: int = 0, width: int | None = None) -> list[bytes]:
+        """What draws each row over the one that an earlier screen shows there."""
+        if earlier is self:
+            return [b""] * self.size.rows
+        with locked(self, earlier):
+            return self._texts("rows_diff", [earlier._word], start, width)
+
+    def _from(self, earlier: Screen, name: str) -> bytes:
+        if earlier is self:
+            return b""
+        with locked(self, earlier):
+            return self._text(name, earlier._word)
+
+    def _texts(self, name: str, words: list[Any], start: int, width: int | None) -> list[bytes]:
+        """What a function copies out of each row."""
+        with self._lock:
+            rows, cols = self.size
+            columns = checked_place(start), cols if width is None else checked_size(width)
+            lengths, count = (ctypes.c_size_t * rows)(), ctypes.c_size_t()
+            data = self._text(name, *words, *columns, after=(lengths, rows, count))
+        made, at = [], 0
+        for length in lengths[: count.value]:
+            made.append(data[at : at + length])
+            at += length
+        return made
+
+    # ---- what the program asks for
 
     def requests(self) -> Iterator[Request]:
         """Takes what the program has asked for out of the screen's queue, oldest first.
 
         The queue holds up to 256 requests, each with a text of up to 1,024 bytes. Others are dropped.
         """
-        raw = RawRequest()
-        while kind := self._call("request", self._room, len(self._room), raw):
-            self.dropped_requests = raw.dropped
-            if raw.length > len(self._room):
-                self._room = ctypes.create_string_buffer(raw.length)  # it is still the oldest
-                continue
-            text = ctypes.string_at(self._room, raw.length)
-            yield Request(RequestKind(kind), text[raw.letters :], text[: raw.letters], raw.rows, raw.cols)
-        self.dropped_requests = raw.dropped
+        while True:
+            self._take_requests()
+            if not self._waiting:
+                return
+            yield self._waiting.popleft()
+
+    @property
+    def title(self) -> str:
+        """The window's title, as the program set it last."""
+        self._take_requests()
+        return self._names[RequestKind.TITLE]
+
+    @property
+    def icon_name(self) -> str:
+        """The name of the window's icon, as the program set it last."""
+        self._take_requests()
+        return self._names[RequestKind.ICON_NAME]
+
+    def _take_requests(self) -> None:
+        """Takes all of the library's queue over. As many wait here as there."""
+        raw, room = RawRequest(), ctypes.create_string_buffer(_FIRST_ROOM)
+        with self._lock:
+            while kind := self._call("request", room, len(room), raw):
+                if raw.length > len(room):
+                    room = ctypes.create_string_buffer(raw.length)  # it is still the oldest
+                    continue
+                text = ctypes.string_at(room, raw.length)
+                request = Request(RequestKind(kind), text[raw.letters :], text[: raw.letters], raw.rows, raw.cols)
+                if request.kind in self._names:
+                    self._names[request.kind] = request.text.decode(errors="replace")
+                if len(self._waiting) < _MOST_REQUESTS:
+                    self._waiting.append(request)
+                else:
+                    self._overfull += 1
+            self.dropped_requests = raw.dropped + self._overfull
+
+
+class History:
+    """The rows that a screen keeps, the oldest first."""
+
+    def __init__(self, screen: Screen) -> None:
+        self._screen = screen
+
+    def __len__(self) -> int:
+        return self._screen.look().kept
+
+    def __getitem__(self, number: int) -> Row:
+        """The row of this number; a negative one counts from the newest, which is -1."""
+        return self._read(number, lambda screen: screen.row(0))
+
+    def __iter__(self) -> Iterator[Row]:
+        return (self[number] for number in range(len(self)))
+
+    def text(self, number: int) -> str:
+        """The text of the row of this number, without the empty columns at its end."""
+        return self._read(number, lambda screen: screen.row_text(0))
+
+    def _read(self, number: int, read: Callable[[Screen], Made]) -> Made:
+        """What is read of a row, while it is shown at the top. Then what was shown is shown again."""
+        screen = self._screen
+        with locked(screen):
+            look = screen.look()
+            place = number + look.kept if number < 0 else number
+            if not 0 <= place < look.kept:
+                raise IndexError("there is no such row")
+            screen.scroll(look.kept - place)
+            try:
+                return read(screen)
+            finally:
+                screen.scroll(look.scrolled)

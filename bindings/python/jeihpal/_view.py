@@ -2,6 +2,8 @@
 
 from __future__ import annotations
 
+import ctypes
+
 from ._object import Object, checked_size
 
 
@@ -25,8 +27,9 @@ class View(Object):
 
     def held(self) -> int:
         """How many bytes are held back, until the end of a frame or of a synchronized update."""
-        self._call("held", self._count)
-        return self._count.value
+        count = ctypes.c_size_t()
+        self._call("held", count)
+        return count.value
 
     def text(self) -> str:
         """The rows, a line for each."""

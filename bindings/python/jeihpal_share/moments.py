@@ -25,22 +25,22 @@ class Camera:
     """Makes moments. The text of a row is made again only where the row has changed."""
 
     def __init__(self) -> None:
-        self._cells: list[list[Cell]] = []
+        self._cells: list[tuple[Cell, ...]] = []
         self._rows: list[str] = []
 
     def take(self, hub: Hub) -> Moment:
         """What a hub's screen shows now."""
         look = hub.look()
-        cells = [hub.cells(row) for row in range(look.rows)]
+        cells = [row.cells for row in hub.cells()]
         before = zip(self._cells, self._rows)
-        self._rows = [self._text(row, *next(before, ([], ""))) for row in cells]
+        self._rows = [self._text(row, *next(before, ((), ""))) for row in cells]
         self._cells = cells
         cursor = None if look.hidden else _cursor(cells[look.row], look.row, min(look.col, look.cols - 1))
         return Moment((look.rows, look.cols), self._rows, cursor)
 
     @staticmethod
-    def _text(cells: list[Cell], before: list[Cell], text: str) -> str:
-        return text if cells == before else _row(cells)
+    def _text(cells: tuple[Cell, ...], before: tuple[Cell, ...], text: str) -> str:
+        return text if cells is before or cells == before else _row(cells)
 
 
 def _color(color: Color) -> int | str | None:
@@ -48,7 +48,7 @@ def _color(color: Color) -> int | str | None:
     return color if color is None or isinstance(color, int) else "#%02x%02x%02x" % color
 
 
-def _row(cells: list[Cell]) -> str:
+def _row(cells: tuple[Cell, ...]) -> str:
     """A row's text."""
     runs: list[list[Any]] = []
     before = None
@@ -68,7 +68,7 @@ def _row(cells: list[Cell]) -> str:
     return json.dumps(runs, ensure_ascii=False, separators=(",", ":"))
 
 
-def _cursor(cells: list[Cell], row: int, col: int) -> list[int]:
+def _cursor(cells: tuple[Cell, ...], row: int, col: int) -> list[int]:
     """Where the cursor is drawn: it covers a wide character, of which it is on one half."""
     width = cells[col].width
     return [row, col, width] if width else [row, col - 1, 2]

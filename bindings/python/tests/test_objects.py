@@ -6,6 +6,7 @@ import doctest
 import gc
 import os
 import pathlib
+import signal
 import threading
 import unittest
 
@@ -139,6 +140,103 @@ class Screens(unittest.TestCase):
             self.assertEqual(len(list(screen.requests())), 255)
 
 
+class Reading(unittest.TestCase):
+    """The expected escape sequences are those of the Rust crate vt100."""
+
+    def test_rows(self):
+        with Screen(2, 4) as screen:
+            screen.process("\x1b[1;31ma米\x1b[mbcd".encode())
+            first, second = screen.cells()
+            self.assertEqual((first.wrapped, second.wrapped), (True, False))
+            self.assertEqual([cell.text for cell in first.cells], ["a", "米", "", "b"])
+            self.assertEqual([cell.width for cell in first.cells], [1, 2, 0, 1])
+            self.assertEqual(first.cells, tuple(screen.cell(0, col) for col in range(4)))
+            self.assertEqual((screen.cells(1), screen.row(1)), (list(second.cells), second))
+            self.assertEqual(screen.display, ["a米b", "cd  "])
+            for row in (2, -1, 70000):
+                with self.assertRaises(IndexError):
+                    screen.row(row)
+
+    def test_rows_of_hubs_and_views(self):
+        with Hub(2, 5) as hub, View(2, 5) as view:
+            for read in (hub.feed, view.advance):
+                read(b"\x1b[44mabcdefg")
+            self.assertEqual(hub.cells(), view.cells())
+            self.assertTrue(hub.row(0).wrapped)
+            self.assertEqual(view.display, ["abcde", "fg   "])
+
+    def test_parts(self):
+        with Screen(3, 5, scrollback=10) as screen:
+            screen.process(b"abcdefg\r\n\x1b[1;31mred\x1b[?2004h\x1b[4m")
+            self.assertEqual(screen.attributes_formatted(), b"\x1b[m\x1b[31;1;4m")
+            self.assertEqual(screen.input_mode_formatted(), b"\x1b>\x1b[?1l\x1b[?2004h")
+            self.assertEqual(screen.cursor_state_formatted(), b"\x1b[?25h\x1b[3;4H")
+            self.assertEqual(screen.rows_formatted(), [b"abcde", b"fg", b"\x1b[31;1mred"])
+            self.assertEqual(screen.contents_formatted_basic(), b"abcdefg\n\x1b[31;1mred")
+            self.assertEqual(screen.drawing, (1, None, Attributes.BOLD | Attributes.UNDERLINED))
+
+    def test_clones(self):
+        with Screen(3, 5, scrollback=10) as screen:
+            screen.process(b"abcdefg\r\n\x1b[1;31mred\x1b[?2004h\x1b[4m\x1b]2;t\a")
+            before, copied = screen.clone(), copy.copy(screen)
+            screen.process(b"\x1b[m\x1b[1;2Hx\x1b[?2004l")
+            self.assertEqual(screen.contents_difference(before), b"\x1b[1;2H\x1b[mx")
+            self.assertEqual(screen.difference(before), b"\x1b[1;2H\x1b[mx\x1b[?2004l")
+            self.assertEqual(screen.input_mode_difference(before), b"\x1b[?2004l")
+            self.assertEqual(screen.rows_difference(before), [b"\x1b[Cx", b"", b""])
+            self.assertEqual((screen.difference(screen), screen.rows_difference(screen)), (b"", [b"", b"", b""]))
+            self.assertEqual((copied.contents(), list(copied.requests())), (before.contents(), []))
+            before.close()
+            with self.assertRaises(ValueError):
+                screen.difference(before)
+            copied.close()
+
+    def test_a_long_text(self):
+        with Screen(100, 200) as screen:
+            screen.process(b"x" * 20000)
+            self.assertEqual(len(screen.contents()), 20000)
+            self.assertEqual(sum(map(len, screen.rows_formatted(0, 200))), 20000)
+
+    def test_as_users_expect(self):
+        with Screen(3, 9) as screen:
+            screen.process(b"a\x1b]2;one\a\x1b]1;icon\a\x1b[?25l\x1b[?1002h\x1b]2;two\a\a")
+            self.assertEqual((screen.title, screen.icon_name, screen.size), ("two", "icon", (3, 9)))
+            self.assertEqual((screen.cursor.x, screen.cursor.y, screen.cursor.hidden), (1, 0, True))
+            self.assertEqual(screen.modes.mouse, Mouse.BUTTON_MOTION)
+            kinds = [request.kind for request in screen.requests()]
+            self.assertEqual(kinds, [5, 4, 5, 1])
+
+    def test_dirty(self):
+        with Screen(4, 9) as screen:
+            self.assertEqual(screen.dirty, {0, 1, 2, 3})
+            screen.clean()
+            self.assertEqual(screen.dirty, set())
+            screen.process(b"\x1b[2;1Hx\x1b[4;1H\x1b[41m\x1b[K")
+            self.assertEqual(screen.dirty, {1, 3})
+            screen.resize(4, 8)
+            self.assertEqual(screen.dirty, {0, 1, 2, 3})
+
+    def test_history(self):
+        with Screen(2, 5, scrollback=3) as screen:
+            screen.process(b"a\r\nb\r\nc\r\nd\r\ne\r\nf")
+            screen.scroll(1)
+            self.assertEqual(len(screen.history), 3)
+            self.assertEqual([screen.history.text(number) for number in (0, 1, -1)], ["b", "c", "d"])
+            self.assertEqual([row.text for row in screen.history], ["b    ", "c    ", "d    "])
+            self.assertEqual((screen.look().scrolled, screen.contents()), (1, "d\ne"))
+            with self.assertRaises(IndexError):
+                screen.history[3]
+            screen.clear_scrollback()
+            self.assertEqual(len(screen.history), 0)
+
+    def test_answers(self):
+        with Screen(3, 9) as screen:
+            self.assertEqual(screen.answer(b"ab\x1b[6nc\x1b["), b"\x1b[1;3R")
+            self.assertEqual(screen.answer(b"6n\x1b[5n"), b"\x1b[1;4R\x1b[0n")
+            self.assertEqual(screen.answer(b"\x1b[c\r\nx"), b"\x1b[?62;22c")
+            self.assertEqual(screen.contents(), "abc\nx")
+
+
 class Refusals(unittest.TestCase):
     def test_sizes_and_counts(self):
         for size in ((0, 1), (1, 0), (70000, 1), (1, -1)):
@@ -165,7 +263,7 @@ class Refusals(unittest.TestCase):
         with View(1, 1) as view:
             self.assertEqual(_library.library.jeihpal_hub_feed(view._word, b"x", 1), -2)
 
-    def test_another_thread(self):
+    def test_a_hub_stays_on_its_thread(self):
         hub, seen = Hub(1, 1), []
 
         def use():
@@ -174,15 +272,51 @@ class Refusals(unittest.TestCase):
                     call()
                 seen.append(call)
 
-        thread = threading.Thread(target=use)
-        thread.start()
-        thread.join()
+        on_another_thread(use)
         self.assertEqual(len(seen), 2)
         hub.close()
+
+    def test_a_hub_that_another_thread_lets_go_is_freed(self):
+        before = memory()
+        for _ in range(60):
+            box = [Hub(100, 400)]
+            on_another_thread(box.clear)
+        self.assertLess(memory() - before, 60 << 20)
 
     def test_no_copies(self):
         with Hub(1, 1) as hub, self.assertRaises(TypeError):
             copy.copy(hub)
+
+    def test_a_screen_on_any_thread(self):
+        with Screen(3, 20) as screen:
+
+            def use():
+                for _ in range(500):
+                    screen.process(b"x\r")
+                    self.assertEqual(screen.row_text(0), "x")
+                    self.assertEqual(screen.cells()[0].cells[0].text, "x")
+                    self.assertEqual(screen.clone().contents(), "x")
+
+            threads = [threading.Thread(target=use) for _ in range(4)]
+            for thread in threads:
+                thread.start()
+            for thread in threads:
+                thread.join()
+            self.assertEqual(screen.contents(), "x")
+
+    def test_a_signal_in_the_midst_of_a_text(self):
+        """A handler that reads the same object leaves the interrupted call's text alone."""
+        with Screen(24, 80) as screen:
+            screen.process(b"\r\n".join(b"%d" % row * 30 for row in range(24)))
+            whole, row, seen = screen.contents(), screen.row_text(2), []
+            before = signal.signal(signal.SIGALRM, lambda *_: seen.append(screen.row_text(2)))
+            signal.setitimer(signal.ITIMER_REAL, 0.0005, 0.0005)
+            try:
+                wrong = sum(screen.contents() != whole for _ in range(20000))
+            finally:
+                signal.setitimer(signal.ITIMER_REAL, 0)
+                signal.signal(signal.SIGALRM, before)
+            self.assertEqual((wrong, set(seen)), (0, {row}))
 
     def test_threads_with_an_object_each(self):
         def use(letter, said):
@@ -207,12 +341,27 @@ class Refusals(unittest.TestCase):
         for _ in range(300):
             View(100, 100)
             gc.collect(0)
+        for _ in range(300):
+            box = [View(100, 100), Screen(100, 100)]
+            on_another_thread(box.clear)
         self.assertLess(memory() - before, 100 << 20)
 
 
 class Declarations(unittest.TestCase):
     def test_docs(self):
         self.assertEqual(doctest.testmod(jeihpal).failed, 0)
+
+    def test_the_page(self):
+        page = pathlib.Path(__file__).parents[3] / "docs" / "PYTHON.md"
+        said = doctest.testfile(str(page), module_relative=False)
+        self.assertEqual(said.failed, 0)
+        self.assertGreater(said.attempted, 20)
+
+    def test_a_number_without_a_name(self):
+        for kind in (Answer, Mouse, Encoding, RequestKind):
+            unknown = kind(99)
+            self.assertEqual((unknown, unknown.name, kind(99) is unknown), (99, "UNKNOWN_99", True))
+        self.assertTrue(Answer(99).is_frame)
 
     def test_sizes(self):
         """The structs are as the C compiler has them: the file that JEIHPAL_SIZES names says how."""
@@ -223,6 +372,7 @@ class Declarations(unittest.TestCase):
             "hub": _library.Word,
             "color": _library.RawColor,
             "cell": _library.RawCell,
+            "drawing": _library.RawDrawing,
             "look": _library.RawLook,
             "request": _library.RawRequest,
         }
@@ -234,6 +384,12 @@ class Declarations(unittest.TestCase):
                     at = getattr(struct, field)
                     said.append(f"{name}.{field} {at.offset} {at.size}")
         self.assertEqual(said, pathlib.Path(path).read_text(encoding="ascii").splitlines())
+
+
+def on_another_thread(work):
+    thread = threading.Thread(target=work)
+    thread.start()
+    thread.join()
 
 
 def memory() -> int:

@@ -1,5 +1,5 @@
 //! What a screen shows.
-use crate::raw::{RawCell, RawColor, RawLook};
+use crate::raw::{RawCell, RawColor, RawDrawing, RawLook};
 use std::fmt;
 
 /// A colour of text, or of what is behind it.
@@ -25,6 +25,7 @@ impl Color {
 }
 
 /// One cell of a screen.
+#[repr(transparent)]
 #[derive(Clone, Copy)]
 pub struct Cell {
     raw: RawCell,
@@ -100,6 +101,17 @@ impl Cell {
             self.fgcolor(),
             self.bgcolor(),
         )
+    }
+}
+
+impl Default for Cell {
+    /// An empty cell.
+    fn default() -> Cell {
+        let raw = RawCell {
+            width: 1,
+            ..RawCell::default()
+        };
+        Cell { raw }
     }
 }
 
@@ -232,18 +244,57 @@ const ENCODINGS: [MouseProtocolEncoding; 3] = [
     MouseProtocolEncoding::Sgr,
 ];
 
+/// What a number stands for; one that this crate doesn't know stands for the default.
+fn named<T: Copy + Default>(names: &[T], number: u8) -> T {
+    names.get(usize::from(number)).copied().unwrap_or_default()
+}
+
+/// How the next character is drawn.
+#[derive(Clone, Copy, Debug, Eq, Hash, PartialEq)]
+#[non_exhaustive]
+pub struct Drawing {
+    /// The text's colour.
+    pub fgcolor: Color,
+    /// The colour behind the text.
+    pub bgcolor: Color,
+    /// It is bold.
+    pub bold: bool,
+    /// It is dim.
+    pub dim: bool,
+    /// It is in italics.
+    pub italic: bool,
+    /// It is underlined.
+    pub underline: bool,
+    /// Its colours are exchanged.
+    pub inverse: bool,
+}
+
+impl Drawing {
+    pub(crate) fn of(raw: &RawDrawing) -> Drawing {
+        Drawing {
+            fgcolor: Color::of(raw.foreground),
+            bgcolor: Color::of(raw.background),
+            bold: raw.bold != 0,
+            dim: raw.dim != 0,
+            italic: raw.italic != 0,
+            underline: raw.underlined != 0,
+            inverse: raw.inverse != 0,
+        }
+    }
+}
+
 impl Look {
     pub(crate) fn of(raw: &RawLook) -> Look {
         Look {
             rows: raw.rows,
             cols: raw.cols,
             cursor: (raw.row, raw.col),
-            cursor_style: STYLES[usize::from(raw.style)],
+            cursor_style: named(&STYLES, raw.style),
             hide_cursor: raw.hidden != 0,
             scrollback_len: raw.kept,
             scrollback: raw.scrolled,
-            mouse_protocol_mode: MODES[usize::from(raw.mouse)],
-            mouse_protocol_encoding: ENCODINGS[usize::from(raw.encoding)],
+            mouse_protocol_mode: named(&MODES, raw.mouse),
+            mouse_protocol_encoding: named(&ENCODINGS, raw.encoding),
             application_keypad: raw.keypad != 0,
             application_cursor: raw.cursor_keys != 0,
             bracketed_paste: raw.paste != 0,

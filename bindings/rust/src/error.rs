@@ -13,6 +13,8 @@ pub enum Error {
     UnknownClient,
     /// Fewer bytes are owed.
     NotOwed,
+    /// Another code of the library, which this crate doesn't know.
+    Other(i32),
 }
 
 /// What most calls answer.
@@ -20,12 +22,14 @@ pub type Result<T> = result::Result<T, Error>;
 
 impl fmt::Display for Error {
     fn fmt(&self, f: &mut fmt::Formatter<'_>) -> fmt::Result {
-        f.write_str(match self {
+        let text = match self {
             Error::Memory => "out of memory",
             Error::Failed => "an earlier call found no memory",
             Error::UnknownClient => "the client has ended, or never was",
             Error::NotOwed => "fewer bytes are owed",
-        })
+            Error::Other(code) => return write!(f, "the library answered {code}"),
+        };
+        f.write_str(text)
     }
 }
 
@@ -49,6 +53,6 @@ pub(crate) fn answer(code: i32) -> Result<i32> {
         -6 => Err(Error::UnknownClient),
         -7 => Err(Error::NotOwed),
         // A word here is never closed nor of another kind, and has a size; places are looked at where they are used.
-        _ => unreachable!("the library answered {code}"),
+        _ => Err(Error::Other(code)),
     }
 }

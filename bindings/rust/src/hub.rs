@@ -9,6 +9,7 @@ static FUNCTIONS: Functions = Functions {
     close: raw::jeihpal_hub_close,
     look: raw::jeihpal_hub_look,
     cell: raw::jeihpal_hub_cell,
+    cells: raw::jeihpal_hub_row_cells,
     row_text: raw::jeihpal_hub_row_text,
 };
 
@@ -18,6 +19,7 @@ pub struct Client(usize);
 
 /// What a request for a frame is answered.
 #[derive(Clone, Copy, Debug, Eq, Hash, PartialEq)]
+#[non_exhaustive]
 pub enum Answer {
     /// The screen shows what it did at the client's last frame.
     Unchanged,
@@ -33,6 +35,8 @@ pub enum Answer {
     Difference,
     /// As `Full`, of a screen that shows U+FE0F, on whose width terminals disagree.
     Unsure,
+    /// Another answer, which this crate doesn't know. From 4 on the client is owed a frame.
+    Other(i32),
 }
 
 const ANSWERS: [Answer; 7] = [
@@ -48,7 +52,11 @@ const ANSWERS: [Answer; 7] = [
 impl Answer {
     /// Whether the client is owed a new frame now.
     pub fn is_frame(self) -> bool {
-        matches!(self, Answer::Full | Answer::Difference | Answer::Unsure)
+        match self {
+            Answer::Full | Answer::Difference | Answer::Unsure => true,
+            Answer::Other(number) => number >= 4,
+            _ => false,
+        }
     }
 }
 
@@ -108,7 +116,8 @@ impl Hub {
         let number = self
             .object
             .call(|word| unsafe { raw::jeihpal_hub_frame(word, client.0) })?;
-        Ok(ANSWERS[number as usize])
+        let known = usize::try_from(number).ok().and_then(|it| ANSWERS.get(it));
+        Ok(known.copied().unwrap_or(Answer::Other(number)))
     }
 
     /// Copies as much of what the client is owed as fits, and answers how much it is owed in all.

@@ -19,8 +19,8 @@
 //! ```
 //!
 //! What each call answers and does is proved, in Rattle, of the library below. That the declarations here fit it is
-//! only tested. Each object stays on the thread that made it, and is freed when it is dropped. No call waits. Rows and
-//! columns are counted from 0.
+//! only tested. Views and screens are `Send`; a hub stays on the thread that made it. An object is freed when it is
+//! dropped. No call waits. Rows and columns are counted from 0.
 #![deny(missing_docs, unsafe_op_in_unsafe_fn)]
 
 mod cell;
@@ -29,10 +29,11 @@ mod hub;
 mod object;
 mod raw;
 mod screen;
+mod stops;
 mod view;
 pub mod vt100;
 
-pub use cell::{Cell, Color, CursorStyle, Look, MouseProtocolEncoding, MouseProtocolMode};
+pub use cell::{Cell, Color, CursorStyle, Drawing, Look, MouseProtocolEncoding, MouseProtocolMode};
 pub use error::{Error, Result};
 pub use hub::{Answer, Client, Hub};
 pub use screen::{Request, Screen};

@@ -2,7 +2,8 @@
 use crate::cell::{Cell, Look};
 use crate::error::{answer, Result};
 use crate::raw::{
-    self, Close, GetCell, GetLook, GetRowText, GetText, Give, RawCell, RawLook, Word,
+    self, Close, GetCell, GetCells, GetLook, GetRowText, GetText, GetTextFrom, Give, RawCell,
+    RawLook, Word,
 };
 use std::cell::UnsafeCell;
 use std::ptr;
@@ -18,13 +19,14 @@ pub(crate) struct Functions {
     pub(crate) close: Close,
     pub(crate) look: GetLook,
     pub(crate) cell: GetCell,
+    pub(crate) cells: GetCells,
     pub(crate) row_text: GetRowText,
 }
 
 /// A word of the library's, which is closed when it is dropped.
 ///
-/// A call takes what the word holds out of it and puts it back, so reading too is a change. Since the word is neither
-/// `Send` nor `Sync`, and no call comes back here, there is never more than one call on it.
+/// For the library reading is a call as any other, and there is one at a time. The word isn't `Sync`, and no call comes
+/// back here, so that there is never more than one on it.
 pub(crate) struct Object {
     word: UnsafeCell<Word>,
     functions: &'static Functions,
@@ -127,9 +129,50 @@ impl Object {
         Some(Cell::of(cell))
     }
 
+    /// The cells of a row, in one call, and whether its text goes on in the next row; nothing past the last row.
+    pub(crate) fn row(&self, row: u16, cols: u16) -> Option<(Vec<Cell>, bool)> {
+        let mut cells = vec![Cell::default(); usize::from(cols)];
+        let (mut count, mut wrapped) = (0, 0);
+        // SAFETY: a `Cell` is a `RawCell`, and there are as many as is said; the rest is as in other calls.
+        let code = unsafe {
+            let room = cells.as_mut_ptr().cast::<RawCell>();
+            (self.functions.cells)(
+                self.word.get(),
+                row,
+                room,
+                cells.len(),
+                &mut count,
+                &mut wrapped,
+            )
+        };
+        if code == NO_CELL {
+            return None;
+        }
+        answer(code).expect("cells are never refused");
+        cells.truncate(count);
+        Some((cells, wrapped != 0))
+    }
+
     /// The cells of a row; none past the last row.
     pub(crate) fn cells(&self, row: u16) -> impl Iterator<Item = Cell> + '_ {
-        (0..=u16::MAX).map_while(move |col| self.cell(row, col))
+        let cells = self.row(row, self.look().cols).map(|(cells, _)| cells);
+        cells.unwrap_or_default().into_iter()
+    }
+
+    /// The text that a function copies that reads another object too. Of one and the same object it has no bytes.
+    pub(crate) fn text_from(&self, earlier: &Object, function: GetTextFrom) -> Result<String> {
+        if std::ptr::eq(self, earlier) {
+            return Ok(String::new());
+        }
+        // SAFETY: these are two words, each as the last call left it.
+        self.text(|word, to, room, length| unsafe {
+            function(word, earlier.word.get(), to, room, length)
+        })
+    }
+
+    /// The word of another object, for a call that reads both.
+    pub(crate) fn word(&self) -> *mut Word {
+        self.word.get()
     }
 
     /// The texts of all rows.
@@ -149,6 +192,11 @@ macro_rules! reading_calls {
         /// The cell at a place of the screen.
         pub fn cell(&self, row: u16, col: u16) -> Option<crate::cell::Cell> {
             self.object.cell(row, col)
+        }
+
+        /// The cells of a row and whether its text goes on in the next row; nothing past the last row.
+        pub fn row(&self, row: u16) -> Option<(Vec<crate::cell::Cell>, bool)> {
+            self.object.row(row, self.object.look().cols)
         }
 
         /// The cells of a row; none past the last row.

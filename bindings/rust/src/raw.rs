@@ -29,6 +29,19 @@ pub(crate) struct RawCell {
     pub(crate) background: RawColor,
 }
 
+/// `jeihpal_drawing`.
+#[repr(C)]
+#[derive(Default)]
+pub(crate) struct RawDrawing {
+    pub(crate) foreground: RawColor,
+    pub(crate) background: RawColor,
+    pub(crate) bold: u8,
+    pub(crate) dim: u8,
+    pub(crate) italic: u8,
+    pub(crate) underlined: u8,
+    pub(crate) inverse: u8,
+}
+
 /// `jeihpal_look`.
 #[repr(C)]
 #[derive(Default)]
@@ -69,6 +82,10 @@ pub(crate) type GetCell = unsafe extern "C" fn(*mut Word, u16, u16, *mut RawCell
 pub(crate) type GetText = unsafe extern "C" fn(*mut Word, *mut u8, usize, *mut usize) -> i32;
 pub(crate) type GetRowText =
     unsafe extern "C" fn(*mut Word, u16, *mut u8, usize, *mut usize) -> i32;
+pub(crate) type GetCells =
+    unsafe extern "C" fn(*mut Word, u16, *mut RawCell, usize, *mut usize, *mut u8) -> i32;
+pub(crate) type GetTextFrom =
+    unsafe extern "C" fn(*mut Word, *mut Word, *mut u8, usize, *mut usize) -> i32;
 pub(crate) type Give = unsafe extern "C" fn(*mut Word, *const u8, usize) -> i32;
 
 extern "C" {
@@ -89,6 +106,14 @@ extern "C" {
     pub(crate) fn jeihpal_hub_sent(hub: *mut Word, client: usize, count: usize) -> i32;
     pub(crate) fn jeihpal_hub_look(hub: *mut Word, look: *mut RawLook) -> i32;
     pub(crate) fn jeihpal_hub_cell(hub: *mut Word, row: u16, col: u16, cell: *mut RawCell) -> i32;
+    pub(crate) fn jeihpal_hub_row_cells(
+        hub: *mut Word,
+        row: u16,
+        cells: *mut RawCell,
+        capacity: usize,
+        count: *mut usize,
+        wrapped: *mut u8,
+    ) -> i32;
     pub(crate) fn jeihpal_hub_row_text(
         hub: *mut Word,
         row: u16,
@@ -111,6 +136,14 @@ extern "C" {
     pub(crate) fn jeihpal_view_look(view: *mut Word, look: *mut RawLook) -> i32;
     pub(crate) fn jeihpal_view_cell(view: *mut Word, row: u16, col: u16, cell: *mut RawCell)
         -> i32;
+    pub(crate) fn jeihpal_view_row_cells(
+        view: *mut Word,
+        row: u16,
+        cells: *mut RawCell,
+        capacity: usize,
+        count: *mut usize,
+        wrapped: *mut u8,
+    ) -> i32;
     pub(crate) fn jeihpal_view_row_text(
         view: *mut Word,
         row: u16,
@@ -135,6 +168,14 @@ extern "C" {
         row: u16,
         col: u16,
         cell: *mut RawCell,
+    ) -> i32;
+    pub(crate) fn jeihpal_screen_row_cells(
+        screen: *mut Word,
+        row: u16,
+        cells: *mut RawCell,
+        capacity: usize,
+        count: *mut usize,
+        wrapped: *mut u8,
     ) -> i32;
     pub(crate) fn jeihpal_screen_row_text(
         screen: *mut Word,
@@ -178,6 +219,77 @@ extern "C" {
         capacity: usize,
         length: *mut usize,
     ) -> i32;
+    pub(crate) fn jeihpal_screen_clone(screen: *mut Word, from: *mut Word) -> i32;
+    pub(crate) fn jeihpal_screen_clear_scrollback(screen: *mut Word) -> i32;
+    pub(crate) fn jeihpal_screen_drawing(screen: *mut Word, drawing: *mut RawDrawing) -> i32;
+    pub(crate) fn jeihpal_screen_contents_formatted_basic(
+        screen: *mut Word,
+        to: *mut u8,
+        capacity: usize,
+        length: *mut usize,
+    ) -> i32;
+    pub(crate) fn jeihpal_screen_input_mode_formatted(
+        screen: *mut Word,
+        to: *mut u8,
+        capacity: usize,
+        length: *mut usize,
+    ) -> i32;
+    pub(crate) fn jeihpal_screen_attributes_formatted(
+        screen: *mut Word,
+        to: *mut u8,
+        capacity: usize,
+        length: *mut usize,
+    ) -> i32;
+    pub(crate) fn jeihpal_screen_cursor_state_formatted(
+        screen: *mut Word,
+        to: *mut u8,
+        capacity: usize,
+        length: *mut usize,
+    ) -> i32;
+    pub(crate) fn jeihpal_screen_rows_formatted(
+        screen: *mut Word,
+        start: u16,
+        width: u16,
+        to: *mut u8,
+        capacity: usize,
+        length: *mut usize,
+        lengths: *mut usize,
+        most: usize,
+        rows: *mut usize,
+    ) -> i32;
+    pub(crate) fn jeihpal_screen_contents_diff(
+        screen: *mut Word,
+        earlier: *mut Word,
+        to: *mut u8,
+        capacity: usize,
+        length: *mut usize,
+    ) -> i32;
+    pub(crate) fn jeihpal_screen_state_diff(
+        screen: *mut Word,
+        earlier: *mut Word,
+        to: *mut u8,
+        capacity: usize,
+        length: *mut usize,
+    ) -> i32;
+    pub(crate) fn jeihpal_screen_input_mode_diff(
+        screen: *mut Word,
+        earlier: *mut Word,
+        to: *mut u8,
+        capacity: usize,
+        length: *mut usize,
+    ) -> i32;
+    pub(crate) fn jeihpal_screen_rows_diff(
+        screen: *mut Word,
+        earlier: *mut Word,
+        start: u16,
+        width: u16,
+        to: *mut u8,
+        capacity: usize,
+        length: *mut usize,
+        lengths: *mut usize,
+        most: usize,
+        rows: *mut usize,
+    ) -> i32;
     pub(crate) fn jeihpal_screen_request(
         screen: *mut Word,
         to: *mut u8,
@@ -210,6 +322,8 @@ mod tests {
         found += &said!("color", RawColor, kind: u8, red_or_index: u8, green: u8, blue: u8);
         found += &said!("cell", RawCell, text: [u8; 32], length: u8, width: u8, attributes: u8, reserved: u8,
             foreground: RawColor, background: RawColor);
+        found += &said!("drawing", RawDrawing, foreground: RawColor, background: RawColor, bold: u8, dim: u8,
+            italic: u8, underlined: u8, inverse: u8);
         found += &said!("look", RawLook, kept: usize, scrolled: usize, rows: u16, cols: u16, row: u16, col: u16,
             hidden: u8, style: u8, mouse: u8, encoding: u8, keypad: u8, cursor_keys: u8, paste: u8, alternate: u8,
             updating: u8, failed: u8);

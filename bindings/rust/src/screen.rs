@@ -1,7 +1,8 @@
 //! Screens.
+use crate::cell::Drawing;
 use crate::error::Result;
 use crate::object::{reading_calls, Functions, Object};
-use crate::raw::{self, RawRequest};
+use crate::raw::{self, RawDrawing, RawRequest, Word};
 use std::io;
 use std::num::NonZeroU16;
 
@@ -9,12 +10,14 @@ static FUNCTIONS: Functions = Functions {
     close: raw::jeihpal_screen_close,
     look: raw::jeihpal_screen_look,
     cell: raw::jeihpal_screen_cell,
+    cells: raw::jeihpal_screen_row_cells,
     row_text: raw::jeihpal_screen_row_text,
 };
 
 /// A terminal's screen from bytes, with the rows that scroll off, and what redraws it.
 ///
-/// What is written to it as [`io::Write`] it processes. It stays on the thread that made it.
+/// What is written to it as [`io::Write`] it processes. It may move to another thread, and
+/// [`try_clone`](Screen::try_clone) makes a copy.
 ///
 /// ```
 /// use std::num::NonZeroU16;
@@ -33,12 +36,28 @@ pub struct Screen {
     dropped: usize,
 }
 
+// SAFETY: nothing that a screen's word holds is shared with another object or tied to a thread, so the library lets it
+// go to another thread (jeihpal.h). `&mut` and the missing `Sync` keep to one call at a time.
+unsafe impl Send for Screen {}
+
 impl Screen {
     /// A blank screen of this size that keeps up to `scrollback` rows that scroll off.
     pub fn new(rows: NonZeroU16, cols: NonZeroU16, scrollback: usize) -> Result<Screen> {
         // SAFETY, here and below: the word is as the last call left it, and what is lent is lent for the call.
         let fill =
             |word| unsafe { raw::jeihpal_screen_new(word, rows.get(), cols.get(), scrollback) };
+        Ok(Screen {
+            object: Object::new(&FUNCTIONS, fill)?,
+            dropped: 0,
+        })
+    }
+
+    /// A copy that shows the same and keeps the same rows: without a mark, requests, and what was read of a character or
+    /// a sequence.
+    pub fn try_clone(&self) -> Result<Screen> {
+        let from = self.object.word();
+        // SAFETY: the new word is null, and another one than that of this screen.
+        let fill = |word| unsafe { raw::jeihpal_screen_clone(word, from) };
         Ok(Screen {
             object: Object::new(&FUNCTIONS, fill)?,
             dropped: 0,
@@ -59,13 +78,29 @@ impl Screen {
             .act(|word| unsafe { raw::jeihpal_screen_resize(word, rows.get(), cols.get()) })
     }
 
-    /// Shows the newest `rows` of the kept rows above the others, or all where there are fewer.
+    /// Shows the newest `rows` of the kept rows above the others, or all where there are fewer. Redraws and differences
+    /// lead a terminal to the picture only where none is shown.
     pub fn scroll(&mut self, rows: usize) -> Result<()> {
         self.object
             .act(|word| unsafe { raw::jeihpal_screen_scroll(word, rows) })
     }
 
+    /// Drops the kept rows of what is shown.
+    pub fn clear_scrollback(&mut self) -> Result<()> {
+        self.object
+            .act(|word| unsafe { raw::jeihpal_screen_clear_scrollback(word) })
+    }
+
     reading_calls!();
+
+    /// How the next character is drawn.
+    pub fn drawing(&self) -> Drawing {
+        let mut drawing = RawDrawing::default();
+        self.object
+            .call(|word| unsafe { raw::jeihpal_screen_drawing(word, &mut drawing) })
+            .expect("it is never refused");
+        Drawing::of(&drawing)
+    }
 
     /// The text of the rows that are shown.
     pub fn contents(&self) -> Result<String> {
@@ -90,6 +125,97 @@ impl Screen {
     /// What takes a fresh terminal of this size to the picture, the modes and the cursor's style.
     pub fn state_formatted(&self) -> Result<String> {
         self.object.whole_text(raw::jeihpal_screen_state)
+    }
+
+    /// The rows as text with its attributes alone: nothing but SGR and newlines between the characters.
+    pub fn contents_formatted_basic(&self) -> Result<String> {
+        self.object
+            .whole_text(raw::jeihpal_screen_contents_formatted_basic)
+    }
+
+    /// What sets the modes and the cursor's style.
+    pub fn input_mode_formatted(&self) -> Result<String> {
+        self.object
+            .whole_text(raw::jeihpal_screen_input_mode_formatted)
+    }
+
+    /// What sets how the next character is drawn.
+    pub fn attributes_formatted(&self) -> Result<String> {
+        self.object
+            .whole_text(raw::jeihpal_screen_attributes_formatted)
+    }
+
+    /// What brings a terminal's cursor to the screen's, and hides or shows it.
+    pub fn cursor_state_formatted(&self) -> Result<String> {
+        self.object
+            .whole_text(raw::jeihpal_screen_cursor_state_formatted)
+    }
+
+    /// What draws each row on a row of default cells: `width` columns from column `start` on.
+    pub fn rows_formatted(&self, start: u16, width: u16) -> Result<Vec<String>> {
+        self.texts(|word, to, room, length, lengths, most, rows| unsafe {
+            raw::jeihpal_screen_rows_formatted(
+                word, start, width, to, room, length, lengths, most, rows,
+            )
+        })
+    }
+
+    /// What takes a terminal from what an earlier screen shows to what this one shows.
+    pub fn state_diff(&self, earlier: &Screen) -> Result<String> {
+        self.object
+            .text_from(&earlier.object, raw::jeihpal_screen_state_diff)
+    }
+
+    /// The same of the pictures alone.
+    pub fn contents_diff(&self, earlier: &Screen) -> Result<String> {
+        self.object
+            .text_from(&earlier.object, raw::jeihpal_screen_contents_diff)
+    }
+
+    /// The same of the modes and the cursor's style alone.
+    pub fn input_mode_diff(&self, earlier: &Screen) -> Result<String> {
+        self.object
+            .text_from(&earlier.object, raw::jeihpal_screen_input_mode_diff)
+    }
+
+    /// What draws each row over the one that an earlier screen shows there.
+    pub fn rows_diff(&self, earlier: &Screen, start: u16, width: u16) -> Result<Vec<String>> {
+        if std::ptr::eq(self, earlier) {
+            return Ok(vec![String::new(); usize::from(self.look().rows)]);
+        }
+        let from = earlier.object.word();
+        self.texts(|word, to, room, length, lengths, most, rows| unsafe {
+            raw::jeihpal_screen_rows_diff(
+                word, from, start, width, to, room, length, lengths, most, rows,
+            )
+        })
+    }
+
+    /// The texts of rows that a function copies, one behind the other, with their lengths.
+    fn texts(
+        &self,
+        function: impl Fn(*mut Word, *mut u8, usize, *mut usize, *mut usize, usize, *mut usize) -> i32,
+    ) -> Result<Vec<String>> {
+        let mut lengths = vec![0; usize::from(self.look().rows)];
+        let mut count = 0;
+        let all = self.object.text(|word, to, room, length| {
+            function(
+                word,
+                to,
+                room,
+                length,
+                lengths.as_mut_ptr(),
+                lengths.len(),
+                &mut count,
+            )
+        })?;
+        let mut rest = all.as_str();
+        let texts = lengths[..count].iter().map(|length| {
+            let (row, left) = rest.split_at(*length);
+            rest = left;
+            row.to_string()
+        });
+        Ok(texts.collect())
     }
 
     /// Keeps a copy of the screen as it is now, its mark, in place of an earlier one.
@@ -177,6 +303,8 @@ pub enum Request {
     },
     /// Clipboards whose data is asked for, by their letters (OSC 52 with `?`).
     Paste(Vec<u8>),
+    /// Another request, by its number, which this crate doesn't know.
+    Other(u8),
 }
 
 impl Request {
@@ -194,7 +322,7 @@ impl Request {
                 data: rest.to_vec(),
             }),
             7 => Some(Request::Paste(letters.to_vec())),
-            kind => unreachable!("the library knows no request {kind}"),
+            kind => Some(Request::Other(kind)),
         }
     }
 }

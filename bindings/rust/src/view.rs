@@ -9,15 +9,27 @@ static FUNCTIONS: Functions = Functions {
     close: raw::jeihpal_view_close,
     look: raw::jeihpal_view_look,
     cell: raw::jeihpal_view_cell,
+    cells: raw::jeihpal_view_row_cells,
     row_text: raw::jeihpal_view_row_text,
 };
 
 /// A small far terminal, which reads frames in any pieces.
 ///
-/// What is written to it as [`io::Write`] it reads. It stays on the thread that made it.
+/// What is written to it as [`io::Write`] it reads. It may move to another thread:
+///
+/// ```
+/// # let size = std::num::NonZeroU16::new(1).unwrap();
+/// let view = jeihpal::View::new(size, size)?;
+/// std::thread::spawn(move || drop(view)).join().unwrap();
+/// # Ok::<(), jeihpal::Error>(())
+/// ```
 pub struct View {
     object: Object,
 }
+
+// SAFETY: nothing that a view's word holds is shared with another object or tied to a thread, so the library lets it
+// go to another thread (jeihpal.h). `&mut` and the missing `Sync` keep to one call at a time.
+unsafe impl Send for View {}
 
 impl View {
     /// A view of this size that shows nothing. It takes all the memory that it needs, but for texts.

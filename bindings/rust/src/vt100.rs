@@ -6,74 +6,166 @@
 //!
 //! let mut parser = vt100::Parser::default();
 //! parser.process(b"this text is \x1b[31mRED\x1b[m");
-//! assert_eq!(parser.screen().cell(0, 13).unwrap().fgcolor(), vt100::Color::Idx(1));
-//! assert_eq!(parser.screen().contents(), "this text is RED");
+//! let before = parser.screen().clone();
+//! assert_eq!(before.cell(0, 13).unwrap().fgcolor(), vt100::Color::Idx(1));
+//! parser.process(b"\x1b[3D\x1b[32mGREEN");
+//! assert_eq!(parser.screen().contents(), "this text is GREEN");
+//! assert_eq!(parser.screen().contents_diff(&before), "\x1b[1;14H\x1b[32mGREEN");
 //! ```
 //!
-//! What differs:
+//! `docs/MOVING.md` lists item by item what is as there and what differs. In short:
 //!
-//! - a cell is a copy, `Option<Cell>` in place of `Option<&Cell>`;
-//! - a screen can't be cloned. In place of `let before = screen.clone()` and `screen.state_diff(&before)` there are
-//!   [`Parser::mark`] and [`Screen::state_diff_of_mark`];
-//! - callbacks are called at the end of at most 256 bytes, with the screen as it is then;
-//! - those for what isn't known, `on_scroll`, and texts of modes, attributes, rows and cursor alone are left out;
-//! - where no memory is found, or the library refuses a text for lack of it, a call panics. [`crate::Screen`] answers an
-//!   error there.
+//! - callbacks for what isn't known (`unhandled_..`) and [`Callbacks::on_scroll`] are never called;
+//! - titles, names and clipboards are cut behind 1,024 bytes of their sequence;
+//! - direct calls of `WrappedScreen` and the module `capture` are left out;
+//! - [`Screen::cell`] has no cell outside of the screen's columns, also where a kept row is wider;
+//! - where no memory is found a call panics. [`crate::Screen`] answers an error there.
+use crate::cell::{Drawing, Look};
+use crate::error::Result;
 use crate::screen::Request;
+use crate::stops::Stops;
+use std::fmt;
 use std::io;
 use std::num::NonZeroU16;
+use std::sync::{Mutex, MutexGuard, OnceLock, PoisonError};
 
 pub use crate::cell::{Cell, Color, CursorStyle, MouseProtocolEncoding, MouseProtocolMode};
 
-/// So many bytes hold at most as many requests as a screen's queue.
-const PIECE: usize = 256;
+/// A row as it was read: its cells, and whether its text goes on in the next row.
+type Row = (Vec<Cell>, bool);
 
-/// A screen that is read.
+/// A screen that is read. A clone is a copy of its own.
+///
+/// It is `Send` and `Sync`. What is read of it is kept until the screen changes, so that a cell can be lent.
 pub struct Screen {
-    screen: crate::Screen,
+    /// There is one call of the library at a time.
+    screen: Mutex<crate::Screen>,
+    capacity: usize,
+    look: OnceLock<Look>,
+    rows: OnceLock<Box<[OnceLock<Row>]>>,
 }
 
 impl Screen {
+    fn of(screen: crate::Screen, capacity: usize) -> Screen {
+        Screen {
+            screen: Mutex::new(screen),
+            capacity,
+            look: OnceLock::new(),
+            rows: OnceLock::new(),
+        }
+    }
+
+    fn lock(&self) -> MutexGuard<'_, crate::Screen> {
+        self.screen.lock().unwrap_or_else(PoisonError::into_inner)
+    }
+
+    /// The screen, to be changed: what was read of it is forgotten.
+    fn changed(&mut self) -> &mut crate::Screen {
+        self.look.take();
+        self.rows.take();
+        self.screen
+            .get_mut()
+            .unwrap_or_else(PoisonError::into_inner)
+    }
+
+    fn look(&self) -> &Look {
+        self.look.get_or_init(|| self.lock().look())
+    }
+
+    fn row(&self, row: u16) -> Option<&Row> {
+        let rows = self.rows.get_or_init(|| {
+            let rows = (0..self.look().rows).map(|_| OnceLock::new());
+            rows.collect()
+        });
+        let row_of = || self.lock().row(row).unwrap_or_default();
+        Some(rows.get(usize::from(row))?.get_or_init(row_of))
+    }
+
+    fn drawing(&self) -> Drawing {
+        self.lock().drawing()
+    }
+
+    /// What a call reads of this screen and an earlier one. Two threads may compare two screens the other way round, so
+    /// both locks are taken in the order of their places.
+    fn compared<T>(
+        &self,
+        earlier: &Screen,
+        read: impl FnOnce(&crate::Screen, &crate::Screen) -> Result<T>,
+    ) -> T {
+        let (now, before);
+        if std::ptr::eq(self, earlier) {
+            now = self.lock();
+            return read(&now, &now).unwrap();
+        }
+        if std::ptr::from_ref(self) < std::ptr::from_ref(earlier) {
+            now = self.lock();
+            before = earlier.lock();
+        } else {
+            before = earlier.lock();
+            now = self.lock();
+        }
+        read(&now, &before).unwrap()
+    }
+
     /// The rows and the columns.
+    #[must_use]
     pub fn size(&self) -> (NonZeroU16, NonZeroU16) {
-        let look = self.screen.look();
+        let look = self.look();
         let number = |n| NonZeroU16::new(n).expect("a screen has rows and columns");
         (number(look.rows), number(look.cols))
     }
 
-    /// Gives it another size. Other than in `vt100` the program's synchronized update ends, and the mark is forgotten.
+    /// Gives it another size. Other than in `vt100` the program's synchronized update ends.
     pub fn set_size(&mut self, rows: NonZeroU16, cols: NonZeroU16) {
-        self.screen.resize(rows, cols).unwrap();
+        self.changed().resize(rows, cols).unwrap();
     }
 
     /// Shows the newest `rows` of the rows that have scrolled off, or all where there are fewer.
     pub fn set_scrollback(&mut self, rows: usize) {
-        self.screen.scroll(rows).unwrap();
+        self.changed().scroll(rows).unwrap();
     }
 
     /// How many of the rows that have scrolled off are shown.
+    #[must_use]
     pub fn scrollback(&self) -> usize {
-        self.screen.look().scrollback
+        self.look().scrollback
     }
 
     /// How many rows have scrolled off and are kept.
+    #[must_use]
     pub fn scrollback_len(&self) -> usize {
-        self.screen.look().scrollback_len
+        self.look().scrollback_len
+    }
+
+    /// How many rows the shown screen keeps at most: none where it is the alternate one.
+    #[must_use]
+    pub fn scrollback_capacity(&self) -> usize {
+        if self.alternate_screen() {
+            0
+        } else {
+            self.capacity
+        }
+    }
+
+    /// Drops the rows that have scrolled off.
+    pub fn clear_scrollback(&mut self) {
+        self.changed().clear_scrollback().unwrap();
     }
 
     /// The text.
+    #[must_use]
     pub fn contents(&self) -> String {
-        self.screen.contents().unwrap()
+        self.lock().contents().unwrap()
     }
 
-    /// The text of each row between two columns.
+    /// The text of each row: `width` columns from column `start` on.
     pub fn rows(&self, start: u16, width: u16) -> impl Iterator<Item = String> + '_ {
-        let (rows, _) = self.size();
         let end = start.saturating_add(width);
-        (0..rows.get()).map(move |row| self.contents_between(row, start, row, end))
+        (0..self.look().rows).map(move |row| self.contents_between(row, start, row, end))
     }
 
     /// The text from one place up to another.
+    #[must_use]
     pub fn contents_between(
         &self,
         start_row: u16,
@@ -81,78 +173,211 @@ impl Screen {
         end_row: u16,
         end_col: u16,
     ) -> String {
-        self.screen
+        self.lock()
             .contents_between((start_row, start_col), (end_row, end_col))
             .unwrap()
     }
 
     /// What takes a fresh terminal of this size to the picture, the modes and the cursor's style.
+    #[must_use]
     pub fn state_formatted(&self) -> String {
-        self.screen.state_formatted().unwrap()
+        self.lock().state_formatted().unwrap()
+    }
+
+    /// What takes a terminal from all that an earlier screen shows to all that this one shows.
+    #[must_use]
+    pub fn state_diff(&self, prev: &Self) -> String {
+        self.compared(prev, |now, before| now.state_diff(before))
     }
 
     /// What takes a terminal of this size to the picture.
+    #[must_use]
     pub fn contents_formatted(&self) -> String {
-        self.screen.contents_formatted().unwrap()
+        self.lock().contents_formatted().unwrap()
     }
 
-    /// What takes a terminal from what the mark shows to what this shows.
-    pub fn state_diff_of_mark(&self) -> String {
-        self.screen.difference().unwrap()
+    /// The rows as text with its attributes alone.
+    #[must_use]
+    pub fn contents_formatted_basic(&self) -> String {
+        self.lock().contents_formatted_basic().unwrap()
+    }
+
+    /// What draws each row: `width` columns from column `start` on.
+    pub fn rows_formatted(&self, start: u16, width: u16) -> impl Iterator<Item = String> + '_ {
+        let rows = self.lock().rows_formatted(start, width).unwrap();
+        rows.into_iter()
+    }
+
+    /// What takes a terminal from the picture of an earlier screen to this one's.
+    #[must_use]
+    pub fn contents_diff(&self, prev: &Self) -> String {
+        self.compared(prev, |now, before| now.contents_diff(before))
+    }
+
+    /// What draws each row over the one that an earlier screen shows there.
+    pub fn rows_diff<'a>(
+        &'a self,
+        prev: &'a Self,
+        start: u16,
+        width: u16,
+    ) -> impl Iterator<Item = String> + 'a {
+        let rows = self.compared(prev, |now, before| now.rows_diff(before, start, width));
+        rows.into_iter()
+    }
+
+    /// What sets the modes.
+    #[must_use]
+    pub fn input_mode_formatted(&self) -> String {
+        self.lock().input_mode_formatted().unwrap()
+    }
+
+    /// What changes the modes from those of an earlier screen to these.
+    #[must_use]
+    pub fn input_mode_diff(&self, prev: &Self) -> String {
+        self.compared(prev, |now, before| now.input_mode_diff(before))
+    }
+
+    /// What sets how the next character is drawn.
+    #[must_use]
+    pub fn attributes_formatted(&self) -> String {
+        self.lock().attributes_formatted().unwrap()
     }
 
     /// The cursor's row and column. The column is the width where the next character goes to the next row.
+    #[must_use]
     pub fn cursor_position(&self) -> (u16, u16) {
-        self.screen.look().cursor
+        self.look().cursor
+    }
+
+    /// What brings the cursor to where it is, and hides or shows it.
+    #[must_use]
+    pub fn cursor_state_formatted(&self) -> String {
+        self.lock().cursor_state_formatted().unwrap()
     }
 
     /// How the cursor looks.
+    #[must_use]
     pub fn cursor_style(&self) -> CursorStyle {
-        self.screen.look().cursor_style
+        self.look().cursor_style
     }
 
     /// The cell at a place.
-    pub fn cell(&self, row: u16, col: u16) -> Option<Cell> {
-        self.screen.cell(row, col)
+    #[must_use]
+    pub fn cell(&self, row: u16, col: u16) -> Option<&Cell> {
+        self.row(row)?.0.get(usize::from(col))
+    }
+
+    /// Whether the text of a row goes on in the next one.
+    #[must_use]
+    pub fn row_wrapped(&self, row: u16) -> bool {
+        self.row(row).is_some_and(|row| row.1)
     }
 
     /// Whether the alternate screen is shown.
+    #[must_use]
     pub fn alternate_screen(&self) -> bool {
-        self.screen.look().alternate_screen
+        self.look().alternate_screen
     }
 
     /// Whether the keypad sends application sequences.
+    #[must_use]
     pub fn application_keypad(&self) -> bool {
-        self.screen.look().application_keypad
+        self.look().application_keypad
     }
 
     /// Whether the cursor keys send application sequences.
+    #[must_use]
     pub fn application_cursor(&self) -> bool {
-        self.screen.look().application_cursor
+        self.look().application_cursor
     }
 
     /// Whether the cursor is hidden.
+    #[must_use]
     pub fn hide_cursor(&self) -> bool {
-        self.screen.look().hide_cursor
+        self.look().hide_cursor
     }
 
     /// Whether pasted text is marked as such.
+    #[must_use]
     pub fn bracketed_paste(&self) -> bool {
-        self.screen.look().bracketed_paste
+        self.look().bracketed_paste
     }
 
     /// Which events of the mouse are asked for.
+    #[must_use]
     pub fn mouse_protocol_mode(&self) -> MouseProtocolMode {
-        self.screen.look().mouse_protocol_mode
+        self.look().mouse_protocol_mode
     }
 
     /// How events of the mouse are written.
+    #[must_use]
     pub fn mouse_protocol_encoding(&self) -> MouseProtocolEncoding {
-        self.screen.look().mouse_protocol_encoding
+        self.look().mouse_protocol_encoding
+    }
+
+    /// The colour of the next character.
+    #[must_use]
+    pub fn fgcolor(&self) -> Color {
+        self.drawing().fgcolor
+    }
+
+    /// The colour behind the next character.
+    #[must_use]
+    pub fn bgcolor(&self) -> Color {
+        self.drawing().bgcolor
+    }
+
+    /// Whether the next character is bold.
+    #[must_use]
+    pub fn bold(&self) -> bool {
+        self.drawing().bold
+    }
+
+    /// Whether the next character is dim.
+    #[must_use]
+    pub fn dim(&self) -> bool {
+        self.drawing().dim
+    }
+
+    /// Whether the next character is italic.
+    #[must_use]
+    pub fn italic(&self) -> bool {
+        self.drawing().italic
+    }
+
+    /// Whether the next character is underlined.
+    #[must_use]
+    pub fn underline(&self) -> bool {
+        self.drawing().underline
+    }
+
+    /// Whether the next character's colours are exchanged.
+    #[must_use]
+    pub fn inverse(&self) -> bool {
+        self.drawing().inverse
+    }
+}
+
+impl Clone for Screen {
+    fn clone(&self) -> Screen {
+        Screen::of(self.lock().try_clone().unwrap(), self.capacity)
+    }
+}
+
+impl fmt::Debug for Screen {
+    fn fmt(&self, f: &mut fmt::Formatter<'_>) -> fmt::Result {
+        f.debug_struct("Screen")
+            .field("size", &self.size())
+            .field("cursor", &self.cursor_position())
+            .field("contents", &self.contents())
+            .finish_non_exhaustive()
     }
 }
 
 /// What a program asks of its terminal beyond drawing. Each method does nothing unless it is written.
+///
+/// A call comes with the screen as it is behind the bytes that ask. Methods whose docs say so are never called: they are
+/// here so that an implementation for `vt100` compiles.
 pub trait Callbacks {
     /// Whether any is written. Without that none is called.
     const ARE_WANTED: bool = true;
@@ -170,6 +395,24 @@ pub trait Callbacks {
     fn copy_to_clipboard(&mut self, _: &mut Screen, _ty: &[u8], _data: &[u8]) {}
     /// Clipboards whose data is asked for.
     fn paste_from_clipboard(&mut self, _: &mut Screen, _ty: &[u8]) {}
+    /// Never called.
+    fn unhandled_char(&mut self, _: &mut Screen, _c: char) {}
+    /// Never called.
+    fn unhandled_control(&mut self, _: &mut Screen, _b: u8) {}
+    /// Never called.
+    fn unhandled_escape(&mut self, _: &mut Screen, _i1: Option<u8>, _i2: Option<u8>, _b: u8) {}
+    /// Never called.
+    fn unhandled_csi(
+        &mut self,
+        _: &mut Screen,
+        _i1: Option<u8>,
+        _i2: Option<u8>,
+        _params: &[&[u16]],
+        _c: char,
+    ) {
+    }
+    /// Never called.
+    fn unhandled_osc(&mut self, _: &mut Screen, _params: &[&[u8]]) {}
 }
 
 impl Callbacks for () {
@@ -177,9 +420,22 @@ impl Callbacks for () {
 }
 
 /// Makes a screen of bytes.
+///
+/// It is `Send` and `Sync` where its callbacks are.
+///
+/// ```
+/// use std::sync::{Arc, Mutex};
+/// use jeihpal::vt100::Parser;
+///
+/// let parser = Arc::new(Mutex::new(Parser::default()));
+/// let theirs = Arc::clone(&parser);
+/// std::thread::spawn(move || theirs.lock().unwrap().process(b"hello")).join().unwrap();
+/// assert_eq!(parser.lock().unwrap().screen().contents(), "hello");
+/// ```
 pub struct Parser<CB: Callbacks = ()> {
     screen: Screen,
     callbacks: CB,
+    stops: Stops,
 }
 
 impl Parser {
@@ -196,6 +452,7 @@ impl Parser {
     };
 
     /// A blank screen of this size that keeps up to so many rows that scroll off.
+    #[must_use]
     pub fn new(rows: NonZeroU16, cols: NonZeroU16, scrollback_capacity: usize) -> Self {
         Self::new_with_callbacks(rows, cols, scrollback_capacity, ())
     }
@@ -211,19 +468,24 @@ impl<CB: Callbacks> Parser<CB> {
     ) -> Self {
         let screen = crate::Screen::new(rows, cols, scrollback_capacity).unwrap();
         Parser {
-            screen: Screen { screen },
+            screen: Screen::of(screen, scrollback_capacity),
             callbacks,
+            stops: Stops::default(),
         }
     }
 
     /// Reads the program's next bytes. They may be cut anywhere.
     pub fn process(&mut self, bytes: &[u8]) {
         if !CB::ARE_WANTED {
-            return self.screen.screen.process(bytes).unwrap();
+            return self.screen.changed().process(bytes).unwrap();
         }
-        for piece in bytes.chunks(PIECE) {
-            self.screen.screen.process(piece).unwrap();
-            let requests: Vec<Request> = self.screen.screen.requests().collect();
+        let mut rest = bytes;
+        while !rest.is_empty() {
+            let (piece, left) = rest.split_at(self.stops.next(rest));
+            rest = left;
+            let screen = self.screen.changed();
+            screen.process(piece).unwrap();
+            let requests: Vec<Request> = screen.requests().collect();
             for request in &requests {
                 self.call(request);
             }
@@ -242,12 +504,8 @@ impl<CB: Callbacks> Parser<CB> {
                 callbacks.copy_to_clipboard(screen, clipboards, data)
             }
             Request::Paste(clipboards) => callbacks.paste_from_clipboard(screen, clipboards),
+            Request::Other(_) => {}
         }
-    }
-
-    /// Keeps a copy of the screen as it is now, its mark.
-    pub fn mark(&mut self) {
-        self.screen.screen.mark().unwrap();
     }
 
     /// Gives the screen another size.
@@ -256,11 +514,13 @@ impl<CB: Callbacks> Parser<CB> {
     }
 
     /// The screen.
+    #[must_use]
     pub fn screen(&self) -> &Screen {
         &self.screen
     }
 
     /// The screen, to be changed.
+    #[must_use]
     pub fn screen_mut(&mut self) -> &mut Screen {
         &mut self.screen
     }

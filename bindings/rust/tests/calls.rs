@@ -189,6 +189,25 @@ fn screens() {
 }
 
 #[test]
+fn copies() {
+    let mut screen = Screen::new(size(2), size(5), 3).unwrap();
+    screen.process(b"a\r\nb\r\nc\x07").unwrap();
+    let mut copy = screen.try_clone().unwrap();
+    assert_eq!(
+        (copy.look(), copy.contents()),
+        (screen.look(), screen.contents())
+    );
+    assert_eq!((copy.requests().count(), screen.requests().count()), (0, 1));
+    copy.process(b"\x1b[Hx").unwrap();
+    assert_eq!(copy.state_diff(&screen).unwrap(), "\x1b[Hx");
+    assert_eq!(screen.contents().unwrap(), "b\nc");
+    assert_eq!(screen.row(0).unwrap().0.len(), 5);
+    assert!(screen.row(2).is_none());
+    let moved = std::thread::spawn(move || copy.contents().unwrap());
+    assert_eq!(moved.join().unwrap(), "x\nc");
+}
+
+#[test]
 fn a_queue_is_bounded() {
     let mut screen = Screen::new(size(2), size(5), 0).unwrap();
     let name = [b'x'; 1023]; // with the number before it as many bytes as are kept
@@ -266,17 +285,101 @@ mod as_vt100 {
             (screen.rows(0, 80).count(), screen.size().1.get()),
             (24, 80)
         );
-        parser.mark();
+        let before = parser.screen().clone();
         parser.process(b"\x1b[3D\x1b[32mGREEN");
         assert_eq!(parser.screen().contents(), "this text is GREEN");
+        assert_eq!(before.contents(), "this text is RED");
         assert_eq!(
-            parser.screen().state_diff_of_mark(),
+            parser.screen().state_diff(&before),
             "\x1b[1;14H\x1b[32mGREEN"
         );
         parser
             .screen_mut()
             .set_size(super::size(10), super::size(20));
         assert_eq!(parser.screen().cursor_position(), (0, 18));
+    }
+
+    #[test]
+    fn what_a_screen_tells() {
+        let mut parser = vt100::Parser::new(super::size(3), super::size(5), 10);
+        parser.process(b"abcdefg\r\n\x1b[1;31mred\x1b[?2004h\x1b[4m");
+        let screen = parser.screen();
+        assert_eq!(
+            (screen.row_wrapped(0), screen.row_wrapped(1)),
+            (true, false)
+        );
+        assert_eq!(
+            (screen.fgcolor(), screen.bgcolor()),
+            (vt100::Color::Idx(1), vt100::Color::Default)
+        );
+        assert!(
+            screen.bold()
+                && screen.underline()
+                && !screen.italic()
+                && !screen.dim()
+                && !screen.inverse()
+        );
+        assert_eq!(screen.attributes_formatted(), "\x1b[m\x1b[31;1;4m");
+        assert_eq!(screen.input_mode_formatted(), "\x1b>\x1b[?1l\x1b[?2004h");
+        assert_eq!(screen.cursor_state_formatted(), "\x1b[?25h\x1b[3;4H");
+        let rows: Vec<String> = screen.rows_formatted(0, 5).collect();
+        assert_eq!(rows, ["abcde", "fg", "\x1b[31;1mred"]);
+        assert_eq!(screen.contents_formatted_basic(), "abcdefg\n\x1b[31;1mred");
+        let before = screen.clone();
+        parser.process(b"\x1b[m\x1b[1;2Hx\x1b[?2004l");
+        let screen = parser.screen();
+        assert_eq!(screen.input_mode_diff(&before), "\x1b[?2004l");
+        let changed: Vec<String> = screen.rows_diff(&before, 0, 5).collect();
+        assert_eq!(changed, ["\x1b[Cx", "", ""]);
+        assert_eq!(screen.contents_diff(screen), "");
+        assert_eq!(
+            (screen.scrollback_capacity(), screen.scrollback_len()),
+            (10, 0)
+        );
+        parser.process(b"\r\n\r\n\r\n\r\n");
+        assert_eq!(parser.screen().scrollback_len(), 2);
+        parser.screen_mut().clear_scrollback();
+        assert_eq!(parser.screen().scrollback_len(), 0);
+    }
+
+    #[test]
+    fn a_cell_is_lent_until_the_screen_changes() {
+        let mut parser = vt100::Parser::default();
+        parser.process("米x".as_bytes());
+        let (wide, x): (&vt100::Cell, &vt100::Cell) = (
+            parser.screen().cell(0, 0).unwrap(),
+            parser.screen().cell(0, 2).unwrap(),
+        );
+        assert_eq!(
+            (wide.contents(), wide.is_wide(), x.contents()),
+            ("米", true, "x")
+        );
+        parser.process(b"\x1b[Hyy");
+        assert_eq!(parser.screen().cell(0, 0).unwrap().contents(), "y");
+    }
+
+    #[test]
+    fn a_parser_is_shared() {
+        use std::sync::{Arc, Mutex};
+        let parser = Arc::new(Mutex::new(vt100::Parser::default()));
+        let theirs = Arc::clone(&parser);
+        let writer = std::thread::spawn(move || {
+            for _ in 0..200 {
+                theirs.lock().unwrap().process(b"line\r\n");
+            }
+        });
+        for _ in 0..200 {
+            let screen = parser.lock().unwrap().screen().clone();
+            assert!(screen
+                .rows(0, 80)
+                .all(|row| row.is_empty() || row == "line"));
+        }
+        writer.join().unwrap();
+        let screen = parser.lock().unwrap().screen().clone();
+        std::thread::scope(|scope| {
+            let read = || scope.spawn(|| screen.cell(0, 0).unwrap().contents().to_string());
+            assert_eq!([read(), read()].map(|it| it.join().unwrap()), ["l", "l"]);
+        });
     }
 
     #[test]
@@ -293,5 +396,8 @@ mod as_vt100 {
             (parser.callbacks().bells, parser.callbacks().title.as_str()),
             (3000, "title (0, 2)")
         );
+        // The call comes with the screen behind the title, not behind the bytes.
+        parser.process(b"\x1b]2;again\x07cd\r\n");
+        assert_eq!(parser.callbacks().title, "again (0, 2)");
     }
 }

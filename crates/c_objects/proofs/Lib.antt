@@ -1,3 +1,4 @@
 mod Did
+mod Prefixes
 mod RowTexts
 mod RunLemmas

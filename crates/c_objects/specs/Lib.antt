@@ -1,4 +1,6 @@
+pub mod Cells
 pub mod Codes
+pub mod Copied
 pub mod Hubs
 pub mod Looks
 pub mod Objects

@@ -1,10 +1,12 @@
 //! The calls of a hub.
 ghost use Rattle.std.specs.Prelude.{◌≡◌, IfOk, IfErr};
+ghost use Rattle.c_objects.specs.Cells.{HubHasCells};
 ghost use Rattle.c_objects.specs.Codes.{IsRefusal};
 ghost use Rattle.c_objects.specs.Objects.{HubDoes, HubSays};
 ghost use Rattle.c_objects.specs.Hubs.{IsNewHubOf, IsNoObjectCode, Feeds, Resizes, Attaches, Detaches, Frames, Sends};
 ghost use Rattle.c_objects.specs.Hubs.{Owes, Looks, HasCell, HasRow, HasContents, ShowsCell, ShowsRow, ShowsContents};
 
+use crate::cells::copy_screen_cells;
 use crate::code::{
     BAD_SIZE, MEMORY, NO_CELL, NOT_OWED, OK, OTHER_KIND, UNKNOWN_CLIENT, code_of, frame_code,
     refusal_code,
@@ -197,6 +199,23 @@ pub fn cell(object: &Object, row: u16, col: u16, to: &mut CCell) -> i32
 {
     match object {
         Object::Hub(hub) => copy_cell(hub.screen(), row, col, to),
+        _ => OTHER_KIND,
+    }
+}
+
+/// Copies the cells of a row of a hub's screen. Refused for a row outside it.
+pub fn row_cells(
+    object: &Object,
+    row: u16,
+    to: &mut [CCell],
+    count: &mut usize,
+    wrapped: &mut u8,
+) -> i32
+    ensures cells { HubSays (HubHasCells row to.old to.new count.new wrapped.new) object.now result }
+    ensures refused { IsRefusal result → (to.new ≡ to.old) × (count.new ≡ count.old) × (wrapped.new ≡ wrapped.old) }
+{
+    match object {
+        Object::Hub(hub) => copy_screen_cells(hub.screen(), row, to, count, wrapped),
         _ => OTHER_KIND,
     }
 }

@@ -4,7 +4,9 @@
 //! refusal. After a refusal nothing has changed but what the function's contract says.
 #![tactic(auto)]
 
+mod cells;
 mod code;
+pub mod copied;
 mod copy;
 pub mod hub;
 pub mod laws;
@@ -12,11 +14,12 @@ mod look;
 mod object;
 mod plain;
 mod requests;
+pub mod rows;
 pub mod screen;
 mod sent;
 pub mod view;
 
 pub use code::{CLOSED, OK};
 pub use object::{Marked, Object};
-pub use plain::{CCell, CColor, CLook, CRequest};
+pub use plain::{CCell, CColor, CDrawing, CLook, CRequest};
 pub use requests::{Request, Requests};

@@ -3,15 +3,16 @@ ghost use Rattle.std.specs.Prelude.{◌≡◌, ◌≤◌, replicate};
 ghost use Rattle.vt100_cells.specs.Cell.{IsCell};
 ghost use Rattle.c_objects.specs.Texts.{with_prefix};
 ghost use Rattle.c_objects.specs.Looks.{switch, color_of, width_of, cell_of, screen_look, view_look};
+ghost use Rattle.c_objects.specs.Copied.{drawing_of};
 ghost use Rattle.c_objects.specs.Looks.{mouse_number, encoding_number, style_number};
 
 use crate::copy::copy_prefix;
-use crate::plain::{CCell, CColor, CLook};
+use crate::plain::{CCell, CColor, CDrawing, CLook};
 use termview::{UntilCleared, View};
 use vt100::{Cell, Color, CursorStyle, MouseProtocolEncoding, MouseProtocolMode, Screen};
 
 /// 1 for true, 0 for false.
-fn switch(on: bool) -> u8
+pub(crate) fn switch(on: bool) -> u8
     ensures { result ≡ switch on }
 {
     if on { 1 } else { 0 }
@@ -170,5 +171,20 @@ pub(crate) fn view_look(view: &View<UntilCleared>) -> CLook
         alternate: 0,
         updating: 0,
         failed: 0,
+    }
+}
+
+/// How the next character is drawn on a screen.
+pub(crate) fn screen_drawing(screen: &Screen) -> CDrawing
+    ensures { result ≡ drawing_of screen.now.state }
+{
+    CDrawing {
+        foreground: color_of(screen.fgcolor()),
+        background: color_of(screen.bgcolor()),
+        bold: switch(screen.bold()),
+        dim: switch(screen.dim()),
+        italic: switch(screen.italic()),
+        underlined: switch(screen.underline()),
+        inverse: switch(screen.inverse()),
     }
 }

@@ -34,6 +34,26 @@ pub struct CCell {
     pub background: CColor,
 }
 
+/// How the next character is drawn. A switch is 0 or 1.
+#[repr(C)]
+#[derive(Clone, Copy)]
+pub struct CDrawing {
+    /// The text's colour.
+    pub foreground: CColor,
+    /// The background's colour.
+    pub background: CColor,
+    /// Whether it is bold.
+    pub bold: u8,
+    /// Whether it is dim.
+    pub dim: u8,
+    /// Whether it is in italics.
+    pub italic: u8,
+    /// Whether it is underlined.
+    pub underlined: u8,
+    /// Whether foreground and background are swapped.
+    pub inverse: u8,
+}
+
 /// Size, cursor and modes. A switch is 0 or 1.
 #[repr(C)]
 #[derive(Clone, Copy)]

@@ -1,5 +1,6 @@
 //! The calls of a screen.
 ghost use Rattle.std.specs.Prelude.{◌≡◌, IfOk, IfErr};
+ghost use Rattle.c_objects.specs.Cells.{ScreenHasCells};
 ghost use Rattle.c_objects.specs.Codes.{IsRefusal};
 ghost use Rattle.c_objects.specs.Hubs.{IsNoObjectCode};
 ghost use Rattle.c_objects.specs.Objects.{ScreenDoes, ScreenSays};
@@ -8,6 +9,7 @@ ghost use Rattle.c_objects.specs.Screens.{TellsOldest};
 ghost use Rattle.c_objects.specs.Screens.{Looks, HasCell, HasRow, HasContents, HasBetween};
 ghost use Rattle.c_objects.specs.Screens.{HasFormatted, HasState, HasDifference};
 
+use crate::cells::copy_screen_cells;
 use crate::code::{BAD_SIZE, MEMORY, OK, OTHER_KIND, screen_code, screen_refusal};
 use crate::copy::copy_text;
 use crate::hub::{copy_cell, copy_contents, copy_row};
@@ -169,6 +171,29 @@ pub fn cell(object: &Object, row: u16, col: u16, to: &mut CCell) -> i32
 {
     match object {
         Object::Screen(marked) => copy_cell(marked.parser.screen(), row, col, to),
+        _ => OTHER_KIND,
+    }
+}
+
+/// Copies the cells of a row of a screen. Refused for a row outside it.
+pub fn row_cells(
+    object: &Object,
+    row: u16,
+    to: &mut [CCell],
+    count: &mut usize,
+    wrapped: &mut u8,
+) -> i32
+    ensures cells { ScreenSays (ScreenHasCells row to.old to.new count.new wrapped.new) object.now result }
+    ensures refused { IsRefusal result → (to.new ≡ to.old) × (count.new ≡ count.old) × (wrapped.new ≡ wrapped.old) }
+{
+    match object {
+        Object::Screen(marked) => copy_screen_cells(
+            marked.parser.screen(),
+            row,
+            to,
+            count,
+            wrapped,
+        ),
         _ => OTHER_KIND,
     }
 }

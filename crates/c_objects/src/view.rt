@@ -1,10 +1,12 @@
 //! The calls of a view.
 ghost use Rattle.std.specs.Prelude.{◌≡◌, IfOk, IfErr};
+ghost use Rattle.c_objects.specs.Cells.{ViewHasCells};
 ghost use Rattle.c_objects.specs.Codes.{IsRefusal};
 ghost use Rattle.c_objects.specs.Hubs.{IsNoObjectCode};
 ghost use Rattle.c_objects.specs.Objects.{ViewDoes, ViewSays};
 ghost use Rattle.c_objects.specs.Views.{IsNewViewOf, Advances, Stops, Holds, Looks, HasCell, HasRow};
 
+use crate::cells::copy_view_cells;
 use crate::code::{BAD_SIZE, MEMORY, NO_CELL, OK, OTHER_KIND};
 use crate::copy::copy_prefix;
 use crate::look::{cell_of, view_look};
@@ -106,6 +108,23 @@ pub fn cell(object: &Object, row: u16, col: u16, to: &mut CCell) -> i32
 {
     match object {
         Object::View(view) => copy_cell(view, row, col, to),
+        _ => OTHER_KIND,
+    }
+}
+
+/// Copies the cells of a row that a view shows. Refused for a row outside it.
+pub fn row_cells(
+    object: &Object,
+    row: u16,
+    to: &mut [CCell],
+    count: &mut usize,
+    wrapped: &mut u8,
+) -> i32
+    ensures cells { ViewSays (ViewHasCells row to.old to.new count.new wrapped.new) object.now result }
+    ensures refused { IsRefusal result → (to.new ≡ to.old) × (count.new ≡ count.old) × (wrapped.new ≡ wrapped.old) }
+{
+    match object {
+        Object::View(view) => copy_view_cells(view, row, to, count, wrapped),
         _ => OTHER_KIND,
     }
 }

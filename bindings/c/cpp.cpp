@@ -1,0 +1,59 @@
+// jeihpal.hpp: objects that close themselves, copies, and what is thrown.
+#include "tried.h"
+#include <jeihpal.hpp>
+#include <memory>
+#include <thread>
+
+static void frames() {
+    jeihpal::hub hub(1, 20);
+    jeihpal::view view(1, 20);
+    size_t client = hub.attach();
+    hub.feed("[####      ]  40%");
+    hub.feed(std::string_view()); // no bytes, and no pointer
+    CHECK(hub.frame(client) == JEIHPAL_FULL);
+    std::string owed = hub.owed(client);
+    view.advance(owed);
+    hub.sent(client, owed.size());
+    CHECK(view.row_text(0) == "[####      ]  40%" && view.held() == 0);
+    CHECK(hub.contents() == view.row_text(0));
+    try {
+        hub.frame(77);
+        CHECK(false);
+    } catch (const jeihpal::error &error) {
+        CHECK(error.code() == JEIHPAL_UNKNOWN_CLIENT);
+    }
+}
+
+static void screens() {
+    jeihpal::screen screen(2, 5, 3);
+    screen.process("a\r\nb\r\nc\x1b]2;title\a");
+    jeihpal::screen copy = screen;
+    copy.process("\x1b[Hx");
+    CHECK(copy.state_diff(screen) == "\x1b[Hx" && screen.state_diff(screen).empty());
+    CHECK(copy.contents() == "x\nc" && screen.contents() == "b\nc");
+    CHECK(screen.rows_formatted(0, 5) == (std::vector<std::string>{"b", "c"}));
+    jeihpal::row row = copy.row(0);
+    CHECK(row.cells.size() == 5 && !row.wrapped && jeihpal::text(row.cells[0]) == "x");
+    CHECK(copy.cell(0, 0)->width == 1 && !copy.cell(2, 0) && copy.look().kept == 1);
+    std::optional<jeihpal::request> request = screen.next_request();
+    CHECK(request && request->kind == JEIHPAL_TITLE && request->text == "title" && !screen.next_request());
+    jeihpal::screen moved = std::move(screen);
+    CHECK(moved.contents() == "b\nc");
+    try {
+        screen.contents();
+        CHECK(false);
+    } catch (const jeihpal::error &error) {
+        CHECK(error.code() == JEIHPAL_CLOSED);
+    }
+    moved = copy;
+    CHECK(moved.contents() == copy.contents());
+    std::thread([kept = std::make_unique<jeihpal::screen>(std::move(moved))] { CHECK(kept->look().rows == 2); }).join();
+}
+
+int main() {
+    CHECK(jeihpal_runs_here());
+    frames();
+    screens();
+    puts("cpp: well");
+    return 0;
+}

@@ -1,0 +1,295 @@
+// jeihpal.hpp: the hubs, views and screens of jeihpal.h as C++17 objects.
+//
+// An object closes its word when it ends. It can be moved, and a screen can be copied. A refused call throws
+// jeihpal::error, or std::bad_alloc where there was no memory. Texts and bytes may be empty, and their pointers null.
+// jeihpal.h says what each call does, and on which threads.
+#ifndef JEIHPAL_HPP
+#define JEIHPAL_HPP
+
+#include "jeihpal.h"
+
+#include <new>
+#include <optional>
+#include <stdexcept>
+#include <string>
+#include <string_view>
+#include <utility>
+#include <vector>
+
+namespace jeihpal {
+
+// A refused call.
+class error : public std::runtime_error {
+public:
+    explicit error(int32_t code) : std::runtime_error(text_of(code)), code_(code) {}
+
+    // One of enum jeihpal_code.
+    int32_t code() const noexcept { return code_; }
+
+    static const char *text_of(int32_t code) noexcept {
+        switch (code) {
+        case JEIHPAL_CLOSED: return "jeihpal: the object was moved away";
+        case JEIHPAL_OTHER_KIND: return "jeihpal: an object of another kind";
+        case JEIHPAL_BAD_SIZE: return "jeihpal: a size without rows or columns";
+        case JEIHPAL_MEMORY: return "jeihpal: out of memory";
+        case JEIHPAL_FAILED: return "jeihpal: an earlier call found no memory";
+        case JEIHPAL_UNKNOWN_CLIENT: return "jeihpal: the client has ended, or never was";
+        case JEIHPAL_NOT_OWED: return "jeihpal: fewer bytes are owed";
+        case JEIHPAL_NO_CELL: return "jeihpal: the place is outside the screen";
+        default: return "jeihpal: a refused call";
+        }
+    }
+
+private:
+    int32_t code_;
+};
+
+// What a call answers; it throws what is refused.
+inline int32_t checked(int32_t code) {
+    if (code == JEIHPAL_MEMORY) throw std::bad_alloc();
+    if (code < 0) throw error(code);
+    return code;
+}
+
+// A row of a screen: its cells, and whether its text goes on in the next row.
+struct row {
+    std::vector<jeihpal_cell> cells;
+    bool wrapped = false;
+};
+
+// A cell's text.
+inline std::string_view text(const jeihpal_cell &cell) {
+    return std::string_view(reinterpret_cast<const char *>(cell.text), cell.length);
+}
+
+namespace detail {
+
+// The library takes no null pointer.
+inline const uint8_t *bytes_of(std::string_view bytes) noexcept {
+    static const uint8_t none = 0;
+    return bytes.data() ? reinterpret_cast<const uint8_t *>(bytes.data()) : &none;
+}
+
+// The whole text that a call copies: it is told where the room for it is.
+template <class Call> std::string whole(Call call) {
+    std::string room(1024, '\0');
+    for (;;) {
+        size_t length = 0;
+        checked(call(reinterpret_cast<uint8_t *>(&room[0]), room.size(), &length));
+        bool fits = length <= room.size();
+        room.resize(length);
+        if (fits) return room;
+    }
+}
+
+// A word, which is closed when it ends.
+template <class Word, void (*Close)(Word *)> class owned {
+public:
+    owned() noexcept : word_() {}
+    owned(owned &&other) noexcept : word_(other.word_) { other.word_ = Word(); }
+    owned &operator=(owned &&other) noexcept {
+        std::swap(word_, other.word_);
+        return *this;
+    }
+    ~owned() { Close(&word_); }
+
+    // The word, for the calls of jeihpal.h. A call that reads the object is one too, so it is no constant.
+    Word *word() const noexcept { return &word_; }
+
+private:
+    mutable Word word_;
+};
+
+// The calls that all kinds have.
+template <class Word, void (*Close)(Word *), int32_t (*Look)(Word *, jeihpal_look *),
+          int32_t (*Cell)(Word *, uint16_t, uint16_t, jeihpal_cell *),
+          int32_t (*Cells)(Word *, uint16_t, jeihpal_cell *, size_t, size_t *, uint8_t *),
+          int32_t (*RowText)(Word *, uint16_t, uint8_t *, size_t, size_t *)>
+class object : public owned<Word, Close> {
+public:
+    jeihpal_look look() const {
+        jeihpal_look look;
+        checked(Look(this->word(), &look));
+        return look;
+    }
+
+    // None outside of the screen.
+    std::optional<jeihpal_cell> cell(uint16_t row, uint16_t col) const {
+        jeihpal_cell cell;
+        int32_t code = Cell(this->word(), row, col, &cell);
+        if (code == JEIHPAL_NO_CELL) return std::nullopt;
+        checked(code);
+        return cell;
+    }
+
+    // Throws outside of the screen.
+    jeihpal::row row(uint16_t number) const {
+        jeihpal::row row;
+        row.cells.resize(look().cols);
+        size_t count = 0;
+        uint8_t wrapped = 0;
+        checked(Cells(this->word(), number, row.cells.data(), row.cells.size(), &count, &wrapped));
+        row.cells.resize(count);
+        row.wrapped = wrapped != 0;
+        return row;
+    }
+
+    std::string row_text(uint16_t row) const {
+        return whole([&](uint8_t *to, size_t room, size_t *length) {
+            return RowText(this->word(), row, to, room, length);
+        });
+    }
+};
+
+using hub_base = object<jeihpal_hub, jeihpal_hub_close, jeihpal_hub_look, jeihpal_hub_cell, jeihpal_hub_row_cells,
+                        jeihpal_hub_row_text>;
+using view_base = object<jeihpal_view, jeihpal_view_close, jeihpal_view_look, jeihpal_view_cell,
+                         jeihpal_view_row_cells, jeihpal_view_row_text>;
+using screen_base = object<jeihpal_screen, jeihpal_screen_close, jeihpal_screen_look, jeihpal_screen_cell,
+                           jeihpal_screen_row_cells, jeihpal_screen_row_text>;
+
+} // namespace detail
+
+class hub : public detail::hub_base {
+public:
+    hub(uint16_t rows, uint16_t cols) { checked(jeihpal_hub_new(word(), rows, cols)); }
+
+    void feed(std::string_view bytes) { checked(jeihpal_hub_feed(word(), detail::bytes_of(bytes), bytes.size())); }
+    void resize(uint16_t rows, uint16_t cols) { checked(jeihpal_hub_resize(word(), rows, cols)); }
+    size_t attach() {
+        size_t client = 0;
+        checked(jeihpal_hub_attach(word(), &client));
+        return client;
+    }
+    void detach(size_t client) { checked(jeihpal_hub_detach(word(), client)); }
+    jeihpal_answer frame(size_t client) {
+        return static_cast<jeihpal_answer>(checked(jeihpal_hub_frame(word(), client)));
+    }
+    std::string owed(size_t client) const {
+        return detail::whole([&](uint8_t *to, size_t room, size_t *length) {
+            return jeihpal_hub_owed(word(), client, to, room, length);
+        });
+    }
+    void sent(size_t client, size_t count) { checked(jeihpal_hub_sent(word(), client, count)); }
+    std::string contents() const {
+        return detail::whole([&](uint8_t *to, size_t room, size_t *length) {
+            return jeihpal_hub_contents(word(), to, room, length);
+        });
+    }
+};
+
+class view : public detail::view_base {
+public:
+    view(uint16_t rows, uint16_t cols) { checked(jeihpal_view_new(word(), rows, cols)); }
+
+    void advance(std::string_view bytes) {
+        checked(jeihpal_view_advance(word(), detail::bytes_of(bytes), bytes.size()));
+    }
+    void stop() { checked(jeihpal_view_stop(word())); }
+    size_t held() const {
+        size_t count = 0;
+        checked(jeihpal_view_held(word(), &count));
+        return count;
+    }
+};
+
+// What a program asked for.
+struct request {
+    jeihpal_request_kind kind;
+    std::string letters; // of clipboards
+    std::string text;
+    uint16_t rows;
+    uint16_t cols;
+};
+
+class screen : public detail::screen_base {
+public:
+    screen(uint16_t rows, uint16_t cols, size_t scrollback = 0) {
+        checked(jeihpal_screen_new(word(), rows, cols, scrollback));
+    }
+    screen(const screen &other) { checked(jeihpal_screen_clone(word(), other.word())); }
+    screen(screen &&) noexcept = default;
+    screen &operator=(screen other) noexcept {
+        std::swap(*word(), *other.word());
+        return *this;
+    }
+
+    void process(std::string_view bytes) {
+        checked(jeihpal_screen_process(word(), detail::bytes_of(bytes), bytes.size()));
+    }
+    void resize(uint16_t rows, uint16_t cols) { checked(jeihpal_screen_resize(word(), rows, cols)); }
+    void scroll(size_t rows) { checked(jeihpal_screen_scroll(word(), rows)); }
+    void clear_scrollback() { checked(jeihpal_screen_clear_scrollback(word())); }
+    void mark() { checked(jeihpal_screen_mark(word())); }
+    jeihpal_drawing drawing() const {
+        jeihpal_drawing drawing;
+        checked(jeihpal_screen_drawing(word(), &drawing));
+        return drawing;
+    }
+
+    std::string contents() const { return text(jeihpal_screen_contents); }
+    std::string contents_formatted() const { return text(jeihpal_screen_contents_formatted); }
+    std::string contents_formatted_basic() const { return text(jeihpal_screen_contents_formatted_basic); }
+    std::string state() const { return text(jeihpal_screen_state); }
+    std::string input_mode_formatted() const { return text(jeihpal_screen_input_mode_formatted); }
+    std::string attributes_formatted() const { return text(jeihpal_screen_attributes_formatted); }
+    std::string cursor_state_formatted() const { return text(jeihpal_screen_cursor_state_formatted); }
+    std::string difference() const { return text(jeihpal_screen_difference); }
+
+    // What leads from another screen to this one.
+    std::string state_diff(const screen &earlier) const { return text_from(earlier, jeihpal_screen_state_diff); }
+    std::string contents_diff(const screen &earlier) const { return text_from(earlier, jeihpal_screen_contents_diff); }
+    std::string input_mode_diff(const screen &earlier) const {
+        return text_from(earlier, jeihpal_screen_input_mode_diff);
+    }
+
+    std::string contents_between(uint16_t start_row, uint16_t start_col, uint16_t end_row, uint16_t end_col) const {
+        return detail::whole([&](uint8_t *to, size_t room, size_t *length) {
+            return jeihpal_screen_contents_between(word(), start_row, start_col, end_row, end_col, to, room, length);
+        });
+    }
+
+    // What draws each row.
+    std::vector<std::string> rows_formatted(uint16_t start, uint16_t width) const {
+        std::vector<size_t> lengths(look().rows);
+        size_t rows = 0;
+        std::string all = detail::whole([&](uint8_t *to, size_t room, size_t *length) {
+            return jeihpal_screen_rows_formatted(word(), start, width, to, room, length, lengths.data(),
+                                                 lengths.size(), &rows);
+        });
+        std::vector<std::string> made;
+        size_t at = 0;
+        for (size_t length : lengths) {
+            made.push_back(all.substr(at, length));
+            at += length;
+        }
+        return made;
+    }
+
+    // The oldest request that waits, if one does.
+    std::optional<request> next_request() {
+        std::string room(JEIHPAL_MOST_REQUEST_BYTES, '\0');
+        jeihpal_request told;
+        uint8_t *to = reinterpret_cast<uint8_t *>(&room[0]);
+        int32_t kind = checked(jeihpal_screen_request(word(), to, room.size(), &told));
+        if (kind == JEIHPAL_NO_REQUEST) return std::nullopt;
+        return request{static_cast<jeihpal_request_kind>(kind), room.substr(0, told.letters),
+                       room.substr(told.letters, told.length - told.letters), told.rows, told.cols};
+    }
+
+private:
+    std::string text(int32_t (*call)(jeihpal_screen *, uint8_t *, size_t, size_t *)) const {
+        return detail::whole([&](uint8_t *to, size_t room, size_t *length) { return call(word(), to, room, length); });
+    }
+    std::string text_from(const screen &earlier, int32_t (*call)(jeihpal_screen *, jeihpal_screen *, uint8_t *, size_t,
+                                                                 size_t *)) const {
+        if (&earlier == this) return std::string();
+        return detail::whole([&](uint8_t *to, size_t room, size_t *length) {
+            return call(word(), earlier.word(), to, room, length);
+        });
+    }
+};
+
+} // namespace jeihpal
+
+#endif
