@@ -23,16 +23,18 @@ use Rattle.relay_streams.specs.Each as each
 use Rattle.relay_streams.specs.Each.{GivesEach, TakesAll}
 use Rattle.relay_streams.specs.Pieces.{Begun, Drained, piece_len, pieces_of}
 use Rattle.relay_streams.specs.Sessions.{AreRelayed, EndsOverlong, IsRelayed}
+use Rattle.relay_streams.specs.Live.{WantsRoom}
 use Rattle.relay_streams.specs.Turns.{Relaying}
 use Rattle.relay_streams.proofs.FrameLists.{frames_of, answers_of, base_of, frames-more, base-push, fits-push}
 use Rattle.charset_filter.proofs.LineLemmas.{none-passed, passed-push}
 use Rattle.relay_streams.proofs.OutputLemmas.{prints-text}
 use Rattle.relay_streams.proofs.PieceLemmas.{concat-push, drained-pieces}
-use Rattle.relay_streams.proofs.SessionLemmas.{ends-overlong, frames-are-relayed, frames-of, relayed-as, relayed-by}
+use Rattle.relay_streams.proofs.SessionLemmas.{ends-overlong, wants-memory, frames-are-relayed, frames-of, relayed-as}
+use Rattle.relay_streams.proofs.SessionLemmas.{relayed-by}
 use Rattle.relay_streams.proofs.ViewLemmas.{not_led, led_more}
 use Rattle.relay_commands.specs.Carried as far
 use Rattle.relay_commands.specs.Carried.{Carried, Carries, CarriesPiece, Follows, IsFarText, IsRelayedThrough}
-use Rattle.relay_commands.specs.Carried.{PrintsFar, followed, overlong, unmade, unread}
+use Rattle.relay_commands.specs.Carried.{MayWantRoom, PrintsFar, followed, overlong, unmade, unread}
 use Rattle.relay_commands.specs.Ends.{from, onto}
 use Rattle.relay_commands.specs.declared.far_screen.FilteredHub.{FilteredHub}
 
@@ -127,6 +129,32 @@ holds-all W contents w v owed held n pumps empty full =
     (subst (λ o. Appends (contents w) o (take n owed)) full reported.0) in
     is ∙ whole
 
+-- what a piece that passed may want, it may want as it was read
+room-wanted : (rows cols : ℕ) (lines : LineDrawing) (past : List (List ℕ)) (piece : List ℕ) → IsSide rows → IsSide cols
+    → MayWantRoom lines rows cols (all_passed lines past) (passed lines (concat past) piece)
+    (base_of rows cols (all_passed lines past)) → WantsRoom lines rows cols past piece
+room-wanted rows cols Kept past piece height width wants = wants-memory rows cols past piece height width wants
+room-wanted rows cols Drawn past piece height width wants = tt
+
+-- where a piece couldn't pass, lines are drawn
+pub room-unpassed : (rows cols : ℕ) (lines : LineDrawing) (past : List (List ℕ)) (piece : List ℕ) (base : Option Shown)
+    → (lines ≡ Kept → ⊥) → MayWantRoom lines rows cols past piece base
+room-unpassed rows cols Kept past piece base drawn = absurd (drawn refl)
+room-unpassed rows cols Drawn past piece base drawn = tt
+
+-- a turn with a piece that passed
+pub carried-through : (lines : LineDrawing) (rows cols : ℕ) (past : List (List ℕ)) (piece : List ℕ)
+    (base : Option Shown) (key : ℕ) (a b : View UntilCleared) (answer : Result (Unit {0}) RelayError)
+    (g : HubState as_kept) → Carried Kept rows cols past piece base key a answer b g
+    → Carried lines rows cols past piece base key a answer b g
+carried-through Kept rows cols past piece base key a b answer g carried = carried
+carried-through Drawn rows cols past piece base key a b (Ok u) g carried = carried
+carried-through Drawn rows cols past piece base key a b (Err Memory) g carried = tt
+carried-through Drawn rows cols past piece base key a b (Err FrameTooLong) g carried = carried
+carried-through Drawn rows cols past piece base key a b (Err Read) g carried = carried
+carried-through Drawn rows cols past piece base key a b (Err Write) g carried = carried
+carried-through Drawn rows cols past piece base key a b (Err TooManyReads) g carried = carried
+
 -- pieces were fed whose frames reached the view, and none of them was too long
 abbrev Goes : ℕ → ℕ → ℕ → HubState as_kept → View UntilCleared → View UntilCleared → List (List ℕ) → Type 0
 Goes rows cols key g a b pieces = (list_any is_overlong (answers_of rows cols pieces) ≡ false)
@@ -158,10 +186,11 @@ module _ (rows cols : ℕ) (lines : LineDrawing) (past : List (List ℕ)) (piece
   -- a turn at which a fault came
   pub carry-faults : (S : Type 0) (gives : S → ℕ → Result (List ℕ) Error → S → Type 0) (key : ℕ)
       (g : HubState as_kept) (s t : S) (a b : View UntilCleared) (e : RelayError) → IsSide rows → IsSide cols
-      → Begun gives piece_len s pieces t → Fit before → Carried rows cols fed base key a (Err e) b g
+      → Begun gives piece_len s pieces t → Fit before → Carried lines rows cols before here base key a (Err e) b g
       → Follows lines gives rows cols s (frames_of rows cols before) (Err e) t
   carry-faults S gives key g s t a b Memory height width begun fit turned =
       unmade past piece begun (frames-are-relayed rows cols before height width fit)
+      (room-wanted rows cols lines past piece height width turned)
   carry-faults S gives key g s t a b FrameTooLong height width begun fit turned =
       overlong past piece begun (frames-are-relayed rows cols before height width fit)
       (subst (λ (ps : List (List ℕ)). EndsOverlong rows cols ps) (sym fed-is)
@@ -172,7 +201,7 @@ module _ (rows cols : ℕ) (lines : LineDrawing) (past : List (List ℕ)) (piece
 
   -- one that went well
   pub carry-goes : (key : ℕ) (g : HubState as_kept) (a b c : View UntilCleared) → Fit before
-      → Carries a (concat (frames_of rows cols before)) b → Carried rows cols fed base key b (Ok tt) c g
+      → Carries a (concat (frames_of rows cols before)) b → Carried lines rows cols before here base key b (Ok tt) c g
       → Goes rows cols key g a c (all_passed lines pieces)
   carry-goes key g a b c fit first turned =
       let owed = (asked rows cols (concat fed) base).owed in

@@ -17,7 +17,8 @@ use Rattle.charset_filter.specs.Lines.{HasPassed, all_passed, drawn_after, passe
 use Rattle.relay_streams.specs.Pieces.{Begun, Drained, piece_len, pieces_of}
 use Rattle.relay_streams.specs.Sessions.{AreRelayed, EndsOverlong, IsRelayed, IsRelayText, has_overlong}
 use Rattle.relay_streams.specs.Shown.{IsTextShown, Prints, sized}
-use Rattle.relay_streams.specs.Turns.{Relaying}
+use Rattle.relay_streams.specs.Live.{WantsRoom}
+use Rattle.relay_streams.specs.Turns.{Relaying, MayWantMemory}
 use Rattle.relay_commands.specs.Ends.{Sink, Source}
 use Rattle.relay_commands.specs.declared.far_screen.FilteredHub.{FilteredHub}
 
@@ -48,20 +49,26 @@ pub record IsFarText (lines : LineDrawing) (rows cols : ℕ) (input text : List 
   pub relayed : IsRelayedThrough lines rows cols input (concat pieces)
   pub shown : IsTextShown (sized rows cols) pieces text
 
--- These pieces have been fed, the last one by this turn, and the client had this base: so the turn is answered. The
--- frame reached the view, or there was no memory for it, or it would be too long.
-abbrev pub Carried : ℕ → ℕ → List (List ℕ) → Option Shown → ℕ → View UntilCleared → Result (Unit {0}) RelayError
-    → View UntilCleared → HubState as_kept → Type 0
-Carried rows cols pieces base key old (Ok u) new g =
-    (is_overlong (answered rows cols (concat pieces) base) ≡ false)
-    × Carries old (asked rows cols (concat pieces) base).owed new
-    × Relaying rows cols pieces (asked rows cols (concat pieces) base).base g key
-Carried rows cols pieces base key old (Err Memory) new g = ⊤
-Carried rows cols pieces base key old (Err FrameTooLong) new g =
-    is_overlong (answered rows cols (concat pieces) base) ≡ true
-Carried rows cols pieces base key old (Err Read) new g = ⊥
-Carried rows cols pieces base key old (Err Write) new g = ⊥
-Carried rows cols pieces base key old (Err TooManyReads) new g = ⊥
+-- A turn with a piece that passed may want memory: one of its events may take some, or a frame is made after it. Where
+-- lines are drawn, there must also be room for what the filter gives.
+abbrev pub MayWantRoom : LineDrawing → ℕ → ℕ → List (List ℕ) → List ℕ → Option Shown → Type 0
+MayWantRoom Kept rows cols past piece base = MayWantMemory rows cols past piece base
+MayWantRoom Drawn rows cols past piece base = ⊤
+
+-- After other pieces this one was fed by a turn, and the client had this base: so the turn is answered. The frame
+-- reached the view, or there was no memory for what may want some, or it would be too long.
+abbrev pub Carried : LineDrawing → ℕ → ℕ → List (List ℕ) → List ℕ → Option Shown → ℕ → View UntilCleared
+    → Result (Unit {0}) RelayError → View UntilCleared → HubState as_kept → Type 0
+Carried lines rows cols past piece base key old (Ok u) new g =
+    (is_overlong (answered rows cols (concat (past ++ piece ∷ [])) base) ≡ false)
+    × Carries old (asked rows cols (concat (past ++ piece ∷ [])) base).owed new
+    × Relaying rows cols (past ++ piece ∷ []) (asked rows cols (concat (past ++ piece ∷ [])) base).base g key
+Carried lines rows cols past piece base key old (Err Memory) new g = MayWantRoom lines rows cols past piece base
+Carried lines rows cols past piece base key old (Err FrameTooLong) new g =
+    is_overlong (answered rows cols (concat (past ++ piece ∷ [])) base) ≡ true
+Carried lines rows cols past piece base key old (Err Read) new g = ⊥
+Carried lines rows cols past piece base key old (Err Write) new g = ⊥
+Carried lines rows cols past piece base key old (Err TooManyReads) new g = ⊥
 
 -- A piece passes the filter and is fed to the hub, and the frame that is then due is carried to the view: the hub and
 -- the view, before and after.
@@ -72,7 +79,7 @@ CarriesPiece h old piece answer g new = (g.client ≡ h.client)
     → HasPassed g.filter lines (past ++ piece))
     × ((rows cols : ℕ) (lines : LineDrawing) (past : List ℕ) (fed : List (List ℕ)) (base : Option Shown)
     → Relaying rows cols fed base h.hub h.client → HasPassed h.filter lines past
-    → Carried rows cols (fed ++ passed lines past piece ∷ []) base h.client old answer new g.hub)
+    → Carried lines rows cols fed (passed lines past piece) base h.client old answer new g.hub)
 
 -- From a source pieces are read and pass, and these frames are made of them: so it is answered, and so the source is
 -- left.
@@ -82,10 +89,10 @@ pub data Follows (lines : LineDrawing) {S : Type 0} (gives : S → ℕ → Resul
   unread : {t : S} {frames : List (List ℕ)} (pieces : List (List ℕ)) (rest : List ℕ) (e : RelayError)
       → Drained gives piece_len s (pieces ++ rest ∷ []) (Err e) t
       → AreRelayed rows cols (all_passed lines pieces) frames → Follows lines gives rows cols s frames (Err e) t
-  -- there was no memory for the last piece or its frame
+  -- there was no memory for the last piece or its frame, which may want some
   unmade : {t : S} {frames : List (List ℕ)} (pieces : List (List ℕ)) (piece : List ℕ)
       → Begun gives piece_len s (pieces ++ piece ∷ []) t → AreRelayed rows cols (all_passed lines pieces) frames
-      → Follows lines gives rows cols s frames (Err Memory) t
+      → WantsRoom lines rows cols pieces piece → Follows lines gives rows cols s frames (Err Memory) t
   -- the frame of the last piece would be too long
   overlong : {t : S} {frames : List (List ℕ)} (pieces : List (List ℕ)) (piece : List ℕ)
       → Begun gives piece_len s (pieces ++ piece ∷ []) t → AreRelayed rows cols (all_passed lines pieces) frames

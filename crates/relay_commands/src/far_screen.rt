@@ -1,10 +1,11 @@
 //! A program's screen, carried to a far terminal and printed there.
 
-ghost use Rattle.std.specs.Prelude.{ℕ, ◌++◌, ◌∷◌, [], List, Option, None, OnOk, IfSome};
+ghost use Rattle.std.specs.Prelude.{ℕ, [], List, Option, None, OnOk, IfSome};
 ghost use Rattle.std.specs.List.{concat};
 ghost use Rattle.std.specs.Io.KnownBytes.{Appends};
 ghost use Rattle.terminal_model.specs.Term.{Shown};
 ghost use Rattle.charset_filter.specs.Lines.{HasPassed};
+ghost use Rattle.charset_filter.specs.declared.lines.LineDrawing.TheVariants.{Kept};
 ghost use Rattle.relay_streams.specs.Turns.{Relaying};
 ghost use Rattle.relay_commands.specs.Carried.{Carried, Carries, Follows, IsFarText, PrintsFar};
 ghost use Rattle.relay_commands.specs.Ends.{from, onto};
@@ -116,7 +117,7 @@ fn carry_frame(
 ) -> Result<(), RelayError>
     ensures { (rows cols : ℕ) (past : List (List ℕ)) (base : Option Shown)
         → Relaying rows cols past base hub.old client
-        → Carried rows cols (past ++ piece.now ∷ []) base client view.old result view.new hub.new }
+        → Carried Kept rows cols past piece.now base client view.old result view.new hub.new }
 {
     hub.feed(piece)?;
     let answer = hub.frame(client)?;

@@ -21,21 +21,22 @@ use Rattle.termrelay.specs.Hub.{HubState, as_kept}
 use Rattle.relay_streams.specs.declared.error.RelayError.{RelayError}
 use Rattle.relay_streams.specs.declared.error.RelayError.TheVariants.{Read, Write, Memory, TooManyReads, FrameTooLong}
 use Rattle.charset_filter.specs.declared.lines.LineDrawing.{LineDrawing}
+use Rattle.charset_filter.specs.declared.lines.LineDrawing.TheVariants.{Kept, Drawn}
 use Rattle.byte_streams.specs.Source.{IsReadBy}
 use Rattle.relay_streams.specs.Fill.{max_reads}
 use Rattle.relay_streams.specs.Frames.{asked, is_overlong}
 use Rattle.relay_streams.specs.Live as live
 use Rattle.charset_filter.specs.Lines.{all_passed, passed}
 use Rattle.relay_streams.specs.Live.{live_len, Tries, Listens, SendsFlushed, StreamsThrough, RelaysThrough, IsLiveText}
-use Rattle.relay_streams.specs.Live.{TakesLive, TriesOnce, CountsReads, read_as}
-use Rattle.relay_streams.specs.Sessions.{AreRelayed, EndsOverlong}
+use Rattle.relay_streams.specs.Live.{TakesLive, TriesOnce, CountsReads, WantsRoom, read_as}
+use Rattle.relay_streams.specs.Sessions.{AreRelayed, EndsOverlong, WantsMemory}
 use Rattle.relay_streams.specs.Turns.{Relaying, Turned}
 use Rattle.relay_streams.proofs.FrameLists.{frames_of, answers_of, base_of, frames-more, fits-push, base-push}
 use Rattle.charset_filter.proofs.LineLemmas.{concat-passed, none-passed, passed-cut, passed-push}
 use Rattle.relay_streams.proofs.OutcomeLemmas.{if_known}
 use Rattle.relay_streams.proofs.OutputLemmas.{Appends-kept}
 use Rattle.relay_streams.proofs.PieceLemmas.{Consumes-more, Consumes-none, kept-Consumes, left-known, all-taken}
-use Rattle.relay_streams.proofs.SessionLemmas.{frames-are-relayed, ends-overlong, frames-of, relayed-by}
+use Rattle.relay_streams.proofs.SessionLemmas.{frames-are-relayed, ends-overlong, wants-memory, frames-of, relayed-by}
 
 abbrev pub over : Result (Unit {0}) Error
 over = Ok tt
@@ -138,6 +139,19 @@ module _ {S : Type 0} {step : S → ℕ → Result (List ℕ) Error → S → Ty
 
 -- ---- turns
 
+-- what the piece wants that was fed, the one that was read wants
+pub wants-room : (rows cols : ℕ) (lines : LineDrawing) (past : List (List ℕ)) (piece : List ℕ)
+    → WantsMemory rows cols (all_passed lines past) (passed lines (concat past) piece)
+    → WantsRoom lines rows cols past piece
+wants-room rows cols Kept past piece wants = wants
+wants-room rows cols Drawn past piece wants = tt
+
+-- where a piece couldn't pass, lines are drawn
+pub unpassed : (rows cols : ℕ) (lines : LineDrawing) (past : List (List ℕ)) (piece : List ℕ)
+    → (lines ≡ Kept → ⊥) → WantsRoom lines rows cols past piece
+unpassed rows cols Kept past piece drawn = absurd (drawn refl)
+unpassed rows cols Drawn past piece drawn = tt
+
 module _ (S W : Type 0) (gives : S → ℕ → Result (List ℕ) Error → S → Type 0)
     (takes : W → List ℕ → Result ℕ Error → W → Type 0) (flushes : W → Result (Unit {0}) Error → W → Type 0)
     (rows cols : ℕ) (lines : LineDrawing) (past : List (List ℕ)) (piece : List ℕ) where
@@ -170,16 +184,16 @@ module _ (S W : Type 0) (gives : S → ℕ → Result (List ℕ) Error → S →
   -- the piece couldn't pass
   pub live-refused : (s t : S) (w v : W) (n : ℕ) → IsSide rows → IsSide cols → Listens gives live_len s n pieces t
       → Fit before → SendsFlushed takes flushes w (frames_of rows cols before) over v → n ≤ max_reads
-      → StreamsThrough lines gives takes flushes rows cols s w (Err Memory) t v
-  live-refused s t w v n height width b fit sends most =
-      live.unmade past (frames_of rows cols before) piece b (frames-are-relayed rows cols before height width fit) sends
-      most
+      → WantsRoom lines rows cols past piece → StreamsThrough lines gives takes flushes rows cols s w (Err Memory) t v
+  live-refused s t w v n height width b fit sends most wants =
+      live.unmade past (frames_of rows cols before) piece b (frames-are-relayed rows cols before height width fit) wants
+      sends most
 
   -- a turn at which a fault came
   pub live-faults : (key : ℕ) (g : HubState as_kept) (s t : S) (w m v : W) (n : ℕ) (e : RelayError) → IsSide rows
       → IsSide cols → Listens gives live_len s n pieces t → Fit before
       → SendsFlushed takes flushes w (frames_of rows cols before) over m
-      → Turned takes rows cols fed base key m (Err e) v g → n ≤ max_reads
+      → Turned takes rows cols before here base key m (Err e) v g → n ≤ max_reads
       → StreamsThrough lines gives takes flushes rows cols s w (Err e) t v
   live-faults key g s t w m v n Read height width b fit sends turned most = absurd turned
   live-faults key g s t w m v n Write height width b fit sends (last, x, k, pumps) most =
@@ -188,9 +202,10 @@ module _ (S W : Type 0) (gives : S → ℕ → Result (List ℕ) Error → S →
       (frames-are-relayed rows cols fed height width (fits-push rows cols before here fit last)))
       (subst (λ (texts : List (List ℕ)). SendsFlushed takes flushes w texts (Err x) v) (sym frames-are)
       (live.broken m sends pumps)) most
-  live-faults key g s t w m v n Memory height width b fit sends turned most =
+  live-faults key g s t w m v n Memory height width b fit sends (wants, stays) most =
       live.unmade past (frames_of rows cols before) piece b (frames-are-relayed rows cols before height width fit)
-      (subst (λ (u : W). SendsFlushed takes flushes w (frames_of rows cols before) over u) (sym turned) sends) most
+      (wants-room rows cols lines past piece (wants-memory rows cols before here height width wants))
+      (subst (λ (u : W). SendsFlushed takes flushes w (frames_of rows cols before) over u) (sym stays) sends) most
   live-faults key g s t w m v n FrameTooLong height width b fit sends (long, stays) most =
       live.overlong past (frames_of rows cols before) piece b (frames-are-relayed rows cols before height width fit)
       (subst (λ (ps : List (List ℕ)). EndsOverlong rows cols ps) (sym fed-is)
@@ -205,7 +220,7 @@ module _ (S W : Type 0) (gives : S → ℕ → Result (List ℕ) Error → S →
 
   pub live-goes : (key : ℕ) (g : HubState as_kept) (w m k v : W) (answer : Result (Unit {0}) Error) → Fit before
       → SendsFlushed takes flushes w (frames_of rows cols before) over m
-      → Turned takes rows cols fed base key m well k g → flushes k answer v
+      → Turned takes rows cols before here base key m well k g → flushes k answer v
       → Goes key g w answer v (all_passed lines pieces)
   live-goes key g w m k v answer fit sends turned flush = subst (Goes key g w answer v) (sym fed-is) (
     fits-push rows cols before here fit turned.0,
@@ -332,7 +347,7 @@ module _ (S W : Type 0) (gives : S → ℕ → Result (List ℕ) Error → S →
         (live.unread {n = n} m pieces frames e listens tries are sends counts) is =
         let cut = listened s n pieces m bytes listens is in
         takes-live rows cols lines w v pieces frames over bytes cut.0 are sends cut.1
-    streams-prefix rows cols lines s w answer t v bytes (live.unmade {n = n} pieces frames piece listens are sends most)
+    streams-prefix rows cols lines s w answer t v bytes (live.unmade {n = n} pieces frames piece listens are wants sends most)
         is =
         let cut = listened-past s n pieces piece t bytes listens is in
         takes-live rows cols lines w v pieces frames over bytes cut.0 are sends cut.1

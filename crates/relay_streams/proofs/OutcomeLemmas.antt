@@ -81,7 +81,7 @@ module _ (S W : Type 0) (gives : S → ℕ → Result (List ℕ) Error → S →
     streams-prefix rows cols s w answer t v bytes (relayed.unread pieces frames rest e d are sends) is =
         prefix-of rows cols w v pieces frames (Ok tt) bytes are sends
         (drained-prefix S gives left gave s pieces rest (Err e) t bytes d is)
-    streams-prefix rows cols s w answer t v bytes (relayed.unmade pieces frames piece b are sends) is =
+    streams-prefix rows cols s w answer t v bytes (relayed.unmade pieces frames piece b are wants sends) is =
         prefix-of rows cols w v pieces frames (Ok tt) bytes are sends
         (begun-prefix S gives left gave s pieces piece t bytes b is)
     streams-prefix rows cols s w answer t v bytes (relayed.overlong pieces frames piece b are ends sends) is =

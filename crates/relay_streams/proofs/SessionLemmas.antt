@@ -1,7 +1,7 @@
 -- What is relayed is a session of a history.
 use Rattle.std.proofs.Common.{◌≡◌, ◌∙◌, ℕ, zero, suc, ◌+◌, Bool, true, false, List, [], ◌∷◌, ◌++◌, map, take, drop}
 use Rattle.std.proofs.Common.{length, min, Option, Some, None, Result, Ok, Err, refl, sym, ap, subst, arith}
-use Rattle.std.proofs.Common.{if◌then◌else◌, append_assoc, append-nil}
+use Rattle.std.proofs.Common.{if◌then◌else◌, append_assoc, append-nil, inl, inr}
 use Rattle.std.proofs.lemmas.List.{drop_all, take_all, map-append}
 use Rattle.std.proofs.lemmas.Bool.{eq-eqb, or_parts}
 use Rattle.std.proofs.lemmas.List.Elements.{All-nil}
@@ -39,6 +39,8 @@ use Rattle.relay_streams.specs.Pieces.{pieces_of}
 use Rattle.relay_streams.specs.Shown.{sized}
 use Rattle.relay_streams.specs.Sessions.{turn_calls, relay_calls, is_refused, IsRelayed, answers_in, texts_of}
 use Rattle.relay_streams.specs.Sessions.{AreRelayed, has_overlong, IsRelayText, EndsOverlong, EachRelayIsASession}
+use Rattle.relay_streams.specs.Sessions.{WantsMemory, by_event, by_frame}
+use Rattle.relay_streams.specs.Turns.{MayWantMemory}
 use Rattle.relay_streams.specs.Sessions.{EachRelayIsPumped, RelayedAreOne, RelayTextsAreOne}
 use Rattle.relay_streams.proofs.FrameLists.{entry_at, base_at, entries_from, entries_after, frames_from, frames_of}
 use Rattle.relay_streams.proofs.FrameLists.{answers_of, base_of, relay_text, answers-more, overlong-is, pieces-make}
@@ -505,6 +507,15 @@ ends-overlong rows cols pieces piece height width long =
           ∙ ap (λ (a : Answer). answers_of rows cols pieces ++ a ∷ [])
           (overlong-is (answered rows cols (concat got) (base_of rows cols pieces)) long);
     }
+
+pub wants-memory : (rows cols : ℕ) (pieces : List (List ℕ)) (piece : List ℕ) → IsSide rows → IsSide cols
+    → MayWantMemory rows cols pieces piece (base_of rows cols pieces) → WantsMemory rows cols pieces piece
+wants-memory rows cols pieces piece height width (inl taken) = by_event taken
+wants-memory rows cols pieces piece height width (inr made) =
+    let got = pieces ++ piece ∷ [] in
+    let one = one-relayed rows cols 0 got height width in
+    by_frame 0 one.0 (answers_of rows cols pieces) (answered rows cols (concat got) (base_of rows cols pieces)) one.1
+    (relayed-answers rows cols 0 got one.0 one.1 ∙ answers-more rows cols pieces (piece ∷ [])) made
 
 pub frames-of : (rows cols : ℕ) (pieces frames : List (List ℕ)) → AreRelayed rows cols pieces frames
     → frames ≡ frames_of rows cols pieces

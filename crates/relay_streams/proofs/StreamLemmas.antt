@@ -16,7 +16,7 @@ use Rattle.byte_streams.specs.Sent as sent
 use Rattle.byte_streams.specs.Sent.{Sends}
 use Rattle.relay_streams.specs.Turns.{Relaying, Turned, fault_of}
 use Rattle.relay_streams.proofs.FrameLists.{frames_of, answers_of, base_of, frames-more, fits-push, base-push}
-use Rattle.relay_streams.proofs.SessionLemmas.{frames-are-relayed, ends-overlong}
+use Rattle.relay_streams.proofs.SessionLemmas.{frames-are-relayed, ends-overlong, wants-memory}
 use Rattle.byte_streams.proofs.SendLemmas.{sends-more}
 
 -- a hub has refused a client for want of memory
@@ -49,7 +49,7 @@ module _ (S W : Type 0) (gives : S → ℕ → Result (List ℕ) Error → S →
   pub turn-faults : (s t : S) (w m v : W) (e : RelayError) → IsSide rows → IsSide cols → Begun gives piece_len s pieces
       t
       → Fit past → Sends takes w (frames_of rows cols past) (Ok tt) m
-      → Turned takes rows cols pieces base key m (Err e) v g → Streams gives takes rows cols s w (Err e) t v
+      → Turned takes rows cols past piece base key m (Err e) v g → Streams gives takes rows cols s w (Err e) t v
   turn-faults s t w m v Read height width b fit sends turned = absurd turned
   turn-faults s t w m v Write height width b fit sends (last, x, n, pumps) =
       let all : Sends takes w (frames_of rows cols pieces) (Err x) v =
@@ -59,9 +59,10 @@ module _ (S W : Type 0) (gives : S → ℕ → Result (List ℕ) Error → S →
       stopped pieces (frames_of rows cols pieces) x b (frames-are-relayed rows cols pieces height width
       (fits-on last fit))
       all
-  turn-faults s t w m v Memory height width b fit sends turned =
+  turn-faults s t w m v Memory height width b fit sends (wants, stays) =
       unmade past (frames_of rows cols past) piece b (frames-are-relayed rows cols past height width fit)
-      (subst (λ (u : W). Sends takes w (frames_of rows cols past) (Ok tt) u) (sym turned) sends)
+      (wants-memory rows cols past piece height width wants)
+      (subst (λ (u : W). Sends takes w (frames_of rows cols past) (Ok tt) u) (sym stays) sends)
   turn-faults s t w m v FrameTooLong height width b fit sends (long, stays) =
       overlong past (frames_of rows cols past) piece b (frames-are-relayed rows cols past height width fit)
       (ends-overlong rows cols past piece height width long)
@@ -70,7 +71,7 @@ module _ (S W : Type 0) (gives : S → ℕ → Result (List ℕ) Error → S →
 
   -- one that went well
   pub turn-goes : (w m v : W) → Fit past → Sends takes w (frames_of rows cols past) (Ok tt) m
-      → Turned takes rows cols pieces base key m (Ok tt) v g
+      → Turned takes rows cols past piece base key m (Ok tt) v g
       → Fit pieces × Sends takes w (frames_of rows cols pieces) (Ok tt) v
       × Relaying rows cols pieces (base_of rows cols pieces) g key
   turn-goes w m v fit sends turned = (

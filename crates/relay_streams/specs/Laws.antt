@@ -1,7 +1,8 @@
 -- Laws of what is shown.
-use Rattle.std.specs.Prelude.{◌≡◌, ℕ, false, List}
+use Rattle.std.specs.Prelude.{◌≡◌, ℕ, false, List, [], ◌∷◌, ◌++◌, Option, None, map}
 use Rattle.std.specs.List.{All, concat}
-use Rattle.vte.specs.Frames.{IsFrame}
+use Rattle.vte.specs.Moves.{Gives}
+use Rattle.vte.specs.Frames.{Drives, IsFrame}
 use Rattle.terminal_model.specs.Term.{Size, shown_of}
 use Rattle.screen_model.specs.Shown.{shown_state}
 use Rattle.termrelay.specs.Frame.{is_unsure}
@@ -9,9 +10,11 @@ use Rattle.termview.specs.Seen.{seen}
 use Rattle.relay_theorem.specs.History.{Story}
 use Rattle.relay_theorem.specs.Judge.{IsShownRight}
 use Rattle.relay_theorem.specs.Headline.{ReadsPrefix, last_read}
+use Rattle.charset_filter.specs.declared.lines.LineDrawing.{LineDrawing}
+use Rattle.charset_filter.specs.Lines.{all_passed, passed}
 use Rattle.relay_streams.specs.Frames.{state_after}
 use Rattle.relay_streams.specs.Pieces.{pieces_of}
-use Rattle.relay_streams.specs.Sessions.{IsRelayed, IsRelayText}
+use Rattle.relay_streams.specs.Sessions.{AreRelayed, IsRelayed, IsRelayText}
 use Rattle.relay_streams.specs.Shown.{IsTextShown, screen_text, sized}
 
 -- pieces have one text: it is a function of the size and the pieces
@@ -41,3 +44,24 @@ RelayedIsShown = (rows cols : ℕ) (input relayed text : List ℕ) (pieces : Lis
     → (state_after rows cols input).updating ≡ false
     → IsTextShown (sized rows cols) pieces text
     → text ≡ screen_text (sized rows cols) (shown_state (state_after rows cols input)).cell
+
+-- A view has read what was relayed of some pieces up to this one, in whatever pieces it comes.
+pub record HasReadAll (lines : LineDrawing) (rows cols : ℕ) (pieces : List (List ℕ)) (parsed : List ℕ)
+    (hold : Option (List ℕ)) : Type 0 where
+  pub frames : List (List ℕ)
+  pub relayed : AreRelayed rows cols (all_passed lines pieces) frames
+  pub cuts : List (List ℕ)
+  pub joined : concat cuts ≡ concat frames
+  pub leads : Drives (map Gives cuts) [] None parsed hold
+
+-- A new view of the size that has read all that was relayed of the pieces so far, of which there is one, shows the screen
+-- that these make, with its lines drawn or not. It holds nothing back. Left out are a screen that shows U+FE0F and one
+-- inside an update of its own.
+abbrev pub LiveIsShown : Type 0
+LiveIsShown = (lines : LineDrawing) (rows cols : ℕ) (past : List (List ℕ)) (piece parsed : List ℕ)
+    (hold : Option (List ℕ)) → HasReadAll lines rows cols (past ++ piece ∷ []) parsed hold
+    → is_unsure (sized rows cols) (shown_state (state_after rows cols (passed lines [] (concat (past ++ piece ∷ [])))))
+    ≡ false
+    → (state_after rows cols (passed lines [] (concat (past ++ piece ∷ [])))).updating ≡ false
+    → (hold ≡ None) × (shown_of (seen (sized rows cols) parsed)
+    ≡ shown_state (state_after rows cols (passed lines [] (concat (past ++ piece ∷ [])))))

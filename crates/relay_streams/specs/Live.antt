@@ -1,6 +1,6 @@
 -- What `relay_live` answers, reads and writes.
 use Rattle.std.specs.Prelude.{◌≡◌, ◌≢◌, ℕ, ◌+◌, false, List, [], ◌∷◌, ◌++◌, Option, Ok, Err, Result}
-use Rattle.std.specs.Prelude.{◌<◌, ◌≤◌, take, IfOk}
+use Rattle.std.specs.Prelude.{◌<◌, ◌≤◌, ⊤, take, IfOk}
 use Rattle.std.specs.List.{concat}
 use Rattle.std.specs.IoError.{error_kind}
 use Rattle.std.specs.declared.io.Error.{Error}
@@ -11,10 +11,10 @@ use Rattle.relay_theorem.specs.History.{Story}
 use Rattle.relay_streams.specs.declared.error.RelayError.{RelayError}
 use Rattle.relay_streams.specs.declared.error.RelayError.TheVariants.{Read, Write, Memory, TooManyReads, FrameTooLong}
 use Rattle.charset_filter.specs.declared.lines.LineDrawing.{LineDrawing}
-use Rattle.charset_filter.specs.declared.lines.LineDrawing.TheVariants.{Kept}
+use Rattle.charset_filter.specs.declared.lines.LineDrawing.TheVariants.{Kept, Drawn}
 use Rattle.relay_streams.specs.Fill.{max_reads}
 use Rattle.charset_filter.specs.Lines.{all_passed}
-use Rattle.relay_streams.specs.Sessions.{IsRelayed, has_overlong, AreRelayed, EndsOverlong}
+use Rattle.relay_streams.specs.Sessions.{IsRelayed, has_overlong, AreRelayed, EndsOverlong, WantsMemory}
 
 -- bytes of the room that a live read is given
 abbrev pub live_len : ℕ
@@ -77,6 +77,12 @@ pub data SendsFlushed {W : Type 0} (takes : W → List ℕ → Result ℕ Error 
 
 -- ---- both
 
+-- What a piece may want memory for that passes and is fed after these: where lines are drawn, also for what the filter
+-- gives of it.
+abbrev pub WantsRoom : LineDrawing → ℕ → ℕ → List (List ℕ) → List ℕ → Type 0
+WantsRoom Kept rows cols pieces piece = WantsMemory rows cols pieces piece
+WantsRoom Drawn rows cols pieces piece = ⊤
+
 -- From a source and a writer, pieces are read and pass, and the frame that is due after each is sent and flushed before
 -- the next one is read: so it is answered, and so both are left.
 pub data StreamsThrough (lines : LineDrawing) {S W : Type 0} (gives : S → ℕ → Result (List ℕ) Error → S → Type 0)
@@ -87,10 +93,10 @@ pub data StreamsThrough (lines : LineDrawing) {S W : Type 0} (gives : S → ℕ 
       → Listens gives live_len s n pieces m → Tries gives live_len m k (Err e) t
       → AreRelayed rows cols (all_passed lines pieces) frames → SendsFlushed takes flushes w frames (Ok tt) v
       → CountsReads {A = Unit {0}} (Err e) (n + k) → StreamsThrough lines gives takes flushes rows cols s w (Err e) t v
-  -- there was no memory for a piece or its frame: the frames before it were sent
+  -- there was no memory for the last piece or its frame, which may want some: the frames before it were sent
   unmade : {t : S} {v : W} {n : ℕ} (pieces frames : List (List ℕ)) (piece : List ℕ)
       → Listens gives live_len s n (pieces ++ piece ∷ []) t → AreRelayed rows cols (all_passed lines pieces) frames
-      → SendsFlushed takes flushes w frames (Ok tt) v → n ≤ max_reads
+      → WantsRoom lines rows cols pieces piece → SendsFlushed takes flushes w frames (Ok tt) v → n ≤ max_reads
       → StreamsThrough lines gives takes flushes rows cols s w (Err Memory) t v
   -- the frame of the last piece would be too long: the frames before it were sent
   overlong : {t : S} {v : W} {n : ℕ} (pieces frames : List (List ℕ)) (piece : List ℕ)

@@ -4,7 +4,7 @@ use Rattle.std.specs.declared.io.Error.{Error}
 use Rattle.relay_streams.specs.declared.error.RelayError.{RelayError}
 use Rattle.relay_streams.specs.declared.error.RelayError.TheVariants.{Write, Memory, FrameTooLong}
 use Rattle.relay_streams.specs.Pieces.{piece_len, Begun, Drained}
-use Rattle.relay_streams.specs.Sessions.{AreRelayed, EndsOverlong}
+use Rattle.relay_streams.specs.Sessions.{AreRelayed, EndsOverlong, WantsMemory}
 use Rattle.byte_streams.specs.Sent.{Sends}
 
 -- From a source and a writer, pieces are read, and the frame that is due after each is sent before the next one is
@@ -16,10 +16,11 @@ pub data Streams {S W : Type 0} (gives : S → ℕ → Result (List ℕ) Error �
   unread : {t : S} {v : W} (pieces frames : List (List ℕ)) (rest : List ℕ) (e : RelayError)
       → Drained gives piece_len s (pieces ++ rest ∷ []) (Err e) t → AreRelayed rows cols pieces frames
       → Sends takes w frames (Ok tt) v → Streams gives takes rows cols s w (Err e) t v
-  -- there was no memory for a piece or its frame: the frames before it were sent
+  -- there was no memory for the last piece or its frame, which may want some: the frames before it were sent
   unmade : {t : S} {v : W} (pieces frames : List (List ℕ)) (piece : List ℕ)
       → Begun gives piece_len s (pieces ++ piece ∷ []) t → AreRelayed rows cols pieces frames
-      → Sends takes w frames (Ok tt) v → Streams gives takes rows cols s w (Err Memory) t v
+      → WantsMemory rows cols pieces piece → Sends takes w frames (Ok tt) v
+      → Streams gives takes rows cols s w (Err Memory) t v
   -- the frame of the last piece would be too long: the frames before it were sent
   overlong : {t : S} {v : W} (pieces frames : List (List ℕ)) (piece : List ℕ)
       → Begun gives piece_len s (pieces ++ piece ∷ []) t → AreRelayed rows cols pieces frames

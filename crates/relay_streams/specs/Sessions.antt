@@ -1,8 +1,10 @@
 -- What is relayed is a session of a history.
 use Rattle.std.specs.Prelude.{◌≡◌, ℕ, suc, Bool, true, false, List, [], ◌∷◌, ◌++◌, map, length, take, Some, slice_get}
-use Rattle.std.specs.List.{list_any}
-use Rattle.screen_model.specs.Made.{Fed}
+use Rattle.std.specs.List.{concat, list_any}
+use Rattle.screen_model.specs.Made.{Fed, events_added}
 use Rattle.screen_model.specs.Holds.{IsSide}
+use Rattle.vt100.specs.Memory.{some_may_allocate}
+use Rattle.termrelay.specs.Answers.{may_allocate}
 use Rattle.termrelay.specs.Calls.{Call, Feed, Attach, Frame, Pump}
 use Rattle.termrelay.specs.declared.answer.Answer.{Answer}
 use Rattle.termrelay.specs.declared.answer.Answer.TheVariants.{TooLong}
@@ -11,7 +13,7 @@ use Rattle.termrelay.specs.declared.runs.call.Reply.TheVariants.{Attached, Refus
 use Rattle.relay_theorem.specs.History.{Entry, Story, size_of_story}
 use Rattle.relay_theorem.specs.Judge.{texts}
 use Rattle.relay_theorem.specs.Laws.{IsSession}
-use Rattle.relay_streams.specs.Frames.{is_overlong}
+use Rattle.relay_streams.specs.Frames.{is_overlong, state_after}
 use Rattle.relay_streams.specs.Pieces.{pieces_of}
 use Rattle.relay_streams.specs.Shown.{sized}
 
@@ -69,6 +71,16 @@ pub record EndsOverlong (rows cols : ℕ) (pieces : List (List ℕ)) : Type 0 wh
   pub is : IsRelayed rows cols key pieces story
   pub prefix : List Answer
   pub answers : answers_in story ≡ prefix ++ TooLong ∷ []
+
+-- What a piece may want memory for that is fed after these.
+pub data WantsMemory (rows cols : ℕ) (pieces : List (List ℕ)) (piece : List ℕ) : Type 0 where
+  -- one of its events may take some
+  by_event : some_may_allocate (events_added (concat pieces) piece) (state_after rows cols (concat pieces)) ≡ true
+      → WantsMemory rows cols pieces piece
+  -- a frame is made after it, be it too long or not
+  by_frame : (key : ℕ) (story : Story) (prefix : List Answer) (answer : Answer)
+      → IsRelayed rows cols key (pieces ++ piece ∷ []) story → answers_in story ≡ prefix ++ answer ∷ []
+      → may_allocate answer ≡ true → WantsMemory rows cols pieces piece
 
 -- ---- laws
 

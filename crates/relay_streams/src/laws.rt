@@ -1,6 +1,7 @@
 //! Laws of what is shown, each as the contract of a function that does nothing.
 ghost use Rattle.relay_streams.specs.Far.{FarViewsShow};
-ghost use Rattle.relay_streams.specs.Laws.{RelayedPrefixesAreShown, RelayedIsShown, TextsAreOne, WholeFramesArePrinted};
+ghost use Rattle.relay_streams.specs.Laws.{LiveIsShown, RelayedPrefixesAreShown, RelayedIsShown, TextsAreOne};
+ghost use Rattle.relay_streams.specs.Laws.{WholeFramesArePrinted};
 ghost use Rattle.relay_streams.specs.Sessions.{EachRelayIsASession, EachRelayIsPumped, RelayedAreOne, RelayTextsAreOne};
 
 /// What `show` writes is a function of the size and of what it reads.
@@ -18,6 +19,14 @@ pub fn whole_frames_are_printed()
 /// own.
 pub fn relayed_is_shown()
     ensures { RelayedIsShown }
+{}
+
+/// After each flush of `relay_live` or `relay_live_with` a view that has read all that was written, in whatever pieces
+/// it comes, shows the screen that the bytes read so far make: those that the filter gives of them, where lines are
+/// drawn. It holds nothing back. Left out are a screen that shows U+FE0F, and one inside a synchronized update of its
+/// own.
+pub fn live_is_shown()
+    ensures { LiveIsShown }
 {}
 
 /// Of any prefix of what `relay` or `relay_live` writes, in whatever pieces it comes, a view shows what the input's

@@ -94,7 +94,7 @@ pub(crate) fn turn<W: FlushSink>(
 ) -> Result<(), RelayError>
     ensures { (rows cols : ℕ) (past : List (List ℕ)) (base : Option Shown)
         → Relaying rows cols past base hub.old client
-        → Turned W.takes rows cols (past ++ piece.now ∷ []) base client output.old result output.new hub.new }
+        → Turned W.takes rows cols past piece.now base client output.old result output.new hub.new }
 {
     hub.feed(piece)?;
     let answer = hub.frame(client)?;

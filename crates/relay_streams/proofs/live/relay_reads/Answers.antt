@@ -1,5 +1,5 @@
-use Rattle.std.proofs.Common.{◌≡◌, ◌∙◌, ℕ, List, [], ◌∷◌, ◌++◌, take, length, arith, ap, sym, subst, Ok, Err, None}
-use Rattle.std.proofs.Common.{refl, false}
+use Rattle.std.proofs.Common.{◌≡◌, ◌∙◌, ℕ, List, [], ◌∷◌, ◌++◌, take, length, arith, ap, sym, subst, Ok, Err, IsOk, None}
+use Rattle.std.proofs.Common.{refl, false, true}
 use Rattle.std.proofs.Common.{rules}
 use Rattle.std.specs.List.{concat, list_any}
 use Rattle.charset_filter.specs.declared.lines.LineDrawing.{LineDrawing}
@@ -11,7 +11,7 @@ use Rattle.relay_streams.specs.Turns.{Relaying, Turned}
 use Rattle.relay_streams.proofs.FrameLists.{frames_of, answers_of, base_of}
 use Rattle.charset_filter.proofs.LineLemmas.{none-passed}
 use Rattle.relay_streams.proofs.LiveLemmas.{tried-fault, tried-gave, tried-made, listens-on, live-faults, live-goes}
-use Rattle.relay_streams.proofs.LiveLemmas.{live-refused, tried-counts, tried-most}
+use Rattle.relay_streams.proofs.LiveLemmas.{live-refused, tried-counts, tried-most, unpassed}
 use Rattle.relay_streams.proofs.PieceLemmas.{concat-push}
 use Rattle.relay_streams.proofs.SessionLemmas.{frames-are-relayed}
 use Rattle.relay_streams.proofs.live.relay_reads.Goals as goal
@@ -69,7 +69,11 @@ returns-in_err-pass g c = λ rows cols lines at passes.
     rw is (live-refused g.row.S.Denot g.row.W.Denot g.S.Source.gives g.W.ByteSink.takes g.W.FlushSink.flushes rows cols
     lines so_far.past piece c.args.input.now c.read_some.new.input c.args.output.now c.reads.output
     c.read_some.new.reads at.height at.width read (so_far.fits rows cols lines at passes)
-    (so_far.sent rows cols lines at passes) (tried-most c.read_some.ensures whole n c.in_ok-n.was))
+    (so_far.sent rows cols lines at passes) (tried-most c.read_some.ensures whole n c.in_ok-n.was)
+    (unpassed rows cols lines so_far.past piece (λ kept. absurd (let no : false ≡ true = subst IsOk c.in_err-pass.was
+    (c.pass.ensures.kept (concat so_far.past)
+    (subst (λ (l : LineDrawing). HasPassed c.reads.filter l (concat so_far.past)) kept
+    (so_far.passes lines passes))) in cc))))
 
 pub returns-in_err-turn : goal.returns-in_err-turn
 returns-in_err-turn g c = λ rows cols lines at passes.
@@ -82,9 +86,9 @@ returns-in_err-turn g c = λ rows cols lines at passes.
     let is : c.from_residual-in_err-turn.result ≡ Err fault = search rules in
     let read = listens-on c.read_some.ensures whole n c.in_ok-n.was (omega arith) c.read_some.auto.room so_far.read in
     let given : c.given.result.now ≡ passed lines (concat past) piece =
-    c.given.ensures ∙ (c.in_ok-pass.ensures lines (concat past) (so_far.passes lines passes)).1 in
+    c.given.ensures ∙ (c.in_ok-pass.ensures.passed lines (concat past) (so_far.passes lines passes)).1 in
     let base = base_of rows cols (all_passed lines past) in
-    let turned = subst (λ (xs : List ℕ). Turned g.W.ByteSink.takes rows cols (all_passed lines past ++ xs ∷ []) base
+    let turned = subst (λ (xs : List ℕ). Turned g.W.ByteSink.takes rows cols (all_passed lines past) xs base
     c.args.client c.reads.output (Err fault) c.turn.new.output c.turn.new.hub) given
     (c.in_err-turn.ensures rows cols (all_passed lines past) base (so_far.at rows cols lines at passes)) in
     rw is (live-faults g.row.S.Denot g.row.W.Denot g.S.Source.gives g.W.ByteSink.takes g.W.FlushSink.flushes rows cols
@@ -104,9 +108,9 @@ returns-in-Err g c = λ rows cols lines at passes.
     let fed = all_passed lines pieces in
     let read = listens-on c.read_some.ensures whole n c.in_ok-n.was (omega arith) c.read_some.auto.room so_far.read in
     let given : c.given.result.now ≡ passed lines (concat past) piece =
-    c.given.ensures ∙ (c.in_ok-pass.ensures lines (concat past) (so_far.passes lines passes)).1 in
+    c.given.ensures ∙ (c.in_ok-pass.ensures.passed lines (concat past) (so_far.passes lines passes)).1 in
     let base = base_of rows cols (all_passed lines past) in
-    let turned = subst (λ (xs : List ℕ). Turned g.W.ByteSink.takes rows cols (all_passed lines past ++ xs ∷ []) base
+    let turned = subst (λ (xs : List ℕ). Turned g.W.ByteSink.takes rows cols (all_passed lines past) xs base
     c.args.client c.reads.output (Ok tt) c.turn.new.output c.turn.new.hub) given
     (c.in_ok-turn.ensures rows cols (all_passed lines past) base (so_far.at rows cols lines at passes)) in
     let goes = live-goes g.row.S.Denot g.row.W.Denot g.S.Source.gives g.W.ByteSink.takes g.W.FlushSink.flushes rows cols
@@ -128,11 +132,11 @@ reads-preserved g c =
     (passes : HasPassed c.args.filter.now lines []).
     let base = base_of rows cols (all_passed lines past) in
     let given : c.given.result.now ≡ passed lines (concat past) piece =
-    c.given.ensures ∙ (c.in_ok-pass.ensures lines (concat past) (so_far.passes lines passes)).1 in
+    c.given.ensures ∙ (c.in_ok-pass.ensures.passed lines (concat past) (so_far.passes lines passes)).1 in
     live-goes g.row.S.Denot g.row.W.Denot g.S.Source.gives g.W.ByteSink.takes g.W.FlushSink.flushes rows cols
     lines past piece c.args.client c.turn.new.hub c.args.output.now c.reads.output c.turn.new.output
     c.finish.new.self (Ok tt) (so_far.fits rows cols lines at passes) (so_far.sent rows cols lines at passes)
-    (subst (λ (xs : List ℕ). Turned g.W.ByteSink.takes rows cols (all_passed lines past ++ xs ∷ []) base
+    (subst (λ (xs : List ℕ). Turned g.W.ByteSink.takes rows cols (all_passed lines past) xs base
     c.args.client c.reads.output (Ok tt) c.turn.new.output c.turn.new.hub) given
     (c.in_ok-turn.ensures rows cols (all_passed lines past) base (so_far.at rows cols lines at passes)))
     c.in-Ok.ensures.flushes in
@@ -142,7 +146,7 @@ reads-preserved g c =
       read = listens-on c.read_some.ensures whole n c.in_ok-n.was (omega arith) c.read_some.auto.room so_far.read;
       passes = λ lines passes. subst (λ (xs : List ℕ). HasPassed c.pass.new.self lines xs)
           (sym (concat-push past piece))
-          (c.in_ok-pass.ensures lines (concat past) (so_far.passes lines passes)).0;
+          (c.in_ok-pass.ensures.passed lines (concat past) (so_far.passes lines passes)).0;
       at = λ rows cols lines at passes. (goes rows cols lines at passes).2;
       fits = λ rows cols lines at passes. (goes rows cols lines at passes).0;
       sent = λ rows cols lines at passes. (goes rows cols lines at passes).1;

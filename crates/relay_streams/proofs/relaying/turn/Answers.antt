@@ -1,7 +1,25 @@
-use Rattle.std.proofs.Common.{◌≡◌, ◌∙◌, Err, refl, sym, rules}
+use Rattle.std.proofs.Common.{◌≡◌, ◌∙◌, Err, ap, refl, sym, rules}
+use Rattle.relay_streams.specs.declared.error.RelayError.TheVariants.{Memory}
 use Rattle.relay_streams.specs.Turns.{fault_of}
-use Rattle.relay_streams.proofs.TurnLemmas.{asks, turn-ends, turn-breaks}
+use Rattle.relay_streams.proofs.TurnLemmas.{asks, turn-ends, turn-breaks, feed-wants, frame-wants}
 use Rattle.relay_streams.proofs.relaying.turn.Goals as goal
+
+pub returns-in_err-feed : goal.returns-in_err-feed
+returns-in_err-feed g c = λ rows cols past base at.
+    let e = c.in_err-feed.field-0.0 in
+    let wants = feed-wants at c.args.piece.now c.feed.new.self e c.in_err-feed.ensures in
+    let fault : c.from_residual.result ≡ Err (fault_of e) = search rules in
+    let is : c.from_residual.result ≡ Err Memory = fault ∙ ap Err wants.1 in
+    rw is (wants.0, refl)
+
+pub returns-in_err-answer : goal.returns-in_err-answer
+returns-in_err-answer g c = λ rows cols past base at.
+    let e = c.in_err-answer.field-0.0 in
+    let wants = frame-wants at c.args.piece.now c.feed.new.self c.frame.new.self e c.in_ok-feed.ensures
+    c.in_err-answer.ensures.frames in
+    let fault : c.from_residual-in_err-answer.result ≡ Err (fault_of e) = search rules in
+    let is : c.from_residual-in_err-answer.result ≡ Err Memory = fault ∙ ap Err wants.1 in
+    rw is (wants.0, refl)
 
 pub returns-then-is_overlong : goal.returns-then-is_overlong
 returns-then-is_overlong g c = λ rows cols past base at.
