@@ -1,1 +1,3 @@
 pub mod ShownLemmas
+pub mod CompanionLemmas
+pub mod WordLemmas

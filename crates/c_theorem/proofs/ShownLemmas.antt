@@ -25,10 +25,10 @@ use Rattle.c_theorem.specs.Shown.{HubRuns, ViewReads, ViewsFromCAreShown}
 -- ---- the hub
 
 -- the calls are made on a hub, and leave one
-abbrev IsRun : HubState as_kept → List SessionView → List (FromC × ℤ) → Object → List SessionView → Type 0
+abbrev pub IsRun : HubState as_kept → List SessionView → List (FromC × ℤ) → Object → List SessionView → Type 0
 IsRun h ss made y ts = (k : HubState as_kept) × (y ≡ Hub k) × RunsFromC h ss made k ts
 
-run-of : (h : HubState as_kept) (ss ts : List SessionView) (made : List (FromC × ℤ)) (y : Object)
+pub run-of : (h : HubState as_kept) (ss ts : List SessionView) (made : List (FromC × ℤ)) (y : Object)
     → HubRuns (Hub h) ss made y ts → IsRun h ss made y ts
 run-of h ss ts [] y (same, kept) = (h, same, (refl, kept))
 run-of h ss ts ((call, code) ∷ made) y (z, fits, (g, did, is), later) =
@@ -40,17 +40,17 @@ run-of h ss ts ((call, code) ∷ made) y (z, fits, (g, did, is), later) =
 -- ---- the view
 
 -- the pieces lead the view to another
-record Reads (v : ViewState) (parsed : List ℕ) (hold : Option (List ℕ)) (pieces : List (List ℕ)) (w : Object)
+pub record Reads (v : ViewState) (parsed : List ℕ) (hold : Option (List ℕ)) (pieces : List (List ℕ)) (w : Object)
     : Type 0 where
-  view : ViewState
-  is : w ≡ View view
-  parsed' : List ℕ
-  hold' : Option (List ℕ)
-  leads : Drives (map Gives pieces) parsed hold parsed' hold'
-  holds : HoldsAt until_cleared view parsed' hold'
-  size : view_size view ≡ view_size v
+  pub view : ViewState
+  pub is : w ≡ View view
+  pub parsed' : List ℕ
+  pub hold' : Option (List ℕ)
+  pub leads : Drives (map Gives pieces) parsed hold parsed' hold'
+  pub holds : HoldsAt until_cleared view parsed' hold'
+  pub size : view_size view ≡ view_size v
 
-reads-of : IsExact until_cleared → (v : ViewState) (parsed : List ℕ) (hold : Option (List ℕ)) (pieces : List (List ℕ))
+pub reads-of : IsExact until_cleared → (v : ViewState) (parsed : List ℕ) (hold : Option (List ℕ)) (pieces : List (List ℕ))
     (w : Object)
     → HoldsAt until_cleared v parsed hold → ViewReads (View v) pieces w → Reads v parsed hold pieces w
 reads-of exact v parsed hold [] w at same = record {
@@ -78,7 +78,7 @@ reads-of exact v parsed hold (piece ∷ pieces) w at (o, code, (u, did, is), lat
       size = r.size ∙ t.size;
     }
 
-size-is : (z : Size) (s : SessionView) → z.rows ≡ s.rows → z.cols ≡ s.cols → z ≡ size_of_session s
+pub size-is : (z : Size) (s : SessionView) → z.rows ≡ s.rows → z.cols ≡ s.cols → z ≡ size_of_session s
 size-is z s e f =
     ap (λ (n : ℕ). let y : Size = record { rows = n; cols = z.cols } in y) e
     ∙ ap (λ (n : ℕ). let y : Size = record { rows = s.rows; cols = n } in y) f
@@ -86,12 +86,12 @@ size-is z s e f =
 -- ---- both
 
 -- the library's calls and their replies that these calls from C are
-abbrev IsLoggedRun : HubState as_kept → List (FromC × ℤ) → HubState as_kept → List SessionView → Type 0
+abbrev pub IsLoggedRun : HubState as_kept → List (FromC × ℤ) → HubState as_kept → List SessionView → Type 0
 IsLoggedRun h made k ts =
     (calls : List Call) × (replies : List Reply) × AreCallsOf made calls replies × RunsLogged h [] calls replies k ts
 
 -- what the view has parsed is what its size and the judge's law speak of
-shows-of : (rows cols : ℕ) (s : SessionView) (t : Story) (pieces : List (List ℕ)) (v : ViewState) (parsed : List ℕ)
+pub shows-of : (rows cols : ℕ) (s : SessionView) (t : Story) (pieces : List (List ℕ)) (v : ViewState) (parsed : List ℕ)
     → view_size v ≡ size_of_session s → shown_by v ≡ seen (view_size v) parsed
     → IsShownRight rows cols (shown_of (seen (size_of_session s) parsed)) (last_read t pieces)
     → IsShownRight rows cols (shown_of (shown_by v)) (last_read t pieces)

@@ -48,8 +48,8 @@ returns-in-Ok c = λ rows cols past base at.
       turned.2,
     )
 
-pub returns-in-Err : goal.returns-in-Err
-returns-in-Err c = λ rows cols past base at.
+pub returns : goal.returns
+returns c = λ rows cols past base at.
     let made = asks at c.args.piece.now c.feed.new.self c.frame.new.self c.in_ok-answer.answer c.in_ok-feed.ensures
     c.in_ok-answer.ensures.frames in
     pump-wants _ _ c.pump.new.self c.new-line.result c.pump.new.to c.in-Err.field-0 made c.in-Err.ensures
