@@ -52,6 +52,10 @@ class Terminal:
 
     def __enter__(self) -> Terminal:
         self._before = termios.tcgetattr(self._in)
+        self._woken, self._wakes = os.pipe()  # a byte for each signal, so that a wait ends
+        os.set_blocking(self._woken, False)
+        os.set_blocking(self._wakes, False)
+        self._woke = signal.set_wakeup_fd(self._wakes, warn_on_full_buffer=False)
         self._handlers = {number: signal.signal(number, self._end) for number in _ENDING}
         self._handlers[signal.SIGWINCH] = signal.signal(signal.SIGWINCH, self._resize)
         self._take()
@@ -63,6 +67,9 @@ class Terminal:
         self._give_back()
         for number, handler in self._handlers.items():
             signal.signal(number, handler)
+        signal.set_wakeup_fd(self._woke)
+        os.close(self._woken)
+        os.close(self._wakes)
 
     def _take(self) -> None:
         tty.setraw(self._in, termios.TCSADRAIN)
@@ -101,10 +108,12 @@ class Terminal:
     def keys(self, seconds: float | None) -> Iterator[str]:
         """The keys that come within some time: characters, and names as `left` or `shift-left`. `end-of-input` where
         the terminal is gone."""
-        with contextlib.suppress(InterruptedError):
-            if select.select([self._in], [], [], seconds)[0]:
-                data = os.read(self._in, 4096)
-                if not data:
-                    yield "end-of-input"
-                for part in _KEY.finditer(data):
-                    yield _key_of(part[0])
+        ready = select.select([self._in, self._woken], [], [], seconds)[0]
+        if self._woken in ready:
+            os.read(self._woken, 4096)
+        if self._in in ready:
+            data = os.read(self._in, 4096)
+            if not data:
+                yield "end-of-input"
+            for part in _KEY.finditer(data):
+                yield _key_of(part[0])

@@ -82,7 +82,7 @@ rows_of_terminal p v rows cols acts is after r = record {
 }
 
 -- one event more
-pub acts_more : (events : List Event) (i : ℕ) (e : Event) → i < length events → e ≡ get_or events i
+pub acts_more : (events : List Event) (i : ℕ) (e : Event) → i < length events → e ≡ get_or events i e
     → acts_of (take (i + 1) events) ≡ acts_of (take i events) ++ act_of e.change ∷ []
 acts_more events i e lt is =
     ap acts_of (take_more events i e lt ∙ ap (λ x. take i events ++ x ∷ []) (sym is))

@@ -147,16 +147,24 @@ impl Strip {
             return Ok(());
         }
         push_decimal(&mut self.moments, time, 1_000_000)?;
-        if self.since < WHOLE && are_mostly_same(&self.last, &numbers) {
-            push_changed(&mut self.moments, &self.last, &numbers)?;
-            self.since += 1;
-        } else {
-            push_whole(&mut self.moments, &numbers)?;
-            self.since = 0;
-        }
+        self.push_numbers(&numbers)?;
         self.moments.markup(Tag::Newline)?;
         self.last = numbers;
         check_length(&self.moments)
+    }
+
+    // Appends the numbers of all rows, or those of the rows that differ from the moment before.
+    fn push_numbers(&mut self, numbers: &[u32]) -> Result<(), AllocError>
+        ensures rows { OnOk result (self.new.rows ≡ self.old.rows) }
+        ensures moments { OnOk result (Adds self.old.moments self.new.moments []) }
+    {
+        if self.since < WHOLE && are_mostly_same(&self.last, numbers) {
+            self.since += 1;
+            push_changed(&mut self.moments, &self.last, numbers)
+        } else {
+            self.since = 0;
+            push_whole(&mut self.moments, numbers)
+        }
     }
 }
 

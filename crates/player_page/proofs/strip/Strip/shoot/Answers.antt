@@ -1,4 +1,7 @@
-use Rattle.std.proofs.Common.{◌∙◌, refl}
+use Rattle.std.proofs.Common.{◌∙◌, [], OnOk, refl, subst, sym}
+use Rattle.std.proofs.lemmas.Result.{on_ok_weaker}
+use Rattle.picture_page.specs.Page.{Adds}
+use Rattle.player_page.specs.Rows.{AddsRows}
 use Rattle.player_page.proofs.RowsLemmas.{no_rows, rows_both}
 use Rattle.player_page.proofs.strip.Strip.shoot.Goals as goal
 
@@ -12,3 +15,14 @@ loop-row-preserved c = record {
       (c.in_ok-row_number.ensures.rows rows cols events (are c.loop-row.row));
   moments = c.in_ok-row_number.ensures.moments ∙ c.loop-row.invariant.moments;
 }
+
+pub returns-clause-rows : goal.returns-clause-rows
+returns-clause-rows c =
+    on_ok_weaker c.show.result (λ same rows cols events are.
+    subst (λ xs. AddsRows rows cols events c.args.self.now.rows xs) (sym same)
+    (c.loop-row.invariant.rows rows cols events are)) c.show.ensures.rows
+
+pub returns-clause-moments : goal.returns-clause-moments
+returns-clause-moments c =
+    subst (λ xs. OnOk c.show.result (Adds xs c.show.new.self.moments [])) c.loop-row.invariant.moments
+    c.show.ensures.moments
