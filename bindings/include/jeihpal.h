@@ -47,7 +47,7 @@ uint32_t jeihpal_abi(void);
 #if defined(__GNUC__) && defined(__x86_64__)
 /* Whether this processor can run the library's code, which is for x86-64-v2. A program can ask before its first
  * call. */
-static inline int jeihpal_runs_here(void) {
+__attribute__((unused)) static inline int jeihpal_runs_here(void) {
     return __builtin_cpu_supports("sse4.2") && __builtin_cpu_supports("popcnt");
 }
 #endif

@@ -2,8 +2,9 @@
 
 from __future__ import annotations
 
-import enum
 import ctypes
+import enum
+import functools
 import struct
 from typing import NamedTuple, TypeVar, Union
 
@@ -198,15 +199,20 @@ class _Cells(dict[bytes, Cell]):
 
 
 _MOST_CELLS = 8192
-_CELL = struct.Struct(f"{ctypes.sizeof(RawCell)}s")
-CELL_SIZE = _CELL.size
+CELL_SIZE = ctypes.sizeof(RawCell)
 _known = _Cells()
 
 
-def cells_of(data: bytes) -> tuple[Cell, ...]:
-    """The cells that the library's structs say, one behind the other."""
-    known = _known
-    return tuple([known[it] for it, in _CELL.iter_unpack(data)])
+@functools.lru_cache(maxsize=64)
+def _struct_of(cols: int) -> struct.Struct:
+    """So many of the library's structs, and a byte."""
+    return struct.Struct(f"{CELL_SIZE}s" * cols + "B")
+
+
+def row_of(data: bytes) -> Row:
+    """The row that the library's structs say, one behind the other, and then a byte: whether it goes on in the next."""
+    *cells, wrapped = _struct_of(len(data) // CELL_SIZE).unpack(data)
+    return Row(tuple(map(_known.__getitem__, cells)), wrapped != 0)
 
 
 def drawing_of(raw: RawDrawing) -> Drawing:

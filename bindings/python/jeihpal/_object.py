@@ -8,7 +8,7 @@ import threading
 from collections import deque
 from typing import Any, Callable, ClassVar, Iterator, Optional, TypeVar, overload
 
-from ._cells import CELL_SIZE, Cell, Cursor, Look, Modes, Row, Size, cell_of, cells_of, look_of
+from ._cells import CELL_SIZE, Cell, Cursor, Look, Modes, Row, Size, cell_of, look_of, row_of
 from ._errors import refusal
 from ._library import RawCell, RawLook, Word, library
 
@@ -146,21 +146,29 @@ class Object:
         self._call("cell", checked_place(row), checked_place(col), raw)
         return cell_of(raw)
 
-    def _data(self, rows: range, cols: int) -> Iterator[tuple[bytes, int]]:
-        """Of each of these rows the library's structs, and whether it goes on in the next."""
-        size = cols * CELL_SIZE
-        room, count, wrapped = ctypes.create_string_buffer(max(size, 1)), ctypes.c_size_t(), ctypes.c_uint8()
+    def _data(self, rows: range, cols: int) -> list[bytes]:
+        """Of each of these rows the library's structs, and behind them whether it goes on in the next. The caller has
+        the lock."""
+        self._check_thread()
+        size, count = cols * CELL_SIZE, ctypes.c_size_t()
+        room = ctypes.create_string_buffer(size + 1)
+        function, word, told, found = self._function("row_cells"), self._word, ctypes.byref(count), []
+        wrapped = ctypes.cast(ctypes.addressof(room) + size, ctypes.POINTER(ctypes.c_uint8))
         for row in rows:
-            self._call("row_cells", row, room, cols, count, wrapped)
-            yield ctypes.string_at(room, size), wrapped.value
+            code = function(word, row, room, cols, told, wrapped)
+            if code < 0:
+                raise refusal(code)
+            found.append(room.raw)
+        return found
 
     def _rows_of(self, rows: range, cols: int) -> list[Row]:
         known, made = self._known_rows, []
         seen: dict[bytes, Row] = {}
-        for data, wrapped in self._data(rows, cols):
-            key = data + b"\1" if wrapped else data
-            row = seen.get(key) or known.get(key) or Row(cells_of(data), bool(wrapped))
-            seen[key] = row
+        for data in self._data(rows, cols):
+            row = seen.get(data) or known.get(data)
+            if row is None:
+                row = row_of(data)
+            seen[data] = row
             made.append(row)
         if len(rows) > 1:
             self._known_rows = seen  # those that stay are not made again

@@ -56,7 +56,7 @@ class Screen(Object):
         self.dropped_requests = self._overfull = 0
         self._waiting: deque[Request] = deque()
         self._names = {RequestKind.TITLE: "", RequestKind.ICON_NAME: ""}
-        self._clean: tuple[list[tuple[bytes, int]], int] = ([], 0)
+        self._clean: tuple[list[bytes], int] = ([], 0)
         self._scanner: Any = None
 
     def clone(self) -> Screen:
@@ -146,7 +146,7 @@ class Screen(Object):
         """Has `dirty` compare with the screen as it is now."""
         with self._lock:
             rows, cols = self.size
-            self._clean = list(self._data(range(rows), cols)), cols
+            self._clean = self._data(range(rows), cols), cols
 
     @property
     def dirty(self) -> set[int]:
@@ -157,7 +157,7 @@ class Screen(Object):
             before, cols_before = self._clean
             if cols_before != cols:
                 return set(range(rows))
-            now = list(self._data(range(rows), cols))
+            now = self._data(range(rows), cols)
         return {row for row, data in enumerate(now) if row >= len(before) or data != before[row]}
 
     # ---- what redraws it

@@ -17,9 +17,11 @@
 //!
 //! - callbacks for what isn't known (`unhandled_..`) and [`Callbacks::on_scroll`] are never called;
 //! - titles, names and clipboards are cut behind 1,024 bytes of their sequence;
-//! - direct calls of `WrappedScreen` and the module `capture` are left out;
+//! - direct calls of `WrappedScreen` are left out, and so is what captures rows as they leave;
 //! - [`Screen::cell`] has no cell outside of the screen's columns, also where a kept row is wider;
 //! - where no memory is found a call panics. [`crate::Screen`] answers an error there.
+pub mod capture;
+
 use crate::cell::{Drawing, Look};
 use crate::error::Result;
 use crate::screen::Request;

@@ -8,8 +8,12 @@ pub returns-clause-cells : goal.returns-clause-cells
 returns-clause-cells c =
     let v = c.args.view.now in
     let f = (shown_by v).cell c.args.row in
-    let in_view : c.args.row < (view_size v).rows = omega (arith, c.if-row-get.false, c.get.ensures.value,
-    c.size.ensures.rows) in
+    let in_view : c.args.row < (view_size v).rows = omega (
+      arith,
+      c.if-row-get.false,
+      c.get.ensures.value,
+      c.size.ensures.rows,
+    ) in
     let cols : c.get-2.result ≡ (view_size v).cols = c.get-2.ensures.value ∙ c.size.ensures.cols in
     let count : c.from.result ≡ (view_size v).cols = c.from.ensures ∙ c.get-3.ensures.value ∙ c.size.ensures.cols in
     inr (
