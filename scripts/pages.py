@@ -99,7 +99,7 @@ SCRIPTS = {
     ),
     "jeihpal-test": (
         "play scripts of tests of programs in a terminal",
-        [("SCRIPT|FOLDER", "What is played")],
+        [("SCRIPT", "A script, or a folder of them")],
         [
             ("update-screens", None, None, "Write the screens that the tests leave"),
             ("failed-screens", "FOLDER", FILES, "Where the screens of failed tests go"),
@@ -189,7 +189,7 @@ def bash(name):
             cases.append(f'        --{option}) mapfile -t COMPREPLY < <({reply} -- "$word"); return ;;')
     chosen = [BASH_VALUE, "    case $option in", *cases, "    esac"] if cases else []
     body = [f"_{name}() {{", *chosen, f'    mapfile -t COMPREPLY < <(compgen -W "{known}" -- "$2")', "}"]
-    return "\n".join(body + [f"complete -F _{name} {name}", ""])
+    return "\n".join(body + [f"complete -o default -F _{name} {name}", ""])
 
 
 def quoted(text):
@@ -204,6 +204,9 @@ def zsh(name):
         short = SHORT.get(option)
         shown = f"'(-{short} --{option})'{{-{short},--{option}}}'" if short else f"'--{option}{'=' if value else ''}"
         lines.append(f"    {shown}[{quoted(text)}]{f':{value}:{action}' if value else ''}' \\")
+    if name in SCRIPTS:
+        lines.append(f"    '*:{quoted(words[0][1])}:_files' \\")
+        return "\n".join(lines)[:-2] + "\n"
     for place, (word, text) in enumerate(words, 1):
         choices = f"({word.replace('|', ' ')})" if "|" in word else " "
         lines.append(f"    '{place}:{quoted(text)}:{choices}' \\")
@@ -212,7 +215,7 @@ def zsh(name):
 
 def fish(name):
     _, words, options, _ = ALL[name]
-    lines = [f"complete -c {name} -f"]
+    lines = [f"complete -c {name}" + " -f" * (name in PROGRAMS)]
     for option, value, completes, text in options:
         kind = "" if not value else " -r -F" if completes == FILES else f" -x -a '{completes or ''}'"
         short = f" -s {SHORT[option]}" if option in SHORT else ""

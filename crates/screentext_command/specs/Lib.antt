@@ -1,3 +1,4 @@
 pub mod Drawn
 pub mod Faults
+pub mod Limits
 pub mod Words

@@ -41,8 +41,10 @@ with_flags a = with_rule (with_rule (with_rule (with_rule a (flag_rule (codes "j
     (flag_rule (codes "svg"))
 
 abbrev pub with_sources : App → App
-with_sources a = with_rule (with_rule (with_rule (with_rule a (flag_rule (codes "list"))) (value_rule (codes "kind")))
-    (value_rule (codes "timing"))) (flag_rule (codes "no-line-drawing"))
+with_sources a = with_rule
+    (with_rule (with_rule (with_rule (with_rule (with_rule a (flag_rule (codes "list"))) (value_rule (codes "kind")))
+    (value_rule (codes "timing"))) (flag_rule (codes "no-line-drawing"))) (flag_rule (codes "strict")))
+    (value_rule (codes "max-cells"))
 
 abbrev pub with_pictures : App → App
 with_pictures a = with_rule (with_rule (with_rule (with_rule a (flag_rule (codes "html-block")))
@@ -58,8 +60,8 @@ with_player a = with_rule a (flag_rule (codes "player"))
 
 -- the description for `clap` of
 -- `[ROWS COLS] [--at TIME] [--diff TIME] [--history N] [--joined] [--colours] [--html | --svg]
--- [--list] [--kind NAME] [--timing FILE] [--no-line-drawing] [--html-block] [--theme NAME] [--font NAME]
--- [--bold-is-bright] [--animate] [--speed N] [--idle SECONDS] [--player]`
+-- [--list] [--kind NAME] [--timing FILE] [--no-line-drawing] [--strict] [--max-cells N] [--html-block] [--theme NAME]
+-- [--font NAME] [--bold-is-bright] [--animate] [--speed N] [--idle SECONDS] [--player]`
 abbrev pub known : App
 known = with_player (with_films (with_pictures (with_sources (with_flags (with_values program)))))
 
@@ -94,6 +96,7 @@ are_values rows = is_screen (first_of (codes "ROWS") rows) (first_of (codes "COL
 
 abbrev pub are_sources : List Row → Bool
 are_sources rows = option_map_or (λ word. is_some (kind_named word)) (first_of (codes "kind") rows) true
+    && option_map_or is_count (first_of (codes "max-cells") rows) true
 
 -- a number that isn't 0
 abbrev pub is_speed : Text → Bool
@@ -123,7 +126,7 @@ is_invocation words = is_invocation_of (fault_of known words) (matches_of known 
 
 -- what is printed for words that aren't understood
 abbrev pub usage_line : List ℕ
-usage_line = codes "usage: screentext [ROWS COLS] [--at SECONDS] [--diff SECONDS] [--history N] [--joined] [--colours] [--html | --html-block | --player | --svg [--animate]] [--speed N] [--idle SECONDS] [--theme NAME] [--font NAME] [--bold-is-bright] [--list] [--kind NAME] [--timing FILE] [--no-line-drawing]"
+usage_line = codes "usage: screentext [ROWS COLS] [--at SECONDS] [--diff SECONDS] [--history N] [--joined] [--colours] [--html | --html-block | --player | --svg [--animate]] [--speed N] [--idle SECONDS] [--theme NAME] [--font NAME] [--bold-is-bright] [--list] [--kind NAME] [--timing FILE] [--no-line-drawing] [--strict] [--max-cells N]; screentext --help says what they do"
     ++ 0x0A ∷ []
 
 -- what is printed where memory is refused

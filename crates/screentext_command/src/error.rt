@@ -39,6 +39,15 @@ pub enum TextError {
     /// The page that plays would be longer than the longest one.
     #[error("the page has more than 32 MiB")]
     Player,
+    /// A size in the recording has more cells than this.
+    #[error("a size in the recording has more than {0} cells: --max-cells N allows more")]
+    Cells(usize),
+    /// Only what comes before this fault of the recording was read.
+    #[error("{0}; what comes before it is shown")]
+    Cut(RecordingError),
+    /// What begins as an asciicast, and is none, was read as raw bytes.
+    #[error("it begins as an asciicast, but line 1 is no header: shown as raw bytes")]
+    Guessed,
     /// What was read is no recording.
     #[error("{0}")]
     Recording(RecordingError),

@@ -31,7 +31,11 @@ Examples:
   screentext --timing times 24 80 < typescript   a session that script(1) recorded
   screentext --list < game.ttyrec                its kind, length and markers
 
-The status is 0 at success, 1 at a fault, 2 for words that aren't understood.";
+A recording that was cut, or stops making sense, is shown up to there. A line on standard
+error says where that is, and the status is 3.
+
+The status is 0 at success, 1 at a fault, 2 for words that aren't understood, 3 for a
+recording of which only a part was read.";
 
 /// The words that are known: two positional ones, options with a value, and flags.
 pub(crate) fn known_words<'a>(alloc: Global) -> Result<Command<'a>, AllocError>
@@ -134,6 +138,17 @@ fn with_sources<'a>(alloc: Global, command: Command<'a>) -> Result<Command<'a>, 
                 alloc,
                 "no-line-drawing",
                 "Letters stay where a program draws lines with DEC's special graphics",
+            ))?
+            .arg(flag(
+                alloc,
+                "strict",
+                "A recording that was cut, or stops making sense, is a fault",
+            ))?
+            .arg(value(
+                alloc,
+                "max-cells",
+                "N",
+                "A size in the recording has N cells at most: 4,000,000 without this option",
             ))?,
     )
 }

@@ -10,6 +10,7 @@ mod commands;
 mod error;
 mod files;
 mod known;
+mod limits;
 mod list;
 mod outputs;
 mod pictures;

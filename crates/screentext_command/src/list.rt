@@ -19,10 +19,24 @@ pub(crate) fn list_of(alloc: Global, recording: &Recording) -> Result<Vec<u8>, T
     for event in &recording.events {
         if let Change::Marker(name) = &event.change {
             push_time(&mut text, "marker", event.time)?;
-            writeln!(text, " {name}")?;
+            text.push(' ')?;
+            push_name(&mut text, name.as_str())?;
+            text.push('\n')?;
         }
     }
     Ok(text.into_bytes())
+}
+
+// Appends a marker's name, with control characters as `\u{7}`, so that none reaches a terminal or ends the line.
+fn push_name(text: &mut String, name: &str) -> Result<(), TextError> {
+    for c in name.chars() {
+        if c.is_control() {
+            write!(text, "\\u{{{:x}}}", c as u32)?;
+        } else {
+            text.push(c)?;
+        }
+    }
+    Ok(())
 }
 
 // Appends a word and a time in seconds.

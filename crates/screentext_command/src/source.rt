@@ -1,14 +1,17 @@
 //! Which recording is meant, and which of its moments.
 
-ghost use Rattle.std.specs.Prelude.{◌≡◌, is_some, IfOk, true};
+ghost use Rattle.std.specs.Prelude.{◌≡◌, ◌&&◌, is_some, IfOk, true};
 ghost use Rattle.std.specs.Option.{option_map, option_map_or};
 ghost use Rattle.clap.specs.Words.{found_of, rows_of};
+ghost use Rattle.command_line.specs.Numbers.{is_count};
 ghost use Rattle.recordings.specs.Kinds.{kind_named};
 ghost use Rattle.screentext_command.specs.Words.{are_sources};
 
 use crate::error::TextError;
+use crate::limits::MOST_CELLS;
 use crate::words::Request;
 use clap::ArgMatches;
+use command_line::parse_count;
 use recorded_screen::{Change, Kind, Recording};
 use recordings::parse_seconds;
 use std::alloc::{AllocError, Global};
@@ -27,6 +30,10 @@ pub(crate) struct Source {
     pub(crate) list: bool,
     /// Whether what programs draw with the line drawing set comes as box characters.
     pub(crate) draws_lines: bool,
+    /// Whether a recording of which only a part makes sense is a fault.
+    pub(crate) strict: bool,
+    /// How many cells a size in the recording has at most.
+    pub(crate) most_cells: usize,
 }
 
 /// Reads the words that say it.
@@ -42,7 +49,20 @@ pub(crate) fn source_of(
     let since = owned(alloc, matches.get_str("diff"))?;
     let list = matches.get_count("list") > 0;
     let draws_lines = matches.get_count("no-line-drawing") == 0;
-    Ok(new_source(kind, timing, moment, since, list, draws_lines))
+    let strict = matches.get_count("strict") > 0;
+    let most_cells = most_cells_of(matches.get_str("max-cells"));
+    let limits = (strict, most_cells);
+    Ok(new_source(kind, timing, moment, since, list, draws_lines, limits))
+}
+
+// How many cells a size has at most: 4,000,000 where there is no word.
+fn most_cells_of(word: Option<&str>) -> Option<usize>
+    ensures { is_some result ≡ option_map_or is_count (option_map (λ w. w.now) word.entry) true }
+{
+    match word {
+        None => Some(MOST_CELLS),
+        Some(word) => parse_count(word),
+    }
 }
 
 fn new_source(
@@ -52,8 +72,9 @@ fn new_source(
     since: Option<String>,
     list: bool,
     draws_lines: bool,
+    limits: (bool, Option<usize>),
 ) -> Option<Source>
-    ensures { is_some result ≡ is_some kind }
+    ensures { is_some result ≡ (is_some kind && is_some limits.1) }
 {
     Some(Source {
         kind: kind?,
@@ -62,6 +83,8 @@ fn new_source(
         since,
         list,
         draws_lines,
+        strict: limits.0,
+        most_cells: limits.1?,
     })
 }
 
