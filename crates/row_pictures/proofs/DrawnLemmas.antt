@@ -3,6 +3,7 @@ use Rattle.std.proofs.Common.{◌≡◌, ◌≤◌, ◌<◌, ◌+◌, ◌-◌, �
 use Rattle.std.proofs.Common.{◌++◌, take, drop, length, get_or, refl, sym, ap, ap₂, ◌∙◌, subst, arith, cond, true≢false}
 use Rattle.std.proofs.Common.{OnOk, Option, Some, None, Result, drop-cons}
 use Rattle.std.specs.Iterator.{AlwaysYields}
+use Rattle.std.proofs.lemmas.Iterator.{YieldsList}
 use Rattle.std.proofs.lemmas.List.{drop-drop}
 use Rattle.std.proofs.lemmas.Result.{on_ok_weaker}
 use Rattle.picture_page.specs.Page.{escaped}
@@ -153,8 +154,15 @@ drawn_at cells i x lt = ap begins_drawn (drop-cons cells i x lt)
 -- ---- the characters of a text, by two calls
 
 -- they gave a character and then none
-pub one_character : {S : Type 0} (steps : S → Option ℕ → S → Type 0) (s t u : S) (all : List ℕ) (c : ℕ)
+alone : {S : Type 0} (steps : S → Option ℕ → S → Type 0) (s t u : S) (all : List ℕ) (c : ℕ)
     → AlwaysYields steps (λ x. x) s all → steps s (Some c) t → steps t None u → all ≡ c ∷ []
-one_character steps s t u [] c runs first second = absurd (runs c t first)
-one_character steps s t u (y ∷ []) c runs first second = ap (λ x. x ∷ []) (sym (runs.1 c t first).0)
-one_character steps s t u (y ∷ (z ∷ zs)) c runs first second = absurd ((runs.1 c t first).1.0 u second)
+alone steps s t u [] c runs first second = absurd (runs c t first)
+alone steps s t u (y ∷ []) c runs first second = ap (λ x. x ∷ []) (sym (runs.1 c t first).0)
+alone steps s t u (y ∷ (z ∷ zs)) c runs first second = absurd ((runs.1 c t first).1.0 u second)
+
+pub one_character : {S : Type 0} {steps : S → Option ℕ → S → Type 0} {s : S} {all : List ℕ}
+    (e : YieldsList steps (λ x. x) s all) (r q : Option ℕ) (t u : S) (c : ℕ) → r ≡ Some c → steps s r t → q ≡ None
+    → steps t q u → all ≡ c ∷ []
+one_character {steps = steps} {s = s} {all = all} e r q t u c is first none second =
+    alone steps s t u all c e.runs (subst (λ (o : Option ℕ). steps s o t) is first)
+    (subst (λ (o : Option ℕ). steps t o u) none second)
