@@ -8,7 +8,7 @@ use Rattle.std.proofs.lemmas.Bool.{leb-true, ne_eqb}
 use Rattle.std.proofs.lemmas.Result.{on_ok_weaker}
 use Rattle.picture_page.specs.Bytes.{color_bytes, hexadecimal, numbers_bytes}
 use Rattle.picture_page.specs.Page.{digit_byte, escaped}
-use Rattle.picture_page.specs.Seen.{Draws, ends_outside, seen_from}
+use Rattle.picture_page.specs.Seen.{Draws, ends_outside, is_plain, seen, seen_from}
 use Rattle.picture_page.specs.Tags.{tag_bytes}
 use Rattle.picture_page.specs.declared.page.Rgb.{Rgb}
 use Rattle.picture_page.specs.declared.tag.Tag.{Tag}
@@ -79,10 +79,6 @@ pub if_bytes : {T E : Type 0} (r : Result T E) (old new more : List ℕ) (o : Bo
 if_bytes r old new more o = on_ok_weaker r (draws_bytes old new more o)
 
 -- ---- bytes without < and >
-
-abbrev pub is_plain : List ℕ → Bool
-is_plain [] = true
-is_plain (b ∷ bs) = not (nat_eq b 60) && (not (nat_eq b 62) && is_plain bs)
 
 plain-append : (a b : List ℕ) → is_plain a ≡ true → is_plain b ≡ true → is_plain (a ++ b) ≡ true
 plain-append [] b first second = second
@@ -229,3 +225,56 @@ pub draws_more_text : (a b c s t : List ℕ) → Draws a b true true (escaped s)
 draws_more_text a b c s t first second =
     subst (λ xs. Draws a c true true xs) (sym (escaped-append s t))
     (draws_both a b c true true true (escaped s) (escaped t) first second)
+
+-- ---- markup
+
+pub draws_tag : (old new : List ℕ) (t : Tag) (o p : Bool) (s : List ℕ) → ends_outside o (tag_bytes t) ≡ p
+    → seen_from o (tag_bytes t) ≡ s → new ≡ old ++ tag_bytes t → Draws old new o p s
+draws_tag old new t o p s ends sees joined =
+    record { more = tag_bytes t; joined = joined; ends_so = ends; seen_is = sees }
+
+pub if_tag : {T E : Type 0} (r : Result T E) (old new : List ℕ) (t : Tag) (o p : Bool) (s : List ℕ)
+    → ends_outside o (tag_bytes t) ≡ p → seen_from o (tag_bytes t) ≡ s → OnOk r (new ≡ old ++ tag_bytes t)
+    → OnOk r (Draws old new o p s)
+if_tag r old new t o p s ends sees = on_ok_weaker r (draws_tag old new t o p s ends sees)
+
+-- markup without < and > that may be wanted, within a tag
+pub draws_wanted : (old new : List ℕ) (on : Bool) (t : Tag) → is_plain (tag_bytes t) ≡ true
+    → new ≡ old ++ (if on then tag_bytes t else []) → Draws old new false false []
+draws_wanted old new true t h joined = draws_unseen old new (tag_bytes t) h joined
+draws_wanted old new false t h joined = draws_unseen old new [] refl joined
+
+pub if_wanted : {T E : Type 0} (r : Result T E) (old new : List ℕ) (on : Bool) (t : Tag)
+    → is_plain (tag_bytes t) ≡ true → OnOk r (new ≡ old ++ (if on then tag_bytes t else []))
+    → OnOk r (Draws old new false false [])
+if_wanted r old new on t h = on_ok_weaker r (draws_wanted old new on t h)
+
+pub if_color : {T E : Type 0} (r : Result T E) (old new : List ℕ) (o : Bool) (t : Tag) (c : Rgb)
+    → ends_outside o (tag_bytes t) ≡ false → OnOk r (new ≡ old ++ (tag_bytes t ++ color_bytes c))
+    → OnOk r (Draws old new o false (seen_from o (tag_bytes t)))
+if_color r old new o t c opens = on_ok_weaker r (draws_color old new o t c opens)
+
+pub if_numbers : {T E : Type 0} (r : Result T E) (old new : List ℕ) (o : Bool) (p : Tag × ℕ) (ps : List (Tag × ℕ))
+    → ends_outside o (tag_bytes p.0) ≡ false → are_plain ps ≡ true → OnOk r (new ≡ old ++ numbers_bytes (p ∷ ps))
+    → OnOk r (Draws old new o false (seen_from o (tag_bytes p.0)))
+if_numbers r old new o p ps opens h = on_ok_weaker r (draws_numbers old new o p ps opens h)
+
+-- a text that may be seen
+pub if_text : {T E : Type 0} (r : Result T E) (old new t : List ℕ) → OnOk r (new ≡ old ++ escaped t)
+    → OnOk r (Draws old new true true (escaped t))
+if_text r old new t = on_ok_weaker r (draws_text old new t)
+
+-- a text more that may be seen
+pub if_more_text : {T E : Type 0} (r : Result T E) (a b c s t : List ℕ) → Draws a b true true (escaped s)
+    → OnOk r (c ≡ b ++ escaped t) → OnOk r (Draws a c true true (escaped (s ++ t)))
+if_more_text r a b c s t first = on_ok_weaker r (λ second. draws_more_text a b c s t first (draws_text b c t second))
+
+pub if_unseen : {T E : Type 0} (r : Result T E) (old new more : List ℕ) → is_plain more ≡ true
+    → OnOk r (new ≡ old ++ more) → OnOk r (Draws old new false false [])
+if_unseen r old new more h = on_ok_weaker r (draws_unseen old new more h)
+
+-- what is seen of a page that was empty at first
+pub seen_page : (empty page bytes : List ℕ) (o : Bool) (text : List ℕ) → empty ≡ [] → bytes ≡ page
+    → Draws empty page true o text → seen bytes ≡ text
+seen_page empty page bytes o text none is draws =
+    ap seen (is ∙ draws.joined ∙ ap (λ xs. xs ++ draws.more) none) ∙ draws.seen_is

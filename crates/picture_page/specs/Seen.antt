@@ -1,5 +1,5 @@
 -- What is seen of a picture: what stands outside of its tags.
-use Rattle.std.specs.Prelude.{◌≡◌, ℕ, Bool, true, false, not, List, [], ◌∷◌, ◌++◌, nat_eq, if◌then◌else◌}
+use Rattle.std.specs.Prelude.{◌≡◌, ℕ, Bool, true, false, not, ◌&&◌, List, [], ◌∷◌, ◌++◌, nat_eq, if◌then◌else◌}
 
 -- the bytes that stand outside of tags, where the first of them does (true) or stands within one (false): a tag begins
 -- with < and ends with >
@@ -17,6 +17,11 @@ abbrev pub ends_outside : Bool → List ℕ → Bool
 ends_outside out [] = out
 ends_outside true (b ∷ bs) = ends_outside (not (nat_eq b 60)) bs
 ends_outside false (b ∷ bs) = ends_outside (nat_eq b 62) bs
+
+-- no byte is < or >
+abbrev pub is_plain : List ℕ → Bool
+is_plain [] = true
+is_plain (b ∷ bs) = not (nat_eq b 60) && (not (nat_eq b 62) && is_plain bs)
 
 -- Bytes are appended that begin outside of tags or within one, and end so. This much of them is seen.
 pub record Draws (old new : List ℕ) (begins ends : Bool) (text : List ℕ) : Type 0 where

@@ -1,1 +1,2 @@
+mod DrawnLemmas
 mod RowLemmas

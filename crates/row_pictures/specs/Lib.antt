@@ -1,2 +1,3 @@
+pub mod Drawn
 pub mod Text
 pub mod Themes

@@ -1,7 +1,9 @@
 //! Line drawing and block characters as rectangles that join with those of the cells around.
 
-ghost use Rattle.std.specs.Prelude.{[], OnOk};
+ghost use Rattle.std.specs.Prelude.{◌≡◌, [], false, is_some, not, OnOk};
 ghost use Rattle.picture_page.specs.Page.{Adds};
+ghost use Rattle.picture_page.specs.Seen.{Draws};
+ghost use Rattle.row_pictures.specs.Drawn.{is_drawn, is_drawn_character, is_font};
 
 use crate::arms::{Arms, Weight};
 use picture_page::{Page, Tag};
@@ -21,7 +23,9 @@ pub(crate) enum Ink {
 
 impl Ink {
     /// With what a cell is drawn: with rectangles where it has one character from U+2500 to U+259F.
-    pub(crate) fn of(cell: &Cell) -> Self {
+    pub(crate) fn of(cell: &Cell) -> Self
+        ensures { is_font result ≡ not (is_drawn cell.now) }
+    {
         match drawn_character(cell) {
             Some('\u{2591}') => Ink::Shade(25),
             Some('\u{2592}') => Ink::Shade(50),
@@ -33,12 +37,21 @@ impl Ink {
 }
 
 // The line drawing or block character that a cell has and nothing else.
-fn drawn_character(cell: &Cell) -> Option<char> {
+fn drawn_character(cell: &Cell) -> Option<char>
+    ensures { is_some result ≡ is_drawn cell.now }
+{
     let mut chars = cell.contents().chars();
     match (chars.next(), chars.next()) {
-        (Some(c), None) if ('\u{2500}'..='\u{259f}').contains(&c) => Some(c),
+        (Some(c), None) if is_drawn_character(c) => Some(c),
         _ => None,
     }
+}
+
+// Whether this is a line drawing or block character.
+fn is_drawn_character(c: char) -> bool
+    ensures { result ≡ is_drawn_character c }
+{
+    matches!(c, '\u{2500}'..='\u{259f}')
 }
 
 /// A rectangle in a cell of 9 by 18 pixels: its left and its top, and its width and its height.
@@ -46,7 +59,8 @@ type Area = (u32, u32, u32, u32);
 
 /// Appends the rectangles of a cell whose left is at this pixel, as parts of a path.
 pub(crate) fn push_glyph(page: &mut Page, x: u32, cell: &Cell) -> Result<(), AllocError>
-    ensures { OnOk result (Adds page.old page.new []) }
+    ensures adds { OnOk result (Adds page.old page.new []) }
+    ensures seen { OnOk result (Draws page.old page.new false false []) }
 {
     match drawn_character(cell) {
         Some(c) => push_character(page, x, c),
@@ -55,7 +69,8 @@ pub(crate) fn push_glyph(page: &mut Page, x: u32, cell: &Cell) -> Result<(), All
 }
 
 fn push_character(page: &mut Page, x: u32, c: char) -> Result<(), AllocError>
-    ensures { OnOk result (Adds page.old page.new []) }
+    ensures adds { OnOk result (Adds page.old page.new []) }
+    ensures seen { OnOk result (Draws page.old page.new false false []) }
 {
     match c {
         '\u{2504}'..='\u{250b}' | '\u{254c}'..='\u{254f}' => push_areas(page, x, dashes(c)),
@@ -69,7 +84,8 @@ fn push_character(page: &mut Page, x: u32, c: char) -> Result<(), AllocError>
 }
 
 fn push_areas(page: &mut Page, x: u32, areas: &[Area]) -> Result<(), AllocError>
-    ensures { OnOk result (Adds page.old page.new []) }
+    ensures adds { OnOk result (Adds page.old page.new []) }
+    ensures seen { OnOk result (Draws page.old page.new false false []) }
 {
     for area in areas {
         push_area(page, x, *area)?;
@@ -78,7 +94,8 @@ fn push_areas(page: &mut Page, x: u32, areas: &[Area]) -> Result<(), AllocError>
 }
 
 fn push_area(page: &mut Page, x: u32, area: Area) -> Result<(), AllocError>
-    ensures { OnOk result (Adds page.old page.new []) }
+    ensures adds { OnOk result (Adds page.old page.new []) }
+    ensures seen { OnOk result (Draws page.old page.new false false []) }
 {
     let (left, top, width, height) = area;
     if width == 0 || height == 0 {
@@ -123,7 +140,8 @@ fn arc(c: char) -> &'static [Area] {
 
 // A diagonal, which rises from the left or falls.
 fn push_diagonal(page: &mut Page, x: u32, rises: bool) -> Result<(), AllocError>
-    ensures { OnOk result (Adds page.old page.new []) }
+    ensures adds { OnOk result (Adds page.old page.new []) }
+    ensures seen { OnOk result (Draws page.old page.new false false []) }
 {
     for step in 0..9 {
         let top = if rises { 16 - 2 * step } else { 2 * step };
@@ -133,14 +151,16 @@ fn push_diagonal(page: &mut Page, x: u32, rises: bool) -> Result<(), AllocError>
 }
 
 fn push_cross(page: &mut Page, x: u32) -> Result<(), AllocError>
-    ensures { OnOk result (Adds page.old page.new []) }
+    ensures adds { OnOk result (Adds page.old page.new []) }
+    ensures seen { OnOk result (Draws page.old page.new false false []) }
 {
     push_diagonal(page, x, true)?;
     push_diagonal(page, x, false)
 }
 
 fn push_arms(page: &mut Page, x: u32, arms: Arms) -> Result<(), AllocError>
-    ensures { OnOk result (Adds page.old page.new []) }
+    ensures adds { OnOk result (Adds page.old page.new []) }
+    ensures seen { OnOk result (Draws page.old page.new false false []) }
 {
     push_areas(page, x, &upright(arms))?;
     push_areas(page, x, &level(arms))

@@ -1,7 +1,8 @@
 //! A row of cells in HTML.
 
-ghost use Rattle.std.specs.Prelude.{[], OnOk, ◌<◌, ◌≤◌, length};
-ghost use Rattle.picture_page.specs.Page.{Adds};
+ghost use Rattle.std.specs.Prelude.{[], OnOk, ◌<◌, ◌≤◌, length, true, false};
+ghost use Rattle.picture_page.specs.Page.{Adds, escaped};
+ghost use Rattle.picture_page.specs.Seen.{Draws};
 ghost use Rattle.row_pictures.specs.Text.{row_text};
 
 use crate::look::Look;
@@ -20,7 +21,8 @@ pub fn push_html_row(
     cursor: Option<usize>,
     look: &Look,
 ) -> Result<(), AllocError>
-    ensures { OnOk result (Adds page.old page.new (row_text cells.now)) }
+    ensures adds { OnOk result (Adds page.old page.new (row_text cells.now)) }
+    ensures seen { OnOk result (Draws page.old page.new true true (escaped (row_text cells.now))) }
 {
     let mut start = 0;
     while start < cells.len() {
@@ -34,7 +36,8 @@ pub fn push_html_row(
 
 // Appends a run of cells.
 fn push_span(page: &mut Page, run: &[Cell], style: Style, look: &Look) -> Result<(), AllocError>
-    ensures { OnOk result (Adds page.old page.new (row_text run.now)) }
+    ensures adds { OnOk result (Adds page.old page.new (row_text run.now)) }
+    ensures seen { OnOk result (Draws page.old page.new true true (escaped (row_text run.now))) }
 {
     let wide = run.len() > 1 && run[0].is_wide();
     if style == Style::PLAIN && !wide {
@@ -46,7 +49,8 @@ fn push_span(page: &mut Page, run: &[Cell], style: Style, look: &Look) -> Result
 }
 
 fn push_span_head(page: &mut Page, style: Style, wide: bool, look: &Look) -> Result<(), AllocError>
-    ensures { OnOk result (Adds page.old page.new []) }
+    ensures adds { OnOk result (Adds page.old page.new []) }
+    ensures seen { OnOk result (Draws page.old page.new true true []) }
 {
     let paint = Paint::of(style, look);
     page.markup(Tag::Span)?;
@@ -60,7 +64,8 @@ fn push_span_head(page: &mut Page, style: Style, wide: bool, look: &Look) -> Res
 
 /// Appends two colours, of texts and of what is behind them, as properties of a style.
 pub fn push_html_colors(page: &mut Page, fgcolor: Rgb, bgcolor: Rgb) -> Result<(), AllocError>
-    ensures { OnOk result (Adds page.old page.new []) }
+    ensures adds { OnOk result (Adds page.old page.new []) }
+    ensures seen { OnOk result (Draws page.old page.new false false []) }
 {
     page.color(Tag::Color, fgcolor)?;
     page.color(Tag::Background, bgcolor)

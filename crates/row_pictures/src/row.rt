@@ -1,7 +1,8 @@
 //! Cells of a row that are drawn alike, and their texts.
 
-ghost use Rattle.std.specs.Prelude.{◌≡◌, ◌<◌, ◌≤◌, length, OnOk, [], ◌∷◌};
-ghost use Rattle.picture_page.specs.Page.{Adds};
+ghost use Rattle.std.specs.Prelude.{◌≡◌, ◌<◌, ◌≤◌, ◌-◌, ◌++◌, length, take, drop, OnOk, true, [], ◌∷◌};
+ghost use Rattle.picture_page.specs.Page.{Adds, escaped};
+ghost use Rattle.row_pictures.specs.Drawn.{is_drawn_at, is_run};
 ghost use Rattle.row_pictures.specs.Text.{cell_text, row_text, shown_character, shown_characters};
 
 use crate::glyph::Ink;
@@ -15,6 +16,7 @@ pub(crate) fn run_end(cells: &[Cell], start: usize, cursor: Option<usize>) -> us
     requires { start < length cells.now }
     ensures more { start < result }
     ensures within { result ≤ length cells.now }
+    ensures alike { is_run (take (result - start) (drop start cells.now)) ≡ true }
 {
     if cells[start].is_wide() {
         return wide_end(cells, start);
@@ -30,6 +32,7 @@ pub(crate) fn run_end(cells: &[Cell], start: usize, cursor: Option<usize>) -> us
 fn are_alike(cells: &[Cell], one: usize, other: usize, cursor: Option<usize>) -> bool
     requires one { one < length cells.now }
     requires other { other < length cells.now }
+    ensures { result ≡ true → is_drawn_at cells.now one ≡ is_drawn_at cells.now other }
 {
     !cells[other].is_wide()
         && style_at(cells, one, cursor) == style_at(cells, other, cursor)
@@ -41,6 +44,7 @@ fn wide_end(cells: &[Cell], start: usize) -> usize
     requires { start < length cells.now }
     ensures more { start < result }
     ensures within { result ≤ length cells.now }
+    ensures alike { is_run (take (result - start) (drop start cells.now)) ≡ true }
 {
     let next = start + 1;
     if next < cells.len() && cells[next].is_wide_continuation() {
@@ -63,7 +67,8 @@ pub(crate) fn style_at(cells: &[Cell], col: usize, cursor: Option<usize>) -> Sty
 
 /// Appends the texts of cells.
 pub(crate) fn push_cells(page: &mut Page, cells: &[Cell]) -> Result<(), AllocError>
-    ensures { OnOk result (Adds page.old page.new (row_text cells.now)) }
+    ensures adds { OnOk result (Adds page.old page.new (row_text cells.now)) }
+    ensures bytes { OnOk result (page.new ≡ page.old ++ escaped (row_text cells.now)) }
 {
     for cell in cells {
         push_cell(page, cell)?;
@@ -73,7 +78,8 @@ pub(crate) fn push_cells(page: &mut Page, cells: &[Cell]) -> Result<(), AllocErr
 
 // Appends the text of a cell: a space where it is empty, and nothing for the second column of a wide one.
 fn push_cell(page: &mut Page, cell: &Cell) -> Result<(), AllocError>
-    ensures { OnOk result (Adds page.old page.new (cell_text cell.now)) }
+    ensures adds { OnOk result (Adds page.old page.new (cell_text cell.now)) }
+    ensures bytes { OnOk result (page.new ≡ page.old ++ escaped (cell_text cell.now)) }
 {
     if cell.is_wide_continuation() {
         return Ok(());
@@ -86,7 +92,8 @@ fn push_cell(page: &mut Page, cell: &Cell) -> Result<(), AllocError>
 
 // Appends the characters of a cell.
 fn push_characters(page: &mut Page, cell: &Cell) -> Result<(), AllocError>
-    ensures { OnOk result (Adds page.old page.new (shown_characters cell.now.text)) }
+    ensures adds { OnOk result (Adds page.old page.new (shown_characters cell.now.text)) }
+    ensures bytes { OnOk result (page.new ≡ page.old ++ escaped (shown_characters cell.now.text)) }
 {
     for c in cell.contents().chars() {
         page.character(shown(c))?;

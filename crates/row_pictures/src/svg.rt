@@ -1,7 +1,9 @@
 //! A row of cells in SVG.
 
-ghost use Rattle.std.specs.Prelude.{[], OnOk, ◌<◌, ◌≤◌, length};
-ghost use Rattle.picture_page.specs.Page.{Adds};
+ghost use Rattle.std.specs.Prelude.{◌≡◌, [], OnOk, ◌<◌, ◌≤◌, length, not, true, false};
+ghost use Rattle.picture_page.specs.Page.{Adds, escaped};
+ghost use Rattle.picture_page.specs.Seen.{Draws};
+ghost use Rattle.row_pictures.specs.Drawn.{begins_drawn, font_texts, is_font, is_run};
 ghost use Rattle.row_pictures.specs.Text.{row_text};
 
 use crate::glyph::{Ink, push_glyph};
@@ -29,7 +31,8 @@ pub fn push_svg_row(
     cursor: Option<usize>,
     look: &Look,
 ) -> Result<(), AllocError>
-    ensures { OnOk result (Adds page.old page.new (row_text cells.now)) }
+    ensures adds { OnOk result (Adds page.old page.new (row_text cells.now)) }
+    ensures seen { OnOk result (Draws page.old page.new true true (escaped (font_texts cells.now))) }
 {
     let mut start = 0;
     while start < cells.len() {
@@ -50,7 +53,9 @@ fn push_run(
     style: Style,
     look: &Look,
 ) -> Result<(), AllocError>
-    ensures { OnOk result (Adds page.old page.new (row_text run.now)) }
+    requires { is_run run.now ≡ true }
+    ensures adds { OnOk result (Adds page.old page.new (row_text run.now)) }
+    ensures seen { OnOk result (Draws page.old page.new true true (escaped (font_texts run.now))) }
 {
     let paint = Paint::of(style, look);
     let span = Span {
@@ -68,7 +73,9 @@ fn push_characters(
     color: Rgb,
     style: Style,
 ) -> Result<(), AllocError>
-    ensures { OnOk result (Adds page.old page.new (row_text run.now)) }
+    requires { is_run run.now ≡ true }
+    ensures adds { OnOk result (Adds page.old page.new (row_text run.now)) }
+    ensures seen { OnOk result (Draws page.old page.new true true (escaped (font_texts run.now))) }
 {
     match ink_of(run) {
         Ink::Font => push_text(page, run, span, color, style),
@@ -78,7 +85,9 @@ fn push_characters(
 }
 
 // With what a run is drawn.
-fn ink_of(run: &[Cell]) -> Ink {
+fn ink_of(run: &[Cell]) -> Ink
+    ensures { is_font result ≡ not (begins_drawn run.now) }
+{
     match run.first() {
         Some(cell) => Ink::of(cell),
         None => Ink::Font,
@@ -92,7 +101,8 @@ fn push_text(
     color: Rgb,
     style: Style,
 ) -> Result<(), AllocError>
-    ensures { OnOk result (Adds page.old page.new (row_text run.now)) }
+    ensures adds { OnOk result (Adds page.old page.new (row_text run.now)) }
+    ensures seen { OnOk result (Draws page.old page.new true true (escaped (row_text run.now))) }
 {
     let wide = run.len() > 1 && run[0].is_wide();
     push_text_head(page, span, color, style)?;
@@ -110,7 +120,8 @@ fn push_lines(
     color: Rgb,
     opacity: Option<u32>,
 ) -> Result<(), AllocError>
-    ensures { OnOk result (Adds page.old page.new (row_text run.now)) }
+    ensures adds { OnOk result (Adds page.old page.new (row_text run.now)) }
+    ensures seen { OnOk result (Draws page.old page.new true true []) }
 {
     push_lines_head(page, color, opacity)?;
     push_glyphs(page, run, x)?;
@@ -120,7 +131,8 @@ fn push_lines(
 }
 
 fn push_lines_head(page: &mut Page, color: Rgb, opacity: Option<u32>) -> Result<(), AllocError>
-    ensures { OnOk result (Adds page.old page.new []) }
+    ensures adds { OnOk result (Adds page.old page.new []) }
+    ensures seen { OnOk result (Draws page.old page.new true false []) }
 {
     page.color(Tag::Lines, color)?;
     push_opacity(page, opacity)?;
@@ -128,7 +140,8 @@ fn push_lines_head(page: &mut Page, color: Rgb, opacity: Option<u32>) -> Result<
 }
 
 fn push_opacity(page: &mut Page, opacity: Option<u32>) -> Result<(), AllocError>
-    ensures { OnOk result (Adds page.old page.new []) }
+    ensures adds { OnOk result (Adds page.old page.new []) }
+    ensures seen { OnOk result (Draws page.old page.new false false []) }
 {
     match opacity {
         Some(opacity) => page.numbers(&[(Tag::Opacity, opacity)]),
@@ -137,7 +150,8 @@ fn push_opacity(page: &mut Page, opacity: Option<u32>) -> Result<(), AllocError>
 }
 
 fn push_glyphs(page: &mut Page, run: &[Cell], x: u32) -> Result<(), AllocError>
-    ensures { OnOk result (Adds page.old page.new []) }
+    ensures adds { OnOk result (Adds page.old page.new []) }
+    ensures seen { OnOk result (Draws page.old page.new false false []) }
 {
     let mut x = x;
     for cell in run {
@@ -162,7 +176,8 @@ struct Span {
 }
 
 fn push_behind(page: &mut Page, span: Span, color: Rgb, look: &Look) -> Result<(), AllocError>
-    ensures { OnOk result (Adds page.old page.new []) }
+    ensures adds { OnOk result (Adds page.old page.new []) }
+    ensures seen { OnOk result (Draws page.old page.new true true []) }
 {
     if color == look.theme.bgcolor {
         return Ok(());
@@ -178,7 +193,8 @@ pub fn push_rect(
     height: u32,
     color: Rgb,
 ) -> Result<(), AllocError>
-    ensures { OnOk result (Adds page.old page.new []) }
+    ensures adds { OnOk result (Adds page.old page.new []) }
+    ensures seen { OnOk result (Draws page.old page.new true true []) }
 {
     let numbers = [(Tag::Rect, x), (Tag::Width, width), (Tag::Height, height)];
     page.numbers(&numbers)?;
@@ -187,7 +203,8 @@ pub fn push_rect(
 }
 
 fn push_text_head(page: &mut Page, span: Span, color: Rgb, style: Style) -> Result<(), AllocError>
-    ensures { OnOk result (Adds page.old page.new []) }
+    ensures adds { OnOk result (Adds page.old page.new []) }
+    ensures seen { OnOk result (Draws page.old page.new true false []) }
 {
     let numbers = [
         (Tag::Text, span.x),

@@ -1,5 +1,6 @@
-use Rattle.std.proofs.Common.{take, length, ◌-◌, ◌≤◌}
-use Rattle.picture_page.specs.Page.{Adds}
+use Rattle.std.proofs.Common.{true, take, length, ◌-◌, ◌≤◌}
+use Rattle.picture_page.specs.Page.{Adds, escaped}
+use Rattle.picture_page.specs.Seen.{Draws}
 use Rattle.row_pictures.specs.Text.{row_text}
 use Rattle.row_pictures.proofs.html.push_html_row.Given as goal
 
@@ -7,7 +8,8 @@ use Rattle.row_pictures.proofs.html.push_html_row.Given as goal
 abbrev pub invariant-loop-start : goal.invariant-loop-start
 invariant-loop-start l = record {
   within : l.start ≤ length l.cells;
-  drawn : Adds l.fn.page l.page (row_text (take l.start l.cells));
+  adds : Adds l.fn.page l.page (row_text (take l.start l.cells));
+  seen : Draws l.fn.page l.page true true (escaped (row_text (take l.start l.cells)));
 }
 
 abbrev pub decreases-loop-start : goal.decreases-loop-start

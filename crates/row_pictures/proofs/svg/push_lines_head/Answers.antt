@@ -1,6 +1,16 @@
+use Rattle.std.proofs.Common.{true, false, [], refl}
+use Rattle.picture_page.specs.declared.tag.Tag.TheVariants as tag
 use Rattle.picture_page.proofs.PageLemmas.{if_added}
+use Rattle.picture_page.proofs.SeenLemmas.{draws_color, if_drawn_after, if_tag}
 use Rattle.row_pictures.proofs.svg.push_lines_head.Goals as goal
 
-pub returns : goal.returns
-returns c =
-    if_added _ _ _ _ _ c.in_ok-color.ensures (if_added _ _ _ _ _ c.in_ok-push_opacity.ensures c.markup.ensures)
+pub returns-clause-adds : goal.returns-clause-adds
+returns-clause-adds c =
+    if_added _ _ _ _ _ c.in_ok-color.ensures.adds (if_added _ _ _ _ _ c.in_ok-push_opacity.ensures.adds
+    c.markup.ensures.adds)
+
+pub returns-clause-seen : goal.returns-clause-seen
+returns-clause-seen c =
+    if_drawn_after _ _ _ _ _ _ _ _ (draws_color _ _ true tag.Lines c.args.color refl c.in_ok-color.ensures.bytes)
+    (if_drawn_after _ _ _ _ _ _ _ _ c.in_ok-push_opacity.ensures.seen
+    (if_tag _ _ _ tag.LinesData false false [] refl refl c.markup.ensures.bytes))

@@ -1,5 +1,10 @@
 use Rattle.picture_page.proofs.PageLemmas.{if_added}
+use Rattle.picture_page.proofs.SeenLemmas.{if_drawn_after}
 use Rattle.row_pictures.proofs.svg.push_run.Goals as goal
 
-pub returns : goal.returns
-returns c = if_added _ _ _ _ _ c.in_ok-push_behind.ensures c.push_characters.ensures
+pub returns-clause-adds : goal.returns-clause-adds
+returns-clause-adds c = if_added _ _ _ _ _ c.in_ok-push_behind.ensures.adds c.push_characters.ensures.adds
+
+pub returns-clause-seen : goal.returns-clause-seen
+returns-clause-seen c =
+    if_drawn_after _ _ _ _ _ _ _ _ c.in_ok-push_behind.ensures.seen c.push_characters.ensures.seen

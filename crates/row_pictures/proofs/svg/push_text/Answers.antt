@@ -1,7 +1,20 @@
+use Rattle.std.proofs.Common.{true, false, [], refl}
+use Rattle.picture_page.specs.declared.tag.Tag.TheVariants as tag
 use Rattle.picture_page.proofs.PageLemmas.{if_added, if_ended}
+use Rattle.picture_page.proofs.SeenLemmas.{draws_tag, draws_text, draws_wanted, if_drawn_after, if_drawn_before, if_tag}
+use Rattle.row_pictures.specs.Text.{row_text}
 use Rattle.row_pictures.proofs.svg.push_text.Goals as goal
 
-pub returns : goal.returns
-returns c =
-    if_added _ _ _ _ _ c.in_ok-push_text_head.ensures (if_added _ _ _ _ _ c.in_ok-markup_if.ensures
-    (if_added _ _ _ _ _ c.in_ok-markup.ensures (if_ended _ _ _ _ _ c.in_ok-push_cells.ensures c.markup-2.ensures)))
+pub returns-clause-adds : goal.returns-clause-adds
+returns-clause-adds c =
+    if_added _ _ _ _ _ c.in_ok-push_text_head.ensures.adds (if_added _ _ _ _ _ c.in_ok-markup_if.ensures.adds
+    (if_added _ _ _ _ _ c.in_ok-markup.ensures.adds (if_ended _ _ _ _ _ c.in_ok-push_cells.ensures.adds
+    c.markup-2.ensures.adds)))
+
+pub returns-clause-seen : goal.returns-clause-seen
+returns-clause-seen c =
+    if_drawn_after _ _ _ _ _ _ _ _ c.in_ok-push_text_head.ensures.seen
+    (if_drawn_after _ _ _ _ _ _ _ _ (draws_wanted _ _ _ tag.Stretched refl c.in_ok-markup_if.ensures.bytes)
+    (if_drawn_after _ _ _ _ _ _ _ _ (draws_tag _ _ tag.TextStart false true [] refl refl c.in_ok-markup.ensures.bytes)
+    (if_drawn_before _ _ _ _ _ _ _ _ (draws_text _ _ (row_text c.args.run.now) c.in_ok-push_cells.ensures.bytes)
+    (if_tag _ _ _ tag.TextEnd true true [] refl refl c.markup-2.ensures.bytes))))
