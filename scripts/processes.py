@@ -32,15 +32,14 @@ def tell(processes, number):
 
 
 def end(number, _frame):
-    """Ends what was started, and then this script."""
+    """Ends what was started, and then this script, which may still put away what it has made."""
     started = descendants(os.getpid())
     tell(started, signal.SIGTERM)
     before = time.monotonic()
     while time.monotonic() - before < PATIENCE and any(os.path.exists(f"/proc/{it}") for it in started):
         time.sleep(0.1)
     tell(started, signal.SIGKILL)
-    sys.stdout.flush()
-    os._exit(128 + number)
+    sys.exit(128 + number)
 
 
 def end_with_this():
