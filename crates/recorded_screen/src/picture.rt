@@ -1,8 +1,11 @@
 //! Pictures of a screen, in HTML and SVG.
 
-ghost use Rattle.std.specs.Prelude.{◌≡◌, [], IfOk, OnOk};
-ghost use Rattle.picture_page.specs.Page.{Adds, IsPage, IsSafe, Shows};
-ghost use Rattle.recorded_screen.specs.Picture.{cells_shown, line_text, screen_text};
+ghost use Rattle.std.specs.Prelude.{◌≡◌, ◌++◌, [], codes, true, false, IfOk, OnOk};
+ghost use Rattle.picture_page.specs.Page.{Adds, IsPage, IsSafe, Shows, escaped};
+ghost use Rattle.picture_page.specs.Seen.{Draws, is_plain, seen};
+ghost use Rattle.picture_page.specs.Tags.{tag_bytes};
+ghost use Rattle.recorded_screen.specs.Picture.{block_seen, cells_shown, font_line, font_text, line_text, page_seen};
+ghost use Rattle.recorded_screen.specs.Picture.{screen_text, svg_seen};
 
 use row_pictures::{
     COL_WIDTH, Cell, Look, Page, ROW_HEIGHT, Tag, push_html_colors, push_html_row, push_rect,
@@ -14,6 +17,8 @@ use vt100::Screen;
 /// A page in HTML that shows the screen: markup, and the texts of its cells, row by row, escaped.
 pub fn html(alloc: Global, screen: &Screen, look: &Look) -> Result<Vec<u8>, AllocError>
     ensures text { IfOk result (λ bytes. Shows bytes.items (screen_text screen.now.state.shown)) }
+    ensures seen { IfOk result (λ bytes. seen bytes.items
+        ≡ page_seen (escaped (screen_text screen.now.state.shown))) }
     ensures page { IfOk result (λ bytes. IsPage bytes.items) }
     ensures safe { IfOk result (λ bytes. IsSafe bytes.items) }
 {
@@ -27,6 +32,8 @@ pub fn html(alloc: Global, screen: &Screen, look: &Look) -> Result<Vec<u8>, Allo
 /// A block in HTML that shows the screen: the part of the page that can stand in another page.
 pub fn html_block(alloc: Global, screen: &Screen, look: &Look) -> Result<Vec<u8>, AllocError>
     ensures text { IfOk result (λ bytes. Shows bytes.items (screen_text screen.now.state.shown)) }
+    ensures seen { IfOk result (λ bytes. seen bytes.items
+        ≡ block_seen (escaped (screen_text screen.now.state.shown)) ++ codes "\n") }
     ensures page { IfOk result (λ bytes. IsPage bytes.items) }
     ensures safe { IfOk result (λ bytes. IsSafe bytes.items) }
 {
@@ -37,7 +44,8 @@ pub fn html_block(alloc: Global, screen: &Screen, look: &Look) -> Result<Vec<u8>
 }
 
 fn push_block(page: &mut Page, screen: &Screen, look: &Look) -> Result<(), AllocError>
-    ensures { OnOk result (Adds page.old page.new (screen_text screen.now.state.shown)) }
+    ensures adds { OnOk result (Adds page.old page.new (screen_text screen.now.state.shown)) }
+    ensures seen { OnOk result (Draws page.old page.new true true (block_seen (escaped (screen_text screen.now.state.shown)))) }
 {
     push_block_head(page, look)?;
     let (rows, _) = screen.size();
@@ -48,7 +56,8 @@ fn push_block(page: &mut Page, screen: &Screen, look: &Look) -> Result<(), Alloc
 }
 
 fn push_block_head(page: &mut Page, look: &Look) -> Result<(), AllocError>
-    ensures { OnOk result (Adds page.old page.new []) }
+    ensures adds { OnOk result (Adds page.old page.new []) }
+    ensures seen { OnOk result (Draws page.old page.new true true (codes "\n")) }
 {
     page.markup(Tag::Block)?;
     push_html_colors(page, look.theme.fgcolor, look.theme.bgcolor)?;
@@ -56,9 +65,12 @@ fn push_block_head(page: &mut Page, look: &Look) -> Result<(), AllocError>
     page.markup(Tag::BlockRows)
 }
 
-/// Appends the name of the font between two pieces of markup, if there is one.
+/// Appends the name of the font between two pieces of markup, if there is one. Neither begins or ends a tag.
 pub fn push_font(page: &mut Page, look: &Look, before: Tag, after: Tag) -> Result<(), AllocError>
-    ensures { OnOk result (Adds page.old page.new []) }
+    requires before { is_plain (tag_bytes before) ≡ true }
+    requires after { is_plain (tag_bytes after) ≡ true }
+    ensures adds { OnOk result (Adds page.old page.new []) }
+    ensures seen { OnOk result (Draws page.old page.new false false []) }
 {
     let Some(font) = &look.font else {
         return Ok(());
@@ -69,7 +81,8 @@ pub fn push_font(page: &mut Page, look: &Look, before: Tag, after: Tag) -> Resul
 }
 
 fn push_html_line(page: &mut Page, screen: &Screen, row: u16, look: &Look) -> Result<(), AllocError>
-    ensures { OnOk result (Adds page.old page.new (line_text screen.now.state.shown row)) }
+    ensures adds { OnOk result (Adds page.old page.new (line_text screen.now.state.shown row)) }
+    ensures seen { OnOk result (Draws page.old page.new true true (escaped (line_text screen.now.state.shown row))) }
 {
     let cells = cells_of(screen, row);
     push_html_row(page, cells, cursor_in(screen, row), look)?;
@@ -77,8 +90,12 @@ fn push_html_line(page: &mut Page, screen: &Screen, row: u16, look: &Look) -> Re
 }
 
 /// A picture in SVG that shows the screen: markup, and the texts of its cells, row by row, escaped.
+///
+/// A cell of one line drawing or block character is drawn as a path, whose label is its text.
 pub fn svg(alloc: Global, screen: &Screen, look: &Look) -> Result<Vec<u8>, AllocError>
     ensures text { IfOk result (λ bytes. Shows bytes.items (screen_text screen.now.state.shown)) }
+    ensures seen { IfOk result (λ bytes. seen bytes.items
+        ≡ svg_seen (escaped (font_text screen.now.state.shown))) }
     ensures page { IfOk result (λ bytes. IsPage bytes.items) }
     ensures safe { IfOk result (λ bytes. IsSafe bytes.items) }
 {
@@ -99,7 +116,8 @@ pub(crate) fn push_svg_head(
     cols: u16,
     look: &Look,
 ) -> Result<(), AllocError>
-    ensures { OnOk result (Adds page.old page.new []) }
+    ensures adds { OnOk result (Adds page.old page.new []) }
+    ensures seen { OnOk result (Draws page.old page.new true true (codes "\n\n")) }
 {
     let width = u32::from(cols) * COL_WIDTH;
     let height = u32::from(rows) * ROW_HEIGHT;
@@ -119,7 +137,8 @@ pub(crate) fn push_svg_head(
 }
 
 fn push_svg_line(page: &mut Page, screen: &Screen, row: u16, look: &Look) -> Result<(), AllocError>
-    ensures { OnOk result (Adds page.old page.new (line_text screen.now.state.shown row)) }
+    ensures adds { OnOk result (Adds page.old page.new (line_text screen.now.state.shown row)) }
+    ensures seen { OnOk result (Draws page.old page.new true true (escaped (font_line screen.now.state.shown row))) }
 {
     page.numbers(&[(Tag::Row, u32::from(row) * ROW_HEIGHT)])?;
     page.markup(Tag::RowCells)?;

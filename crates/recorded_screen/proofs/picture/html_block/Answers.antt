@@ -1,7 +1,16 @@
+use Rattle.std.proofs.Common.{true, codes, refl}
+use Rattle.picture_page.specs.declared.tag.Tag.TheVariants as tag
 use Rattle.picture_page.proofs.PageLemmas.{before_markup, shows_page}
+use Rattle.picture_page.proofs.SeenLemmas.{draws_both, draws_tag, seen_page}
 use Rattle.recorded_screen.proofs.picture.html_block.Goals as goal
 
 pub returns-clause-text : goal.returns-clause-text
 returns-clause-text c =
     shows_page _ _ _ _ c.new-page.ensures c.into_bytes.ensures.bytes
-    (before_markup _ _ _ _ c.in_ok-push_block.ensures c.in_ok-markup.ensures)
+    (before_markup _ _ _ _ c.in_ok-push_block.ensures.adds c.in_ok-markup.ensures.adds)
+
+pub returns-clause-seen : goal.returns-clause-seen
+returns-clause-seen c =
+    seen_page _ _ _ true _ c.new-page.ensures c.into_bytes.ensures.bytes
+    (draws_both _ _ _ true true true _ _ c.in_ok-push_block.ensures.seen
+    (draws_tag _ _ tag.Newline true true (codes "\n") refl refl c.in_ok-markup.ensures.bytes))

@@ -1,17 +1,38 @@
-use Rattle.std.proofs.Common.{◌≡◌, subst, arith}
-use Rattle.picture_page.specs.Page.{Adds}
+use Rattle.std.proofs.Common.{◌≡◌, [], codes, true, refl, subst, arith}
+use Rattle.picture_page.specs.Page.{Adds, escaped}
+use Rattle.picture_page.specs.Seen.{Draws}
+use Rattle.picture_page.specs.declared.tag.Tag.TheVariants as tag
 use Rattle.picture_page.proofs.PageLemmas.{if_ended}
-use Rattle.recorded_screen.specs.Picture.{lines_text}
-use Rattle.recorded_screen.proofs.PictureLemmas.{line_drawn}
+use Rattle.picture_page.proofs.SeenLemmas.{if_drawn_before, if_tag}
+use Rattle.recorded_screen.specs.Picture.{block_seen, lines_text}
+use Rattle.recorded_screen.proofs.PictureLemmas.{line_drawn, line_seen}
 use Rattle.recorded_screen.proofs.picture.push_block.Goals as goal
 
-pub loop-row-preserved : goal.loop-row-preserved
-loop-row-preserved c =
-    line_drawn _ _ _ c.args.screen.now.state.shown c.loop-row.row c.loop-row.invariant c.in_ok-push_html_line.ensures
+pub loop-row-init : goal.loop-row-init
+loop-row-init c =
+    record { adds = c.in_ok-push_block_head.ensures.adds; seen = c.in_ok-push_block_head.ensures.seen }
 
-pub returns : goal.returns
-returns c =
+pub loop-row-preserved : goal.loop-row-preserved
+loop-row-preserved c = record {
+  adds = line_drawn _ _ _ c.args.screen.now.state.shown c.loop-row.row c.loop-row.invariant.adds
+      c.in_ok-push_html_line.ensures.adds;
+  seen = line_seen _ _ _ c.args.screen.now.state.shown c.loop-row.row (codes "\n") c.loop-row.invariant.seen
+      c.in_ok-push_html_line.ensures.seen;
+}
+
+pub returns-clause-adds : goal.returns-clause-adds
+returns-clause-adds c =
     let g = c.args.screen.now.state.shown in
     let end : c.loop-row.row ≡ c.args.screen.now.state.shown.height = omega arith in
-    if_ended _ _ _ _ _ (subst (λ n. Adds c.args.page.now c.loop-row.page (lines_text g n)) end c.loop-row.invariant)
-    c.markup.ensures
+    if_ended _ _ _ _ _
+    (subst (λ n. Adds c.args.page.now c.loop-row.page (lines_text g n)) end c.loop-row.invariant.adds)
+    c.markup.ensures.adds
+
+pub returns-clause-seen : goal.returns-clause-seen
+returns-clause-seen c =
+    let g = c.args.screen.now.state.shown in
+    let end : c.loop-row.row ≡ c.args.screen.now.state.shown.height = omega arith in
+    if_drawn_before _ _ _ _ _ _ _ _
+    (subst (λ n. Draws c.args.page.now c.loop-row.page true true (block_seen (escaped (lines_text g n)))) end
+    c.loop-row.invariant.seen)
+    (if_tag _ _ _ tag.BlockEnd true true [] refl refl c.markup.ensures.bytes)

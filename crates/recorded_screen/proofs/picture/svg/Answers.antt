@@ -1,21 +1,42 @@
-use Rattle.std.proofs.Common.{◌≡◌, [], subst, refl, arith}
-use Rattle.picture_page.specs.Page.{Adds}
+use Rattle.std.proofs.Common.{◌≡◌, [], ◌++◌, codes, true, subst, refl, arith}
+use Rattle.picture_page.specs.Page.{Adds, escaped}
+use Rattle.picture_page.specs.Seen.{Draws}
+use Rattle.picture_page.specs.declared.tag.Tag.TheVariants as tag
 use Rattle.picture_page.proofs.PageLemmas.{before_markup, shows_page}
-use Rattle.recorded_screen.specs.Picture.{lines_text}
-use Rattle.recorded_screen.proofs.PictureLemmas.{line_drawn}
+use Rattle.picture_page.proofs.SeenLemmas.{draws_both, draws_tag, seen_page}
+use Rattle.recorded_screen.specs.Picture.{font_lines, lines_text}
+use Rattle.recorded_screen.proofs.PictureLemmas.{font_line_seen, line_drawn}
 use Rattle.recorded_screen.proofs.picture.svg.Goals as goal
 
 pub loop-row-init : goal.loop-row-init
-loop-row-init c = subst (λ xs. Adds xs c.push_svg_head.new.page []) c.new-page.ensures c.in_ok-push_svg_head.ensures
+loop-row-init c = record {
+  adds = subst (λ xs. Adds xs c.push_svg_head.new.page []) c.new-page.ensures c.in_ok-push_svg_head.ensures.adds;
+  seen = subst (λ xs. Draws xs c.push_svg_head.new.page true true (codes "\n\n")) c.new-page.ensures
+      c.in_ok-push_svg_head.ensures.seen;
+}
 
 pub loop-row-preserved : goal.loop-row-preserved
-loop-row-preserved c =
-    line_drawn _ _ _ c.args.screen.now.state.shown c.loop-row.row c.loop-row.invariant c.in_ok-push_svg_line.ensures
+loop-row-preserved c = record {
+  adds = line_drawn _ _ _ c.args.screen.now.state.shown c.loop-row.row c.loop-row.invariant.adds
+      c.in_ok-push_svg_line.ensures.adds;
+  seen = font_line_seen _ _ _ c.args.screen.now.state.shown c.loop-row.row (codes "\n\n") c.loop-row.invariant.seen
+      c.in_ok-push_svg_line.ensures.seen;
+}
 
 pub returns-clause-text : goal.returns-clause-text
 returns-clause-text c =
     let g = c.args.screen.now.state.shown in
     let end : c.loop-row.row ≡ c.args.screen.now.state.shown.height = omega arith in
     shows_page [] _ _ _ refl c.into_bytes.ensures.bytes
-    (before_markup _ _ _ _ (subst (λ n. Adds [] c.loop-row.page (lines_text g n)) end c.loop-row.invariant)
-    c.in_ok-markup.ensures)
+    (before_markup _ _ _ _ (subst (λ n. Adds [] c.loop-row.page (lines_text g n)) end c.loop-row.invariant.adds)
+    c.in_ok-markup.ensures.adds)
+
+pub returns-clause-seen : goal.returns-clause-seen
+returns-clause-seen c =
+    let g = c.args.screen.now.state.shown in
+    let end : c.loop-row.row ≡ c.args.screen.now.state.shown.height = omega arith in
+    seen_page [] _ _ true _ refl c.into_bytes.ensures.bytes
+    (draws_both _ _ _ true true true _ _
+    (subst (λ n. Draws [] c.loop-row.page true true (codes "\n\n" ++ escaped (font_lines g n))) end
+    c.loop-row.invariant.seen)
+    (draws_tag _ _ tag.SvgFoot true true (codes "\n") refl refl c.in_ok-markup.ensures.bytes))
