@@ -1,5 +1,5 @@
 -- What a word ends as, where its object was lent.
-use Rattle.std.specs.Prelude.{Option, Some, None}
+use Rattle.std.specs.Prelude.{Option, Some}
 use Rattle.std.specs.Borrow.{Lends, LendsIf, MutBor, Fml}
 use Rattle.c_objects.specs.declared.object.Object.{Object}
 use Rattle.c_objects.specs.contracts.object.Object.{the_row as object_row}
