@@ -1,5 +1,5 @@
 -- What holds beside of calls from C.
-use Rattle.std.proofs.Common.{◌≡◌, ◌∙◌, ℕ, ℤ, List, [], ◌∷◌, ◌++◌, map, Option, None, Some, refl, sym, ap, subst}
+use Rattle.std.proofs.Common.{◌≡◌, ◌∙◌, ℕ, ℤ, List, [], ◌∷◌, ◌++◌, Option, None, refl, sym, ap, subst}
 use Rattle.std.specs.declared.io.Error.{Error}
 use Rattle.std.proofs.Common.{append_assoc}
 use Rattle.std.proofs.lemmas.List.Folds.{concat-append}
@@ -12,16 +12,15 @@ use Rattle.terminal_model.specs.Term.{Size, Term, shown_of}
 use Rattle.termview.specs.Seen.{seen}
 use Rattle.termview.specs.Standing.{HoldsAt, view_size, shown_by}
 use Rattle.termview.specs.Timeout.{until_cleared}
-use Rattle.termrelay.specs.Hub.{HubState, as_kept, clients_in}
+use Rattle.termrelay.specs.Hub.{clients_in}
 use Rattle.termrelay.specs.Answers.{ClientState}
 use Rattle.termrelay.specs.Calls.{Call}
 use Rattle.termrelay.specs.Log.{SessionView, LogView}
-use Rattle.termrelay.specs.declared.runs.call.Reply.{Reply}
 use Rattle.relay_theorem.specs.History.{Entry, Story, size_of_session, size_of_story}
 use Rattle.relay_theorem.specs.Judge.{IsShownRight, last_frame, texts}
 use Rattle.relay_theorem.specs.Headline.{NoSessionIsTorn, ReadsFrames, ReadsPrefix, whole_read}
 use Rattle.relay_theorem.specs.Isolation.{AreAlike, LoggedSessionsAreIsolated}
-use Rattle.relay_theorem.specs.Logged.{IsLogged, HasStory, LoggedFramesAreShown, WholeLoggedFramesAreShown}
+use Rattle.relay_theorem.specs.Logged.{IsLogged, HasStory, WholeLoggedFramesAreShown}
 use Rattle.c_objects.specs.Runs.{FromC, AreCallsOf, EachRunFromCIsLogged}
 use Rattle.c_objects.specs.Views.{ViewState, IsNewViewOf}
 use Rattle.c_objects.specs.declared.object.Object.{Object}
@@ -29,7 +28,7 @@ use Rattle.c_objects.specs.declared.object.Object.TheVariants.{Hub, View, Screen
 use Rattle.c_theorem.specs.Shown.{ViewReads}
 use Rattle.c_theorem.specs.Companions.{HandsTo, StoryFromC, ViewMoves, ShowsWhole, ShowTheSame, clients_of}
 use Rattle.c_theorem.specs.Companions.{WholeFramesFromCAreShown, NoFrameFromCIsTorn, SessionsFromCAreIsolated}
-use Rattle.c_theorem.proofs.ShownLemmas.{run-of, Reads, reads-of, size-is, IsLoggedRun}
+use Rattle.c_theorem.proofs.ShownLemmas.{run-of, reads-of, size-is, IsLoggedRun}
 
 -- ---- the run
 

@@ -1,5 +1,5 @@
 -- What is done to a word is done to its object.
-use Rattle.std.proofs.Common.{◌≡◌, ℕ, ℤ, List, [], ◌∷◌, ◌++◌, Option, Some, refl, subst}
+use Rattle.std.proofs.Common.{◌≡◌, ℕ, ℤ, List, [], ◌∷◌, Option, Some, refl, subst}
 use Rattle.vte.specs.Moves.{Move, Gives, Stops}
 use Rattle.termrelay.specs.Log.{SessionView}
 use Rattle.c_objects.specs.Runs.{FromC}

@@ -1,6 +1,6 @@
 //! A program's output as frames of its screen.
 
-ghost use Rattle.std.specs.Prelude.{◌≡◌, ℕ, ◌++◌, ◌∷◌, [], List, true, Err, None, OnOk, Option, IfSome};
+ghost use Rattle.std.specs.Prelude.{◌≡◌, ℕ, [], List, true, Err, None, OnOk, Option, IfSome};
 ghost use Rattle.std.specs.Io.KnownBytes.{Appends};
 ghost use Rattle.terminal_model.specs.Term.{Shown};
 ghost use Rattle.byte_streams.specs.Output.{TakesPrefix};
