@@ -45,7 +45,8 @@ pub fn html_block(alloc: Global, screen: &Screen, look: &Look) -> Result<Vec<u8>
 
 fn push_block(page: &mut Page, screen: &Screen, look: &Look) -> Result<(), AllocError>
     ensures adds { OnOk result (Adds page.old page.new (screen_text screen.now.state.shown)) }
-    ensures seen { OnOk result (Draws page.old page.new true true (block_seen (escaped (screen_text screen.now.state.shown)))) }
+    ensures seen { OnOk result (Draws page.old page.new true true
+        (block_seen (escaped (screen_text screen.now.state.shown)))) }
 {
     push_block_head(page, look)?;
     let (rows, _) = screen.size();

@@ -9,7 +9,7 @@ use Rattle.std.proofs.lemmas.Result.{on_ok_weaker}
 use Rattle.picture_page.specs.Page.{escaped}
 use Rattle.picture_page.specs.Seen.{Draws}
 use Rattle.vt100_cells.specs.Cell.{CellView}
-use Rattle.row_pictures.specs.Drawn.{are_drawn_so, begins_drawn, font_text, font_texts, is_drawn, is_drawn_at, is_drawn_so}
+use Rattle.row_pictures.specs.Drawn.{are_drawn_so, begins_drawn, font_texts, is_drawn, is_drawn_at, is_drawn_so}
 use Rattle.row_pictures.specs.Drawn.{is_run}
 use Rattle.row_pictures.specs.Text.{cell_text, row_text}
 

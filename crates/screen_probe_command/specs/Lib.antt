@@ -1,2 +1,3 @@
+pub mod Command
 pub mod Faults
 pub mod Words

@@ -1,12 +1,15 @@
 //! The state that a stream leaves.
 
+ghost use Rattle.std.specs.Prelude.{◌≡◌, true, IfErr};
+ghost use Rattle.screen_probe_command.specs.Command.{Does, Prints};
+ghost use Rattle.screen_probe_command.specs.Faults.{is_late};
+
 use crate::dump::push_screen;
 use crate::error::DumpError;
 use crate::stream::{flush, write_text};
-use byte_streams::FlushSink;
+use byte_streams::{FlushSink, Source};
 use command_line::read_all;
 use std::alloc::Global;
-use std::io::Read;
 use std::num::NonZeroU16;
 use vt100::{Parser, Screen};
 
@@ -30,19 +33,34 @@ pub struct Dump {
 /// that it leaves.
 ///
 /// A fault ends it. What was written by then stays written.
-pub fn dump_stream<R: Read, W: FlushSink>(
+pub fn dump_stream<R: Source, W: FlushSink>(
     alloc: Global,
     dump: Dump,
     input: &mut R,
     output: &mut W,
-) -> Result<(), DumpError> {
+) -> Result<(), DumpError>
+    ensures { Does R.gives W.takes W.flushes input.old output.old result input.new output.new }
+{
     let bytes = read_all(alloc, input)?;
-    let parser = parser_of(alloc, dump, &bytes)?;
+    dump_bytes(alloc, dump, &bytes, output)
+}
+
+fn dump_bytes<W: FlushSink>(
+    alloc: Global,
+    dump: Dump,
+    bytes: &[u8],
+    output: &mut W,
+) -> Result<(), DumpError>
+    ensures { Prints W.takes W.flushes output.old result output.new }
+{
+    let parser = parser_of(alloc, dump, bytes)?;
     write_screen(alloc, parser.screen(), output)
 }
 
 // A parser that has processed the stream, the last of so many.
-fn parser_of(alloc: Global, dump: Dump, bytes: &[u8]) -> Result<Parser<()>, DumpError> {
+fn parser_of(alloc: Global, dump: Dump, bytes: &[u8]) -> Result<Parser<()>, DumpError>
+    ensures { IfErr result (λ e. is_late e ≡ true) }
+{
     for _ in 1..dump.times {
         processed(alloc, dump, bytes)?;
     }
@@ -53,17 +71,23 @@ fn parser_of(alloc: Global, dump: Dump, bytes: &[u8]) -> Result<Parser<()>, Dump
     }
 }
 
-fn processed(alloc: Global, dump: Dump, bytes: &[u8]) -> Result<Parser<()>, DumpError> {
+fn processed(alloc: Global, dump: Dump, bytes: &[u8]) -> Result<Parser<()>, DumpError>
+    ensures { IfErr result (λ e. is_late e ≡ true) }
+{
     let mut parser = new_parser(alloc, dump)?;
     process(&mut parser, bytes)?;
     Ok(parser)
 }
 
-fn new_parser(alloc: Global, dump: Dump) -> Result<Parser<()>, DumpError> {
+fn new_parser(alloc: Global, dump: Dump) -> Result<Parser<()>, DumpError>
+    ensures { IfErr result (λ e. is_late e ≡ true) }
+{
     Ok(Parser::new(alloc, dump.rows, dump.cols, dump.capacity)?)
 }
 
-fn process(parser: &mut Parser<()>, bytes: &[u8]) -> Result<(), DumpError> {
+fn process(parser: &mut Parser<()>, bytes: &[u8]) -> Result<(), DumpError>
+    ensures { IfErr result (λ e. is_late e ≡ true) }
+{
     for piece in bytes.chunks(PIECE_LEN) {
         parser.process(piece)?;
     }
@@ -74,7 +98,9 @@ fn write_screen<W: FlushSink>(
     alloc: Global,
     screen: &Screen,
     output: &mut W,
-) -> Result<(), DumpError> {
+) -> Result<(), DumpError>
+    ensures { Prints W.takes W.flushes output.old result output.new }
+{
     let mut text = String::new(alloc);
     push_screen(&mut text, screen)?;
     write_text(output, &text)?;

@@ -1,14 +1,17 @@
 //! Scripts of calls on a parser and its screen.
 
+ghost use Rattle.std.specs.Prelude.{◌≡◌, true, IfErr};
+ghost use Rattle.screen_probe_command.specs.Command.{AnswersLine, Does, Prints};
+ghost use Rattle.screen_probe_command.specs.Faults.{is_late};
+
 use crate::dump::push_screen;
 use crate::error::DumpError;
 use crate::hex_digits::digit_value;
 use crate::stream::{flush, write_text};
 use crate::texts::{push_check, push_diffs, push_rows, push_text, push_texts};
-use byte_streams::FlushSink;
+use byte_streams::{FlushSink, Source};
 use command_line::read_all;
 use std::alloc::Global;
-use std::io::Read;
 use std::num::NonZeroU16;
 use std::str::SplitWhitespace;
 use vt100::{Parser, Screen};
@@ -59,7 +62,9 @@ enum Question {
 }
 
 /// Reads a line of a script. What comes after ` #`, and words past those that are wanted, don't count.
-fn parse_step(alloc: Global, line: &str) -> Result<ScriptLine, DumpError> {
+fn parse_step(alloc: Global, line: &str) -> Result<ScriptLine, DumpError>
+    ensures { IfErr result (λ e. is_late e ≡ true) }
+{
     let line = match line.split_once(" #") {
         Some((line, _)) => line,
         None => line,
@@ -76,7 +81,9 @@ fn parse_step(alloc: Global, line: &str) -> Result<ScriptLine, DumpError> {
 }
 
 // A name, and the numbers that follow it.
-fn parse_call(name: &str, words: &mut SplitWhitespace<'_>) -> Result<ScriptLine, DumpError> {
+fn parse_call(name: &str, words: &mut SplitWhitespace<'_>) -> Result<ScriptLine, DumpError>
+    ensures { IfErr result (λ e. is_late e ≡ true) }
+{
     match name {
         "new" => Ok(ScriptLine::New(size(words)?, size(words)?, number(words)?)),
         "resize" => Ok(ScriptLine::Resize(size(words)?, size(words)?)),
@@ -89,7 +96,9 @@ fn parse_call(name: &str, words: &mut SplitWhitespace<'_>) -> Result<ScriptLine,
 }
 
 // A question, and the numbers that follow it.
-fn parse_question(name: &str, words: &mut SplitWhitespace<'_>) -> Result<Question, DumpError> {
+fn parse_question(name: &str, words: &mut SplitWhitespace<'_>) -> Result<Question, DumpError>
+    ensures { IfErr result (λ e. is_late e ≡ true) }
+{
     match name {
         "dump" => Ok(Question::Dump),
         "texts" => Ok(Question::Texts),
@@ -105,7 +114,9 @@ fn parse_question(name: &str, words: &mut SplitWhitespace<'_>) -> Result<Questio
 }
 
 // A question for each row, about these columns.
-fn parse_rows(name: &str, words: &mut SplitWhitespace<'_>) -> Result<Question, DumpError> {
+fn parse_rows(name: &str, words: &mut SplitWhitespace<'_>) -> Result<Question, DumpError>
+    ensures { IfErr result (λ e. is_late e ≡ true) }
+{
     let (start, width) = places(words)?;
     match name {
         "rows" => Ok(Question::Rows(start, width)),
@@ -115,31 +126,41 @@ fn parse_rows(name: &str, words: &mut SplitWhitespace<'_>) -> Result<Question, D
     }
 }
 
-fn places(words: &mut SplitWhitespace<'_>) -> Result<(u16, u16), DumpError> {
+fn places(words: &mut SplitWhitespace<'_>) -> Result<(u16, u16), DumpError>
+    ensures { IfErr result (λ e. is_late e ≡ true) }
+{
     Ok((place(words)?, place(words)?))
 }
 
 // A row, a column or a count of them.
-fn place(words: &mut SplitWhitespace<'_>) -> Result<u16, DumpError> {
+fn place(words: &mut SplitWhitespace<'_>) -> Result<u16, DumpError>
+    ensures { IfErr result (λ e. is_late e ≡ true) }
+{
     let Some(word) = words.next() else {
         return Err(DumpError::Script);
     };
     word.parse::<u16>().map_err(|_| DumpError::Script)
 }
 
-fn number(words: &mut SplitWhitespace<'_>) -> Result<usize, DumpError> {
+fn number(words: &mut SplitWhitespace<'_>) -> Result<usize, DumpError>
+    ensures { IfErr result (λ e. is_late e ≡ true) }
+{
     let Some(word) = words.next() else {
         return Err(DumpError::Script);
     };
     word.parse::<usize>().map_err(|_| DumpError::Script)
 }
 
-fn size(words: &mut SplitWhitespace<'_>) -> Result<NonZeroU16, DumpError> {
+fn size(words: &mut SplitWhitespace<'_>) -> Result<NonZeroU16, DumpError>
+    ensures { IfErr result (λ e. is_late e ≡ true) }
+{
     NonZeroU16::new(place(words)?).ok_or(DumpError::Script)
 }
 
 // The bytes of these hexadecimal digits, two for each.
-fn unhex(alloc: Global, digits: &str) -> Result<Vec<u8>, DumpError> {
+fn unhex(alloc: Global, digits: &str) -> Result<Vec<u8>, DumpError>
+    ensures { IfErr result (λ e. is_late e ≡ true) }
+{
     let mut bytes = Vec::new(alloc);
     for pair in digits.as_bytes().chunks(2) {
         let Some(byte) = byte_of(pair) else {
@@ -161,19 +182,29 @@ fn byte_of(pair: &[u8]) -> Option<u8> {
 /// columns that keeps no rows.
 ///
 /// A fault ends it. What was written by then stays written.
-pub fn run_script<R: Read, W: FlushSink>(
+pub fn run_script<R: Source, W: FlushSink>(
     alloc: Global,
     input: &mut R,
     output: &mut W,
-) -> Result<(), DumpError> {
+) -> Result<(), DumpError>
+    ensures { Does R.gives W.takes W.flushes input.old output.old result input.new output.new }
+{
     let bytes = read_all(alloc, input)?;
-    match str::from_utf8(&bytes) {
+    play_bytes(alloc, &bytes, output)
+}
+
+fn play_bytes<W: FlushSink>(alloc: Global, bytes: &[u8], output: &mut W) -> Result<(), DumpError>
+    ensures { Prints W.takes W.flushes output.old result output.new }
+{
+    match str::from_utf8(bytes) {
         Ok(script) => play(alloc, script, output),
         Err(_) => Err(DumpError::Script),
     }
 }
 
-fn play<W: FlushSink>(alloc: Global, script: &str, output: &mut W) -> Result<(), DumpError> {
+fn play<W: FlushSink>(alloc: Global, script: &str, output: &mut W) -> Result<(), DumpError>
+    ensures { Prints W.takes W.flushes output.old result output.new }
+{
     let mut replay = Replay::new(alloc)?;
     replay.take_lines(script, output)
 }
@@ -187,7 +218,9 @@ struct Replay {
 }
 
 impl Replay {
-    fn new(alloc: Global) -> Result<Replay, DumpError> {
+    fn new(alloc: Global) -> Result<Replay, DumpError>
+        ensures { IfErr result (λ e. is_late e ≡ true) }
+    {
         let parser = Parser::new_default(alloc)?;
         let base = parser.screen().clone()?;
         Ok(Replay {
@@ -197,7 +230,9 @@ impl Replay {
         })
     }
 
-    fn take_lines<W: FlushSink>(&mut self, script: &str, output: &mut W) -> Result<(), DumpError> {
+    fn take_lines<W: FlushSink>(&mut self, script: &str, output: &mut W) -> Result<(), DumpError>
+        ensures { Prints W.takes W.flushes output.old result output.new }
+    {
         let mut answer = String::new(self.alloc);
         for line in script.lines() {
             self.answer_line(line, &mut answer, output)?;
@@ -210,19 +245,25 @@ impl Replay {
         line: &str,
         answer: &mut String,
         output: &mut W,
-    ) -> Result<(), DumpError> {
+    ) -> Result<(), DumpError>
+        ensures { AnswersLine W.takes output.old result output.new }
+    {
         answer.clear();
         self.take_line(line, answer)?;
         write_text(output, answer)
     }
 
     // Takes the step of a line, and appends its answer.
-    fn take_line(&mut self, line: &str, answer: &mut String) -> Result<(), DumpError> {
+    fn take_line(&mut self, line: &str, answer: &mut String) -> Result<(), DumpError>
+        ensures { IfErr result (λ e. is_late e ≡ true) }
+    {
         let step = parse_step(self.alloc, line)?;
         self.take_step(&step, answer)
     }
 
-    fn take_step(&mut self, step: &ScriptLine, answer: &mut String) -> Result<(), DumpError> {
+    fn take_step(&mut self, step: &ScriptLine, answer: &mut String) -> Result<(), DumpError>
+        ensures { IfErr result (λ e. is_late e ≡ true) }
+    {
         let Replay {
             alloc,
             parser,
@@ -247,7 +288,9 @@ impl Replay {
     }
 
     // Appends the answer to a question.
-    fn tell(&self, question: Question, answer: &mut String) -> Result<(), DumpError> {
+    fn tell(&self, question: Question, answer: &mut String) -> Result<(), DumpError>
+        ensures { IfErr result (λ e. is_late e ≡ true) }
+    {
         let (screen, base) = (self.parser.screen(), &self.base);
         match question {
             Question::Dump => push_screen(answer, screen)?,

@@ -1,22 +1,25 @@
 //! Whole output.
 
-ghost use Rattle.std.specs.Prelude.{◌≡◌, IfErr};
-ghost use Rattle.screen_probe_command.specs.declared.error.DumpError.TheVariants as error;
+ghost use Rattle.screen_probe_command.specs.Command.{Flushes, Writes};
 
 use crate::error::DumpError;
 use byte_streams::{FlushSink, pump};
 
 /// Writes the whole text.
 pub(crate) fn write_text<W: FlushSink>(output: &mut W, text: &str) -> Result<(), DumpError>
-    ensures fault { IfErr result (λ e. e ≡ error.Write) }
+    ensures { Writes W.takes output.old text.now result output.new }
 {
-    pump(text.as_bytes(), output)
-        .1
-        .map_err(|_| DumpError::Write)
+    match pump(text.as_bytes(), output).1 {
+        Ok(()) => Ok(()),
+        Err(_) => Err(DumpError::Write),
+    }
 }
 
 pub(crate) fn flush<W: FlushSink>(output: &mut W) -> Result<(), DumpError>
-    ensures fault { IfErr result (λ e. e ≡ error.Write) }
+    ensures { Flushes W.flushes output.old result output.new }
 {
-    output.finish().map_err(|_| DumpError::Write)
+    match output.finish() {
+        Ok(()) => Ok(()),
+        Err(_) => Err(DumpError::Write),
+    }
 }

@@ -1,5 +1,8 @@
 //! The texts of a screen, a line each, and what another screen makes of them.
 
+ghost use Rattle.std.specs.Prelude.{◌≡◌, true, IfErr};
+ghost use Rattle.screen_probe_command.specs.Faults.{is_late};
+
 use crate::dump::push_screen;
 use crate::error::DumpError;
 use crate::hex_digits::push_hex;
@@ -52,7 +55,9 @@ fn text_of(screen: &Screen, text: Text) -> Result<String, ScreenError> {
 /// ```
 ///
 /// The names are those of the calls.
-pub(crate) fn push_texts(out: &mut String, screen: &Screen) -> Result<(), DumpError> {
+pub(crate) fn push_texts(out: &mut String, screen: &Screen) -> Result<(), DumpError>
+    ensures { IfErr result (λ e. is_late e ≡ true) }
+{
     for (name, text) in TEXTS {
         push_text(out, name, text_of(screen, *text)?)?;
     }
@@ -72,11 +77,9 @@ pub(crate) fn push_texts(out: &mut String, screen: &Screen) -> Result<(), DumpEr
 /// diff NAME TEXT
 /// row_diff ROW TEXT
 /// ```
-pub(crate) fn push_diffs(
-    out: &mut String,
-    screen: &Screen,
-    base: &Screen,
-) -> Result<(), DumpError> {
+pub(crate) fn push_diffs(out: &mut String, screen: &Screen, base: &Screen) -> Result<(), DumpError>
+    ensures { IfErr result (λ e. is_late e ≡ true) }
+{
     push_text(out, "diff state_diff", screen.state_diff(base)?)?;
     push_text(out, "diff contents_diff", screen.contents_diff(base)?)?;
     push_text(out, "diff input_mode_diff", screen.input_mode_diff(base)?)?;
@@ -95,7 +98,9 @@ pub(crate) fn push_rows(
     screen: &Screen,
     name: &str,
     mut texts: Rows<'_>,
-) -> Result<(), DumpError> {
+) -> Result<(), DumpError>
+    ensures { IfErr result (λ e. is_late e ≡ true) }
+{
     let (rows, _) = screen.size();
     for i in 0..rows.get() {
         let Some(text) = texts.next() else {
@@ -108,13 +113,17 @@ pub(crate) fn push_rows(
 }
 
 /// A line: a name, and a text in hexadecimal digits.
-pub(crate) fn push_text(out: &mut String, name: &str, text: String) -> Result<(), DumpError> {
+pub(crate) fn push_text(out: &mut String, name: &str, text: String) -> Result<(), DumpError>
+    ensures { IfErr result (λ e. is_late e ≡ true) }
+{
     write!(out, "{name} ")?;
     push_rest(out, &text)
 }
 
 // A text in hexadecimal digits, and the line's end.
-fn push_rest(out: &mut String, text: &str) -> Result<(), DumpError> {
+fn push_rest(out: &mut String, text: &str) -> Result<(), DumpError>
+    ensures { IfErr result (λ e. is_late e ≡ true) }
+{
     push_hex(out, text.as_bytes())?;
     out.push('\n')?;
     Ok(())
@@ -134,12 +143,16 @@ pub(crate) fn push_check(
     out: &mut String,
     screen: &Screen,
     base: &Screen,
-) -> Result<(), DumpError> {
+) -> Result<(), DumpError>
+    ensures { IfErr result (λ e. is_late e ≡ true) }
+{
     push_redraw_check(alloc, out, screen)?;
     push_difference_check(alloc, out, screen, base)
 }
 
-fn push_redraw_check(alloc: Global, out: &mut String, screen: &Screen) -> Result<(), DumpError> {
+fn push_redraw_check(alloc: Global, out: &mut String, screen: &Screen) -> Result<(), DumpError>
+    ensures { IfErr result (λ e. is_late e ≡ true) }
+{
     let reader = reader_of(alloc, screen, screen)?;
     push_answer(alloc, out, "redraw", screen, reader.screen())
 }
@@ -149,30 +162,34 @@ fn push_difference_check(
     out: &mut String,
     screen: &Screen,
     base: &Screen,
-) -> Result<(), DumpError> {
+) -> Result<(), DumpError>
+    ensures { IfErr result (λ e. is_late e ≡ true) }
+{
     let mut reader = reader_of(alloc, screen, base)?;
     read_difference(&mut reader, screen, base)?;
     push_answer(alloc, out, "difference", screen, reader.screen())
 }
 
 // A fresh terminal of the screen's size that has read the redraw of `shown`.
-fn reader_of(alloc: Global, screen: &Screen, shown: &Screen) -> Result<Parser<()>, DumpError> {
+fn reader_of(alloc: Global, screen: &Screen, shown: &Screen) -> Result<Parser<()>, DumpError>
+    ensures { IfErr result (λ e. is_late e ≡ true) }
+{
     let (rows, cols) = screen.size();
     let mut reader = Parser::new(alloc, rows, cols, 0)?;
     read_redraw(&mut reader, shown)?;
     Ok(reader)
 }
 
-fn read_redraw(reader: &mut Parser<()>, screen: &Screen) -> Result<(), DumpError> {
+fn read_redraw(reader: &mut Parser<()>, screen: &Screen) -> Result<(), DumpError>
+    ensures { IfErr result (λ e. is_late e ≡ true) }
+{
     reader.process(screen.state_formatted()?.as_bytes())?;
     Ok(())
 }
 
-fn read_difference(
-    reader: &mut Parser<()>,
-    screen: &Screen,
-    base: &Screen,
-) -> Result<(), DumpError> {
+fn read_difference(reader: &mut Parser<()>, screen: &Screen, base: &Screen) -> Result<(), DumpError>
+    ensures { IfErr result (λ e. is_late e ≡ true) }
+{
     reader.process(screen.state_diff(base)?.as_bytes())?;
     Ok(())
 }
@@ -183,13 +200,17 @@ fn push_answer(
     name: &str,
     screen: &Screen,
     reader: &Screen,
-) -> Result<(), DumpError> {
+) -> Result<(), DumpError>
+    ensures { IfErr result (λ e. is_late e ≡ true) }
+{
     let wanted = picture_of(alloc, screen)?;
     let got = picture_of(alloc, reader)?;
     push_comparison(out, name, &wanted, &got)
 }
 
-fn push_comparison(out: &mut String, name: &str, wanted: &str, got: &str) -> Result<(), DumpError> {
+fn push_comparison(out: &mut String, name: &str, wanted: &str, got: &str) -> Result<(), DumpError>
+    ensures { IfErr result (λ e. is_late e ≡ true) }
+{
     if wanted == got {
         writeln!(out, "check {name} same")?;
         return Ok(());
@@ -200,7 +221,9 @@ fn push_comparison(out: &mut String, name: &str, wanted: &str, got: &str) -> Res
 }
 
 // The lines of a screen's dump without the modes, which a redraw doesn't set all, and the kept rows.
-fn picture_of(alloc: Global, screen: &Screen) -> Result<String, DumpError> {
+fn picture_of(alloc: Global, screen: &Screen) -> Result<String, DumpError>
+    ensures { IfErr result (λ e. is_late e ≡ true) }
+{
     let mut dump = String::new(alloc);
     push_screen(&mut dump, screen)?;
     let mut picture = String::new(alloc);
@@ -208,7 +231,9 @@ fn picture_of(alloc: Global, screen: &Screen) -> Result<String, DumpError> {
     Ok(picture)
 }
 
-fn push_picture(out: &mut String, dump: &str) -> Result<(), DumpError> {
+fn push_picture(out: &mut String, dump: &str) -> Result<(), DumpError>
+    ensures { IfErr result (λ e. is_late e ≡ true) }
+{
     for line in dump.lines() {
         if !line.starts_with("scrollback") && !line.starts_with("modes") && line != "updating" {
             writeln!(out, "{line}")?;
@@ -218,7 +243,9 @@ fn push_picture(out: &mut String, dump: &str) -> Result<(), DumpError> {
 }
 
 // The lines of one dump that another one hasn't.
-fn push_missing(out: &mut String, name: &str, dump: &str, other: &str) -> Result<(), DumpError> {
+fn push_missing(out: &mut String, name: &str, dump: &str, other: &str) -> Result<(), DumpError>
+    ensures { IfErr result (λ e. is_late e ≡ true) }
+{
     for line in dump.lines() {
         if !other.lines().any(|l| l == line) {
             writeln!(out, "  {name} {line}")?;

@@ -20,7 +20,8 @@ returns-clause-seen c =
     (if_drawn_after _ _ _ _ _ _ _ _
     (draws_tag _ _ tag.Monospace false false [] refl refl c.in_ok-markup-2.ensures.bytes)
     (if_drawn_after _ _ _ _ _ _ _ _
-    (draws_numbers _ _ false (tag.Width, _) ((tag.Height, _) ∷ (tag.ViewBox, _) ∷ (tag.Space, _) ∷ []) refl refl c.in_ok-numbers.ensures.bytes)
+    (draws_numbers _ _ false (tag.Width, _) ((tag.Height, _) ∷ (tag.ViewBox, _) ∷ (tag.Space, _) ∷ []) refl refl
+    c.in_ok-numbers.ensures.bytes)
     (if_drawn _ _ _ _ _ _ _ (codes "\n") (codes "\n")
     (draws_tag _ _ tag.SvgRows false true (codes "\n") refl refl c.in_ok-markup-3.ensures.bytes)
     (if_drawn_after _ _ _ _ _ _ _ _ c.in_ok-push_rect.ensures.seen

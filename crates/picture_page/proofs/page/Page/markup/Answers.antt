@@ -7,5 +7,6 @@ invariant_of-self-2 c =
     rw c.in_ok-extend_from_slice.ensures.items (grown _ _ (Markup c.args.tag) c.self.invariant c.bytes.ensures)
 
 pub returns-clause-adds : goal.returns-clause-adds
-returns-clause-adds c = rw (c.in_ok-extend_from_slice.ensures.items, ← c.self.view_is) (adds_part _ _ (Markup c.args.tag)
-    c.bytes.ensures)
+returns-clause-adds c =
+    rw (c.in_ok-extend_from_slice.ensures.items, ← c.self.view_is)
+    (adds_part _ _ (Markup c.args.tag) c.bytes.ensures)

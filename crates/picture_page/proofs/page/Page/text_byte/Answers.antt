@@ -1,4 +1,5 @@
-use Rattle.picture_page.proofs.PageLemmas.{escaped_as_byte, escaped_as_reference, adds_byte, adds_reference, grown_by_byte, grown_by_reference}
+use Rattle.picture_page.proofs.PageLemmas.{escaped_as_byte, escaped_as_reference, adds_byte}
+use Rattle.picture_page.proofs.PageLemmas.{adds_reference, grown_by_byte, grown_by_reference}
 use Rattle.picture_page.proofs.page.Page.text_byte.Goals as goal
 
 pub invariant_of-self-in-Some : goal.invariant_of-self-in-Some

@@ -1,0 +1,13 @@
+use Rattle.std.proofs.Common.{◌≡◌, rules, Err}
+use Rattle.screen_probe_command.specs.Command.{broken, done}
+use Rattle.screen_probe_command.specs.Faults.{input_fault}
+use Rattle.screen_probe_command.proofs.dumping.dump_stream.Goals as goal
+
+pub returns-in_err-bytes : goal.returns-in_err-bytes
+returns-in_err-bytes g c =
+    let e = c.in_err-bytes.field-0.0 in
+    let lost = c.in_err-bytes.ensures.faults in
+    let is : c.from_residual.result ≡ Err (input_fault e) = search rules in rw is (broken e lost.0 lost.1)
+
+pub returns : goal.returns
+returns g c = done c.in_ok-bytes.bytes.items c.in_ok-bytes.ensures.reads c.dump_bytes.ensures
