@@ -9,6 +9,6 @@ returns c =
     subst (λ cells. OnOk c.end_row.result (Adds c.args.page.now c.end_row.new.self (row_text cells ++ 10 ∷ [])))
     c.cells_of.ensures
     (if_both _ _ _ _ _ _
-    (after_markup _ _ _ _ c.in_ok-markup.ensures
-    (before_markup _ _ _ _ c.in_ok-push_html_row.ensures c.in_ok-markup-2.ensures))
-    c.end_row.ensures)
+    (after_markup _ _ _ _ c.in_ok-markup.ensures.adds
+    (before_markup _ _ _ _ c.in_ok-push_html_row.ensures.adds c.in_ok-markup-2.ensures.adds))
+    c.end_row.ensures.adds)
