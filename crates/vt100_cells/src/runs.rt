@@ -8,8 +8,8 @@ use crate::char3::{Char3, split_common_narrow, split_common_wide};
 use crate::width::columns;
 use arrayvec::ArrayVec;
 
-/// How many characters a run has at most. Room for them is made anew for each run, and the runs of `boxes`, by which
-/// `./speed --texts` measures it, are short. With room for 64 they take 3 % more instructions, and in a view 8 %.
+/// How many characters a run has at most. Room for them is made anew for each run. `docs/SPEED.md` has what room for 64
+/// costs and gains, by `./speed --texts`.
 #[doc(hidden)]
 pub const RUN_LEN: usize = 32;
 
