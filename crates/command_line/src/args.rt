@@ -1,6 +1,6 @@
 //! The words after a program's name.
 
-ghost use Rattle.std.specs.Prelude.{◌≡◌, ◌≢◌, [], map, drop, IfOk, IfErr, OnErr, Err};
+ghost use Rattle.std.specs.Prelude.{◌≡◌, ◌≢◌, [], map, drop, IfOk, IfErr, IsOk, OnErr, Err};
 ghost use Rattle.std.specs.IoError.{error_kind};
 ghost use Rattle.std.specs.String.{string_bytes};
 ghost use Rattle.std.specs.Vec.{vec_items};
@@ -39,8 +39,11 @@ fn after_first(alloc: Global, args: Args) -> Result<Vec<String>, AllocError>
 }
 
 /// The words, lent.
+///
+/// No words need no memory.
 pub fn lend<'a>(alloc: Global, words: &'a [String]) -> Result<Vec<&'a str>, AllocError>
-    ensures { IfOk result (λ lent. map (λ w. w.now) (vec_items lent) ≡ map string_bytes words.now) }
+    ensures lent { IfOk result (λ lent. map (λ w. w.now) (vec_items lent) ≡ map string_bytes words.now) }
+    ensures none { words.now ≡ [] → IsOk result }
 {
     let mut lent = Vec::new(alloc);
     for word in words {
@@ -51,7 +54,7 @@ pub fn lend<'a>(alloc: Global, words: &'a [String]) -> Result<Vec<&'a str>, Allo
 
 /// Does something to a state with the words after a program's name, and answers what that gives.
 ///
-/// They are what [`words_of`] makes of `args`, lent. Where memory is refused before, or `args` is another fault,
+/// They are what [`words_of`] makes of `args`, lent. Where memory for them is refused, or `args` is another fault,
 /// nothing is done and the state stays as it was.
 pub fn with_words<S, F: FnOnce(&mut S, &[&str]) -> u8>(
     alloc: Global,
@@ -63,8 +66,7 @@ pub fn with_words<S, F: FnOnce(&mut S, &[&str]) -> u8>(
     ensures given { IfOk args (λ all. IfOk result (λ status. ReturnsWith F.FnOnce act state.old
         (map string_bytes (drop 1 (into_iter_items all))) status state.new)) }
     ensures not_text { IfErr args (λ e. error_kind e ≡ InvalidData
-        → IfOk result (λ status. ReturnsWith F.FnOnce act state.old [] status state.new)
-        × IfErr result (λ e. error_kind e ≡ OutOfMemory)) }
+        → IfOk result (λ status. ReturnsWith F.FnOnce act state.old [] status state.new) × OnErr result ⊥) }
     ensures other { IfErr args (λ e. error_kind e ≢ InvalidData → result ≡ Err e) }
     ensures memory { IfOk args (λ all. IfErr result (λ e. error_kind e ≡ OutOfMemory)) }
     ensures undone { OnErr result (state.new ≡ state.old) }

@@ -18,7 +18,7 @@ use std::process::ExitCode;
 /// Runs a command on a state, such as a program's input and outputs, with the words after the program's name, as
 /// [`with_words`] does, and answers its exit status.
 ///
-/// Where the words can't be had, as when memory is refused, `refuse` is run in its place.
+/// Where memory for the words is refused, or they can't be had for another reason, `refuse` is run in its place.
 pub fn run<S, F: FnOnce(&mut S, &[&str]) -> u8, G: FnOnce(&mut S) -> u8>(
     alloc: Global,
     args: io::Result<Args>,
@@ -33,8 +33,7 @@ pub fn run<S, F: FnOnce(&mut S, &[&str]) -> u8, G: FnOnce(&mut S) -> u8>(
         (exit_status result) state.new
         ⊎ FnOnceReturnsAtMut G.FnOnce refuse state.old (exit_status result) state.new) }
     ensures not_text { IfErr args (λ e. error_kind e ≡ InvalidData
-        → ReturnsWith F.FnOnce command state.old [] (exit_status result) state.new
-        ⊎ FnOnceReturnsAtMut G.FnOnce refuse state.old (exit_status result) state.new) }
+        → ReturnsWith F.FnOnce command state.old [] (exit_status result) state.new) }
     ensures other { IfErr args (λ e. error_kind e ≢ InvalidData
         → FnOnceReturnsAtMut G.FnOnce refuse state.old (exit_status result) state.new) }
 {

@@ -21,7 +21,7 @@ use byte_streams::{ByteSink, pump};
 use std::alloc::Global;
 use std::io;
 use std::marker::Model;
-use std::rc::Rc;
+use std::sync::Arc;
 use vt100::Screen;
 
 /// The bytes that begin a synchronized update: private mode 2026 set (`CSI ? 2026 h`).
@@ -51,7 +51,7 @@ fn unsure_or(unsure: bool, answer: Answer) -> Answer
 #[derive(Drop)]
 pub(crate) struct Base {
     /// A copy of the screen.
-    screen: Rc<Screen>,
+    screen: Arc<Screen>,
     /// Whether it shows U+FE0F, about whose width terminals disagree.
     unsure: bool,
 }
@@ -70,7 +70,7 @@ impl Model for Base {
 
 impl Base {
     /// `unsure` says whether the screen shows U+FE0F.
-    pub(crate) fn new(screen: Rc<Screen>, unsure: bool) -> Self
+    pub(crate) fn new(screen: Arc<Screen>, unsure: bool) -> Self
         requires { unsure ≡ is_unsure_screen screen.value }
         ensures { result ≡ screen.value }
     {
@@ -85,7 +85,7 @@ impl Base {
 
     /// The screen, unless somebody else has it too.
     pub(crate) fn into_screen(self) -> Option<Screen> {
-        Rc::into_inner(self.screen)
+        Arc::into_inner(self.screen)
     }
 }
 

@@ -17,7 +17,7 @@ use slab::Slab;
 use std::alloc::Global;
 use std::marker::Model;
 use std::num::NonZeroU16;
-use std::rc::Rc;
+use std::sync::Arc;
 use vt100::{Parser, Screen};
 
 /// One program's screen, and clients that are sent frames of it.
@@ -32,7 +32,7 @@ pub struct Hub {
     parser: Parser<()>,
     clients: Slab<ClientRecord>,
     /// A copy of what the present screen shows, if one was made since the last change.
-    present: Option<Rc<Screen>>,
+    present: Option<Arc<Screen>>,
     /// A copy that no client needs any more. The next one is made in its memory.
     spare: Option<Screen>,
     alloc: Global,
@@ -246,10 +246,10 @@ impl Hub {
 /// `spare`, if there is any.
 fn base_of(
     screen: &Screen,
-    present: &Option<Rc<Screen>>,
+    present: &Option<Arc<Screen>>,
     spare: &mut Option<Screen>,
     alloc: Global,
-) -> Result<Rc<Screen>, HubError>
+) -> Result<Arc<Screen>, HubError>
     requires { IfSome present.now (λ base. base.value ≡ copy_of screen.now) }
     ensures base { IfOk result (λ base. base.value ≡ copy_of screen.now) }
     ensures memory { OnErr result (result ≡ Err Memory) }
@@ -264,7 +264,7 @@ fn base_of(
         }
         None => screen.clone_shown()?,
     };
-    match Rc::new(alloc, copy) {
+    match Arc::new(alloc, copy) {
         Ok(base) => Ok(base),
         Err(_) => Err(HubError::Memory),
     }

@@ -13,6 +13,7 @@ pub mod WriteLemmas
 pub mod RowTexts
 pub mod FormLists
 pub mod ShortLists
+pub mod RefusedWrites
 pub mod RenewLemmas
 pub mod CopyLemmas
 mod LendTwo

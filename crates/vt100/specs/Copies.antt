@@ -1,11 +1,11 @@
 -- A screen of what another one shows, and whether two screens show the same.
-use Rattle.std.specs.Prelude.{◌≡◌, ◌==◌, ◌&&◌, Bool, false}
+use Rattle.std.specs.Prelude.{◌≡◌, ◌==◌, ◌&&◌, Bool, true, false}
 use Rattle.vt100_forms.specs.Attrs.{attrs_eq}
 use Rattle.vt100_forms.specs.Form.{mouse_number, encoding_number, style_number}
 use Rattle.vt100_cells.specs.Cell.{bool_eq}
 use Rattle.terminal_model.specs.Term.{Modes}
 use Rattle.vt100_core.specs.Grid.{new_grid}
-use Rattle.vt100_core.specs.Copy.{without_kept}
+use Rattle.vt100_core.specs.Copy.{AreDrawnAlike, without_kept}
 use Rattle.vt100_core.specs.Picture.{grid_size}
 use Rattle.vt100_core.specs.declared.scrollback.Scrollback.TheVariants.{Disabled}
 use Rattle.screen_model.specs.State.{State}
@@ -36,6 +36,12 @@ abbrev pub same_extras : State → State → Bool
 same_extras s t =
     bool_eq s.hidden t.hidden && ((style_number s.style == style_number t.style)
     && (same_modes s.modes t.modes && attrs_eq s.attrs t.attrs))
+
+-- two screens have one size, the same rows that are drawn on, cursor, attributes, input modes and cursor style, whatever
+-- kept rows they show
+pub record DrawTheSame (s t : State) : Type 0 where
+  pub drawn : AreDrawnAlike s.shown t.shown
+  pub extras : same_extras s t ≡ true
 
 -- two screens have one size and show the same
 pub record ShowTheSame (s t : State) : Type 0 where

@@ -4,6 +4,7 @@ use Rattle.std.specs.Prelude.{String, string_bytes}
 use Rattle.vt100_forms.specs.Form.{Form, bytes_of}
 use Rattle.terminal_model.specs.Term.{Size, Shown}
 use Rattle.vt100_core.specs.Picture.{grid_size}
+use Rattle.vt100_core.specs.Writers.{RefusedForms}
 use Rattle.screen_model.specs.State.{State, IsState}
 use Rattle.screen_model.specs.Shown.{shown_state}
 use Rattle.vt100.specs.WriterLaws.{IsUnscrolled, IsPlainlyShown}
@@ -69,18 +70,20 @@ module _ {Z : Type 0} where
 
   -- ---- texts that are appended
 
-  -- it is appended to a text, unless there is no memory for it
+  -- it is appended to a text, unless it doesn't fit in the text's capacity and there is no memory for more
   pub record AppendsRedraw (forms : State → List Form) (pictured : Size → Shown → List Form) (more : ℕ) (s : State)
       (before : String Z) (result : Result (Unit {0}) ScreenError) (after : String Z) : Type 0 where
     pub text : OnOk result (string_bytes after ≡ string_bytes before ++ bytes_of (forms s))
     pub redraw : IsRedraw forms pictured more s (bytes_of (forms s))
     pub memory : OnErr result (result ≡ Err Memory)
+    pub refused : OnErr result (RefusedForms (forms s) before after)
 
-  -- it is appended to a text, unless there is no memory for it; an empty one takes none
+  -- it is appended to a text, unless it doesn't fit in the text's capacity and there is no memory for more
   pub record AppendsDifference (forms : State → State → List Form) (pictured : Size → Shown → Shown → List Form)
       (more : ℕ) (old new : State) (before : String Z) (result : Result (Unit {0}) ScreenError) (after : String Z)
       : Type 0 where
     pub text : OnOk result (string_bytes after ≡ string_bytes before ++ bytes_of (forms old new))
     pub difference : IsDifference forms pictured more old new (bytes_of (forms old new))
     pub memory : OnErr result (result ≡ Err Memory)
+    pub refused : OnErr result (RefusedForms (forms old new) before after)
     pub empty : bytes_of (forms old new) ≡ [] → IsOk result

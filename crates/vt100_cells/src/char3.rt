@@ -119,7 +119,7 @@ fn begins_three_bytes(text: &str) -> bool
 }
 
 /// Whether a text begins with a wide character of three bytes, of a common script.
-// Nearly always its first byte tells.
+// Nearly always its first byte tells, whether it does or not.
 #[inline(always)]
 fn begins_common_wide(text: &str) -> bool
     ensures begins { IsTrue result → BeginsThreeBytes text.now }
@@ -129,8 +129,16 @@ fn begins_common_wide(text: &str) -> bool
 {
     match text.as_bytes() {
         [0xE4..=0xE9 | 0xEB | 0xEC, ..] => true,
-        _ => begins_three_bytes(text) && is_common_wide(code_of_three(text)),
+        _ => {
+            may_begin_wide(text) && begins_three_bytes(text) && is_common_wide(code_of_three(text))
+        }
     }
+}
+
+/// Whether a text begins with a byte that some wide characters of three bytes begin with, and others not.
+#[inline(always)]
+fn may_begin_wide(text: &str) -> bool {
+    matches!(text.as_bytes(), [0xE3 | 0xEA | 0xED | 0xEF, ..])
 }
 
 /// Whether a character of three bytes is of a common wide script.
@@ -167,7 +175,7 @@ fn is_common_of_two_bytes(text: &str) -> bool
 }
 
 /// Whether the character of three bytes at the start of a text is of a common script of one column.
-// Boxes, blocks and what is drawn with them are told by the first two bytes.
+// Boxes, blocks and what is drawn with them are told by the first two bytes, and most wide characters by the first.
 #[inline(always)]
 fn is_common_of_three_bytes(text: &str) -> bool
     requires { BeginsThreeBytes text.now }
@@ -177,6 +185,7 @@ fn is_common_of_three_bytes(text: &str) -> bool
 {
     match text.as_bytes() {
         [0xE2, 0x94..=0x96, ..] => true,
+        [0xE3..=0xED, ..] => false,
         _ => is_common_three(code_of_three(text)),
     }
 }

@@ -8,10 +8,10 @@ use crate::char3::{Char3, split_common_narrow, split_common_wide};
 use crate::width::columns;
 use arrayvec::ArrayVec;
 
-/// How many characters a run has at most. Room for them is made anew for each run. `docs/SPEED.md` has what room for 64
-/// costs and gains, by `./speed --texts`.
+/// How many characters a run has at most: half of a row of 80 columns, or all its wide ones. Room for them is made anew
+/// for each run. `docs/SPEED.md` has what room for 32 and for 64 costs and gains, by `./speed --texts`.
 #[doc(hidden)]
-pub const RUN_LEN: usize = 32;
+pub const RUN_LEN: usize = 40;
 
 /// So many characters of ASCII end a run, since they are printed faster in one of their own. Fewer would cut the lines
 /// of `Cyrillic` and `tree`, by which `./speed --texts` measures it, at a comma and at spaces.
@@ -88,11 +88,12 @@ fn begins_ascii_run(text: &str) -> bool {
     if bytes.len() < ASCII_LEN || !bytes[0].is_ascii() {
         return false;
     }
-    let mut are_ascii = true;
-    for byte in &bytes[1..ASCII_LEN] {
-        are_ascii &= byte.is_ascii();
+    // LLVM reads so many bytes at once, and finds whether a bit stands in any of them.
+    let mut bits = 0;
+    for byte in &bytes[..ASCII_LEN] {
+        bits |= *byte;
     }
-    are_ascii
+    bits.is_ascii()
 }
 
 /// Whether a character is no control of C1, and not U+FFFD.

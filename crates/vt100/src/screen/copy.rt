@@ -3,7 +3,7 @@ ghost use Rattle.std.specs.Prelude.{◌≡◌, ◌↔◌, IsTrue, IsOk, IfOk, On
 ghost use Rattle.vt100_core.specs.Copy.{without_kept};
 ghost use Rattle.vt100_core.specs.Picture.{grid_size};
 ghost use Rattle.vt100_forms.specs.Attrs.{attrs_eq};
-ghost use Rattle.vt100.specs.Copies.{copy_of, same_modes, same_extras, ShowTheSame};
+ghost use Rattle.vt100.specs.Copies.{copy_of, same_modes, same_extras, DrawTheSame, ShowTheSame};
 ghost use Rattle.vt100.specs.WriterLaws.{IsUnscrolled};
 ghost use Rattle.vt100.specs.declared.error.ScreenError.TheVariants.{Memory};
 
@@ -71,7 +71,8 @@ impl Screen {
     /// cursor style. Of a screen that shows kept rows, the rows that are drawn on are compared. The comparison stops at
     /// the first difference.
     pub fn shows_same(&self, other: &Screen) -> bool
-        ensures { IsUnscrolled self.now.state → IsUnscrolled other.now.state
+        ensures drawn { IsTrue result ↔ DrawTheSame self.now.state other.now.state }
+        ensures shown { IsUnscrolled self.now.state → IsUnscrolled other.now.state
             → IsTrue result ↔ ShowTheSame self.now.state other.now.state }
     {
         prove!(self.grid.is_allocated());

@@ -1,10 +1,12 @@
 //! What a screen shows, as forms for a terminal.
-ghost use Rattle.std.specs.Prelude.{◌≡◌, [], OnErr, IfOk, IsOk, Err, string_bytes, if◌then◌else◌};
+ghost use Rattle.std.specs.Prelude.{◌≡◌, ◌≤◌, [], OnErr, OnOk, IfOk, IsOk, Err, if◌then◌else◌};
+ghost use Rattle.std.specs.Prelude.{string_bytes, string_capacity};
 ghost use Rattle.vt100_forms.specs.Form.{bytes_of};
 ghost use Rattle.vt100_cells.specs.Cell.{bool_eq};
 ghost use Rattle.screen_drawing.specs.Modes.{input_mode_formatted, input_mode_diff, attributes_formatted};
 ghost use Rattle.screen_drawing.specs.Screen as picture;
 ghost use Rattle.vt100_core.specs.Picture.{grid_size};
+ghost use Rattle.vt100_core.specs.Writers.{RefusedForms};
 ghost use Rattle.screen_model.specs.Shown.{shown_state};
 ghost use Rattle.vt100.specs.Writers.{contents_formatted, state_formatted, contents_diff, state_diff};
 ghost use Rattle.vt100.specs.Writers.{cursor_state_formatted, rows_formatted, rows_diff};
@@ -36,8 +38,9 @@ impl Screen {
         Ok(contents)
     }
 
-    /// Appends the escape sequences of [`state_formatted`](Self::state_formatted) to a text. If an allocation fails,
-    /// some of them may have been appended.
+    /// Appends the escape sequences of [`state_formatted`](Self::state_formatted) to a text. It is refused only where
+    /// they don't fit in the capacity of `contents` and there is no memory for more. Then a prefix of them may have
+    /// been appended.
     pub fn write_state_formatted(&self, contents: &mut String) -> Result<(), ScreenError>
         ensures { AppendsRedraw state_formatted picture.state_formatted 1008 self.now.state contents.old result
             contents.new }
@@ -64,8 +67,8 @@ impl Screen {
         Ok(contents)
     }
 
-    /// Appends the escape sequences of [`state_diff`](Self::state_diff) to a text. If an allocation fails, some of them
-    /// may have been appended.
+    /// Appends the escape sequences of [`state_diff`](Self::state_diff) to a text. It is refused only where they don't
+    /// fit in the capacity of `contents` and there is no memory for more. Then a prefix of them may have been appended.
     pub fn write_state_diff(&self, contents: &mut String, prev: &Self) -> Result<(), ScreenError>
         ensures { AppendsDifference state_diff picture.state_diff 1008 prev.now.state self.now.state contents.old result
             contents.new }
@@ -89,7 +92,9 @@ impl Screen {
     }
 
     fn write_contents_formatted(&self, contents: &mut String) -> Result<(), GridError>
-        ensures { Writes (contents_formatted self.now.state) contents.old result contents.new }
+        ensures text { Writes (contents_formatted self.now.state) contents.old result contents.new }
+        ensures refused { OnErr result (RefusedForms (contents_formatted self.now.state) contents.old contents.new) }
+        ensures capacity { OnOk result (string_capacity contents.old ≤ string_capacity contents.new) }
     {
         HideCursor::new(self.hide_cursor).write_buf(contents)?;
         let prev_attrs = self.grid.write_contents_formatted(contents)?;
@@ -130,6 +135,9 @@ impl Screen {
 
     fn write_contents_diff(&self, contents: &mut String, prev: &Self) -> Result<(), GridError>
         ensures text { Writes (contents_diff prev.now.state self.now.state) contents.old result contents.new }
+        ensures refused { OnErr result (RefusedForms (contents_diff prev.now.state self.now.state) contents.old
+            contents.new) }
+        ensures capacity { OnOk result (string_capacity contents.old ≤ string_capacity contents.new) }
         ensures empty { bytes_of (contents_diff prev.now.state self.now.state) ≡ [] → IsOk result }
     {
         let hiding = HideCursor::new(self.hide_cursor);
@@ -168,7 +176,10 @@ impl Screen {
     }
 
     fn write_input_mode_formatted(&self, contents: &mut String) -> Result<(), GridError>
-        ensures { Writes (input_mode_formatted (shown_state self.now.state)) contents.old result contents.new }
+        ensures text { Writes (input_mode_formatted (shown_state self.now.state)) contents.old result contents.new }
+        ensures refused { OnErr result (RefusedForms (input_mode_formatted (shown_state self.now.state)) contents.old
+            contents.new) }
+        ensures capacity { OnOk result (string_capacity contents.old ≤ string_capacity contents.new) }
     {
         let modes = self.modes;
         ApplicationKeypad::new(modes.application_keypad).write_buf(contents)?;
@@ -198,6 +209,9 @@ impl Screen {
     fn write_input_mode_diff(&self, contents: &mut String, prev: &Self) -> Result<(), GridError>
         ensures text { Writes (input_mode_diff (shown_state prev.now.state) (shown_state self.now.state)) contents.old
             result contents.new }
+        ensures refused { OnErr result (RefusedForms (input_mode_diff (shown_state prev.now.state)
+            (shown_state self.now.state)) contents.old contents.new) }
+        ensures capacity { OnOk result (string_capacity contents.old ≤ string_capacity contents.new) }
         ensures empty { bytes_of (input_mode_diff (shown_state prev.now.state) (shown_state self.now.state)) ≡ []
             → IsOk result }
     {
@@ -279,6 +293,9 @@ fn write_change<F: BufWrite>(
     form: &F,
 ) -> Result<(), GridError>
     ensures text { Writes (if bool_eq now prev then [] else F.forms form.now) contents.old result contents.new }
+    ensures refused { OnErr result (RefusedForms (if bool_eq now prev then [] else F.forms form.now) contents.old
+        contents.new) }
+    ensures capacity { OnOk result (string_capacity contents.old ≤ string_capacity contents.new) }
     ensures empty { bytes_of (if bool_eq now prev then [] else F.forms form.now) ≡ [] → IsOk result }
 {
     if now == prev {

@@ -8,7 +8,7 @@ use Rattle.vt100.proofs.screen.Screen.contents_formatted.Goals as goal
 pub returns : goal.returns
 returns c =
     let s = c.args.self.now.state in
-    let is = rw c.new-contents.ensures.bytes at c.in_ok-write_contents_formatted.ensures in
+    let is = rw c.new-contents.ensures.bytes at c.in_ok-write_contents_formatted.ensures.text in
     record {
       text = is;
       shown = λ h. is ∙ ap bytes_of (redraw-of_shown _ h).contents;

@@ -14,6 +14,6 @@ returns-in_err-write_input_mode_formatted c = record {
 
 pub returns : goal.returns
 returns c =
-    let is = rw c.new-contents.ensures.bytes at c.in_ok-write_input_mode_formatted.ensures in
+    let is = rw c.new-contents.ensures.bytes at c.in_ok-write_input_mode_formatted.ensures.text in
     let short = modes-length (shown_state c.args.self.now.state) in
     record { text = is; short = omega (arith, ap length is, short); memory = search rules; empty = λ none. refl }

@@ -10,7 +10,8 @@ use Rattle.vt100.proofs.WriteLemmas.{none-joined}
 use Rattle.vt100.proofs.ShownLemmas.{difference-of_shown}
 use Rattle.vt100.proofs.FormLists.{differences-local}
 use Rattle.vt100.proofs.ShortLists.{screen-short}
-use Rattle.vt100_core.proofs.WriterLemmas.{bytes_then}
+use Rattle.vt100_core.proofs.WriterLemmas.{appended, begun_rest, bytes_then}
+use Rattle.vt100.proofs.RefusedWrites.{cut, on_err}
 use Rattle.vt100.proofs.screen.Screen.write_state_diff.Goals as goal
 
 pub returns-in_err-write_contents_diff : goal.returns-in_err-write_contents_diff
@@ -27,6 +28,8 @@ returns-in_err-write_contents_diff c =
         local = λ o h e plain. record { written = refl; touches = (differences-local old new o h e plain).1 };
       };
       memory = search rules;
+      refused = on_err c.from_residual.result (cut (contents_diff old new)
+          (input_mode_diff (shown_state old) (shown_state new)) _ _ c.in_err-write_contents_diff.ensures.refused);
       empty = λ none. absurd (false≢true (c.in_err-write_contents_diff.ensures.empty
           (none-joined (contents_diff old new) (input_mode_diff (shown_state old) (shown_state new)) none).0));
     }
@@ -45,6 +48,11 @@ returns-in_err-write_input_mode_diff c =
         local = λ o h e plain. record { written = refl; touches = (differences-local old new o h e plain).1 };
       };
       memory = search rules;
+      refused = on_err c.from_residual-in_err-write_input_mode_diff.result
+          (begun_rest (contents_diff old new) (input_mode_diff (shown_state old) (shown_state new)) _ _ _
+          (appended c.write_contents_diff.new.contents c.in_ok-write_contents_diff.ensures.text
+          c.in_ok-write_contents_diff.ensures.capacity)
+          c.in_err-write_input_mode_diff.ensures.refused);
       empty = λ none. absurd (false≢true (c.in_err-write_input_mode_diff.ensures.empty
           (none-joined (contents_diff old new) (input_mode_diff (shown_state old) (shown_state new)) none).1));
     }
@@ -64,5 +72,6 @@ returns c =
         local = λ o h e plain. record { written = refl; touches = (differences-local old new o h e plain).1 };
       };
       memory = search rules;
+      refused = tt;
       empty = λ none. refl;
     }
