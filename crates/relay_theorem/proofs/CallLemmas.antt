@@ -63,7 +63,7 @@ pub data Does (h : HubState as_reported) : Call → Reply → HubState as_report
   misses : (key : ℕ) (takes : List Take) (reply : Reply) → h.clients key ≡ None → Does h (Pump key takes) reply h
 
 module _ (h g : HubState as_reported) where
-  same-hub : (k : HubState as_reported) → g.parser ≡ k.parser → g.clients ≡ k.clients → g ≡ k
+  pub same-hub : (k : HubState as_reported) → g.parser ≡ k.parser → g.clients ≡ k.clients → g ≡ k
   same-hub k p c = λ i. record { parser = p i; clients = c i }
 
   becomes : (call : Call) (reply : Reply) (k : HubState as_reported) → Does h call reply k → g.parser ≡ k.parser

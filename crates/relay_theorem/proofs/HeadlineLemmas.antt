@@ -120,7 +120,7 @@ answer-due z s base (x ∷ owed) same = behind (λ no. absurd (cc))
 
 module _ (z : Size) (s : State) (c : ClientState) where
   -- a frame isn't too long, and one of an unsure screen is answered so
-  due-frame : (a : Answer) → IsDue z s c a → is_frame a ≡ true
+  pub due-frame : (a : Answer) → IsDue z s c a → is_frame a ≡ true
       → (is_too_long z (shown_state s) c.base ≡ false) × (is_unsure z (shown_state s) ≡ true → a ≡ Unsure)
   due-frame a (unsure u l) f = (l, λ v. refl)
   due-frame a (full u l) f = (l, λ v. absurd (let no : true ≡ false = sym v ∙ u in cc))
@@ -511,7 +511,7 @@ module _ (rows cols : ℕ) (z : Size) (height : IsSide z.rows) (width : IsSide z
 
 -- ---- sessions
 
-answered-prefix : (rows cols : ℕ) (z : Size) (base : Option Shown) (prefix back : List Entry)
+pub answered-prefix : (rows cols : ℕ) (z : Size) (base : Option Shown) (prefix back : List Entry)
     → AreAnswered rows cols z base (prefix ++ back) → AreAnswered rows cols z base prefix
 answered-prefix rows cols z base [] back h = tt
 answered-prefix rows cols z base (e ∷ prefix) back h =
@@ -522,7 +522,7 @@ prefix-by : (here : Bool) (rows cols : ℕ) (z : Size) (base : Option Shown) (e 
 prefix-by true rows cols z base e es h = h
 prefix-by false rows cols z base e es h = tt
 
-answered-whole : (rows cols : ℕ) (z : Size) (base : Option Shown) (es : List Entry) (n : ℕ)
+pub answered-whole : (rows cols : ℕ) (z : Size) (base : Option Shown) (es : List Entry) (n : ℕ)
     → AreAnswered rows cols z base es → AreAnswered rows cols z base (whole_in es n)
 answered-whole rows cols z base [] n h = tt
 answered-whole rows cols z base (e ∷ es) n h =

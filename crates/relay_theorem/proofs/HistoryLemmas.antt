@@ -1,7 +1,7 @@
 -- Each call keeps the facts about each session.
 use Rattle.std.proofs.Common.{◌≡◌, ◌∙◌, ℕ, Bool, true, false, ◌||◌, List, [], ◌∷◌, ◌++◌, map, length, take, drop}
 use Rattle.std.proofs.Common.{Option, Some, None, refl, sym, ap, subst, append_assoc, append-nil, take-append-drop}
-use Rattle.std.proofs.Common.{arith}
+use Rattle.std.proofs.Common.{arith, not, ◌&&◌}
 use Rattle.std.specs.Prelude.{◌==◌, is_some, if◌then◌else◌}
 use Rattle.std.specs.List.{AllByRecursion, list_any}
 use Rattle.std.proofs.lemmas.Bool.{eqb-true, eq-eqb}
@@ -153,12 +153,12 @@ module _ (z : Size) (now : Shown) (c : ClientState) where
   served-base base false h = h
 
 -- a session that hasn't ended is served, by whichever client stands at its key
-abbrev IsServedBy : ℕ → ℕ → (ℕ → Option ClientState) → Story → Type 0
+abbrev pub IsServedBy : ℕ → ℕ → (ℕ → Option ClientState) → Story → Type 0
 IsServedBy rows cols clients t =
     (c : ClientState) × (clients t.session.client ≡ Some c) × IsServed rows cols t c
 
 -- the session of a known client
-served-as : (rows cols : ℕ) (clients : ℕ → Option ClientState) (key : ℕ) (t : Story) (c : ClientState)
+pub served-as : (rows cols : ℕ) (clients : ℕ → Option ClientState) (key : ℕ) (t : Story) (c : ClientState)
     → t.session.client ≡ key → clients key ≡ Some c → IsServedBy rows cols clients t → IsServed rows cols t c
 served-as rows cols clients key t c is at (d, found, s) =
     let same : Some d ≡ Some c = sym found ∙ ap clients is ∙ at in
@@ -377,25 +377,36 @@ there-on : (key other : ℕ) (ts : List Story) → (other == key) ≡ false
 there-on key other ts e =
     ap (λ b. list_any (is_on other) ts || b) (other-key key other e) ∙ or-false (list_any (is_on other) ts)
 
-pub attached-kept : (h : HubState as_reported) (key : ℕ) (ts : List Story) → h.clients key ≡ None → IsKept h ts
-    → IsKept (put h key (Some new_client)) (ts ++ record { session = begun h key; entries = [] } ∷ [])
-attached-kept h key ts free k =
-    let g = put h key (Some new_client) in
-    let new : Story = record { session = begun h key; entries = [] } in
+-- a new session of a free key, and its client
+pub added-kept : (h : HubState as_reported) (key : ℕ) (c : ClientState) (new : Story) (ts : List Story)
+    → h.clients key ≡ None → new.session.client ≡ key → new.session.ended ≡ false → IsIn (put h key (Some c)) new
+    → IsKept h ts → IsKept (put h key (Some c)) (ts ++ new ∷ [])
+added-kept h key c new ts free client live here k =
+    let g = put h key (Some c) in
     let none : list_any (is_on key) ts ≡ false = sym (k.keys key) ∙ ap is_some free in
+    let is : (other : ℕ) → is_on other new ≡ (key == other) =
+    λ other. ap (λ b. not b && (new.session.client == other)) live ∙ ap (λ n. n == other) client in
+    let pushed : (other : ℕ) → list_any (is_on other) (ts ++ new ∷ []) ≡ (list_any (is_on other) ts || (key == other)) =
+    λ other. any-pushed (is_on other) ts new ∙ ap (λ b. list_any (is_on other) ts || b) (is other) in
     record {
       acts = k.acts;
       each = all-push (IsIn g) ts new
-          (all-each (IsIn h) (IsIn g) (λ t i. still-in h key (Some new_client) t
-          (λ c live at. at-known h.clients key (Some new_client) t.session.client c free at) i) ts k.each)
-          (begun-in h key k.acts);
+          (all-each (IsIn h) (IsIn g) (λ t i. still-in h key (Some c) t
+          (λ d alive at. at-known h.clients key (Some c) t.session.client d free at) i) ts k.each)
+          here;
       keys = λ other.
-          by-key h.clients key (Some new_client) other (other == key) (list_any (is_on other) (ts ++ new ∷ [])) refl
-          (λ same. sym (any-pushed (is_on other) ts new ∙ here-on key other ts same))
-          (λ apart. k.keys other ∙ sym (any-pushed (is_on other) ts new ∙ there-on key other ts apart));
+          by-key h.clients key (Some c) other (other == key) (list_any (is_on other) (ts ++ new ∷ [])) refl
+          (λ same. sym (pushed other ∙ here-on key other ts same))
+          (λ apart. k.keys other ∙ sym (pushed other ∙ there-on key other ts apart));
       one = λ other. one-pushed (is_on other) ts new (k.one other)
-          (λ on. subst (λ n. list_any (is_on n) ts ≡ false) (on-key other new on) none);
+          (λ on. subst (λ n. list_any (is_on n) ts ≡ false) (sym client ∙ on-key other new on) none);
     }
+
+pub attached-kept : (h : HubState as_reported) (key : ℕ) (ts : List Story) → h.clients key ≡ None → IsKept h ts
+    → IsKept (put h key (Some new_client)) (ts ++ record { session = begun h key; entries = [] } ∷ [])
+attached-kept h key ts free k =
+    added-kept h key new_client (record { session = begun h key; entries = [] }) ts free refl refl
+    (begun-in h key k.acts) k
 
 -- the session of a known client changes, and stays on its key
 module _ (h : HubState as_reported) (key : ℕ) (c new : ClientState) (f : Story → Story) (at : h.clients key ≡ Some c)
@@ -510,7 +521,7 @@ run-went h k ts us (call ∷ calls) (reply ∷ replies) kept (g, is, serves, lat
     called g kept does is (run-went g k (stories_after h call reply ts) us calls replies
     (does-kept h ts kept call reply g is does) later)
 
-does-first : (h : HubState as_reported) (call : Call) (reply : Reply) (g : HubState as_reported) → Does h call reply g
+pub does-first : (h : HubState as_reported) (call : Call) (reply : Reply) (g : HubState as_reported) → Does h call reply g
     → (g.parser.rows ≡ h.parser.rows) × (g.parser.cols ≡ h.parser.cols)
 does-first h call reply g (refuses c e idle) = (refl, refl)
 does-first h call reply g (feeds bytes) = (refl, refl)

@@ -14,3 +14,6 @@ pub mod IsolationLemmas
 pub mod AloneLemmas
 pub mod LoneLemmas
 pub mod BoundLemmas
+pub mod ForkLemmas
+pub mod RedrawLemmas
+pub mod GrowthLemmas

@@ -45,16 +45,16 @@ pub record Follows (u : HubState as_reported) (call : Call) (reply : Reply) (g :
   pub matches : Matches g after
 
 module _ (h : HubState as_kept) (u : HubState as_reported) (m : Matches h u) where
-  live : is_failed h ≡ false → is_failed u ≡ false
+  pub live : is_failed h ≡ false → is_failed u ≡ false
   live e = sym m.failed ∙ e
 
-  dead : is_failed h ≡ true → is_failed u ≡ true
+  pub dead : is_failed h ≡ true → is_failed u ≡ true
   dead e = sym m.failed ∙ e
 
-  unchanged-matches : (g : HubState as_kept) → g ≡ h → Matches g u
+  pub unchanged-matches : (g : HubState as_kept) → g ≡ h → Matches g u
   unchanged-matches g e = subst (λ x. Matches x u) (sym e) m
 
-  put-matches : (key : ℕ) (slot : Option ClientState) (g : HubState as_kept) → Puts h key slot g
+  pub put-matches : (key : ℕ) (slot : Option ClientState) (g : HubState as_kept) → Puts h key slot g
       → Matches g (put u key slot)
   put-matches key slot g puts = record {
     failed = ap (λ (p : ParserView (Unit {0})). p.screen.failed) puts.0 ∙ m.failed;
@@ -63,7 +63,7 @@ module _ (h : HubState as_kept) (u : HubState as_reported) (m : Matches h u) whe
   }
 
   -- what is shown is what the history says
-  screen-now : is_failed u ≡ false → screen_in h ≡ screen_in u
+  pub screen-now : is_failed u ≡ false → screen_in h ≡ screen_in u
   screen-now e =
       (m.parser e).screen
       ∙ (λ i. record { state = made u.parser.rows u.parser.cols 0 u.parser.acts; failed = sym e i })
@@ -168,10 +168,10 @@ module _ (h : HubState as_kept) (u : HubState as_reported) (m : Matches h u) whe
     put-matches key (Some (record c { owed = drop n c.owed })) g puts,
   )
 
-  client-now : (key : ℕ) → clients_in h key ≡ clients_in u key
+  pub client-now : (key : ℕ) → clients_in h key ≡ clients_in u key
   client-now key = ap (λ clients. clients key) m.clients
 
-  call-follows : (call : Call) (reply : Reply) (g : HubState as_kept) → Serves h call reply g → Follows u call reply g
+  pub call-follows : (call : Call) (reply : Reply) (g : HubState as_kept) → Serves h call reply g → Follows u call reply g
   call-follows (Feed bytes) reply g (result, f, e) =
       let x = feed-follows bytes result g f in record { after = x.0; serves = (result, x.1, e); matches = x.2 }
   call-follows (Resize rows cols) reply g (result, f, e) =
@@ -271,7 +271,7 @@ log-follows h g u (call ∷ calls) (reply ∷ replies) ts ss ss' m logged (k, is
     ss' first.matches shows later in
     (rest.0, rest.1, (first.after, is, first.serves, rest.2), rest.3, rest.4)
 
-new-matches : (rows cols : ℕ) (h : HubState as_kept) → IsNewHub rows cols h → Matches h (fresh rows cols)
+pub new-matches : (rows cols : ℕ) (h : HubState as_kept) → IsNewHub rows cols h → Matches h (fresh rows cols)
 new-matches rows cols h new = record {
   failed = ap (λ (v : ScreenView). v.failed) new.parser.screen;
   parser = λ e. new.parser;

@@ -7,3 +7,5 @@ pub mod Serves
 pub mod Logged
 pub mod Isolation
 pub mod Bounds
+pub mod Forks
+pub mod Redraws

@@ -11,6 +11,10 @@ ghost use Rattle.relay_theorem.specs.Headline.{OneMomentShowsTheSame, OneMomentS
 ghost use Rattle.relay_theorem.specs.Serves.{EachPumpTakesAsReported, EachPumpIsServed, EachRunHasAHistory};
 ghost use Rattle.relay_theorem.specs.Serves.{EachLogHasAHistory};
 ghost use Rattle.relay_theorem.specs.Serves.{EachHistoryIsOne};
+ghost use Rattle.relay_theorem.specs.Forks.{EachSessionIsOneWithForks, EachForkIsReported, LastWholeForkedFrameIsShown};
+ghost use Rattle.relay_theorem.specs.Forks.{EachForkedRunHasAHistory};
+ghost use Rattle.relay_theorem.specs.Redraws.{EachRedrawIsReported, EachStoryGrows, EachRedrawMatches};
+ghost use Rattle.relay_theorem.specs.Redraws.{RedrawnFramesAreShown, NoRedrawIsTorn};
 ghost use Rattle.relay_theorem.specs.Logged.{EachLoggedReadIsARead, LoggedFramesAreShown, WholeLoggedFramesAreShown};
 ghost use Rattle.relay_theorem.specs.Isolation.{SessionsAreIsolated, LoggedSessionsAreIsolated, EachSessionIsIsolated};
 ghost use Rattle.relay_theorem.specs.Isolation.{EachLoneSessionIsAlike, EachLoggedLoneSessionIsAlike};
@@ -163,4 +167,43 @@ pub fn frames_fit_the_hold()
 /// showed U+FE0F. No bytes stay buffered.
 pub fn whole_logged_frames_are_shown()
     ensures { WholeLoggedFramesAreShown }
+{}
+
+/// Histories in which clients are forked. A fork's session has the answers of the one that it was forked from, whose
+/// frames count as pumped to it.
+///
+/// All facts about sessions hold of a fork's session too (`reported`). A new view reads the frames of the client that
+/// was forked, and then the fork's, in any pieces. It shows the program's screen at the request for the last whole
+/// frame, or a blank screen if there is none (`shown`). This holds unless that screen showed U+FE0F. A history without
+/// forks is one of these (`plain`).
+pub fn forked_frames_are_shown()
+    ensures plain { EachSessionIsOneWithForks }
+    ensures reported { EachForkIsReported }
+    ensures shown { LastWholeForkedFrameIsShown }
+{}
+
+/// Any calls and forks of a new hub are such a history, with the same replies and results (`forks`). What the hub
+/// answers to requests for redraws, it answers by that history (`redraws`).
+pub fn forks_have_histories()
+    ensures forks { EachForkedRunHasAHistory }
+    ensures redraws { EachRedrawMatches }
+{}
+
+/// The redraw of a client whose session hasn't ended is that after all answers to the session so far (`answered`).
+/// Whatever calls and forks come later, the session's further answers come after these (`grows`).
+pub fn redraws_are_reported()
+    ensures answered { EachRedrawIsReported }
+    ensures grows { EachStoryGrows }
+{}
+
+/// A new view of the session's size reads a client's redraw, and then any prefix of the client's later frames, in any
+/// pieces. It shows the program's screen at the request for the last frame that lies wholly in what it read (`shown`).
+/// The redraw counts as the client's last frame before it. If no frame lies wholly in it, the screen is blank. This
+/// holds unless the screen at that request showed U+FE0F.
+///
+/// If the view reads more bytes, but no further frame is whole, it still shows the same: neither the redraw nor a frame
+/// is shown in part (`untorn`). The client may be a fork.
+pub fn redrawn_frames_are_shown()
+    ensures shown { RedrawnFramesAreShown }
+    ensures untorn { NoRedrawIsTorn }
 {}

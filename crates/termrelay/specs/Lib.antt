@@ -6,3 +6,5 @@ pub mod HubFields
 pub mod Laws
 pub mod Calls
 pub mod Log
+pub mod Redraw
+pub mod Joins

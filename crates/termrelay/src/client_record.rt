@@ -1,7 +1,7 @@
 //! What a hub keeps of a client.
 ghost use Rattle.std.specs.Prelude.{◌≡◌, ℕ, ◌++◌, [], true, drop, length, nat_lt, Some, None, IfOk, OnOk, OnErr, Err};
-ghost use Rattle.std.specs.Prelude.{if◌then◌else◌, string_bytes};
-ghost use Rattle.std.specs.Option.{option_copied};
+ghost use Rattle.std.specs.Prelude.{if◌then◌else◌, string_bytes, IfSome, IsSome};
+ghost use Rattle.std.specs.Option.{option_copied, option_map};
 ghost use Rattle.vt100_forms.specs.Form.{bytes_of};
 ghost use Rattle.vt100_core.specs.Picture.{grid_size};
 ghost use Rattle.screen_model.specs.Shown.{shown_state};
@@ -10,6 +10,7 @@ ghost use Rattle.termrelay.specs.Frame.{frame_text as text_of_frame, body_forms}
 ghost use Rattle.termrelay.specs.Answers.{wanted_of, due, is_frame, longest_frame};
 ghost use Rattle.byte_streams.specs.Pump.{Pumps};
 ghost use Rattle.termrelay.specs.ClientRecord.{RecordView, client_of, IsRecordOf, is_unsure_screen, sure_base};
+ghost use Rattle.termrelay.specs.Redraw.{redraw_kept};
 ghost use Rattle.termrelay.specs.declared.answer.Answer.TheVariants.{Unsure};
 ghost use Rattle.termrelay.specs.declared.error.HubError.TheVariants.{Memory};
 
@@ -38,6 +39,20 @@ pub(crate) fn is_too_long(text: &[u8]) -> bool
     ensures { result ≡ nat_lt longest_frame (length text.now) }
 {
     text.len() > LONGEST_FRAME
+}
+
+/// The text of a first frame of the screen. Fails only if an allocation fails.
+pub(crate) fn first_text(alloc: Global, now: &Screen) -> Result<Vec<u8>, HubError>
+    requires { IsUnscrolled now.now.state }
+    ensures text { IfOk result (λ text. text.items
+        ≡ text_of_frame (grid_size now.now.state.shown) None (shown_state now.now.state)) }
+    ensures memory { OnErr result (result ≡ Err Memory) }
+{
+    let mut text = String::new(alloc);
+    text.push_str(START_MARK)?;
+    push_state(&mut text, now)?;
+    text.push_str(END_MARK)?;
+    Ok(text.into_bytes())
 }
 
 /// `Unsure` if the screen shows U+FE0F, else the answer.
@@ -83,6 +98,17 @@ impl Base {
         &self.screen
     }
 
+    /// The same base, whose screen the two share. Fails only if an allocation fails.
+    fn share(&self) -> Result<Self, HubError>
+        ensures same { IfOk result (λ base. base ≡ self.now) }
+        ensures memory { OnErr result (result ≡ Err Memory) }
+    {
+        Ok(Base {
+            screen: self.screen.clone()?,
+            unsure: self.unsure,
+        })
+    }
+
     /// The screen, unless somebody else has it too.
     pub(crate) fn into_screen(self) -> Option<Screen> {
         Arc::into_inner(self.screen)
@@ -121,6 +147,49 @@ impl ClientRecord {
             taken: 0,
             base: None,
         }
+    }
+
+    /// The record of a client that has had what this one has had and is owed nothing. The two share the screen at the
+    /// last frame. Fails only if an allocation fails.
+    pub(crate) fn fork(&self, alloc: Global) -> Result<Self, HubError>
+        ensures fork { IfOk result (λ fork. fork ≡ record { owed = []; base = self.now.base }) }
+        ensures memory { OnErr result (result ≡ Err Memory) }
+    {
+        let base = self.shared_base()?;
+        Ok(ClientRecord {
+            text: Vec::new(alloc),
+            taken: 0,
+            base,
+        })
+    }
+
+    /// The screen at the last frame, which the result shares. Fails only if an allocation fails.
+    fn shared_base(&self) -> Result<Option<Base>, HubError>
+        ensures same { IfOk result (λ base. base ≡ self.now.base) }
+        ensures memory { OnErr result (result ≡ Err Memory) }
+    {
+        match &self.base {
+            Some(base) => Ok(Some(base.share()?)),
+            None => Ok(None),
+        }
+    }
+
+    /// The text of a first frame of the screen at the last frame: nothing, if there was no frame. `None` if it is too
+    /// long. Fails only if an allocation fails; nothing is allocated if there was no frame.
+    pub(crate) fn redraw(&self, alloc: Global) -> Result<Option<Vec<u8>>, HubError>
+        requires { IfSome self.now.base (λ base. IsUnscrolled base.state) }
+        ensures text { IfOk result (λ redraw. option_map (λ text. text.items) redraw ≡ redraw_kept self.now.base) }
+        ensures memory { OnErr result (result ≡ Err Memory) }
+        ensures needed { OnErr result (IsSome self.now.base) }
+    {
+        let Some(base) = self.base() else {
+            return Ok(Some(Vec::new(alloc)));
+        };
+        let text = first_text(alloc, base)?;
+        if is_too_long(&text) {
+            return Ok(None);
+        }
+        Ok(Some(text))
     }
 
     /// The bytes that are owed.

@@ -2,6 +2,8 @@
 ghost use Rattle.std.specs.Prelude.{◌≡◌, ◌≢◌, ◌*◌, ◌≤◌, false, IfOk, IsOkAnd, OnOk, OnErr, Err, Some, None};
 ghost use Rattle.std.specs.Prelude.{MatchOption};
 ghost use Rattle.std.specs.Prelude.{IsSome, IfSome, slice_index_or};
+ghost use Rattle.std.specs.Option.{option_map};
+ghost use Rattle.std.specs.Result.{result_map_both};
 ghost use Rattle.vt100.specs.Copies.{copy_of};
 ghost use Rattle.vt100.specs.WriterLaws.{IsUnscrolled};
 ghost use Rattle.termrelay.specs.Frame.{IsShortFrame};
@@ -53,6 +55,7 @@ impl Model for Hub {
 impl Hub {
     ghost use Rattle.termrelay.specs.Hub.{clients_in, shown_in, Puts, IsNewHub, Feeds, Resizes, Attaches, Detaches};
     ghost use Rattle.termrelay.specs.Hub.{Frames, OwesOneFrame, OwesLocalFrame, PumpsClient, size_in, is_failed};
+    ghost use Rattle.termrelay.specs.Joins.{Redraws, Forks};
 
     /// A hub with a blank screen of this size, without scrollback rows and without clients. Fails only if an allocation
     /// fails.
@@ -133,6 +136,26 @@ impl Hub {
         }
     }
 
+    /// Adds a client that has what this one has once it has read all its frames. The new client is owed nothing, and its
+    /// next frame starts from the screen at this one's last frame, which the two share.
+    ///
+    /// A terminal that has read this client's frames so far, or its [`redraw`](Self::redraw), goes on with the new
+    /// client's frames. If this client has had no frame, the call does what [`attach`](Self::attach) does. Fails only
+    /// for an unknown client, if the hub has failed or if an allocation fails; then nothing has changed.
+    pub fn fork(&mut self, client: Client) -> Result<Client, HubError>
+        ensures { Forks self.old client result self.new }
+    {
+        let fork = match self.clients.get(client.key()) {
+            Some(_) if self.has_failed() => return Err(HubError::Failed),
+            Some(record) => record.fork(self.alloc)?,
+            None => return Err(HubError::UnknownClient),
+        };
+        match self.clients.insert(fork) {
+            Ok(key) => Ok(Client::from_key(key)),
+            Err(_) => Err(HubError::Memory),
+        }
+    }
+
     /// Ends the client. The bytes that it is still owed are dropped. Fails only for an unknown client.
     pub fn detach(&mut self, client: Client) -> Result<(), HubError>
         ensures { Detaches self.old client result self.new }
@@ -153,6 +176,24 @@ impl Hub {
     {
         match self.clients.get(client.key()) {
             Some(record) => Ok(record.owed()),
+            None => Err(HubError::UnknownClient),
+        }
+    }
+
+    /// What draws, on a fresh terminal of the screen's size, what the client shows once it has read all its frames.
+    /// Frames that are still owed count as read. Nothing changes.
+    ///
+    /// It is the first frame of the screen at the client's last frame, or no bytes if the client has had no frame. A
+    /// terminal that has read the redraw goes on with the client's later frames. The answer is `None` if the redraw
+    /// would be longer than 2,097,150 bytes. Fails only for an unknown client, if the hub has failed or if an
+    /// allocation fails.
+    pub fn redraw(&self, client: Client) -> Result<Option<Vec<u8>>, HubError>
+        ensures { Redraws self.now client
+            (result_map_both (λ redraw. option_map (λ text. text.items) redraw) (λ error. error) result) }
+    {
+        match self.clients.get(client.key()) {
+            Some(_) if self.has_failed() => Err(HubError::Failed),
+            Some(record) => record.redraw(self.alloc),
             None => Err(HubError::UnknownClient),
         }
     }
