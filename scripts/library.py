@@ -148,8 +148,14 @@ def make():
     return made
 
 
+def libraries_below(name):
+    """The libraries that one of the toolchain's stands on."""
+    below = f"{toolchain()}/rlibs/{name}.rlib/below"
+    return os.listdir(below) if os.path.isdir(below) else []
+
+
 def toolchain_libraries():
-    """The toolchain's libraries that the archive stands on, as crates.txt names them."""
+    """The toolchain's libraries that the archive stands on: those that crates.txt names, and those below them."""
     uses, found, left = {}, set(), [CRATE]
     with open(f"{HERE}/crates.txt", encoding="utf-8") as file:
         for line in file:
@@ -160,7 +166,7 @@ def toolchain_libraries():
         name = left.pop()
         if name not in found:
             found.add(name)
-            left += uses.get(name, [])
+            left += uses[name] if name in uses else libraries_below(name)
     return sorted(found - set(uses))
 
 

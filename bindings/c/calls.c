@@ -333,6 +333,45 @@ static void requests(void) {
     jeihpal_screen_close(&screen);
 }
 
+static void recordings(void) {
+    jeihpal_recording recording = JEIHPAL_INIT;
+    jeihpal_recorded look;
+    jeihpal_event event;
+    uint32_t colors[18];
+    uint8_t text[16];
+    size_t length = 77;
+    CHECK(jeihpal_recording_look(&recording, &look) == JEIHPAL_CLOSED);
+    CHECK(jeihpal_recording_open(&recording, BYTES("{\"version\": 2}\n")) == JEIHPAL_NO_HEADER && !recording.held);
+    CHECK(jeihpal_recording_open(&recording, BYTES("\x1f\x8b")) == JEIHPAL_COMPRESSED && !recording.held);
+    CHECK(jeihpal_recording_open(&recording, BYTES("{\"version\": 2, \"width\": 80, \"height\": 24}\n"
+                                                   "[0.5, \"o\", \"hello\"]\n[0.75, \"r\", \"90x30\"]\n"
+                                                   "[1, \"m\", \"here\"]\nnone\n")) == JEIHPAL_OK);
+    CHECK(jeihpal_recording_look(&recording, &look) == JEIHPAL_OK && look.kind == JEIHPAL_ASCIICAST);
+    CHECK(look.events == 3 && look.length == 1000000 && look.rows == 24 && look.cols == 80);
+    CHECK(look.fault == JEIHPAL_BAD_LINE && look.place == 5);
+    CHECK(jeihpal_recording_event(&recording, 0, &event) == JEIHPAL_OK && event.kind == JEIHPAL_OUTPUT);
+    CHECK(event.time == 500000 && event.length == 5 && event.rows == 0);
+    CHECK(jeihpal_recording_event_text(&recording, 0, text, sizeof text, &length) == JEIHPAL_OK &&
+          is_text(text, length, "hello"));
+    CHECK(jeihpal_recording_event(&recording, 1, &event) == JEIHPAL_OK && event.kind == JEIHPAL_NEW_SIZE);
+    CHECK(event.time == 750000 && event.length == 0 && event.rows == 30 && event.cols == 90);
+    CHECK(jeihpal_recording_event_text(&recording, 1, text, sizeof text, &length) == JEIHPAL_OK && length == 0);
+    CHECK(jeihpal_recording_event(&recording, 2, &event) == JEIHPAL_OK && event.kind == JEIHPAL_MARKER);
+    CHECK(jeihpal_recording_event_text(&recording, 2, text, 2, &length) == JEIHPAL_OK && length == 4 &&
+          is_text(text, 2, "he"));
+    CHECK(jeihpal_recording_event(&recording, 3, &event) == JEIHPAL_NO_EVENT && event.kind == JEIHPAL_MARKER);
+    CHECK(jeihpal_recording_event_text(&recording, 3, text, 2, &length) == JEIHPAL_NO_EVENT && length == 4);
+    CHECK(jeihpal_recording_colors(&recording, colors, 18, &length) == JEIHPAL_OK && length == 0);
+    CHECK(jeihpal_screen_mark((jeihpal_screen *)&recording) == JEIHPAL_OTHER_KIND);
+    CHECK(jeihpal_recording_open_script(&recording, BYTES("Script started\nabc"), BYTES("0.25 2\n")) == JEIHPAL_OK);
+    CHECK(jeihpal_recording_look(&recording, &look) == JEIHPAL_OK && look.kind == JEIHPAL_TYPESCRIPT);
+    CHECK(look.events == 1 && look.length == 250000 && look.rows == 0 && look.fault == JEIHPAL_NO_FAULT);
+    CHECK(jeihpal_recording_event_text(&recording, 0, text, sizeof text, &length) == JEIHPAL_OK &&
+          is_text(text, length, "ab"));
+    jeihpal_recording_close(&recording);
+    CHECK(!recording.held);
+}
+
 /* What a session of examples/ leaves, as a view shows it, is what stands beside it. */
 static void session(const char *folder, const char *name, uint16_t rows, uint16_t cols) {
     static uint8_t bytes[65536], wanted[65536], shown[65536];
@@ -379,6 +418,7 @@ int main(int count, char **words) {
     parts();
     scrollback();
     requests();
+    recordings();
     if (count > 1) {
         session(words[1], "build", 12, 40);
         session(words[1], "editor", 8, 40);

@@ -50,10 +50,26 @@ static void screens() {
     std::thread([kept = std::make_unique<jeihpal::screen>(std::move(moved))] { CHECK(kept->look().rows == 2); }).join();
 }
 
+static void recordings() {
+    jeihpal::recording cast("{\"version\": 3, \"term\": {\"cols\": 80, \"rows\": 24}}\n[0.5, \"o\", \"hi\"]\n");
+    CHECK(cast.look().events == 1 && cast.look().cols == 80 && cast.colors().empty());
+    jeihpal::event event = cast.event(0);
+    CHECK(event.kind == JEIHPAL_OUTPUT && event.time == 500000 && event.text == "hi");
+    CHECK(jeihpal::recording(std::string_view()).event(0).text.empty());
+    CHECK(jeihpal::recording("began\nabc", "0.25 2\n").event(0).text == "ab");
+    try {
+        cast.event(1);
+        CHECK(false);
+    } catch (const jeihpal::error &error) {
+        CHECK(error.code() == JEIHPAL_NO_EVENT);
+    }
+}
+
 int main() {
     CHECK(jeihpal_runs_here());
     frames();
     screens();
+    recordings();
     puts("cpp: well");
     return 0;
 }

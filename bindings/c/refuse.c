@@ -108,11 +108,25 @@ static void use_screen(jeihpal_screen *screen) {
     noted(jeihpal_screen_resize(screen, 7, 21));
 }
 
+/* A recording whose first line and whose events take memory. */
+static void use_recording(jeihpal_recording *recording) {
+    size_t length;
+    jeihpal_recorded look;
+    if (noted(jeihpal_recording_open(recording, BYTES("{\"version\": 2, \"width\": 9, \"height\": 2}\n"
+                                                      "[0.5, \"o\", \"one\"]\n[1, \"m\", \"two\"]\n"))) < 0) {
+        CHECK(!recording->held);
+        return;
+    }
+    CHECK(jeihpal_recording_look(recording, &look) == JEIHPAL_OK && look.events == 2 && look.fault == 0);
+    CHECK(jeihpal_recording_event_text(recording, 1, to, sizeof to, &length) == JEIHPAL_OK && length == 3);
+}
+
 /* Uses an object of each kind, and closes them. */
 static void run(void) {
     jeihpal_hub hub = JEIHPAL_INIT;
     jeihpal_view view = JEIHPAL_INIT;
     jeihpal_screen screen = JEIHPAL_INIT;
+    jeihpal_recording recording = JEIHPAL_INIT;
     size_t length;
     if (noted(jeihpal_view_new(&view, 5, 20)) < 0) CHECK(!view.held);
     if (noted(jeihpal_hub_new(&hub, 5, 20)) < 0) CHECK(!hub.held);
@@ -120,9 +134,11 @@ static void run(void) {
     if (view.held) noted(jeihpal_view_row_text(&view, 0, to, sizeof to, &length));
     if (noted(jeihpal_screen_new(&screen, 5, 20, 3)) < 0) CHECK(!screen.held);
     if (screen.held) use_screen(&screen);
+    use_recording(&recording);
     jeihpal_hub_close(&hub);
     jeihpal_view_close(&view);
     jeihpal_screen_close(&screen);
+    jeihpal_recording_close(&recording);
     CHECK(live == 0);
 }
 

@@ -1,4 +1,4 @@
-/* Two threads with objects of their own, at once; and a view and a screen that go from thread to thread. */
+/* Two threads with objects of their own, at once; and a hub, a view and a screen that go from thread to thread. */
 #include "tried.h"
 #include <pthread.h>
 
@@ -26,11 +26,24 @@ static void *use(void *words) {
 }
 
 static pthread_mutex_t turn = PTHREAD_MUTEX_INITIALIZER;
+static jeihpal_hub shared_hub = JEIHPAL_INIT;
 static jeihpal_screen shared_screen = JEIHPAL_INIT;
 static jeihpal_view shared_view = JEIHPAL_INIT;
+static size_t stayed; /* a client of the hub that shares its frames' screens with each thread's own */
 static int taken;
 
-/* Uses both a thousand times, under the lock. The last one closes them. */
+/* A frame for the client that stayed, and one for a client of this turn, of the same screen. */
+static void ask_for_frames(const char *line, size_t count) {
+    size_t client;
+    CHECK(jeihpal_hub_feed(&shared_hub, (const uint8_t *)line, count) == JEIHPAL_OK);
+    CHECK(jeihpal_hub_attach(&shared_hub, &client) == JEIHPAL_OK);
+    CHECK(jeihpal_hub_frame(&shared_hub, stayed) >= JEIHPAL_FULL);
+    CHECK(jeihpal_hub_frame(&shared_hub, client) == JEIHPAL_FULL);
+    tried_carry(&shared_hub, stayed, &shared_view, 100);
+    CHECK(jeihpal_hub_detach(&shared_hub, client) == JEIHPAL_OK);
+}
+
+/* Uses all three a thousand times, under the lock. The last one closes them. */
 static void *share(void *nothing) {
     (void)nothing;
     for (int time = 0; time < 1000; time++) {
@@ -41,7 +54,7 @@ static void *share(void *nothing) {
         char line[64];
         int count = snprintf(line, sizeof line, "\x1b[H%d\x1b[K", taken);
         CHECK(jeihpal_screen_process(&shared_screen, (const uint8_t *)line, (size_t)count) == JEIHPAL_OK);
-        CHECK(jeihpal_view_advance(&shared_view, (const uint8_t *)line, (size_t)count) == JEIHPAL_OK);
+        ask_for_frames(line, (size_t)count);
         CHECK(jeihpal_view_row_text(&shared_view, 0, text, sizeof text, &length) == JEIHPAL_OK);
         CHECK(jeihpal_screen_clone(&copy, &shared_screen) == JEIHPAL_OK);
         snprintf(line, sizeof line, "%d", taken++);
@@ -55,6 +68,7 @@ static void *share(void *nothing) {
 }
 
 static void *end(void *nothing) {
+    jeihpal_hub_close(&shared_hub);
     jeihpal_screen_close(&shared_screen);
     jeihpal_view_close(&shared_view);
     return nothing;
@@ -62,6 +76,8 @@ static void *end(void *nothing) {
 
 static void hand_round(void) {
     pthread_t threads[4], last;
+    CHECK(jeihpal_hub_new(&shared_hub, 5, 20) == JEIHPAL_OK);
+    CHECK(jeihpal_hub_attach(&shared_hub, &stayed) == JEIHPAL_OK);
     CHECK(jeihpal_screen_new(&shared_screen, 5, 20, 10) == JEIHPAL_OK);
     CHECK(jeihpal_view_new(&shared_view, 5, 20) == JEIHPAL_OK);
     for (int i = 0; i < 4; i++) CHECK(pthread_create(&threads[i], NULL, share, NULL) == 0);

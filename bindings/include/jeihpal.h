@@ -2,17 +2,17 @@
  *
  *     program's bytes -> hub -> frames of it for each client ~ any line ~> view (or any terminal) -> the same screen
  *
- * Objects. A jeihpal_hub, a jeihpal_view and a jeihpal_screen are one word of the caller's each. A word begins as
- * JEIHPAL_INIT (all zero) and holds nothing then. A _new call fills it, and first closes what it held. A _close call
- * frees the object, and the word holds nothing again: closing it twice is fine. The library frees nothing else, and
- * never before its word is closed. A word may be moved: copied, and the old one forgotten. Two copies in use are an
- * error of the caller's, and so is a word that is forgotten while it holds something: its memory is never freed.
- * Nothing but these calls may look into a word.
+ * Objects. A jeihpal_hub, a jeihpal_view, a jeihpal_screen and a jeihpal_recording are one word of the caller's each.
+ * A word begins as JEIHPAL_INIT (all zero) and holds nothing then. A _new or _open call fills it, and first closes what
+ * it held. A _close call frees the object, and the word holds nothing again: closing it twice is fine. The library
+ * frees nothing else, and never before its word is closed. A word may be moved: copied, and the old one forgotten. Two
+ * copies in use are an error of the caller's, and so is a word that is forgotten while it holds something: its memory is
+ * never freed. Nothing but these calls may look into a word.
  *
- * Threads. There is one call at a time on an object, and reading is a call too. A view and a screen may be handed to
- * another thread, by a lock, or by a thread's start or end. A hub stays on the thread that made it. Objects share
- * nothing, so each thread may have its own. jeihpal_abi may be called on any thread. No call waits, reads or writes a
- * file, or calls back. Memory comes from malloc, so no call belongs into a signal handler.
+ * Threads. There is one call at a time on an object, and reading is a call too. An object of any kind may be handed to
+ * another thread, by a lock, or by a thread's start or end. Objects share nothing, so each thread may have its own.
+ * jeihpal_abi may be called on any thread. No call waits, reads or writes a file, or calls back. Memory comes from
+ * malloc, so no call belongs into a signal handler.
  *
  * Bytes. A pointer points to as many bytes or objects of the caller's as its call says, for the time of the call alone.
  * None is ever null, also where its length is 0. None overlaps a word, or what another pointer of the call points to.
@@ -22,8 +22,8 @@
  * again with more room: nothing was lost. There is no zero byte at the end. The rest of `to` is left as it was.
  *
  * Answers. 0 and more: done. Less than 0: a refusal, one of enum jeihpal_code, and nothing has changed but what the
- * call says: neither the object, nor what the pointers point to. Every call on a word but _new and _close can answer
- * JEIHPAL_CLOSED and JEIHPAL_OTHER_KIND, and says what else it can answer.
+ * call says: neither the object, nor what the pointers point to. Every call on a word but _new, _open and _close can
+ * answer JEIHPAL_CLOSED and JEIHPAL_OTHER_KIND, and says what else it can answer.
  *
  * Rows, columns and places are counted from 0; sizes are 1 to 65,535.
  */
@@ -63,7 +63,10 @@ enum jeihpal_code {
     JEIHPAL_FAILED = -5,         /* an earlier call found no memory, and the screen has failed: make a new object */
     JEIHPAL_UNKNOWN_CLIENT = -6, /* the client has ended, or never was */
     JEIHPAL_NOT_OWED = -7,       /* fewer bytes are owed */
-    JEIHPAL_NO_CELL = -8         /* the place is outside the screen */
+    JEIHPAL_NO_CELL = -8,        /* the place is outside the screen */
+    JEIHPAL_NO_HEADER = -10,     /* a recording's first line is no header */
+    JEIHPAL_COMPRESSED = -11,    /* a recording is a file of gzip, bzip2, xz or zstd: unpack it first */
+    JEIHPAL_NO_EVENT = -12       /* a recording has fewer events */
 };
 
 /* What jeihpal_hub_frame answers. From JEIHPAL_FULL on the client is owed a new frame. */
@@ -90,6 +93,10 @@ typedef struct jeihpal_view {
 typedef struct jeihpal_screen {
     void *held;
 } jeihpal_screen;
+
+typedef struct jeihpal_recording {
+    void *held;
+} jeihpal_recording;
 
 /* A word that holds nothing. */
 #define JEIHPAL_INIT {NULL}
@@ -399,6 +406,74 @@ int32_t jeihpal_screen_request(jeihpal_screen *screen, uint8_t *to, size_t capac
 
 /* Closes the word: what it holds, of any kind, is freed. */
 void jeihpal_screen_close(jeihpal_screen *screen);
+
+/* ---- recordings: what a program wrote to its terminal, and when */
+
+enum jeihpal_recording_kind {
+    JEIHPAL_ASCIICAST = 1,  /* an asciicast, version 2 or 3 */
+    JEIHPAL_TYPESCRIPT = 2, /* a typescript of script(1), with the file of its times */
+    JEIHPAL_TTYREC = 3,     /* a ttyrec */
+    JEIHPAL_RAW = 4         /* the bytes alone: one event at the time 0 */
+};
+
+enum jeihpal_recording_fault {
+    JEIHPAL_NO_FAULT = 0,
+    JEIHPAL_BAD_LINE = 1, /* a line of an asciicast is no event */
+    JEIHPAL_BAD_BYTE = 2, /* no whole frame of a ttyrec begins at a byte */
+    JEIHPAL_BAD_STEP = 3  /* a line of a file of times is no step, or takes more bytes than are left */
+};
+
+/* What a recording says of itself. What is read of it is what stands before the first fault. */
+typedef struct jeihpal_recorded {
+    size_t events;   /* how many there are */
+    uint64_t length; /* microseconds from the beginning to the last event, be it one that isn't among these */
+    uint64_t place;  /* the line of the first fault, from 1, or its byte, from 0; 0 where there is none */
+    uint16_t rows;   /* the size at first; 0 where the recording doesn't say it */
+    uint16_t cols;
+    uint8_t kind;    /* enum jeihpal_recording_kind */
+    uint8_t fault;   /* enum jeihpal_recording_fault */
+} jeihpal_recorded;
+
+enum jeihpal_event_kind {
+    JEIHPAL_OUTPUT = 1,     /* the program writes the text, which needn't be UTF-8, nor end where a character does */
+    JEIHPAL_NEW_SIZE = 2,   /* the terminal gets this size */
+    JEIHPAL_MARKER = 3      /* the text names the moment */
+};
+
+typedef struct jeihpal_event {
+    uint64_t time;   /* microseconds since the beginning; never less than the event's before */
+    size_t length;   /* how many bytes of text it has */
+    uint16_t rows;   /* of JEIHPAL_NEW_SIZE, else 0 */
+    uint16_t cols;   /* of JEIHPAL_NEW_SIZE, else 0 */
+    uint8_t kind;    /* enum jeihpal_event_kind */
+} jeihpal_event;
+
+/* Reads a recording up to its first fault, in the kind that its first bytes say; a typescript without its file of times
+ * is a raw one. What the word held is closed, also where the call is refused. The bytes are copied. NO_HEADER,
+ * COMPRESSED, MEMORY: the word holds nothing. */
+int32_t jeihpal_recording_open(jeihpal_recording *recording, const uint8_t *bytes, size_t count);
+
+/* The same of a typescript: what the program wrote, and the file of its times, of either format of script(1). MEMORY:
+ * the word holds nothing. */
+int32_t jeihpal_recording_open_script(jeihpal_recording *recording, const uint8_t *output, size_t count,
+                                      const uint8_t *timing, size_t timing_count);
+
+/* The kind, the size at first, the number of events, the length and the first fault. */
+int32_t jeihpal_recording_look(jeihpal_recording *recording, jeihpal_recorded *look);
+
+/* An event, counted from 0. NO_EVENT. */
+int32_t jeihpal_recording_event(jeihpal_recording *recording, size_t index, jeihpal_event *event);
+
+/* Its text: what is written, or a marker's name; else there is none. NO_EVENT. */
+int32_t jeihpal_recording_event_text(jeihpal_recording *recording, size_t index, uint8_t *to, size_t capacity,
+                                     size_t *length);
+
+/* The colours that an asciicast has of its own, each as 0xRRGGBB: that of texts, that of backgrounds, and the first
+ * sixteen. As many as fit into `most` are copied, and *count is how many there are: 18, or 0. */
+int32_t jeihpal_recording_colors(jeihpal_recording *recording, uint32_t *colors, size_t most, size_t *count);
+
+/* Closes the word: what it holds, of any kind, is freed. */
+void jeihpal_recording_close(jeihpal_recording *recording);
 
 #ifdef __cplusplus
 }

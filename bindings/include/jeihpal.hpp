@@ -1,4 +1,4 @@
-// jeihpal.hpp: the hubs, views and screens of jeihpal.h as C++17 objects.
+// jeihpal.hpp: the hubs, views, screens and recordings of jeihpal.h as C++17 objects.
 //
 // An object closes its word when it ends. It can be moved, and a screen can be copied. A refused call throws
 // jeihpal::error, or std::bad_alloc where there was no memory. Texts and bytes may be empty, and their pointers null.
@@ -36,6 +36,9 @@ public:
         case JEIHPAL_UNKNOWN_CLIENT: return "jeihpal: the client has ended, or never was";
         case JEIHPAL_NOT_OWED: return "jeihpal: fewer bytes are owed";
         case JEIHPAL_NO_CELL: return "jeihpal: the place is outside the screen";
+        case JEIHPAL_NO_HEADER: return "jeihpal: the recording has no header";
+        case JEIHPAL_COMPRESSED: return "jeihpal: the recording is a compressed file";
+        case JEIHPAL_NO_EVENT: return "jeihpal: the recording has fewer events";
         default: return "jeihpal: a refused call";
         }
     }
@@ -287,6 +290,54 @@ private:
         return detail::whole([&](uint8_t *to, size_t room, size_t *length) {
             return call(word(), earlier.word(), to, room, length);
         });
+    }
+};
+
+// What happens at a moment of a recording.
+struct event {
+    jeihpal_event_kind kind;
+    uint64_t time; // in microseconds
+    std::string text;
+    uint16_t rows;
+    uint16_t cols;
+};
+
+class recording : public detail::owned<jeihpal_recording, jeihpal_recording_close> {
+public:
+    explicit recording(std::string_view bytes) {
+        checked(jeihpal_recording_open(word(), detail::bytes_of(bytes), bytes.size()));
+    }
+    // A typescript.
+    recording(std::string_view output, std::string_view timing) {
+        checked(jeihpal_recording_open_script(word(), detail::bytes_of(output), output.size(), detail::bytes_of(timing),
+                                              timing.size()));
+    }
+
+    jeihpal_recorded look() const {
+        jeihpal_recorded look;
+        checked(jeihpal_recording_look(word(), &look));
+        return look;
+    }
+
+    // Throws where there are fewer.
+    jeihpal::event event(size_t index) const {
+        jeihpal_event told;
+        checked(jeihpal_recording_event(word(), index, &told));
+        std::string text(told.length, '\0');
+        uint8_t none = 0, *to = text.empty() ? &none : reinterpret_cast<uint8_t *>(&text[0]);
+        size_t length = 0;
+        checked(jeihpal_recording_event_text(word(), index, to, text.size(), &length));
+        return jeihpal::event{static_cast<jeihpal_event_kind>(told.kind), told.time, std::move(text), told.rows,
+                              told.cols};
+    }
+
+    // None, or the colour of texts, that of backgrounds and sixteen others, each as 0xRRGGBB.
+    std::vector<uint32_t> colors() const {
+        std::vector<uint32_t> colors(18);
+        size_t count = 0;
+        checked(jeihpal_recording_colors(word(), colors.data(), colors.size(), &count));
+        colors.resize(count);
+        return colors;
     }
 };
 

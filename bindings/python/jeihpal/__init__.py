@@ -1,7 +1,8 @@
-"""Terminal screens that arrive whole: hubs, views and screens, proved in Rattle.
+"""Terminal screens that arrive whole: hubs, views, screens and recordings, proved in Rattle.
 
 A `Hub` keeps the screen of one program, and owes each of its clients at most one frame of it. A `View` is a small far
-terminal that reads frames. A `Screen` is a terminal's screen from bytes, with what redraws it.
+terminal that reads frames. A `Screen` is a terminal's screen from bytes, with what redraws it. A `Recording` has the
+events of an asciicast, a typescript or a ttyrec.
 
 >>> with Hub(1, 20) as hub, View(1, 20) as view:
 ...     client = hub.attach()
@@ -12,14 +13,15 @@ terminal that reads frames. A `Screen` is a terminal's screen from bytes, with w
 True
 '[####      ]  40%'
 
-A view and a screen may be used on any thread, each with a lock of its own; a hub stays on the thread that made it. No
-call waits for anything else. Close an object, or use it in a `with`; one that is let go is closed too. Rows and columns
-are counted from 0. A refused call raises an exception, and has changed nothing unless its description says so.
+An object may be used on any thread, and has a lock of its own, which a call takes for its time. No call waits for
+anything else. Close an object, or use it in a `with`; one that is let go is closed too. Rows and columns are counted
+from 0. A refused call raises an exception, and has changed nothing unless its description says so.
 """
 
 from ._cells import Attributes, Cell, Color, Cursor, Drawing, Encoding, Look, Modes, Mouse, Rgb, Row, Size
-from ._errors import Failed, JeihpalError, NotOwed, UnknownClient
+from ._errors import Failed, JeihpalError, NoRecording, NotOwed, UnknownClient
 from ._hub import Answer, Hub
+from ._recording import Event, EventKind, Fault, FaultKind, Recording, RecordingKind
 from ._screen import History, Request, RequestKind, Screen
 from ._view import View
 
@@ -31,14 +33,21 @@ __all__ = [
     "Cursor",
     "Drawing",
     "Encoding",
+    "Event",
+    "EventKind",
     "Failed",
+    "Fault",
+    "FaultKind",
     "History",
     "Hub",
     "JeihpalError",
     "Look",
     "Modes",
     "Mouse",
+    "NoRecording",
     "NotOwed",
+    "Recording",
+    "RecordingKind",
     "Request",
     "RequestKind",
     "Rgb",

@@ -19,6 +19,10 @@ class NotOwed(JeihpalError, ValueError):
     """Fewer bytes are owed."""
 
 
+class NoRecording(JeihpalError, ValueError):
+    """A recording has no header, or is a compressed file."""
+
+
 def refusal(code: int) -> Exception:
     """The exception for a code of the library that is less than 0."""
     if code == -4:
@@ -30,5 +34,8 @@ def refusal(code: int) -> Exception:
         -6: UnknownClient("the client has ended, or never was"),
         -7: NotOwed("fewer bytes are owed"),
         -8: IndexError("the place is outside the screen"),
+        -10: NoRecording("the recording has no header"),
+        -11: NoRecording("the recording is a compressed file"),
+        -12: IndexError("the recording has fewer events"),
     }
     return known.get(code) or JeihpalError(f"the library answered {code}")

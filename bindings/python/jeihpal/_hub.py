@@ -5,7 +5,7 @@ from __future__ import annotations
 import ctypes
 
 from ._cells import OpenEnum
-from ._object import Object, checked_count, checked_size
+from ._object import Shown, checked_count, checked_size
 
 
 class Answer(OpenEnum):
@@ -32,11 +32,10 @@ class Answer(OpenEnum):
         return self >= Answer.FULL
 
 
-class Hub(Object):
-    """One program's screen, and clients that are sent frames of it. It stays on the thread that made it."""
+class Hub(Shown):
+    """One program's screen, and clients that are sent frames of it."""
 
     _kind = "hub"
-    _moves = False
 
     def __init__(self, rows: int, cols: int) -> None:
         """A blank screen of this size, without clients."""

@@ -16,7 +16,7 @@ _PLACES = (
 
 
 class Word(ctypes.Structure):
-    """A hub, a view or a screen, as the library keeps it. It begins null."""
+    """A hub, a view, a screen or a recording, as the library keeps it. It begins null."""
 
     _fields_ = [("held", ctypes.c_void_p)]
 
@@ -66,6 +66,28 @@ class RawRequest(ctypes.Structure):
 
     _fields_ = [
         *[(name, ctypes.c_size_t) for name in ("length", "letters", "dropped")],
+        *[(name, ctypes.c_uint16) for name in ("rows", "cols")],
+        ("kind", ctypes.c_uint8),
+    ]
+
+
+class RawRecorded(ctypes.Structure):
+    """jeihpal_recorded."""
+
+    _fields_ = [
+        ("events", ctypes.c_size_t),
+        *[(name, ctypes.c_uint64) for name in ("length", "place")],
+        *[(name, ctypes.c_uint16) for name in ("rows", "cols")],
+        *[(name, ctypes.c_uint8) for name in ("kind", "fault")],
+    ]
+
+
+class RawEvent(ctypes.Structure):
+    """jeihpal_event."""
+
+    _fields_ = [
+        ("time", ctypes.c_uint64),
+        ("length", ctypes.c_size_t),
         *[(name, ctypes.c_uint16) for name in ("rows", "cols")],
         ("kind", ctypes.c_uint8),
     ]
@@ -131,8 +153,14 @@ PARAMETERS: dict[str, list[Any]] = {
     "screen_input_mode_diff": [_WORD, *_TEXT],
     "screen_rows_diff": [_WORD, *_ROWS],
     "screen_request": [ctypes.c_void_p, _SIZE, ctypes.POINTER(RawRequest)],
+    "recording_open": _BYTES,
+    "recording_open_script": [*_BYTES, *_BYTES],
+    "recording_look": [ctypes.POINTER(RawRecorded)],
+    "recording_event": [_SIZE, ctypes.POINTER(RawEvent)],
+    "recording_event_text": [_SIZE, *_TEXT],
+    "recording_colors": [ctypes.c_void_p, _SIZE, _OUT_SIZE],
 }
-CLOSES = ("hub_close", "view_close", "screen_close")
+CLOSES = ("hub_close", "view_close", "screen_close", "recording_close")
 
 
 def _found() -> str:

@@ -1,11 +1,10 @@
-"""What hubs, views and screens have in common."""
+"""What hubs, views, screens and recordings have in common."""
 
 from __future__ import annotations
 
 import contextlib
 import ctypes
 import threading
-from collections import deque
 from typing import Any, Callable, ClassVar, Iterator, Optional, TypeVar, overload
 
 from ._cells import CELL_SIZE, Cell, Cursor, Look, Modes, Row, Size, cell_of, look_of, row_of
@@ -46,24 +45,13 @@ def locked(*objects: Object) -> Iterator[None]:
         yield
 
 
-class _Mine(threading.local):
-    """The words that other threads have let go, of objects that only this thread may free."""
-
-    def __init__(self) -> None:
-        self.words: deque[tuple[Callable[..., Any], Any]] = deque()
-
-
-_mine = _Mine()
-
-
 class Object:
     """A word of the library's, closed with this object.
 
-    It may be used on any thread, which takes its lock for each call. A hub stays on the thread that made it.
+    It may be used on any thread, which takes its lock for each call.
     """
 
     _kind: ClassVar[str] = ""
-    _moves: ClassVar[bool] = True
 
     def __init__(self, *arguments: Any) -> None:
         self._begin()
@@ -73,25 +61,14 @@ class Object:
         """What all objects have, before the library fills the word."""
         # A signal's handler may call in the midst of a call on its thread, so the lock is one that lets it in.
         self._lock = threading.RLock()
-        self._thread = threading.get_ident()
-        self._left = _mine.words
-        self._known_rows: dict[bytes, Row] = {}
         self._word = ctypes.pointer(Word())
-        while self._left:
-            close, word = self._left.popleft()
-            close(word)
 
     @classmethod
     def _function(cls, name: str) -> Callable[..., Any]:
         return getattr(library, f"jeihpal_{cls._kind}_{name}")  # type: ignore[no-any-return]
 
-    def _check_thread(self) -> None:
-        if not self._moves and threading.get_ident() != self._thread:
-            raise RuntimeError("a hub stays on the thread that made it")
-
     def _call(self, name: str, *arguments: Any) -> int:
         """Calls one of the library's functions on this word. Raises what it refuses."""
-        self._check_thread()
         with self._lock:
             code: int = self._function(name)(self._word, *arguments)
         if code < 0:
@@ -113,6 +90,36 @@ class Object:
             if wanted <= len(room):
                 return ctypes.string_at(room, wanted)
             room = ctypes.create_string_buffer(2 * wanted)
+
+    def close(self) -> None:
+        """Frees it. A later call raises ValueError, and another close does nothing."""
+        with self._lock:
+            self._function("close")(self._word)
+
+    def __enter__(self: Self) -> Self:
+        return self
+
+    def __exit__(self, *_: object) -> None:
+        self.close()
+
+    def __del__(self) -> None:
+        word: Optional[Any] = getattr(self, "_word", None)
+        if word is not None:
+            self._function("close")(word)
+
+    def __copy__(self) -> Object:
+        raise TypeError(f"a {type(self).__name__} can't be copied")
+
+    def __reduce__(self) -> str:
+        raise TypeError(f"a {type(self).__name__} can't be pickled")
+
+
+class Shown(Object):
+    """An object with a screen that is read."""
+
+    def _begin(self) -> None:
+        super()._begin()
+        self._known_rows: dict[bytes, Row] = {}
 
     def look(self) -> Look:
         """The size, the cursor and the modes."""
@@ -149,7 +156,6 @@ class Object:
     def _data(self, rows: range, cols: int) -> list[bytes]:
         """Of each of these rows the library's structs, and behind them whether it goes on in the next. The caller has
         the lock."""
-        self._check_thread()
         size, count = cols * CELL_SIZE, ctypes.c_size_t()
         room = ctypes.create_string_buffer(size + 1)
         function, word, told, found = self._function("row_cells"), self._word, ctypes.byref(count), []
@@ -205,30 +211,3 @@ class Object:
     def row_text(self, row: int) -> str:
         """The text of a row without the empty columns at its end; nothing past the last row."""
         return self._text("row_text", checked_place(row)).decode()
-
-    def close(self) -> None:
-        """Frees it. A later call raises ValueError, and another close does nothing."""
-        self._check_thread()
-        with self._lock:
-            self._function("close")(self._word)
-
-    def __enter__(self: Self) -> Self:
-        return self
-
-    def __exit__(self, *_: object) -> None:
-        self.close()
-
-    def __del__(self) -> None:
-        word: Optional[Any] = getattr(self, "_word", None)
-        if word is None:
-            return
-        if self._moves or threading.get_ident() == self._thread:
-            self._function("close")(word)
-        else:
-            self._left.append((self._function("close"), word))  # its thread frees it
-
-    def __copy__(self) -> Object:
-        raise TypeError(f"a {type(self).__name__} can't be copied")
-
-    def __reduce__(self) -> str:
-        raise TypeError(f"a {type(self).__name__} can't be pickled")

@@ -8,7 +8,7 @@ from typing import Any, Callable, Iterator, NamedTuple, TypeVar
 
 from ._cells import Drawing, OpenEnum, Row, drawing_of
 from ._library import RawDrawing, RawRequest
-from ._object import Object, checked_count, checked_place, checked_size, locked
+from ._object import Shown, checked_count, checked_place, checked_size, locked
 
 _MOST_REQUESTS = 256
 _FIRST_ROOM = 4096
@@ -39,7 +39,7 @@ class Request(NamedTuple):
     cols: int
 
 
-class Screen(Object):
+class Screen(Shown):
     """A terminal's screen from bytes, with the rows that scroll off, and what redraws it."""
 
     _kind = "screen"

@@ -4,10 +4,10 @@ from __future__ import annotations
 
 import ctypes
 
-from ._object import Object, checked_size
+from ._object import Shown, checked_size
 
 
-class View(Object):
+class View(Shown):
     """A small far terminal, which reads frames in any pieces."""
 
     _kind = "view"

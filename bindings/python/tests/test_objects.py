@@ -1,4 +1,4 @@
-"""Hubs, views and screens."""
+"""Hubs, views, screens and recordings."""
 
 import copy
 import ctypes
@@ -11,7 +11,8 @@ import threading
 import unittest
 
 import jeihpal
-from jeihpal import Answer, Attributes, Encoding, Hub, Mouse, NotOwed, RequestKind, Rgb, Screen, UnknownClient, View
+from jeihpal import Answer, Attributes, Encoding, Event, EventKind, Fault, FaultKind, Hub, Mouse, NoRecording, NotOwed
+from jeihpal import Recording, RecordingKind, RequestKind, Rgb, Screen, Size, UnknownClient, View
 from jeihpal import _library
 
 EXAMPLES = pathlib.Path(__file__).resolve().parents[3] / "examples"
@@ -263,26 +264,6 @@ class Refusals(unittest.TestCase):
         with View(1, 1) as view:
             self.assertEqual(_library.library.jeihpal_hub_feed(view._word, b"x", 1), -2)
 
-    def test_a_hub_stays_on_its_thread(self):
-        hub, seen = Hub(1, 1), []
-
-        def use():
-            for call in (hub.attach, hub.close):
-                with self.assertRaises(RuntimeError):
-                    call()
-                seen.append(call)
-
-        on_another_thread(use)
-        self.assertEqual(len(seen), 2)
-        hub.close()
-
-    def test_a_hub_that_another_thread_lets_go_is_freed(self):
-        before = memory()
-        for _ in range(60):
-            box = [Hub(100, 400)]
-            on_another_thread(box.clear)
-        self.assertLess(memory() - before, 60 << 20)
-
     def test_no_copies(self):
         with Hub(1, 1) as hub, self.assertRaises(TypeError):
             copy.copy(hub)
@@ -303,6 +284,33 @@ class Refusals(unittest.TestCase):
             for thread in threads:
                 thread.join()
             self.assertEqual(screen.contents(), "x")
+
+    def test_a_hub_on_any_thread(self):
+        """Threads with a client each ask one hub for frames, and one more client shares what these are of."""
+        shown, made = [], []
+        with Hub(3, 20) as hub:
+            made.append(hub.attach())
+
+            def use(letter):
+                with View(3, 20) as view:
+                    client = hub.attach()
+                    for time in range(200):
+                        hub.feed(f"\x1b[H{letter}{time % 10}".encode())
+                        for it in (client, made[0]):
+                            hub.frame(it)
+                        carry(hub, client, view, 100)
+                        shown.append(view.row_text(0))
+                    hub.detach(client)
+
+            threads = [threading.Thread(target=use, args=(letter,)) for letter in "abcd"]
+            for thread in threads:
+                thread.start()
+            for thread in threads:
+                thread.join()
+            self.assertEqual(len(shown), 800)
+            self.assertEqual([it for it in shown if len(it) != 2 or it[0] not in "abcd"], [])
+            on_another_thread(hub.close)
+            self.assertRaises(ValueError, hub.attach)
 
     def test_a_signal_in_the_midst_of_a_text(self):
         """A handler that reads the same object leaves the interrupted call's text alone."""
@@ -342,9 +350,73 @@ class Refusals(unittest.TestCase):
             View(100, 100)
             gc.collect(0)
         for _ in range(300):
-            box = [View(100, 100), Screen(100, 100)]
+            box = [Hub(100, 100), View(100, 100), Screen(100, 100)]
             on_another_thread(box.clear)
         self.assertLess(memory() - before, 100 << 20)
+
+
+THEME = b'{"fg": "#010203", "bg": "#ffffff", "palette": "%s"}' % b":".join(b"#0000%02x" % n for n in range(16))
+CAST = b"""{"version": 3, "term": {"cols": 80, "rows": 24, "theme": %s}}
+[0.5, "o", "hi\\r\\n"]
+[0.25, "r", "90x30"]
+[1, "m", "here"]
+[1, "i", "q"]
+none
+""" % THEME
+
+
+class Recordings(unittest.TestCase):
+    def test_an_asciicast(self):
+        with Recording(CAST) as recording:
+            self.assertEqual((recording.kind, recording.size), (RecordingKind.ASCIICAST, Size(24, 80)))
+            self.assertEqual((recording.length, recording.fault), (2750000, Fault(FaultKind.LINE, 6)))
+            want = [
+                Event(500000, EventKind.OUTPUT, b"hi\r\n", None),
+                Event(750000, EventKind.RESIZE, b"", Size(30, 90)),
+                Event(1750000, EventKind.MARKER, b"here", None),
+            ]
+            self.assertEqual((list(recording), len(recording), recording[-1]), (want, 3, want[2]))
+            self.assertEqual(recording.colors, [0x010203, 0xFFFFFF, *range(16)])
+            for index in (3, -4):
+                with self.assertRaises(IndexError):
+                    recording[index]
+
+    def test_a_screen_at_each_event(self):
+        with Recording(CAST) as recording, Screen(*recording.size) as screen:
+            shown = []
+            for event in recording:
+                if event.kind == EventKind.OUTPUT:
+                    screen.process(event.data)
+                elif event.kind == EventKind.RESIZE:
+                    screen.resize(*event.size)
+                shown.append((screen.size, screen.row_text(0)))
+            self.assertEqual(shown, [((24, 80), "hi"), ((30, 90), "hi"), ((30, 90), "hi")])
+
+    def test_other_kinds(self):
+        ttyrec = (5).to_bytes(4, "little") + bytes(4) + (2).to_bytes(4, "little") + b"ab"
+        with Recording(ttyrec + b"cut") as recording:
+            self.assertEqual((recording.kind, recording.size), (RecordingKind.TTYREC, None))
+            self.assertEqual(recording.fault, Fault(FaultKind.BYTE, 14))
+            self.assertEqual([it.data for it in recording], [b"ab"])
+        with Recording(b"began\nabc", timing=b"0.25 2\n0.5 9\n") as recording:
+            self.assertEqual((recording.kind, recording[0].time), (RecordingKind.TYPESCRIPT, 250000))
+            self.assertEqual((recording[0].data, recording.fault), (b"ab", Fault(FaultKind.STEP, 2)))
+        with Recording(b"x" * 5000) as recording:
+            self.assertEqual((recording.kind, recording[0].data), (RecordingKind.RAW, b"x" * 5000))
+        with Recording(b"") as recording:
+            self.assertEqual((recording[0].data, recording.colors), (b"", []))
+
+    def test_none(self):
+        for data in (b'{"version": 1}\n', b"\x1f\x8b"):
+            with self.assertRaises(NoRecording):
+                Recording(data)
+
+    def test_on_another_thread(self):
+        seen, recording = [], Recording(b"x")
+        on_another_thread(lambda: seen.append(recording[0].data))
+        on_another_thread(recording.close)
+        self.assertEqual(seen, [b"x"])
+        self.assertRaises(ValueError, lambda: recording[0])
 
 
 class Declarations(unittest.TestCase):
@@ -375,6 +447,8 @@ class Declarations(unittest.TestCase):
             "drawing": _library.RawDrawing,
             "look": _library.RawLook,
             "request": _library.RawRequest,
+            "recorded": _library.RawRecorded,
+            "event": _library.RawEvent,
         }
         said = []
         for name, struct in structs.items():

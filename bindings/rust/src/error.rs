@@ -13,6 +13,10 @@ pub enum Error {
     UnknownClient,
     /// Fewer bytes are owed.
     NotOwed,
+    /// The first line of a recording is no header.
+    NoHeader,
+    /// A recording is a file of gzip, bzip2, xz or zstd: unpack it first.
+    Compressed,
     /// Another code of the library, which this crate doesn't know.
     Other(i32),
 }
@@ -27,6 +31,8 @@ impl fmt::Display for Error {
             Error::Failed => "an earlier call found no memory",
             Error::UnknownClient => "the client has ended, or never was",
             Error::NotOwed => "fewer bytes are owed",
+            Error::NoHeader => "the recording has no header",
+            Error::Compressed => "the recording is a compressed file",
             Error::Other(code) => return write!(f, "the library answered {code}"),
         };
         f.write_str(text)
@@ -52,7 +58,10 @@ pub(crate) fn answer(code: i32) -> Result<i32> {
         -5 => Err(Error::Failed),
         -6 => Err(Error::UnknownClient),
         -7 => Err(Error::NotOwed),
-        // A word here is never closed nor of another kind, and has a size; places are looked at where they are used.
+        -10 => Err(Error::NoHeader),
+        -11 => Err(Error::Compressed),
+        // A word here is never closed nor of another kind, and has a size; places and events are looked at where they
+        // are used.
         _ => Err(Error::Other(code)),
     }
 }

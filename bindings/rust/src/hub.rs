@@ -62,16 +62,29 @@ impl Answer {
 
 /// One program's screen, and clients that are sent frames of it.
 ///
-/// What is written to it as [`io::Write`] is fed to it. It stays on the thread that made it:
+/// What is written to it as [`io::Write`] is fed to it. It may move to another thread:
+///
+/// ```
+/// # let size = std::num::NonZeroU16::new(1).unwrap();
+/// let hub = jeihpal::Hub::new(size, size)?;
+/// std::thread::spawn(move || drop(hub)).join().unwrap();
+/// # Ok::<(), jeihpal::Error>(())
+/// ```
+///
+/// It isn't `Sync`, since reading is a call too. Several threads share one in a [`Mutex`](std::sync::Mutex).
 ///
 /// ```compile_fail,E0277
 /// # let size = std::num::NonZeroU16::new(1).unwrap();
 /// let hub = jeihpal::Hub::new(size, size).unwrap();
-/// std::thread::spawn(move || drop(hub));
+/// std::thread::scope(|scope| scope.spawn(|| hub.contents()).join());
 /// ```
 pub struct Hub {
     object: Object,
 }
+
+// SAFETY: nothing that a hub's word holds is shared with another object or tied to a thread, so the library lets it go
+// to another thread (jeihpal.h). `&mut` and the missing `Sync` keep to one call at a time.
+unsafe impl Send for Hub {}
 
 impl Hub {
     /// A hub with a blank screen of this size, and without clients.

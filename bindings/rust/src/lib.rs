@@ -2,7 +2,8 @@
 //!
 //! A [`Hub`] keeps the screen of one program, and owes each of its clients at most one frame of it. A [`View`] is a
 //! small far terminal that reads frames. A [`Screen`] is a terminal's screen from bytes, with what redraws it; module
-//! [`vt100`] has one with the names of the crate `vt100` 0.18.1.
+//! [`vt100`] has one with the names of the crate `vt100` 0.18.1. A [`Recording`] has the events of an asciicast, a
+//! typescript or a ttyrec.
 //!
 //! ```
 //! use std::num::NonZeroU16;
@@ -19,8 +20,8 @@
 //! ```
 //!
 //! What each call answers and does is proved, in Rattle, of the library below. That the declarations here fit it is
-//! only tested. Views and screens are `Send`; a hub stays on the thread that made it. An object is freed when it is
-//! dropped. No call waits. Rows and columns are counted from 0.
+//! only tested. Objects are `Send`, and not `Sync`. An object is freed when it is dropped. No call waits.
+//! Rows and columns are counted from 0.
 #![deny(missing_docs, unsafe_op_in_unsafe_fn)]
 
 mod cell;
@@ -28,6 +29,7 @@ mod error;
 mod hub;
 mod object;
 mod raw;
+mod recording;
 mod screen;
 mod stops;
 mod view;
@@ -36,5 +38,6 @@ pub mod vt100;
 pub use cell::{Cell, Color, CursorStyle, Drawing, Look, MouseProtocolEncoding, MouseProtocolMode};
 pub use error::{Error, Result};
 pub use hub::{Answer, Client, Hub};
+pub use recording::{Change, Event, Fault, Kind, Recording};
 pub use screen::{Request, Screen};
 pub use view::View;

@@ -1,4 +1,4 @@
-//! What hubs, views and screens have in common.
+//! What hubs, views, screens and recordings have in common.
 use crate::cell::{Cell, Look};
 use crate::error::{answer, Result};
 use crate::raw::{
@@ -6,6 +6,7 @@ use crate::raw::{
     RawLook, Word,
 };
 use std::cell::UnsafeCell;
+use std::ops::Deref;
 use std::ptr;
 
 /// The number of the interface that the declarations are for.
@@ -14,7 +15,7 @@ const ABI: u32 = 1;
 /// The library's answer to a place outside of the screen.
 const NO_CELL: i32 = -8;
 
-/// The functions that all kinds have.
+/// The functions that all kinds with a screen have.
 pub(crate) struct Functions {
     pub(crate) close: Close,
     pub(crate) look: GetLook,
@@ -27,31 +28,33 @@ pub(crate) struct Functions {
 ///
 /// For the library reading is a call as any other, and there is one at a time. The word isn't `Sync`, and no call comes
 /// back here, so that there is never more than one on it.
-pub(crate) struct Object {
+pub(crate) struct Owned {
     word: UnsafeCell<Word>,
-    functions: &'static Functions,
+    close: Close,
 }
 
-impl Object {
+impl Owned {
     /// A word that a call fills.
-    pub(crate) fn new(
-        functions: &'static Functions,
-        fill: impl FnOnce(*mut Word) -> i32,
-    ) -> Result<Object> {
+    pub(crate) fn new(close: Close, fill: impl FnOnce(*mut Word) -> i32) -> Result<Owned> {
         // SAFETY: it may be called at any time.
         let abi = unsafe { raw::jeihpal_abi() };
         assert_eq!(abi, ABI, "libjeihpal.a is of another interface");
         let word = UnsafeCell::new(Word {
             held: ptr::null_mut(),
         });
-        let object = Object { word, functions };
-        object.call(fill)?;
-        Ok(object)
+        let owned = Owned { word, close };
+        owned.call(fill)?;
+        Ok(owned)
+    }
+
+    /// The word, for a call.
+    pub(crate) fn word(&self) -> *mut Word {
+        self.word.get()
     }
 
     /// Calls a function of the library on the word.
     pub(crate) fn call(&self, function: impl FnOnce(*mut Word) -> i32) -> Result<i32> {
-        answer(function(self.word.get()))
+        answer(function(self.word()))
     }
 
     /// Calls one that answers nothing but a refusal.
@@ -106,6 +109,38 @@ impl Object {
         // SAFETY, here and below: the word is as the last call left it, and what is lent is lent for the call.
         self.text(|word, to, room, length| unsafe { function(word, to, room, length) })
     }
+}
+
+impl Drop for Owned {
+    fn drop(&mut self) {
+        // SAFETY: the word is null, or as the last call left it.
+        unsafe { (self.close)(self.word()) }
+    }
+}
+
+/// An object with a screen.
+pub(crate) struct Object {
+    owned: Owned,
+    functions: &'static Functions,
+}
+
+impl Deref for Object {
+    type Target = Owned;
+
+    fn deref(&self) -> &Owned {
+        &self.owned
+    }
+}
+
+impl Object {
+    /// An object whose word a call fills.
+    pub(crate) fn new(
+        functions: &'static Functions,
+        fill: impl FnOnce(*mut Word) -> i32,
+    ) -> Result<Object> {
+        let owned = Owned::new(functions.close, fill)?;
+        Ok(Object { owned, functions })
+    }
 
     pub(crate) fn row_text(&self, row: u16) -> Result<String> {
         let function = self.functions.row_text;
@@ -121,7 +156,7 @@ impl Object {
 
     pub(crate) fn cell(&self, row: u16, col: u16) -> Option<Cell> {
         let mut cell = RawCell::default();
-        let code = unsafe { (self.functions.cell)(self.word.get(), row, col, &mut cell) };
+        let code = unsafe { (self.functions.cell)(self.word(), row, col, &mut cell) };
         if code == NO_CELL {
             return None;
         }
@@ -137,7 +172,7 @@ impl Object {
         let code = unsafe {
             let room = cells.as_mut_ptr().cast::<RawCell>();
             (self.functions.cells)(
-                self.word.get(),
+                self.word(),
                 row,
                 room,
                 cells.len(),
@@ -166,13 +201,8 @@ impl Object {
         }
         // SAFETY: these are two words, each as the last call left it.
         self.text(|word, to, room, length| unsafe {
-            function(word, earlier.word.get(), to, room, length)
+            function(word, earlier.word(), to, room, length)
         })
-    }
-
-    /// The word of another object, for a call that reads both.
-    pub(crate) fn word(&self) -> *mut Word {
-        self.word.get()
     }
 
     /// The texts of all rows.
@@ -217,10 +247,3 @@ macro_rules! reading_calls {
 }
 
 pub(crate) use reading_calls;
-
-impl Drop for Object {
-    fn drop(&mut self) {
-        // SAFETY: the word is null, or as the last call left it.
-        unsafe { (self.functions.close)(self.word.get()) }
-    }
-}

@@ -1,6 +1,6 @@
 //! The library's structs and functions, as `jeihpal.h` declares them.
 
-/// `jeihpal_hub`, `jeihpal_view` and `jeihpal_screen`.
+/// `jeihpal_hub`, `jeihpal_view`, `jeihpal_screen` and `jeihpal_recording`.
 #[repr(C)]
 pub(crate) struct Word {
     pub(crate) held: *mut u8,
@@ -71,6 +71,30 @@ pub(crate) struct RawRequest {
     pub(crate) length: usize,
     pub(crate) letters: usize,
     pub(crate) dropped: usize,
+    pub(crate) rows: u16,
+    pub(crate) cols: u16,
+    pub(crate) kind: u8,
+}
+
+/// `jeihpal_recorded`.
+#[repr(C)]
+#[derive(Default)]
+pub(crate) struct RawRecorded {
+    pub(crate) events: usize,
+    pub(crate) length: u64,
+    pub(crate) place: u64,
+    pub(crate) rows: u16,
+    pub(crate) cols: u16,
+    pub(crate) kind: u8,
+    pub(crate) fault: u8,
+}
+
+/// `jeihpal_event`.
+#[repr(C)]
+#[derive(Default)]
+pub(crate) struct RawEvent {
+    pub(crate) time: u64,
+    pub(crate) length: usize,
     pub(crate) rows: u16,
     pub(crate) cols: u16,
     pub(crate) kind: u8,
@@ -297,6 +321,39 @@ extern "C" {
         request: *mut RawRequest,
     ) -> i32;
     pub(crate) fn jeihpal_screen_close(screen: *mut Word);
+
+    pub(crate) fn jeihpal_recording_open(
+        recording: *mut Word,
+        bytes: *const u8,
+        count: usize,
+    ) -> i32;
+    pub(crate) fn jeihpal_recording_open_script(
+        recording: *mut Word,
+        output: *const u8,
+        count: usize,
+        timing: *const u8,
+        timing_count: usize,
+    ) -> i32;
+    pub(crate) fn jeihpal_recording_look(recording: *mut Word, look: *mut RawRecorded) -> i32;
+    pub(crate) fn jeihpal_recording_event(
+        recording: *mut Word,
+        index: usize,
+        event: *mut RawEvent,
+    ) -> i32;
+    pub(crate) fn jeihpal_recording_event_text(
+        recording: *mut Word,
+        index: usize,
+        to: *mut u8,
+        capacity: usize,
+        length: *mut usize,
+    ) -> i32;
+    pub(crate) fn jeihpal_recording_colors(
+        recording: *mut Word,
+        colors: *mut u32,
+        most: usize,
+        count: *mut usize,
+    ) -> i32;
+    pub(crate) fn jeihpal_recording_close(recording: *mut Word);
 }
 
 #[cfg(test)]
@@ -329,6 +386,10 @@ mod tests {
             updating: u8, failed: u8);
         found += &said!("request", RawRequest, length: usize, letters: usize, dropped: usize, rows: u16, cols: u16,
             kind: u8);
+        found += &said!("recorded", RawRecorded, events: usize, length: u64, place: u64, rows: u16, cols: u16, kind: u8,
+            fault: u8);
+        found +=
+            &said!("event", RawEvent, time: u64, length: usize, rows: u16, cols: u16, kind: u8);
         assert_eq!(found, std::fs::read_to_string(path).unwrap());
     }
 }

@@ -1,7 +1,7 @@
-//! Hubs, views and screens, and the names of `vt100`.
+//! Hubs, views, screens and recordings, and the names of `vt100`.
 use jeihpal::{
-    Answer, Client, Color, Error, Hub, MouseProtocolEncoding, MouseProtocolMode, Request, Screen,
-    View,
+    Answer, Change, Client, Color, Error, Fault, Hub, Kind, MouseProtocolEncoding,
+    MouseProtocolMode, Recording, Request, Screen, View,
 };
 use std::fs;
 use std::io::{self, Write};
@@ -240,6 +240,70 @@ fn threads_with_an_object_each() {
         })
     });
     assert_eq!(threads.map(|it| it.join().unwrap()), ["a499", "b499"]);
+}
+
+#[test]
+fn recordings() {
+    let cast = b"{\"version\": 3, \"term\": {\"cols\": 80, \"rows\": 24}}\n[0.5, \"o\", \"hi\"]\n\
+        [0.25, \"r\", \"90x30\"]\n[1, \"m\", \"here\"]\nnone\n";
+    let recording = Recording::new(cast).unwrap();
+    assert_eq!(recording.kind(), Kind::Asciicast);
+    assert_eq!(recording.size(), Some((size(24), size(80))));
+    assert_eq!(
+        (recording.length(), recording.event_count()),
+        (1_750_000, 3)
+    );
+    assert_eq!(recording.fault(), Some(Fault::Line(5)));
+    assert_eq!(recording.colors(), None);
+    let events: Vec<_> = recording.events().map(|it| it.unwrap()).collect();
+    let told: Vec<_> = events.iter().map(|it| (it.time, &it.change)).collect();
+    let want = [
+        (500_000, &Change::Output(b"hi".to_vec())),
+        (750_000, &Change::Resize(size(30), size(90))),
+        (1_750_000, &Change::Marker("here".to_string())),
+    ];
+    assert_eq!(told, want);
+    assert_eq!(recording.event(3), Ok(None));
+    let script = Recording::of_script(b"began\nabc", b"0.25 2\n").unwrap();
+    assert_eq!((script.kind(), script.fault()), (Kind::Typescript, None));
+    let large = Recording::new(&[b'x'; 5000]).unwrap();
+    let moved = thread::spawn(move || large.event(0).unwrap().unwrap().change);
+    assert_eq!(moved.join().unwrap(), Change::Output(vec![b'x'; 5000]));
+    assert_eq!(Recording::new(b"\x1f\x8b").err(), Some(Error::Compressed));
+    assert_eq!(
+        Recording::new(b"{\"version\": 1}\n").err(),
+        Some(Error::NoHeader)
+    );
+}
+
+#[test]
+fn a_hub_goes_from_thread_to_thread() {
+    let (mut hub, mut view, client) = pair(3, 20);
+    for time in 0..20 {
+        (hub, view) = thread::spawn(move || {
+            let other = hub.attach().unwrap(); // shares the screen of the other one's frame
+            hub.feed(format!("\x1b[H{time}").as_bytes()).unwrap();
+            hub.frame(client).unwrap();
+            hub.frame(other).unwrap();
+            hub.pump(client, &mut view).unwrap();
+            hub.detach(other).unwrap();
+            (hub, view)
+        })
+        .join()
+        .unwrap();
+        assert_eq!(view.row_text(0).unwrap(), time.to_string());
+    }
+    let shared = std::sync::Mutex::new(hub);
+    thread::scope(|scope| {
+        for _ in 0..4 {
+            scope.spawn(|| {
+                let mut hub = shared.lock().unwrap();
+                let client = hub.attach().unwrap();
+                assert_eq!(hub.frame(client).unwrap(), jeihpal::Answer::Full);
+            });
+        }
+    });
+    assert_eq!(shared.lock().unwrap().contents().unwrap(), "19");
 }
 
 /// A program for `vt100`, with its `use` line alone changed.

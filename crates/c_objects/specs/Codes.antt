@@ -36,6 +36,16 @@ not_owed = negsuc 6
 abbrev pub no_cell : ℤ
 no_cell = negsuc 7
 
+-- and -10 to -12
+abbrev pub no_header : ℤ
+no_header = negsuc 9
+
+abbrev pub compressed : ℤ
+compressed = negsuc 10
+
+abbrev pub no_event : ℤ
+no_event = negsuc 11
+
 -- the number of a refusal is less than 0
 abbrev pub IsRefusal : ℤ → Type 0
 IsRefusal (pos n) = ⊥

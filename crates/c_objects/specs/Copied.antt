@@ -28,7 +28,7 @@ use Rattle.c_objects.specs.Texts.{CopiesText, CopiesRows}
 use Rattle.c_objects.specs.declared.plain.CDrawing.{CDrawing}
 use Rattle.c_objects.specs.declared.object.Marked.{Marked}
 use Rattle.c_objects.specs.declared.object.Object.{Object}
-use Rattle.c_objects.specs.declared.object.Object.TheVariants.{Hub, View, Screen}
+use Rattle.c_objects.specs.declared.object.Object.TheVariants.{Hub, View, Screen, Recording}
 
 -- ---- copies
 
@@ -48,6 +48,7 @@ abbrev pub IsCopyOf : Object → Marked → ℤ → Type 0
 IsCopyOf (Hub h) m code = ⊥
 IsCopyOf (View v) m code = ⊥
 IsCopyOf (Screen n) m code = IsCopy m n
+IsCopyOf (Recording r) m code = ⊥
 
 -- ---- the kept rows
 
@@ -109,8 +110,10 @@ abbrev pub ScreensSay : (Marked → Marked → ℤ → Type 0) → Object → Ob
 ScreensSay says (Screen m) (Screen e) code = says m e code
 ScreensSay says (Screen m) (Hub h) code = code ≡ other_kind
 ScreensSay says (Screen m) (View v) code = code ≡ other_kind
+ScreensSay says (Screen m) (Recording r) code = code ≡ other_kind
 ScreensSay says (Hub h) y code = code ≡ other_kind
 ScreensSay says (View v) y code = code ≡ other_kind
+ScreensSay says (Recording r) y code = code ≡ other_kind
 
 abbrev pub HasContentsDiff : List ℕ → List ℕ → ℕ → Marked → Marked → ℤ → Type 0
 HasContentsDiff old new count m e code =

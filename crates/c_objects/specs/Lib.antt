@@ -4,9 +4,11 @@ pub mod Copied
 pub mod Hubs
 pub mod Looks
 pub mod Objects
+pub mod Recordings
 pub mod Requests
 pub mod Runs
 pub mod Screens
 pub mod Taken
 pub mod Texts
 pub mod Views
+pub mod Words

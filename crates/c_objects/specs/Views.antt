@@ -13,7 +13,7 @@ use Rattle.c_objects.specs.Looks.{cell_of, view_look}
 use Rattle.c_objects.specs.declared.plain.CCell.{CCell}
 use Rattle.c_objects.specs.declared.plain.CLook.{CLook}
 use Rattle.c_objects.specs.declared.object.Object.{Object}
-use Rattle.c_objects.specs.declared.object.Object.TheVariants.{Hub, View, Screen}
+use Rattle.c_objects.specs.declared.object.Object.TheVariants.{Hub, View, Screen, Recording}
 
 abbrev pub ViewState : Type 0
 ViewState = declared.View UntilCleared
@@ -31,6 +31,7 @@ abbrev pub IsNewViewOf : ℕ → ℕ → Object → Type 0
 IsNewViewOf rows cols (Hub h) = ⊥
 IsNewViewOf rows cols (View v) = IsNewView rows cols v
 IsNewViewOf rows cols (Screen m) = ⊥
+IsNewViewOf rows cols (Recording r) = ⊥
 
 -- ---- calls that change it
 

@@ -32,6 +32,15 @@ pub(crate) const NOT_OWED: i32 = -7;
 /// The row or the column is outside the screen.
 pub(crate) const NO_CELL: i32 = -8;
 
+/// A recording has no header.
+pub(crate) const NO_HEADER: i32 = -10;
+
+/// A recording is a compressed file.
+pub(crate) const COMPRESSED: i32 = -11;
+
+/// A recording has fewer events.
+pub(crate) const NO_EVENT: i32 = -12;
+
 /// A writer failed. No call here uses a writer that can fail.
 const NOT_WRITTEN: i32 = -9;
 

@@ -1,4 +1,4 @@
-//! The objects that C calls (a hub, a view or a screen), and what each call from C does to them.
+//! The objects that C calls (a hub, a view, a screen or a recording), and what each call from C does to them.
 //!
 //! Each function calls one function of the libraries, and returns its result as a number. A number less than 0 is a
 //! refusal. After a refusal nothing has changed but what the function's contract says.
@@ -13,6 +13,7 @@ pub mod laws;
 mod look;
 mod object;
 mod plain;
+pub mod recording;
 mod requests;
 pub mod rows;
 pub mod screen;
@@ -21,5 +22,5 @@ pub mod view;
 
 pub use code::{CLOSED, OK};
 pub use object::{Marked, Object};
-pub use plain::{CCell, CColor, CDrawing, CLook, CRequest};
+pub use plain::{CCell, CColor, CDrawing, CEvent, CLook, CRecording, CRequest};
 pub use requests::{Request, Requests};

@@ -1,6 +1,7 @@
 //! What a word may hold.
 
 use crate::requests::Requests;
+use recordings::Reading;
 use termrelay::Hub;
 use termview::{UntilCleared, View};
 use vt100::{Parser, Screen};
@@ -21,4 +22,6 @@ pub enum Object {
     View(View<UntilCleared>),
     /// A screen.
     Screen(Marked),
+    /// A recording, up to its first fault.
+    Recording(Reading),
 }

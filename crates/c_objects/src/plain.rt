@@ -109,3 +109,39 @@ pub struct CRequest {
     /// The kind of the request; 0 if none is waiting.
     pub kind: u8,
 }
+
+/// What a recording says of itself.
+#[repr(C)]
+#[derive(Clone, Copy)]
+pub struct CRecording {
+    /// How many events there are.
+    pub events: usize,
+    /// Microseconds from the beginning to the last event.
+    pub length: u64,
+    /// The line of the first fault, from 1, or its byte, from 0; 0 if there is none.
+    pub place: u64,
+    /// The number of rows at first; 0 where the recording doesn't say it.
+    pub rows: u16,
+    /// The number of columns at first; 0 where the recording doesn't say it.
+    pub cols: u16,
+    /// The kind: 1 asciicast, 2 typescript, 3 ttyrec, 4 raw.
+    pub kind: u8,
+    /// The first fault: 0 none, 1 a line of an asciicast, 2 a byte of a ttyrec, 3 a line of a timing file.
+    pub fault: u8,
+}
+
+/// An event of a recording.
+#[repr(C)]
+#[derive(Clone, Copy)]
+pub struct CEvent {
+    /// Microseconds since the beginning.
+    pub time: u64,
+    /// How many bytes of text the event has.
+    pub length: usize,
+    /// The rows of another size, else 0.
+    pub rows: u16,
+    /// The columns of another size, else 0.
+    pub cols: u16,
+    /// What the event does: 1 output, 2 another size, 3 a marker.
+    pub kind: u8,
+}

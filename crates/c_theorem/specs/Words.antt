@@ -4,20 +4,15 @@ use Rattle.std.specs.List.{concat}
 use Rattle.vte.specs.Moves.{Move, Gives, Stops}
 use Rattle.screen_model.specs.Holds.{IsSide}
 use Rattle.termrelay.specs.Log.{SessionView}
-use Rattle.c_objects.specs.Codes.{closed}
 use Rattle.c_objects.specs.Hubs.{IsNewHubOf}
 use Rattle.c_objects.specs.Objects.{HubDoes, ViewDoes}
 use Rattle.c_objects.specs.Runs.{FromC, IsFromC, Does}
 use Rattle.c_objects.specs.Views as view
 use Rattle.c_objects.specs.Views.{IsNewViewOf, Advances}
+use Rattle.c_objects.specs.Words.{OnWord}
 use Rattle.c_objects.specs.declared.object.Object.{Object}
 use Rattle.c_theorem.specs.Shown.{handed, HubRuns, ShowsLastFrame, ViewReads}
 use Rattle.c_theorem.specs.Companions.{ViewMoves}
-
--- a call changes the object in a word, as the exported calls do; a null word is refused
-abbrev pub ChangesWord : (Object → ℤ → Object → Type 0) → Option Object → ℤ → Option Object → Type 0
-ChangesWord does None code new = (code ≡ closed) × (new ≡ None)
-ChangesWord does (Some x) code new = (y : Object) × does x code y × (new ≡ Some y)
 
 -- the sessions after a call on a word; a null word has none
 abbrev pub handed_in : Option Object → FromC → ℤ → List SessionView → List SessionView
@@ -28,22 +23,22 @@ handed_in (Some x) call code ss = handed x call code ss
 abbrev pub WordRuns : Option Object → List SessionView → List (FromC × ℤ) → Option Object → List SessionView → Type 0
 WordRuns x ss [] y ts = (y ≡ x) × (ts ≡ ss)
 WordRuns x ss ((call, code) ∷ made) y ts =
-    (z : Option Object) × IsFromC call × ChangesWord (HubDoes (Does call)) x code z
+    (z : Option Object) × IsFromC call × OnWord (HubDoes (Does call)) x code z
     × WordRuns z (handed_in x call code ss) made y ts
 
 -- a word that may hold a view reads these pieces, one after another
 abbrev pub WordReads : Option Object → List (List ℕ) → Option Object → Type 0
 WordReads v [] w = w ≡ v
 WordReads v (piece ∷ pieces) w =
-    (u : Option Object) × (code : ℤ) × ChangesWord (ViewDoes (Advances piece)) v code u × WordReads u pieces w
+    (u : Option Object) × (code : ℤ) × OnWord (ViewDoes (Advances piece)) v code u × WordReads u pieces w
 
 -- and may also be stopped by hand
 abbrev pub WordMoves : Option Object → List Move → Option Object → Type 0
 WordMoves v [] w = w ≡ v
 WordMoves v (Gives piece ∷ moves) w =
-    (u : Option Object) × (code : ℤ) × ChangesWord (ViewDoes (Advances piece)) v code u × WordMoves u moves w
+    (u : Option Object) × (code : ℤ) × OnWord (ViewDoes (Advances piece)) v code u × WordMoves u moves w
 WordMoves v (Stops ∷ moves) w =
-    (u : Option Object) × (code : ℤ) × ChangesWord (ViewDoes view.Stops) v code u × WordMoves u moves w
+    (u : Option Object) × (code : ℤ) × OnWord (ViewDoes view.Stops) v code u × WordMoves u moves w
 
 -- What is done to a word that holds an object is done to the object, and the word still holds one. So the laws on
 -- objects are laws on words.

@@ -5,7 +5,7 @@ ghost use Rattle.c_objects.specs.Copied.{IsCopyOf, ClearsKept, Draws, ScreensSay
 ghost use Rattle.c_objects.specs.Copied.{HasBasic, HasModes, HasAttributes, HasCursor};
 ghost use Rattle.c_objects.specs.Copied.{HasContentsDiff, HasStateDiff, HasModesDiff};
 ghost use Rattle.c_objects.specs.Objects.{ScreenDoes, ScreenSays};
-ghost use Rattle.jeihpal_c.specs.Words.{OnWord, InWord, InWords, GetsCopy};
+ghost use Rattle.c_objects.specs.Words.{OnWord, InWord, InWords, GetsCopy};
 
 use crate::word::Word;
 use c_objects::{CDrawing, CLOSED, OK, Object, copied, rows};

@@ -1,0 +1,125 @@
+"""Recordings."""
+
+from __future__ import annotations
+
+import ctypes
+from typing import Iterator, NamedTuple
+
+from ._cells import OpenEnum, Size
+from ._library import RawEvent, RawRecorded
+from ._object import Object
+
+_COLORS = 18
+
+
+class RecordingKind(OpenEnum):
+    """The form in which a recording was stored."""
+
+    ASCIICAST = 1
+    """An asciicast, version 2 or 3."""
+    TYPESCRIPT = 2
+    """A typescript of script(1), with the file of its times."""
+    TTYREC = 3
+    RAW = 4
+    """The bytes alone: one event at the time 0."""
+
+
+class FaultKind(OpenEnum):
+    """How a recording stops making sense."""
+
+    LINE = 1
+    """A line of an asciicast is no event."""
+    BYTE = 2
+    """No whole frame of a ttyrec begins at a byte."""
+    STEP = 3
+    """A line of a file of times is no step, or takes more bytes than are left."""
+
+
+class Fault(NamedTuple):
+    """The first place at which a recording stops making sense."""
+
+    kind: FaultKind
+    place: int
+    """A line counted from 1, or a byte counted from 0."""
+
+
+class EventKind(OpenEnum):
+    """What an event does."""
+
+    OUTPUT = 1
+    """The program writes the bytes, which needn't be UTF-8, nor end where a character does."""
+    RESIZE = 2
+    """The terminal gets a size."""
+    MARKER = 3
+    """The bytes name the moment."""
+
+
+class Event(NamedTuple):
+    """What happens at a moment of a recording."""
+
+    time: int
+    """Microseconds since the beginning. They never go back."""
+    kind: EventKind
+    data: bytes
+    """What is written, or a marker's name in UTF-8."""
+    size: Size | None
+    """The size of RESIZE."""
+
+
+class Recording(Object):
+    """What a program wrote to its terminal, and when, up to the first fault."""
+
+    _kind = "recording"
+
+    kind: RecordingKind
+    """The form in which it was stored."""
+    size: Size | None
+    """How many rows and columns there are at first, where the recording says it."""
+    length: int
+    """Microseconds from the beginning to the last event, be it one in which a screen has no part."""
+    fault: Fault | None
+    """The first place at which it stops making sense, if it does. What stands before is read."""
+
+    def __init__(self, data: bytes, timing: bytes | None = None) -> None:
+        """Reads a recording in the kind that its first bytes say, or with a file of times a typescript."""
+        self._begin()
+        data = bytes(memoryview(data))
+        if timing is None:
+            self._call("open", data, len(data))
+        else:
+            timing = bytes(memoryview(timing))
+            self._call("open_script", data, len(data), timing, len(timing))
+        raw = RawRecorded()
+        self._call("look", raw)
+        self.kind = RecordingKind(raw.kind)
+        self.size = Size(raw.rows, raw.cols) if raw.rows else None
+        self.length = raw.length
+        self.fault = Fault(FaultKind(raw.fault), raw.place) if raw.fault else None
+        self._events: int = raw.events
+
+    def __len__(self) -> int:
+        """How many events there are."""
+        return self._events
+
+    def __getitem__(self, index: int) -> Event:
+        """An event, counted from 0, or back from the end. Raises IndexError where there are fewer."""
+        index = index + self._events if index < 0 else index
+        if not 0 <= index < self._events:
+            raise IndexError("the recording has fewer events")
+        raw = RawEvent()
+        self._call("event", index, raw)
+        data = self._text("event_text", index) if raw.length else b""
+        size = Size(raw.rows, raw.cols) if raw.rows else None
+        return Event(raw.time, EventKind(raw.kind), data, size)
+
+    def __iter__(self) -> Iterator[Event]:
+        """The events, in order."""
+        return (self[index] for index in range(self._events))
+
+    @property
+    def colors(self) -> list[int]:
+        """The colours that an asciicast has of its own, each as 0xRRGGBB: that of texts, that of backgrounds, and the
+        first sixteen; else none."""
+        room, count = (ctypes.c_uint32 * _COLORS)(), ctypes.c_size_t()
+        self._call("colors", room, _COLORS, count)
+        return list(room[: count.value])

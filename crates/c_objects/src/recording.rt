@@ -1,0 +1,220 @@
+//! The calls of a recording.
+ghost use Rattle.std.specs.Prelude.{◌≡◌, IfOk, IfErr, length};
+ghost use Rattle.std.specs.Option.{option_copied};
+ghost use Rattle.c_objects.specs.Codes.{IsRefusal};
+ghost use Rattle.c_objects.specs.Objects.{RecordingSays};
+ghost use Rattle.c_objects.specs.Recordings.{IsReading, IsReadingOf, IsUnread, IsUnreadCode, unread_code};
+ghost use Rattle.c_objects.specs.Recordings.{LooksRecorded, HasEvent, HasEventText, HasColors};
+ghost use Rattle.c_objects.specs.Recordings.{kind_number, fault_of, recording_look, event_of, text_of};
+ghost use Rattle.c_objects.specs.Texts.{with_prefix};
+ghost use Rattle.recordings.specs.Recorded.{deed_of};
+
+use crate::code::{COMPRESSED, MEMORY, NO_EVENT, NO_HEADER, OK, OTHER_KIND};
+use crate::copy::copy_prefix;
+use crate::object::Object;
+use crate::plain::{CEvent, CRecording};
+use recordings::{Change, Event, Kind, Reading, RecordingError, read_recording};
+use std::alloc::Global;
+
+fn read(alloc: Global, bytes: &[u8], timing: Option<&[u8]>) -> Result<Reading, RecordingError>
+    ensures read { let lines = option_copied timing.entry in IfOk result (IsReading bytes.now lines) }
+    ensures unread { let lines = option_copied timing.entry in IfErr result (IsUnread bytes.now lines) }
+{
+    let bytes = bytes.to_vec(alloc)?;
+    read_recording(alloc, bytes, timing, None)
+}
+
+/// The number for why nothing is read.
+fn unread_code(error: RecordingError) -> i32
+    ensures { result ≡ unread_code error }
+{
+    match error {
+        RecordingError::Memory => MEMORY,
+        RecordingError::Packed(_) => COMPRESSED,
+        _ => NO_HEADER,
+    }
+}
+
+/// Reads a recording up to its first fault: with a timing file as a typescript, else in the kind that its first bytes
+/// say. Refused where there is no header, for a compressed file, and if an allocation fails.
+pub fn open(alloc: Global, bytes: &[u8], timing: Option<&[u8]>) -> Result<Box<Object>, i32>
+    ensures read { let lines = option_copied timing.entry in IfOk result (λ b. IsReadingOf bytes.now lines b.value) }
+    ensures refused { let lines = option_copied timing.entry in IfErr result (IsUnreadCode bytes.now lines) }
+{
+    let reading = match read(alloc, bytes, timing) {
+        Ok(reading) => reading,
+        Err(error) => return Err(unread_code(error)),
+    };
+    match Box::new(alloc, Object::Recording(reading)) {
+        Ok(object) => Ok(object),
+        Err(_) => Err(MEMORY),
+    }
+}
+
+fn kind_number(kind: Kind) -> u8
+    ensures { result ≡ kind_number kind }
+{
+    match kind {
+        Kind::Asciicast => 1,
+        Kind::Script => 2,
+        Kind::Ttyrec => 3,
+        Kind::Raw => 4,
+    }
+}
+
+/// Which kind of fault it is, and at which line or byte.
+fn fault_of(fault: Option<RecordingError>) -> (u8, u64)
+    ensures { result ≡ fault_of fault }
+{
+    match fault {
+        Some(RecordingError::Line(line)) => (1, line),
+        Some(RecordingError::Byte(byte)) => (2, byte),
+        Some(RecordingError::Step(line)) => (3, line),
+        _ => (0, 0),
+    }
+}
+
+/// The kind, the size at first, the number of events, the length and the first fault.
+fn recording_look(reading: &Reading) -> CRecording
+    ensures { result ≡ recording_look reading.now }
+{
+    let recording = &reading.recording;
+    let (fault, place) = fault_of(reading.fault);
+    let (rows, cols) = match recording.size {
+        Some(size) => (size.rows.get(), size.cols.get()),
+        None => (0, 0),
+    };
+    CRecording {
+        events: recording.events.len(),
+        length: recording.length,
+        place,
+        rows,
+        cols,
+        kind: kind_number(recording.kind),
+        fault,
+    }
+}
+
+/// Reads what a recording says of itself.
+pub fn look(object: &Object, look: &mut CRecording) -> i32
+    ensures looks { RecordingSays (LooksRecorded look.new) object.now result }
+    ensures refused { IsRefusal result → look.new ≡ look.old }
+{
+    match object {
+        Object::Recording(reading) => {
+            *look = recording_look(reading);
+            OK
+        }
+        _ => OTHER_KIND,
+    }
+}
+
+/// The bytes of an event's text: output, or the name of a marker.
+fn text_of(change: &Change) -> &[u8]
+    ensures { result.now ≡ text_of (deed_of change.now) }
+{
+    match change {
+        Change::Output(bytes) => bytes,
+        Change::Resize(_) => b"",
+        Change::Marker(name) => name.as_bytes(),
+    }
+}
+
+/// An event as C reads it.
+fn event_of(event: &Event) -> CEvent
+    ensures { result ≡ event_of event.now }
+{
+    let length = text_of(&event.change).len();
+    let (kind, rows, cols) = match &event.change {
+        Change::Output(_) => (1, 0, 0),
+        Change::Resize(size) => (2, size.rows.get(), size.cols.get()),
+        Change::Marker(_) => (3, 0, 0),
+    };
+    CEvent {
+        time: event.time,
+        length,
+        rows,
+        cols,
+        kind,
+    }
+}
+
+fn copy_event(reading: &Reading, index: usize, to: &mut CEvent) -> i32
+    ensures event { HasEvent index to.new reading.now result }
+    ensures refused { IsRefusal result → to.new ≡ to.old }
+{
+    match reading.recording.events.get(index) {
+        Some(event) => {
+            *to = event_of(event);
+            OK
+        }
+        None => NO_EVENT,
+    }
+}
+
+/// Reads an event: when it is, what it does, and how long its text is. Refused where there are fewer.
+pub fn event(object: &Object, index: usize, to: &mut CEvent) -> i32
+    ensures event { RecordingSays (HasEvent index to.new) object.now result }
+    ensures refused { IsRefusal result → to.new ≡ to.old }
+{
+    match object {
+        Object::Recording(reading) => copy_event(reading, index, to),
+        _ => OTHER_KIND,
+    }
+}
+
+fn copy_event_text(reading: &Reading, index: usize, to: &mut [u8], count: &mut usize) -> i32
+    ensures text { HasEventText index to.old to.new count.new reading.now result }
+    ensures refused { IsRefusal result → (to.new ≡ to.old) × (count.new ≡ count.old) }
+{
+    match reading.recording.events.get(index) {
+        Some(event) => {
+            copy_prefix(text_of(&event.change), to, count);
+            OK
+        }
+        None => NO_EVENT,
+    }
+}
+
+/// Copies the text of an event: output, or the name of a marker. Refused where there are fewer events.
+pub fn event_text(object: &Object, index: usize, to: &mut [u8], count: &mut usize) -> i32
+    ensures text { RecordingSays (HasEventText index to.old to.new count.new) object.now result }
+    ensures refused { IsRefusal result → (to.new ≡ to.old) × (count.new ≡ count.old) }
+{
+    match object {
+        Object::Recording(reading) => copy_event_text(reading, index, to, count),
+        _ => OTHER_KIND,
+    }
+}
+
+/// Copies as many of the colours as fit, and sets `count` to how many there are.
+fn copy_numbers(from: &[u32], to: &mut [u32], count: &mut usize)
+    ensures numbers { to.new ≡ with_prefix from.now to.old }
+    ensures count { count.new ≡ length from.now }
+{
+    *count = from.len();
+    let n = from.len().min(to.len());
+    to[..n].copy_from_slice(&from[..n]);
+}
+
+fn copy_colors(reading: &Reading, to: &mut [u32], count: &mut usize) -> i32
+    ensures colors { HasColors to.old to.new count.new reading.now result }
+{
+    match &reading.recording.theme {
+        Some(theme) => copy_numbers(&theme.colors, to, count),
+        None => *count = 0,
+    }
+    OK
+}
+
+/// Copies the colours that a recording has of its own, each as 0xRRGGBB: that of texts, that of backgrounds, and the
+/// first sixteen. There are none where it has none.
+pub fn colors(object: &Object, to: &mut [u32], count: &mut usize) -> i32
+    ensures colors { RecordingSays (HasColors to.old to.new count.new) object.now result }
+    ensures refused { IsRefusal result → (to.new ≡ to.old) × (count.new ≡ count.old) }
+{
+    match object {
+        Object::Recording(reading) => copy_colors(reading, to, count),
+        _ => OTHER_KIND,
+    }
+}
