@@ -43,11 +43,11 @@ texts_in_a_font (x ∷ xs) h =
     let all = both (x.continuation || not (is_drawn x)) (are_drawn_so false xs) h in
     ap₂ (λ s t. s ++ t) (text_of_font x.continuation (is_drawn x) _ all.0) (texts_in_a_font xs all.1)
 
-not_turned : (v : Bool) → true ≡ not v → v ≡ false
+pub not_turned : (v : Bool) → true ≡ not v → v ≡ false
 not_turned true h = h
 not_turned false h = refl
 
-turned : (v : Bool) → false ≡ not v → v ≡ true
+pub turned : (v : Bool) → false ≡ not v → v ≡ true
 turned true h = refl
 turned false h = h
 

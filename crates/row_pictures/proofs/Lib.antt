@@ -1,2 +1,7 @@
 mod DrawnLemmas
+mod HtmlLemmas
 mod RowLemmas
+mod RunLemmas
+mod StyleLemmas
+mod SvgLemmas
+mod ThemeLemmas

@@ -1,13 +1,16 @@
 //! A row of cells in HTML.
 
-ghost use Rattle.std.specs.Prelude.{[], OnOk, ◌<◌, ◌≤◌, length, true, false};
+ghost use Rattle.std.specs.Prelude.{◌≡◌, [], ◌++◌, OnOk, ◌<◌, ◌≤◌, length, true, false};
 ghost use Rattle.picture_page.specs.Page.{Adds, escaped};
 ghost use Rattle.picture_page.specs.Seen.{Draws};
+ghost use Rattle.row_pictures.specs.Elements.{AddsSo};
+ghost use Rattle.row_pictures.specs.Html.{IsHtmlRun, IsSpan, html_colors, span_head};
+ghost use Rattle.row_pictures.specs.Runs.{AddsRuns};
 ghost use Rattle.row_pictures.specs.Text.{row_text};
 
 use crate::look::Look;
 use crate::paint::Paint;
-use crate::row::{push_cells, run_end, style_at};
+use crate::row::{is_wide_run, push_cells, run_end, style_at};
 use crate::style::Style;
 use picture_page::{Page, Rgb, Tag};
 use std::alloc::AllocError;
@@ -23,6 +26,7 @@ pub fn push_html_row(
 ) -> Result<(), AllocError>
     ensures adds { OnOk result (Adds page.old page.new (row_text cells.now)) }
     ensures seen { OnOk result (Draws page.old page.new true true (escaped (row_text cells.now))) }
+    ensures runs { OnOk result (AddsRuns (IsHtmlRun look.now cells.now cursor) (length cells.now) page.old page.new) }
 {
     let mut start = 0;
     while start < cells.len() {
@@ -38,9 +42,10 @@ pub fn push_html_row(
 fn push_span(page: &mut Page, run: &[Cell], style: Style, look: &Look) -> Result<(), AllocError>
     ensures adds { OnOk result (Adds page.old page.new (row_text run.now)) }
     ensures seen { OnOk result (Draws page.old page.new true true (escaped (row_text run.now))) }
+    ensures drawn { OnOk result (AddsSo (IsSpan look.now run.now style) page.old page.new) }
 {
-    let wide = run.len() > 1 && run[0].is_wide();
-    if style == Style::PLAIN && !wide {
+    let wide = is_wide_run(run);
+    if style.is_same(Style::PLAIN) && !wide {
         return push_cells(page, run);
     }
     push_span_head(page, style, wide, look)?;
@@ -51,6 +56,7 @@ fn push_span(page: &mut Page, run: &[Cell], style: Style, look: &Look) -> Result
 fn push_span_head(page: &mut Page, style: Style, wide: bool, look: &Look) -> Result<(), AllocError>
     ensures adds { OnOk result (Adds page.old page.new []) }
     ensures seen { OnOk result (Draws page.old page.new true true []) }
+    ensures bytes { OnOk result (page.new ≡ page.old ++ span_head look.now style wide) }
 {
     let paint = Paint::of(style, look);
     page.markup(Tag::Span)?;
@@ -66,6 +72,7 @@ fn push_span_head(page: &mut Page, style: Style, wide: bool, look: &Look) -> Res
 pub fn push_html_colors(page: &mut Page, fgcolor: Rgb, bgcolor: Rgb) -> Result<(), AllocError>
     ensures adds { OnOk result (Adds page.old page.new []) }
     ensures seen { OnOk result (Draws page.old page.new false false []) }
+    ensures bytes { OnOk result (page.new ≡ page.old ++ html_colors fgcolor bgcolor) }
 {
     page.color(Tag::Color, fgcolor)?;
     page.color(Tag::Background, bgcolor)

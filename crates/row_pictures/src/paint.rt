@@ -1,5 +1,9 @@
 //! The colours of cells as red, green and blue.
 
+ghost use Rattle.std.specs.Prelude.{◌≡◌, ◌+◌, ◌/◌, ◌%◌};
+ghost use Rattle.row_pictures.specs.Paint.{back_color, between as between_of, brightened as brightened_of, level as level_of};
+ghost use Rattle.row_pictures.specs.Paint.{numbered as numbered_of, painted as painted_of, text_color};
+
 use crate::look::Look;
 use crate::style::Style;
 use crate::theme::Theme;
@@ -18,7 +22,10 @@ pub(crate) struct Paint {
 
 impl Paint {
     /// The colours of a style. Inverse ones are swapped, and a dim text is halfway to what is behind it.
-    pub(crate) fn of(style: Style, look: &Look) -> Self {
+    pub(crate) fn of(style: Style, look: &Look) -> Self
+        ensures text { result.fgcolor ≡ text_color look.now style }
+        ensures back { result.bgcolor ≡ back_color look.now style }
+    {
         let theme = look.theme;
         let bright = look.bold_is_bright && style.bold;
         let mut fgcolor = painted(brightened(style.fgcolor, bright), theme.fgcolor, theme);
@@ -34,14 +41,18 @@ impl Paint {
 }
 
 // The bright one of the first eight colours, if it is wanted.
-fn brightened(color: Color, bright: bool) -> Color {
+fn brightened(color: Color, bright: bool) -> Color
+    ensures { result ≡ brightened_of bright color }
+{
     match color {
         Color::Idx(index) if bright && index < 8 => Color::Idx(index + 8),
         color => color,
     }
 }
 
-fn painted(color: Color, default: Rgb, theme: Theme) -> Rgb {
+fn painted(color: Color, default: Rgb, theme: Theme) -> Rgb
+    ensures { result ≡ painted_of theme default color }
+{
     match color {
         Color::Default => default,
         Color::Idx(index) => numbered(index, theme),
@@ -50,7 +61,9 @@ fn painted(color: Color, default: Rgb, theme: Theme) -> Rgb {
 }
 
 // One of 256 colours: sixteen of the theme, and xterm's cube of six steps a side and 24 greys.
-fn numbered(index: u8, theme: Theme) -> Rgb {
+fn numbered(index: u8, theme: Theme) -> Rgb
+    ensures { result ≡ numbered_of theme index }
+{
     if index < 16 {
         return theme.colors[usize::from(index)];
     }
@@ -70,11 +83,15 @@ fn numbered(index: u8, theme: Theme) -> Rgb {
     }
 }
 
-fn level(step: u8) -> u8 {
+fn level(step: u8) -> u8
+    ensures { result ≡ level_of (step % 6) }
+{
     LEVELS[usize::from(step % 6)]
 }
 
-fn between(one: Rgb, other: Rgb) -> Rgb {
+fn between(one: Rgb, other: Rgb) -> Rgb
+    ensures { result ≡ between_of one other }
+{
     Rgb {
         red: mean(one.red, other.red),
         green: mean(one.green, other.green),
@@ -82,6 +99,8 @@ fn between(one: Rgb, other: Rgb) -> Rgb {
     }
 }
 
-fn mean(one: u8, other: u8) -> u8 {
+fn mean(one: u8, other: u8) -> u8
+    ensures { result ≡ one / 2 + other / 2 }
+{
     one / 2 + other / 2
 }

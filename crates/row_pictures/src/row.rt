@@ -1,8 +1,11 @@
 //! Cells of a row that are drawn alike, and their texts.
 
-ghost use Rattle.std.specs.Prelude.{◌≡◌, ◌<◌, ◌≤◌, ◌-◌, ◌++◌, length, take, drop, OnOk, true, [], ◌∷◌};
+ghost use Rattle.std.specs.Prelude.{◌≡◌, ℕ, ◌<◌, ◌≤◌, ◌-◌, ◌++◌, length, take, drop, OnOk, true, false, [], ◌∷◌};
+ghost use Rattle.std.specs.Prelude.{Option};
 ghost use Rattle.picture_page.specs.Page.{Adds, escaped};
 ghost use Rattle.row_pictures.specs.Drawn.{is_drawn_at, is_run};
+ghost use Rattle.row_pictures.specs.Paint.{cell_in, style_in};
+ghost use Rattle.row_pictures.specs.Runs.{AreAlike, is_wide_run as is_wide_run_of};
 ghost use Rattle.row_pictures.specs.Text.{cell_text, row_text, shown_character, shown_characters};
 
 use crate::glyph::Ink;
@@ -16,7 +19,8 @@ pub(crate) fn run_end(cells: &[Cell], start: usize, cursor: Option<usize>) -> us
     requires { start < length cells.now }
     ensures more { start < result }
     ensures within { result ≤ length cells.now }
-    ensures alike { is_run (take (result - start) (drop start cells.now)) ≡ true }
+    ensures run { is_run (take (result - start) (drop start cells.now)) ≡ true }
+    ensures alike { AreAlike cells.now cursor start result }
 {
     if cells[start].is_wide() {
         return wide_end(cells, start);
@@ -32,19 +36,34 @@ pub(crate) fn run_end(cells: &[Cell], start: usize, cursor: Option<usize>) -> us
 fn are_alike(cells: &[Cell], one: usize, other: usize, cursor: Option<usize>) -> bool
     requires one { one < length cells.now }
     requires other { other < length cells.now }
+    ensures ink { result ≡ true → is_drawn_at cells.now one ≡ is_drawn_at cells.now other }
+    ensures narrow { result ≡ true → (cell_in cells.now other).wide ≡ false }
+    ensures style { result ≡ true → style_in cells.now cursor other ≡ style_in cells.now cursor one }
+{
+    if cells[other].is_wide() {
+        return false;
+    }
+    let style = style_at(cells, one, cursor);
+    style.is_same(style_at(cells, other, cursor)) && share_ink(cells, one, other)
+}
+
+// Whether two cells are drawn with the same.
+fn share_ink(cells: &[Cell], one: usize, other: usize) -> bool
+    requires one { one < length cells.now }
+    requires other { other < length cells.now }
     ensures { result ≡ true → is_drawn_at cells.now one ≡ is_drawn_at cells.now other }
 {
-    !cells[other].is_wide()
-        && style_at(cells, one, cursor) == style_at(cells, other, cursor)
-        && Ink::of(&cells[one]) == Ink::of(&cells[other])
+    Ink::of(&cells[one]) == Ink::of(&cells[other])
 }
 
 // Where a wide character ends.
 fn wide_end(cells: &[Cell], start: usize) -> usize
-    requires { start < length cells.now }
+    requires within { start < length cells.now }
+    requires wide { (cell_in cells.now start).wide ≡ true }
     ensures more { start < result }
     ensures within { result ≤ length cells.now }
-    ensures alike { is_run (take (result - start) (drop start cells.now)) ≡ true }
+    ensures run { is_run (take (result - start) (drop start cells.now)) ≡ true }
+    ensures alike { (cursor : Option ℕ) → AreAlike cells.now cursor start result }
 {
     let next = start + 1;
     if next < cells.len() && cells[next].is_wide_continuation() {
@@ -54,9 +73,17 @@ fn wide_end(cells: &[Cell], start: usize) -> usize
     }
 }
 
+/// Whether a run is a wide character that has both of its columns.
+pub(crate) fn is_wide_run(run: &[Cell]) -> bool
+    ensures { result ≡ is_wide_run_of run.now }
+{
+    run.len() > 1 && run[0].is_wide()
+}
+
 /// How a cell is drawn. The cell under the cursor is inverse where it wouldn't be, and the other way round.
 pub(crate) fn style_at(cells: &[Cell], col: usize, cursor: Option<usize>) -> Style
     requires { col < length cells.now }
+    ensures { result ≡ style_in cells.now cursor col }
 {
     let mut style = Style::of(&cells[col]);
     if cursor == Some(col) {

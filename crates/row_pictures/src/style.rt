@@ -1,5 +1,8 @@
 //! How cells are drawn.
 
+ghost use Rattle.std.specs.Prelude.{◌≡◌, true};
+ghost use Rattle.row_pictures.specs.Paint.{style_of};
+
 use vt100_cells::Cell;
 use vt100_forms::Color;
 
@@ -35,7 +38,9 @@ impl Style {
     };
 
     /// How this cell is drawn.
-    pub fn of(cell: &Cell) -> Self {
+    pub fn of(cell: &Cell) -> Self
+        ensures { result ≡ style_of cell.now }
+    {
         Style {
             fgcolor: cell.fgcolor(),
             bgcolor: cell.bgcolor(),
@@ -45,6 +50,13 @@ impl Style {
             underline: cell.underline(),
             inverse: cell.inverse(),
         }
+    }
+
+    /// Whether it is the same as another one.
+    pub(crate) fn is_same(self, other: Style) -> bool
+        ensures { result ≡ true → self ≡ other }
+    {
+        self == other
     }
 
     /// Whether a blank cell that is drawn so looks other than an untouched one.

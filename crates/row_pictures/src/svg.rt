@@ -1,15 +1,23 @@
 //! A row of cells in SVG.
 
-ghost use Rattle.std.specs.Prelude.{◌≡◌, [], OnOk, ◌<◌, ◌≤◌, length, not, true, false};
+ghost use Rattle.std.specs.Prelude.{◌≡◌, [], ◌++◌, OnOk, ◌<◌, ◌≤◌, length, not, true, false};
+ghost use Rattle.std.specs.Option.{option_map};
 ghost use Rattle.picture_page.specs.Page.{Adds, escaped};
 ghost use Rattle.picture_page.specs.Seen.{Draws};
+ghost use Rattle.picture_page.specs.Tags.{tag_bytes};
+ghost use Rattle.picture_page.specs.declared.tag.Tag.TheVariants.{Lines, LinesData};
 ghost use Rattle.row_pictures.specs.Drawn.{begins_drawn, font_texts, is_font, is_run};
+ghost use Rattle.row_pictures.specs.Paint.{back_color, text_color};
+ghost use Rattle.row_pictures.specs.Runs.{AddsRuns, is_wide_run as is_wide_run_of};
+ghost use Rattle.row_pictures.specs.Elements.{AddsSo, filled};
+ghost use Rattle.row_pictures.specs.Svg.{IsDrawn, IsInk, IsPath, IsSvgRun, behind, letters, opacity_bytes};
+ghost use Rattle.row_pictures.specs.Svg.{pixels as pixels_of, rectangle, same_color, text_head};
 ghost use Rattle.row_pictures.specs.Text.{row_text};
 
 use crate::glyph::{Ink, push_glyph};
 use crate::look::Look;
 use crate::paint::Paint;
-use crate::row::{push_cells, run_end, style_at};
+use crate::row::{is_wide_run, push_cells, run_end, style_at};
 use crate::style::Style;
 use picture_page::{Page, Rgb, Tag};
 use std::alloc::AllocError;
@@ -33,6 +41,7 @@ pub fn push_svg_row(
 ) -> Result<(), AllocError>
     ensures adds { OnOk result (Adds page.old page.new (row_text cells.now)) }
     ensures seen { OnOk result (Draws page.old page.new true true (escaped (font_texts cells.now))) }
+    ensures runs { OnOk result (AddsRuns (IsSvgRun look.now cells.now cursor) (length cells.now) page.old page.new) }
 {
     let mut start = 0;
     while start < cells.len() {
@@ -56,6 +65,7 @@ fn push_run(
     requires { is_run run.now ≡ true }
     ensures adds { OnOk result (Adds page.old page.new (row_text run.now)) }
     ensures seen { OnOk result (Draws page.old page.new true true (escaped (font_texts run.now))) }
+    ensures drawn { OnOk result (AddsSo (IsDrawn look.now run.now col style) page.old page.new) }
 {
     let paint = Paint::of(style, look);
     let span = Span {
@@ -73,9 +83,11 @@ fn push_characters(
     color: Rgb,
     style: Style,
 ) -> Result<(), AllocError>
-    requires { is_run run.now ≡ true }
+    requires alike { is_run run.now ≡ true }
+    requires width { span.width ≡ pixels_of (length run.now) }
     ensures adds { OnOk result (Adds page.old page.new (row_text run.now)) }
     ensures seen { OnOk result (Draws page.old page.new true true (escaped (font_texts run.now))) }
+    ensures inked { OnOk result (AddsSo (IsInk (begins_drawn run.now) span.x color style run.now) page.old page.new) }
 {
     match ink_of(run) {
         Ink::Font => push_text(page, run, span, color, style),
@@ -103,10 +115,11 @@ fn push_text(
 ) -> Result<(), AllocError>
     ensures adds { OnOk result (Adds page.old page.new (row_text run.now)) }
     ensures seen { OnOk result (Draws page.old page.new true true (escaped (row_text run.now))) }
+    ensures bytes { OnOk result (page.new ≡ page.old ++ letters span.x span.width color style (is_wide_run_of run.now)
+        (row_text run.now)) }
 {
-    let wide = run.len() > 1 && run[0].is_wide();
     push_text_head(page, span, color, style)?;
-    page.markup_if(wide, Tag::Stretched)?;
+    page.markup_if(is_wide_run(run), Tag::Stretched)?;
     page.markup(Tag::TextStart)?;
     push_cells(page, run)?;
     page.markup(Tag::TextEnd)
@@ -122,6 +135,7 @@ fn push_lines(
 ) -> Result<(), AllocError>
     ensures adds { OnOk result (Adds page.old page.new (row_text run.now)) }
     ensures seen { OnOk result (Draws page.old page.new true true []) }
+    ensures path { OnOk result (AddsSo (IsPath color (row_text run.now)) page.old page.new) }
 {
     push_lines_head(page, color, opacity)?;
     push_glyphs(page, run, x)?;
@@ -133,6 +147,8 @@ fn push_lines(
 fn push_lines_head(page: &mut Page, color: Rgb, opacity: Option<u32>) -> Result<(), AllocError>
     ensures adds { OnOk result (Adds page.old page.new []) }
     ensures seen { OnOk result (Draws page.old page.new true false []) }
+    ensures bytes { OnOk result (page.new ≡ page.old ++ (filled Lines color ++ (opacity_bytes opacity
+        ++ tag_bytes LinesData))) }
 {
     page.color(Tag::Lines, color)?;
     push_opacity(page, opacity)?;
@@ -142,6 +158,7 @@ fn push_lines_head(page: &mut Page, color: Rgb, opacity: Option<u32>) -> Result<
 fn push_opacity(page: &mut Page, opacity: Option<u32>) -> Result<(), AllocError>
     ensures adds { OnOk result (Adds page.old page.new []) }
     ensures seen { OnOk result (Draws page.old page.new false false []) }
+    ensures bytes { OnOk result (page.new ≡ page.old ++ opacity_bytes opacity) }
 {
     match opacity {
         Some(opacity) => page.numbers(&[(Tag::Opacity, opacity)]),
@@ -162,7 +179,9 @@ fn push_glyphs(page: &mut Page, run: &[Cell], x: u32) -> Result<(), AllocError>
 }
 
 // The pixels of this many columns.
-fn pixels(cols: usize) -> u32 {
+fn pixels(cols: usize) -> u32
+    ensures { result ≡ pixels_of cols }
+{
     u32::try_from(cols)
         .unwrap_or(u32::MAX)
         .saturating_mul(COL_WIDTH)
@@ -178,6 +197,7 @@ struct Span {
 fn push_behind(page: &mut Page, span: Span, color: Rgb, look: &Look) -> Result<(), AllocError>
     ensures adds { OnOk result (Adds page.old page.new []) }
     ensures seen { OnOk result (Draws page.old page.new true true []) }
+    ensures bytes { OnOk result (page.new ≡ page.old ++ behind look.now span.x span.width color) }
 {
     if color == look.theme.bgcolor {
         return Ok(());
@@ -195,6 +215,7 @@ pub fn push_rect(
 ) -> Result<(), AllocError>
     ensures adds { OnOk result (Adds page.old page.new []) }
     ensures seen { OnOk result (Draws page.old page.new true true []) }
+    ensures bytes { OnOk result (page.new ≡ page.old ++ rectangle x width height color) }
 {
     let numbers = [(Tag::Rect, x), (Tag::Width, width), (Tag::Height, height)];
     page.numbers(&numbers)?;
@@ -205,6 +226,7 @@ pub fn push_rect(
 fn push_text_head(page: &mut Page, span: Span, color: Rgb, style: Style) -> Result<(), AllocError>
     ensures adds { OnOk result (Adds page.old page.new []) }
     ensures seen { OnOk result (Draws page.old page.new true false []) }
+    ensures bytes { OnOk result (page.new ≡ page.old ++ text_head span.x span.width color style) }
 {
     let numbers = [
         (Tag::Text, span.x),

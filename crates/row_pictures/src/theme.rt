@@ -1,7 +1,7 @@
 //! The colours of pictures.
 
 ghost use Rattle.std.specs.Prelude.{◌≡◌, is_some};
-ghost use Rattle.row_pictures.specs.Themes.{is_theme};
+ghost use Rattle.row_pictures.specs.Themes.{is_theme, rgb_of, theme_named, theme_of as theme_of_colors, xterm};
 
 use picture_page::Rgb;
 
@@ -18,18 +18,24 @@ pub struct Theme {
 
 impl Theme {
     /// xterm's colours on a dark grey: the theme of pictures for which none is named.
-    pub fn new() -> Self {
+    pub fn new() -> Self
+        ensures { result ≡ theme_of_colors xterm }
+    {
         theme_of(&XTERM)
     }
 
     /// The theme of these colours, each as 0xRRGGBB: that of texts, that of backgrounds, and the first sixteen.
-    pub fn of_colors(colors: &[u32; 18]) -> Self {
+    pub fn of_colors(colors: &[u32; 18]) -> Self
+        ensures { result ≡ theme_of_colors colors.now }
+    {
         theme_of(colors)
     }
 
     /// The theme of this name. Most are those that asciinema's player has under these names.
+    #[tactic(auto, unfolding(crate::specs::Themes::theme_named))]
     pub fn of_name(name: &str) -> Option<Self>
-        ensures { is_some result ≡ is_theme name.now }
+        ensures known { is_some result ≡ is_theme name.now }
+        ensures named { result ≡ theme_named name.now }
     {
         match name {
             "xterm" => Some(theme_of(&XTERM)),
@@ -48,7 +54,9 @@ impl Theme {
 }
 
 // The theme of these colours: that of texts, that of backgrounds, and the first sixteen, each as 0xRRGGBB.
-fn theme_of(colors: &[u32; 18]) -> Theme {
+fn theme_of(colors: &[u32; 18]) -> Theme
+    ensures { result ≡ theme_of_colors colors.now }
+{
     let mut first = [rgb(0); 16];
     for i in 0..16 {
         first[i] = rgb(colors[i + 2]);
@@ -60,11 +68,14 @@ fn theme_of(colors: &[u32; 18]) -> Theme {
     }
 }
 
-fn rgb(color: u32) -> Rgb {
+// Red, green and blue of 0xRRGGBB.
+fn rgb(color: u32) -> Rgb
+    ensures { result ≡ rgb_of color }
+{
     Rgb {
-        red: (color >> 16 & 0xff) as u8,
-        green: (color >> 8 & 0xff) as u8,
-        blue: (color & 0xff) as u8,
+        red: (color / 0x10000 % 0x100) as u8,
+        green: (color / 0x100 % 0x100) as u8,
+        blue: (color % 0x100) as u8,
     }
 }
 

@@ -1,3 +1,4 @@
 mod DrawnLemmas
 mod KindLemmas
+mod TextLemmas
 mod WordsLemmas

@@ -1,16 +1,23 @@
 -- How the words are described to `clap`.
 use Rattle.std.proofs.Common.{◌≡◌, ◌∙◌, ap, ap₂, Bool, false, ℕ, nat_lt, List, ◌++◌, map, inl, inr, true, refl, sym, []}
-use Rattle.std.proofs.Common.{◌∷◌, subst, Err, Result, IfOk, Option, is_some}
+use Rattle.std.proofs.Common.{◌∷◌, subst, Ok, Err, Result, IfOk, IfSome, Option, Some, None, is_some}
 use Rattle.std.proofs.lemmas.Result.{IfOk-weaker}
 use Rattle.std.proofs.lemmas.List.{map-append}
 use Rattle.std.specs.Borrow.{Bor}
-use Rattle.clap.specs.Words.{AddsAliases, AddsArg, App, IsAmong, Kinds, Row, Rule, Text, app_of, is_simple}
+use Rattle.clap.specs.Words.{AddsAliases, AddsArg, App, IsAmong, Kinds, Row, Rule, Text, app_of, fault_of, is_simple}
+use Rattle.clap.specs.Words.{matches_of}
 use Rattle.clap.specs.Words.{is_simple_and_free}
 use Rattle.clap.specs.Words.{rule_of, with_rule}
 use Rattle.clap.specs.declared.error.ErrorKind.{ErrorKind}
 use Rattle.clap.proofs.OnLiterals.{clap_on_literals}
+use Rattle.screentext_command.specs.Asked.{HasFault, IsMadeOf, IsMeant, IsTold, Says, SaysOrigin, SaysWish, form_meant}
+use Rattle.screentext_command.specs.Asked.{origin_of, wish_of}
 use Rattle.screentext_command.specs.Words.{are_words, is_form, is_invocation_of, is_request, known}
 use Rattle.screentext_command.proofs.KindLemmas.{IsSingle}
+use Rattle.screentext_command.specs.declared.source.Source.{Source}
+use Rattle.screentext_command.specs.declared.words.Invocation.{Invocation}
+use Rattle.screentext_command.specs.declared.words.Invocation.TheVariants.{Print, Tell}
+use Rattle.screentext_command.specs.declared.words.Request.{Request}
 use Rattle.clap.specs.declared.Arg.{Arg}
 use Rattle.clap.specs.declared.Command.{Command}
 
@@ -69,3 +76,59 @@ form_counts a b c d p e f g h q v w x y z =
     ap₂ (λ i j. is_form (nat_lt 0 i) (nat_lt 0 j) (nat_lt 0 c) (nat_lt 0 d) (nat_lt 0 p)) v w
     ∙ (ap₂ (λ i j. is_form (nat_lt 0 e) (nat_lt 0 f) (nat_lt 0 i) (nat_lt 0 j) (nat_lt 0 p)) x y
     ∙ ap (λ i. is_form (nat_lt 0 e) (nat_lt 0 f) (nat_lt 0 g) (nat_lt 0 h) (nat_lt 0 i)) z)
+
+-- what is known of a value that there may be, in three parts
+pub some_all : {X : Type 0} {P Q R T : X → Type 0} (o : Option X) → IfSome o P → IfSome o Q → IfSome o R
+    → ((x : X) → P x → Q x → R x → T x) → IfSome o T
+some_all None p q r f = tt
+some_all (Some x) p q r f = f x p q r
+
+pub some_goes : {X : Type 0} {P T : X → Type 0} (o : Option X) → IfSome o P → ((x : X) → P x → T x) → IfSome o T
+some_goes None p f = tt
+some_goes (Some x) p f = f x p
+
+pub ok_goes : {X E : Type 0} {P T : X → Type 0} (r : Result X E) → IfOk r P → ((x : X) → P x → T x) → IfOk r T
+ok_goes (Ok x) p f = f x p
+ok_goes (Err e) p f = tt
+
+pub some_both : {X : Type 0} {P Q T : X → Type 0} (o : Option X) → IfSome o P → IfSome o Q
+    → ((x : X) → P x → Q x → T x) → IfSome o T
+some_both None p q f = tt
+some_both (Some x) p q f = f x p q
+
+pub forms_meant : (a b c d p e f g h q : ℕ) → a ≡ e → b ≡ f → c ≡ g → d ≡ h → p ≡ q
+    → form_meant (nat_lt 0 a) (nat_lt 0 b) (nat_lt 0 c) (nat_lt 0 d) (nat_lt 0 p)
+    ≡ form_meant (nat_lt 0 e) (nat_lt 0 f) (nat_lt 0 g) (nat_lt 0 h) (nat_lt 0 q)
+forms_meant a b c d p e f g h q v w x y z =
+    ap₂ (λ i j. form_meant (nat_lt 0 i) (nat_lt 0 j) (nat_lt 0 c) (nat_lt 0 d) (nat_lt 0 p)) v w
+    ∙ (ap₂ (λ i j. form_meant (nat_lt 0 e) (nat_lt 0 f) (nat_lt 0 i) (nat_lt 0 j) (nat_lt 0 p)) x y
+    ∙ ap (λ i. form_meant (nat_lt 0 e) (nat_lt 0 f) (nat_lt 0 g) (nat_lt 0 h) (nat_lt 0 i)) z)
+
+-- what is made of a request and a source says what they say
+pub says_both : (rows : List Row) (request : Option Request) (source : Option Source) (i : Invocation)
+    → IfSome request (λ r. SaysWish rows (wish_of r)) → IfSome source (λ s. SaysOrigin rows (origin_of s))
+    → IsMadeOf request source i → Says rows i
+says_both rows request source (Tell text) first second made = absurd made
+says_both rows request source (Print r s p) first second made = (
+  subst (λ (o : Option Request). IfSome o (λ r. SaysWish rows (wish_of r))) made.0 first,
+  subst (λ (o : Option Source). IfSome o (λ s. SaysOrigin rows (origin_of s))) made.1 second,
+)
+
+-- words that are taken mean what their values say
+pub means : (words : List Text) (rows : List Row) (i : Invocation) → fault_of known words ≡ []
+    → rows ≡ matches_of known words → Says rows i → IsMeant words i
+means words rows (Tell text) none same says = absurd says
+means words rows (Print r s p) none same says = record {
+  taken = none;
+  origin = subst (λ (x : List Row). SaysOrigin x (origin_of s)) same says.1;
+  wish = subst (λ (x : List Row). SaysWish x (wish_of r)) same says.0;
+}
+
+pub tells : (words : List Text) (i : Invocation) → HasFault (fault_of known words) → IsTold i → IsMeant words i
+tells words (Tell text) fault told = fault
+tells words (Print r s p) fault told = absurd told
+
+-- an error that is among others
+pub among_some : (k : ErrorKind) (kinds : Kinds) → IsAmong k kinds → HasFault kinds
+among_some k [] among = absurd among
+among_some k (x ∷ xs) among = tt

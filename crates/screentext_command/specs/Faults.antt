@@ -1,10 +1,34 @@
--- How a fault of the input is reported.
+-- The faults: where they come from, and the lines that report them.
+use Rattle.std.specs.Prelude.{ℕ, List, [], ◌∷◌, ◌++◌, codes}
+use Rattle.std.specs.Fmt.{decimal}
 use Rattle.command_line.specs.declared.input.InputError.{InputError}
 use Rattle.command_line.specs.declared.input.InputError.TheVariants as input
+use Rattle.recordings.specs.Faults.{fault_text as recording_fault_text}
 use Rattle.screentext_command.specs.declared.error.TextError.{TextError}
-use Rattle.screentext_command.specs.declared.error.TextError.TheVariants.{Memory, Read}
+use Rattle.screentext_command.specs.declared.error.TextError.TheVariants.{Cells, Cut, File, Film, Guessed, Marker, Memory}
+use Rattle.screentext_command.specs.declared.error.TextError.TheVariants.{Player, Read, Recording, Write}
 
+-- a fault of the input
 abbrev pub input_fault : InputError → TextError
 input_fault (input.Read e) = Read
 input_fault input.Memory = Memory
 input_fault input.TooManyReads = Read
+
+-- what is said of a fault
+abbrev pub fault_text : TextError → List ℕ
+fault_text Read = codes "read"
+fault_text Write = codes "write"
+fault_text Memory = codes "memory"
+fault_text File = codes "the timing file can't be read"
+fault_text Marker = codes "no such marker"
+fault_text Film = codes "the film has more than 8 MiB"
+fault_text Player = codes "the page has more than 32 MiB"
+fault_text (Cells most) =
+    codes "a size in the recording has more than " ++ (decimal most ++ codes " cells: --max-cells N allows more")
+fault_text (Cut e) = recording_fault_text e ++ codes "; what comes before it is shown"
+fault_text Guessed = codes "it begins as an asciicast, but line 1 is no header: shown as raw bytes"
+fault_text (Recording e) = recording_fault_text e
+
+-- the line that reports it
+abbrev pub fault_line : TextError → List ℕ
+fault_line e = codes "screentext: " ++ (fault_text e ++ 0x0A ∷ [])

@@ -1,4 +1,9 @@
+pub mod Asked
+pub mod Command
 pub mod Drawn
 pub mod Faults
 pub mod Limits
+pub mod Moments
+pub mod Reads
+pub mod Texts
 pub mod Words

@@ -1,17 +1,25 @@
 //! What is printed of a recording.
 
+ghost use Rattle.std.specs.Prelude.{◌≡◌, ◌<◌, IfOk, false};
+ghost use Rattle.std.specs.Option.{option_map};
+ghost use Rattle.recordings.specs.Recorded.{size_said};
+ghost use Rattle.screentext_command.specs.Texts.{IsAnswer, IsFilm, IsPlayer, IsScreen, IsStill, changes_text, rows_text};
+ghost use Rattle.screentext_command.specs.Texts.{screen_at, size_at_first};
+
 use crate::changes::push_changes;
 use crate::error::TextError;
 use crate::pictures::Pictures;
+use crate::source::Moments;
 use crate::text::push_lines;
-use crate::words::{Form, Request};
+use crate::words::{Form, Picture, Request};
 use player_page::{Play, player};
 use recorded_screen::{
-    Look, Recording, ScreenSize, Theme, film, html, html_block, svg, terminal_at,
+    Look as Colors, Recording, ScreenSize, Theme, film, html, html_block, svg, terminal_at,
 };
+use row_texts::Look;
 use std::alloc::Global;
 use std::num::NonZeroU16;
-use vt100::{Parser, Screen};
+use vt100::Parser;
 
 /// What is printed of a recording.
 pub(crate) fn answer_of(
@@ -19,29 +27,90 @@ pub(crate) fn answer_of(
     recording: &Recording,
     title: String,
     request: Request,
+    moments: Moments,
     pictures: &Pictures,
-) -> Result<Vec<u8>, TextError> {
-    let size = size_of(recording, request);
-    if let Form::Player = request.form {
-        return player_of(alloc, recording, title, size, request.moment, pictures);
+) -> Result<Vec<u8>, TextError>
+    ensures { IfOk result (λ text. IsAnswer request.form request.look request.history
+        (size_at_first (option_map size_said request.size) (option_map size_said recording.now.size)) recording.now
+        moments.moment moments.since text.items) }
+{
+    let size = size_of(recording, request.size);
+    match request.form {
+        Form::Still(picture) => {
+            screen_of(alloc, recording, size, request, picture, moments, pictures)
+        }
+        Form::Film => film_of(alloc, recording, size, moments.moment, pictures),
+        Form::Player => player_of(alloc, recording, title, size, moments.moment, pictures),
     }
-    if let Form::Film = request.form {
-        return film_of(alloc, recording, size, request.moment, pictures);
+}
+
+// The size of the screen at first.
+fn size_of(recording: &Recording, size: Option<ScreenSize>) -> ScreenSize
+    ensures { size_said result ≡ size_at_first (option_map size_said size) (option_map size_said recording.now.size) }
+{
+    match (size, recording.size) {
+        (Some(size), _) => size,
+        (None, Some(size)) => size,
+        (None, None) => usual_size(),
     }
-    let mut terminal = terminal_at(
-        alloc,
-        size,
-        request.history,
-        &recording.events,
-        request.moment,
-    )?;
-    match request.since {
-        Some(since) => changes_since(alloc, recording, request, since, &terminal),
+}
+
+// 24 rows of 80 columns.
+fn usual_size() -> ScreenSize
+    ensures { size_said result ≡ (24, 80) }
+{
+    ScreenSize {
+        rows: side(24),
+        cols: side(80),
+    }
+}
+
+fn side(len: u16) -> NonZeroU16
+    requires { 0 < len }
+    ensures { result.value ≡ len }
+{
+    match NonZeroU16::new(len) {
+        Some(len) => len,
+        None => NonZeroU16::MIN,
+    }
+}
+
+// The screen at a moment, or what differs from an earlier one.
+fn screen_of(
+    alloc: Global,
+    recording: &Recording,
+    size: ScreenSize,
+    request: Request,
+    picture: Picture,
+    moments: Moments,
+    pictures: &Pictures,
+) -> Result<Vec<u8>, TextError>
+    ensures { IfOk result (λ text. IsScreen picture request.look request.history (size_said size) recording.now
+        moments.moment moments.since text.items) }
+{
+    let mut terminal = terminal_of(alloc, recording, size, request.history, moments.moment)?;
+    match moments.since {
+        Some(since) => changes_since(alloc, recording, size, request.look, since, &terminal),
         None => {
-            let look = pictures.look(alloc, theme_of(recording))?;
-            picture_of(alloc, &mut terminal, request, &look)
+            let colors = pictures.look(alloc, theme_of(recording))?;
+            picture_of(alloc, &mut terminal, request, picture, &colors)
         }
     }
+}
+
+// The terminal at a moment, which keeps at most so many rows.
+fn terminal_of(
+    alloc: Global,
+    recording: &Recording,
+    size: ScreenSize,
+    capacity: usize,
+    moment: u64,
+) -> Result<Parser<()>, TextError>
+    ensures live { IfOk result (λ p. p.screen.failed ≡ false) }
+    ensures shows { IfOk result (λ p. p.screen.state ≡ screen_at (size_said size) capacity recording.now moment) }
+{
+    let terminal = terminal_at(alloc, size, capacity, &recording.events, moment)?;
+    Ok(terminal)
 }
 
 // The colours that the recording has of its own.
@@ -57,9 +126,18 @@ fn film_of(
     size: ScreenSize,
     moment: u64,
     pictures: &Pictures,
-) -> Result<Vec<u8>, TextError> {
-    let look = pictures.look(alloc, theme_of(recording))?;
-    Ok(film(alloc, size, &recording.events, moment, &look, pictures.pace)?)
+) -> Result<Vec<u8>, TextError>
+    ensures { IfOk result (λ text. IsFilm text.items) }
+{
+    let colors = pictures.look(alloc, theme_of(recording))?;
+    Ok(film(
+        alloc,
+        size,
+        &recording.events,
+        moment,
+        &colors,
+        pictures.pace,
+    )?)
 }
 
 // The page that plays the recording, with the screen at a moment on it.
@@ -70,15 +148,18 @@ fn player_of(
     size: ScreenSize,
     moment: u64,
     pictures: &Pictures,
-) -> Result<Vec<u8>, TextError> {
-    let look = pictures.look(alloc, theme_of(recording))?;
+) -> Result<Vec<u8>, TextError>
+    ensures { IfOk result (λ text. IsPlayer (size_said size) recording.now text.items) }
+{
+    let colors = pictures.look(alloc, theme_of(recording))?;
     let play = Play {
         title,
         length: recording.length,
         poster: moment,
         pace: pictures.pace,
     };
-    Ok(player(alloc, size, &recording.events, &look, &play)?)
+    let page = player(alloc, size, &recording.events, &colors, &play)?;
+    Ok(page)
 }
 
 // What the terminal shows, in the form that is asked for.
@@ -86,69 +167,61 @@ fn picture_of(
     alloc: Global,
     terminal: &mut Parser<()>,
     request: Request,
-    look: &Look,
-) -> Result<Vec<u8>, TextError> {
-    match request.form {
-        Form::Text => lines_of(alloc, terminal, request),
-        Form::Html | Form::Player => Ok(html(alloc, terminal.screen(), look)?),
-        Form::HtmlBlock => Ok(html_block(alloc, terminal.screen(), look)?),
-        Form::Svg | Form::Film => Ok(svg(alloc, terminal.screen(), look)?),
-    }
-}
-
-// What differs from an earlier moment.
-fn changes_since(
-    alloc: Global,
-    recording: &Recording,
-    request: Request,
-    since: u64,
-    after: &Parser<()>,
-) -> Result<Vec<u8>, TextError> {
-    let size = size_of(recording, request);
-    let before = terminal_at(alloc, size, 0, &recording.events, since)?;
-    changes_of(alloc, &before, after, request)
-}
-
-// The size of the screen at first.
-fn size_of(recording: &Recording, request: Request) -> ScreenSize {
-    match (request.size, recording.size) {
-        (Some(size), _) => size,
-        (None, Some(size)) => size,
-        (None, None) => ScreenSize {
-            rows: Parser::<()>::DEFAULT_ROWS,
-            cols: Parser::<()>::DEFAULT_COLS,
-        },
+    picture: Picture,
+    colors: &Colors,
+) -> Result<Vec<u8>, TextError>
+    requires { terminal.old.screen.failed ≡ false }
+    ensures { IfOk result (λ text. IsStill picture request.look request.history terminal.old.screen.state
+        text.items) }
+{
+    match picture {
+        Picture::Text => lines_of(alloc, terminal, request.history, request.look),
+        Picture::Html => Ok(html(alloc, terminal.screen(), colors)?),
+        Picture::HtmlBlock => Ok(html_block(alloc, terminal.screen(), colors)?),
+        Picture::Svg => Ok(svg(alloc, terminal.screen(), colors)?),
     }
 }
 
 fn lines_of(
     alloc: Global,
     terminal: &mut Parser<()>,
-    request: Request,
-) -> Result<Vec<u8>, TextError> {
+    history: usize,
+    look: Look,
+) -> Result<Vec<u8>, TextError>
+    requires { terminal.old.screen.failed ≡ false }
+    ensures { IfOk result (λ text. text.items ≡ rows_text look history terminal.old.screen.state) }
+{
     let mut text = String::new(alloc);
-    push_lines(
-        &mut text,
-        terminal.screen_mut(),
-        request.history,
-        request.look,
-    )?;
+    push_lines(&mut text, terminal.screen_mut(), history, look)?;
     Ok(text.into_bytes())
+}
+
+// What differs from an earlier moment.
+fn changes_since(
+    alloc: Global,
+    recording: &Recording,
+    size: ScreenSize,
+    look: Look,
+    since: u64,
+    after: &Parser<()>,
+) -> Result<Vec<u8>, TextError>
+    ensures { IfOk result (λ text. text.items ≡ changes_text look
+        (screen_at (size_said size) 0 recording.now since).shown after.now.screen.state.shown) }
+{
+    let before = terminal_of(alloc, recording, size, 0, since)?;
+    changes_of(alloc, &before, after, look)
 }
 
 fn changes_of(
     alloc: Global,
     before: &Parser<()>,
     after: &Parser<()>,
-    request: Request,
-) -> Result<Vec<u8>, TextError> {
+    look: Look,
+) -> Result<Vec<u8>, TextError>
+    ensures { IfOk result (λ text. text.items ≡ changes_text look before.now.screen.state.shown
+        after.now.screen.state.shown) }
+{
     let mut text = String::new(alloc);
-    push_changes(
-        alloc,
-        &mut text,
-        before.screen(),
-        after.screen(),
-        request.look,
-    )?;
+    push_changes(alloc, &mut text, before.screen(), after.screen(), look)?;
     Ok(text.into_bytes())
 }

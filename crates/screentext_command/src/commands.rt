@@ -1,26 +1,25 @@
 //! The command line.
 
-ghost use Rattle.std.specs.Prelude.{◌≡◌, ◌≤◌, ◌⊎◌, map, true, false};
+ghost use Rattle.std.specs.Prelude.{◌≡◌, ◌≤◌, ◌⊎◌, map, true, false, IfOk, List, string_bytes};
 ghost use Rattle.byte_streams.specs.Pump.{Tells};
+ghost use Rattle.clap.specs.Words.{Text};
+ghost use Rattle.screentext_command.specs.Asked.{AskFor, IsMeant, origin_of, wish_of};
+ghost use Rattle.screentext_command.specs.Command.{CarriesOut, Does, Reports, TellsFault};
+ghost use Rattle.screentext_command.specs.Faults.{fault_line};
 ghost use Rattle.screentext_command.specs.Words.{is_invocation, memory_line, usage_line};
 ghost use Rattle.screentext_command.specs.declared.error.TextError.TheVariants.{Memory};
 
-use crate::answer::answer_of;
 use crate::error::TextError;
 use crate::files::{Files, NoFiles};
-use crate::limits::has_only;
-use crate::list::list_of;
-use crate::outputs::with_lines_drawn;
-use crate::source::{Source, with_markers};
-use crate::streams::write_all;
-use crate::title::title_of;
-use crate::words::{Invocation, parse};
-use byte_streams::{ByteSink, FlushSink};
+use crate::pictures::Pictures;
+use crate::reading::answer_to;
+use crate::source::Source as Asked;
+use crate::streams::print;
+use crate::words::{Invocation, Request, parse};
+use byte_streams::{ByteSink, FlushSink, Source};
 use command_line::{FAULT, SUCCESS, USAGE, read_all, report};
-use recordings::{Kind, Reading, Recording, read_recording};
-use std::alloc::Global;
+use std::alloc::{AllocError, Global};
 use std::fmt::Write;
-use std::io::Read;
 
 /// The status where only a part of the recording was read.
 const PARTLY_READ: u8 = 3;
@@ -34,7 +33,7 @@ const USAGE_LINE: &[u8] =
 [--no-line-drawing] [--strict] [--max-cells N]; screentext --help says what they do\n";
 
 /// Runs the program where no file can be read: [`command_with`] without a timing file.
-pub fn command<R: Read, W: FlushSink, V: ByteSink>(
+pub fn command<R: Source, W: FlushSink, V: ByteSink>(
     alloc: Global,
     words: &[&str],
     input: &mut R,
@@ -44,6 +43,9 @@ pub fn command<R: Read, W: FlushSink, V: ByteSink>(
     ensures refused { is_invocation (map (λ w. w.now) words.now) ≡ false → (input.new ≡ input.old)
         × (output.new ≡ output.old) × (((result ≡ 2) × Tells V.takes errors.old usage_line errors.new)
         ⊎ ((result ≡ 1) × Tells V.takes errors.old memory_line errors.new)) }
+    ensures does { is_invocation (map (λ w. w.now) words.now) ≡ true → CarriesOut (λ path bytes. ⊥)
+        (map (λ w. w.now) words.now) R.gives W.takes W.flushes V.takes input.old output.old errors.old
+        result input.new output.new errors.new }
     ensures understood { is_invocation (map (λ w. w.now) words.now) ≡ true → (result ≤ 1) ⊎ (result ≡ 3) }
 
     // Whatever the words are:
@@ -60,7 +62,7 @@ pub fn command<R: Read, W: FlushSink, V: ByteSink>(
 /// A fault is reported in a line on `errors`. So is what a part of the recording is left out for, with status 3. Words that aren't understood get the usage line there, and then nothing
 /// is read or written, unless memory is refused before that is known: that is a fault. Such a line is written whole,
 /// unless a write of it fails or takes nothing; that changes nothing else.
-pub fn command_with<F: Files, R: Read, W: FlushSink, V: ByteSink>(
+pub fn command_with<F: Files, R: Source, W: FlushSink, V: ByteSink>(
     alloc: Global,
     words: &[&str],
     files: &F,
@@ -71,6 +73,9 @@ pub fn command_with<F: Files, R: Read, W: FlushSink, V: ByteSink>(
     ensures refused { is_invocation (map (λ w. w.now) words.now) ≡ false → (input.new ≡ input.old)
         × (output.new ≡ output.old) × (((result ≡ 2) × Tells V.takes errors.old usage_line errors.new)
         ⊎ ((result ≡ 1) × Tells V.takes errors.old memory_line errors.new)) }
+    ensures does { is_invocation (map (λ w. w.now) words.now) ≡ true → CarriesOut (F.holds files.now)
+        (map (λ w. w.now) words.now) R.gives W.takes W.flushes V.takes input.old output.old errors.old
+        result input.new output.new errors.new }
     ensures understood { is_invocation (map (λ w. w.now) words.now) ≡ true → (result ≤ 1) ⊎ (result ≡ 3) }
 
     // Whatever the words are:
@@ -79,15 +84,30 @@ pub fn command_with<F: Files, R: Read, W: FlushSink, V: ByteSink>(
     ensures done { result ≡ 0 → errors.new ≡ errors.old }
     ensures status { result ≤ 3 }
 {
-    let invocation = match parse(alloc, words) {
-        Ok(Some(invocation)) => invocation,
+    match parse(alloc, words) {
+        Ok(Some(invocation)) => {
+            let answer = obey(alloc, files, invocation, input, output);
+            report_answer(alloc, errors, answer)
+        }
         Ok(None) => {
             report(errors, USAGE_LINE);
-            return USAGE;
+            USAGE
         }
-        Err(error) => return report_fault(alloc, errors, error),
-    };
-    match obey(alloc, invocation, files, input, output) {
+        Err(error) => report_fault(alloc, errors, error),
+    }
+}
+
+// Reports what is to be said of an answer, and returns its exit status.
+fn report_answer<V: ByteSink>(
+    alloc: Global,
+    errors: &mut V,
+    answer: Result<Option<TextError>, TextError>,
+) -> u8
+    ensures reports { Reports V.takes errors.old answer result errors.new }
+    ensures status { (result ≤ 1) ⊎ (result ≡ 3) }
+    ensures done { result ≡ 0 → errors.new ≡ errors.old }
+{
+    match answer {
         Ok(None) => SUCCESS,
         Ok(Some(note)) => {
             report_fault(alloc, errors, note);
@@ -100,99 +120,58 @@ pub fn command_with<F: Files, R: Read, W: FlushSink, V: ByteSink>(
 /// Reports a fault in a line on `errors`, and returns its exit status.
 pub fn report_fault<V: ByteSink>(alloc: Global, errors: &mut V, error: TextError) -> u8
     ensures status { result ≡ 1 }
+    ensures reports { TellsFault V.takes errors.old error errors.new }
     ensures memory { error ≡ Memory → Tells V.takes errors.old memory_line errors.new }
 {
     if let TextError::Memory = error {
         report(errors, MEMORY_LINE);
         return FAULT;
     }
-    match format!(in alloc; "screentext: {error}\n") {
+    match fault_line(alloc, error) {
         Ok(line) => report(errors, line.as_bytes()),
         Err(_) => report(errors, MEMORY_LINE),
     }
     FAULT
 }
 
-fn obey<F: Files, R: Read, W: FlushSink>(
+fn fault_line(alloc: Global, error: TextError) -> Result<String, AllocError>
+    ensures { IfOk result (λ line. string_bytes line ≡ fault_line error) }
+{
+    format!(in alloc; "screentext: {error}\n")
+}
+
+// Does what the words ask for.
+fn obey<F: Files, R: Source, W: FlushSink>(
     alloc: Global,
-    invocation: Invocation,
     files: &F,
+    invocation: Invocation,
     input: &mut R,
     output: &mut W,
-) -> Result<Option<TextError>, TextError> {
+) -> Result<Option<TextError>, TextError>
+    ensures { (words : List Text) → IsMeant words invocation → Does (F.holds files.now) words R.gives W.takes W.flushes
+        input.old output.old result input.new output.new }
+{
     match invocation {
-        Invocation::Tell(text) => {
-            write_all(output, text.as_bytes())?;
-            Ok(None)
-        }
+        Invocation::Tell(text) => print(output, text.as_bytes(), None),
         Invocation::Print(request, source, pictures) => {
-            let (recording, title, note) = recording_of(alloc, &source, files, input)?;
-            let request = with_markers(alloc, &recording, &source, request)?;
-            let answer = if source.list {
-                list_of(alloc, &recording)?
-            } else {
-                answer_of(alloc, &recording, title, request, &pictures)?
-            };
-            write_all(output, &answer)?;
-            Ok(note)
+            print_answer(alloc, files, (request, source, pictures), input, output)
         }
     }
 }
 
-// What is recorded, with boxes as box characters unless the words say otherwise, its title, and what is to be said of it.
-fn recording_of<F: Files, R: Read>(
+// Reads the input to its end, and prints the text of it that is asked for.
+fn print_answer<F: Files, R: Source, W: FlushSink>(
     alloc: Global,
-    source: &Source,
     files: &F,
+    asked: (Request, Asked, Pictures),
     input: &mut R,
-) -> Result<(Recording, String, Option<TextError>), TextError> {
+    output: &mut W,
+) -> Result<Option<TextError>, TextError>
+    ensures { (words : List Text) → AskFor words (origin_of asked.1) (wish_of asked.0) → Does (F.holds files.now) words
+        R.gives W.takes W.flushes input.old output.old result input.new output.new }
+{
+    let (request, source, pictures) = asked;
     let bytes = read_all(alloc, input)?;
-    let title = title_of(alloc, &bytes)?;
-    let (recording, note) = read_part(alloc, source, files, bytes)?;
-    if !has_only(&recording, source.most_cells) {
-        return Err(TextError::Cells(source.most_cells));
-    }
-    if source.draws_lines {
-        Ok((with_lines_drawn(alloc, &recording)?, title, note))
-    } else {
-        Ok((recording, title, note))
-    }
-}
-
-// What is recorded in the bytes, and in the timing file if the words have one, up to a fault that then is to be said.
-fn read_part<F: Files>(
-    alloc: Global,
-    source: &Source,
-    files: &F,
-    bytes: Vec<u8>,
-) -> Result<(Recording, Option<TextError>), TextError> {
-    let begins = source.kind.is_none() && begins_as_asciicast(&bytes);
-    let reading = read_with(alloc, source, files, bytes)?;
-    if source.strict {
-        return Ok((reading.whole()?, None));
-    }
-    let note = match (reading.fault, reading.recording.kind) {
-        (Some(fault), _) => Some(TextError::Cut(fault)),
-        (None, Kind::Raw) if begins => Some(TextError::Guessed),
-        _ => None,
-    };
-    Ok((reading.recording, note))
-}
-
-fn read_with<F: Files>(
-    alloc: Global,
-    source: &Source,
-    files: &F,
-    bytes: Vec<u8>,
-) -> Result<Reading, TextError> {
-    let Some(path) = &source.timing else {
-        return Ok(read_recording(alloc, bytes, None, source.kind)?);
-    };
-    let timing = files.read(alloc, path.as_str())?;
-    Ok(read_recording(alloc, bytes, Some(&timing), source.kind)?)
-}
-
-// Whether bytes begin as the header of an asciicast does, which may have been cut or laid out over lines.
-fn begins_as_asciicast(bytes: &[u8]) -> bool {
-    bytes.starts_with(b"{\"version\"") || bytes.starts_with(b"{\n") || bytes.starts_with(b"{\r\n")
+    let answer = answer_to(alloc, files, bytes, request, &source, &pictures)?;
+    print(output, &answer.text, answer.note)
 }

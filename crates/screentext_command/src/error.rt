@@ -12,46 +12,71 @@ use player_page::PlayerError;
 use recorded_screen::FilmError;
 use recordings::RecordingError;
 use std::alloc::{AllocError, AllocFailed};
-use thiserror::Error;
+use std::error::Error;
+use std::fmt;
 use vt100::ScreenError;
 
 /// Why a command ended early. What was written by then stays written.
-#[derive(Clone, Copy, Debug, Error)]
+#[derive(Clone, Copy, Debug)]
 pub enum TextError {
     /// A read failed, or the input didn't end within 2^40 reads.
-    #[error("read")]
     Read,
     /// A write or a flush failed, or a write took nothing.
-    #[error("write")]
     Write,
     /// Memory was refused.
-    #[error("memory")]
     Memory,
     /// A file that the words name can't be read.
-    #[error("the timing file can't be read")]
     File,
     /// The recording has no marker of the name that the words give.
-    #[error("no such marker")]
     Marker,
     /// The film would be longer than the longest one.
-    #[error("the film has more than 8 MiB")]
     Film,
     /// The page that plays would be longer than the longest one.
-    #[error("the page has more than 32 MiB")]
     Player,
     /// A size in the recording has more cells than this.
-    #[error("a size in the recording has more than {0} cells: --max-cells N allows more")]
     Cells(usize),
     /// Only what comes before this fault of the recording was read.
-    #[error("{0}; what comes before it is shown")]
     Cut(RecordingError),
     /// What begins as an asciicast, and is none, was read as raw bytes.
-    #[error("it begins as an asciicast, but line 1 is no header: shown as raw bytes")]
     Guessed,
     /// What was read is no recording.
-    #[error("{0}")]
     Recording(RecordingError),
 }
+
+impl fmt::Display for TextError {
+    ghost use Rattle.std.specs.Prelude.{Some};
+    ghost use Rattle.screentext_command.specs.Faults.{fault_text};
+
+    ghost output = { λ e. Some (fault_text e) };
+
+    fn fmt<W: fmt::Write>(&self, f: &mut fmt::Formatter<W>) -> fmt::Result {
+        match *self {
+            TextError::Read => write!(f, "read"),
+            TextError::Write => write!(f, "write"),
+            TextError::Memory => write!(f, "memory"),
+            TextError::File => write!(f, "the timing file can't be read"),
+            TextError::Marker => write!(f, "no such marker"),
+            TextError::Film => write!(f, "the film has more than 8 MiB"),
+            TextError::Player => write!(f, "the page has more than 32 MiB"),
+            TextError::Cells(most) => {
+                write!(
+                    f,
+                    "a size in the recording has more than {most} cells: --max-cells N allows more"
+                )
+            }
+            TextError::Cut(error) => write!(f, "{error}; what comes before it is shown"),
+            TextError::Guessed => {
+                write!(
+                    f,
+                    "it begins as an asciicast, but line 1 is no header: shown as raw bytes"
+                )
+            }
+            TextError::Recording(error) => write!(f, "{error}"),
+        }
+    }
+}
+
+impl Error for TextError {}
 
 impl From<AllocError> for TextError {
     ghost from_gives = { λ _ e. e ≡ Memory };

@@ -1,18 +1,25 @@
 //! Files that the words name.
 
+ghost use Rattle.std.specs.Prelude.{ℕ, List, IfOk};
+
 use crate::error::TextError;
 use std::alloc::Global;
 
-/// Where files are read.
+/// Where files are read. The ghost `holds` of each kind says which bytes a file may have; it may say nothing.
 pub trait Files {
+    ghost holds: { Self → List ℕ → List ℕ → Type 0 } = { λ _ _ _. Unit {0} };
+
     /// The bytes of a file.
-    fn read(&self, alloc: Global, path: &str) -> Result<Vec<u8>, TextError>;
+    fn read(&self, alloc: Global, path: &str) -> Result<Vec<u8>, TextError>
+        ensures { IfOk result (λ bytes. holds self.now path.now bytes.items) };
 }
 
 /// No file can be read here.
 pub struct NoFiles;
 
 impl Files for NoFiles {
+    ghost holds = { λ _ _ _. ⊥ };
+
     fn read(&self, _alloc: Global, _path: &str) -> Result<Vec<u8>, TextError> {
         Err(TextError::File)
     }

@@ -14,7 +14,7 @@ mod limits;
 mod list;
 mod outputs;
 mod pictures;
-mod sgr;
+mod reading;
 mod source;
 mod streams;
 mod text;

@@ -1,18 +1,21 @@
 //! Which recording is meant, and which of its moments.
 
-ghost use Rattle.std.specs.Prelude.{◌≡◌, ◌&&◌, is_some, IfOk, true};
+ghost use Rattle.std.specs.Prelude.{◌≡◌, ◌&&◌, is_some, IfOk, IfSome, true, Some, string_bytes};
 ghost use Rattle.std.specs.Option.{option_map, option_map_or};
 ghost use Rattle.clap.specs.Words.{found_of, rows_of};
 ghost use Rattle.command_line.specs.Numbers.{is_count};
 ghost use Rattle.recordings.specs.Kinds.{kind_named};
+ghost use Rattle.recordings.specs.Recorded.{deed_of, said};
+ghost use Rattle.screentext_command.specs.Asked.{SaysOrigin, cells_meant, kind_meant, origin_of};
+ghost use Rattle.screentext_command.specs.Moments.{AreMoments, IsEarlierMoment, IsMoment, is_marker, marker_time};
+ghost use Rattle.screentext_command.specs.Moments.{time_meant};
 ghost use Rattle.screentext_command.specs.Words.{are_sources};
 
 use crate::error::TextError;
 use crate::limits::MOST_CELLS;
-use crate::words::Request;
 use clap::ArgMatches;
 use command_line::parse_count;
-use recorded_screen::{Change, Kind, Recording};
+use recorded_screen::{Change, END, Event, Kind, Recording};
 use recordings::parse_seconds;
 use std::alloc::{AllocError, Global};
 
@@ -41,7 +44,8 @@ pub(crate) fn source_of(
     alloc: Global,
     matches: &ArgMatches<'_>,
 ) -> Result<Option<Source>, AllocError>
-    ensures { IfOk result (λ s. is_some s ≡ are_sources (rows_of (found_of matches.now))) }
+    ensures source { IfOk result (λ s. is_some s ≡ are_sources (rows_of (found_of matches.now))) }
+    ensures says { IfOk result (λ s. IfSome s (λ source. SaysOrigin (rows_of (found_of matches.now)) (origin_of source))) }
 {
     let kind = kind_of(matches.get_str("kind"));
     let timing = owned(alloc, matches.get_str("timing"))?;
@@ -57,7 +61,8 @@ pub(crate) fn source_of(
 
 // How many cells a size has at most: 4,000,000 where there is no word.
 fn most_cells_of(word: Option<&str>) -> Option<usize>
-    ensures { is_some result ≡ option_map_or is_count (option_map (λ w. w.now) word.entry) true }
+    ensures cells { is_some result ≡ option_map_or is_count (option_map (λ w. w.now) word.entry) true }
+    ensures value { result ≡ cells_meant (option_map (λ w. w.now) word.entry) }
 {
     match word {
         None => Some(MOST_CELLS),
@@ -74,7 +79,10 @@ fn new_source(
     draws_lines: bool,
     limits: (bool, Option<usize>),
 ) -> Option<Source>
-    ensures { is_some result ≡ (is_some kind && is_some limits.1) }
+    ensures source { is_some result ≡ (is_some kind && is_some limits.1) }
+    ensures found { IfSome result (λ s. (kind ≡ Some s.kind) × (limits.1 ≡ Some s.most_cells)) }
+    ensures words { IfSome result (λ s. (s.timing ≡ timing) × (s.moment ≡ moment) × (s.since ≡ since)) }
+    ensures flags { IfSome result (λ s. (s.list ≡ list) × (s.draws_lines ≡ draws_lines) × (s.strict ≡ limits.0)) }
 {
     Some(Source {
         kind: kind?,
@@ -90,8 +98,9 @@ fn new_source(
 
 // The kind of this name, or none where there is no word.
 fn kind_of(word: Option<&str>) -> Option<Option<Kind>>
-    ensures { is_some result ≡ option_map_or (λ word. is_some (kind_named word)) (option_map (λ w. w.now) word.entry)
-        true }
+    ensures kind { is_some result ≡ option_map_or (λ word. is_some (kind_named word))
+        (option_map (λ w. w.now) word.entry) true }
+    ensures value { result ≡ kind_meant (option_map (λ w. w.now) word.entry) }
 {
     match word {
         None => Some(None),
@@ -100,48 +109,91 @@ fn kind_of(word: Option<&str>) -> Option<Option<Kind>>
 }
 
 /// A word of its own.
-pub(crate) fn owned(alloc: Global, word: Option<&str>) -> Result<Option<String>, AllocError> {
+pub(crate) fn owned(alloc: Global, word: Option<&str>) -> Result<Option<String>, AllocError>
+    ensures { IfOk result (λ text. option_map string_bytes text ≡ option_map (λ w. w.now) word.entry) }
+{
     match word {
         None => Ok(None),
         Some(word) => Ok(Some(word.to_owned(alloc)?)),
     }
 }
 
-/// The request, with the times of the markers that its words name.
-pub(crate) fn with_markers(
+/// The moment that is shown, and the earlier one, where what changed from it on is wanted. Both are in microseconds.
+#[derive(Clone, Copy)]
+pub(crate) struct Moments {
+    pub(crate) moment: u64,
+    pub(crate) since: Option<u64>,
+}
+
+/// The moments that the words say.
+pub(crate) fn moments_of(
     alloc: Global,
     recording: &Recording,
     source: &Source,
-    request: Request,
-) -> Result<Request, TextError> {
-    let mut request = request;
-    if let Some(time) = marker_time(alloc, recording, &source.moment)? {
-        request.moment = time;
-    }
-    if let Some(time) = marker_time(alloc, recording, &source.since)? {
-        request.since = Some(time);
-    }
-    Ok(request)
+) -> Result<Moments, TextError>
+    ensures { IfOk result (λ m. AreMoments (said recording.now.events.items) (origin_of source.now)
+        m.moment m.since) }
+{
+    Ok(Moments {
+        moment: moment_of(alloc, recording, &source.moment)?,
+        since: since_of(alloc, recording, &source.since)?,
+    })
 }
 
-// The time of the first marker of this name, unless there is no word or it is a time.
-fn marker_time(
+// The moment that a word says, or the end.
+fn moment_of(alloc: Global, recording: &Recording, word: &Option<String>) -> Result<u64, TextError>
+    ensures { IfOk result (IsMoment (said recording.now.events.items) (option_map string_bytes word.now)) }
+{
+    match word {
+        None => Ok(END),
+        Some(word) => time_of(alloc, &recording.events, word.as_str()),
+    }
+}
+
+// The moment that a word says, if there is one.
+fn since_of(
     alloc: Global,
     recording: &Recording,
     word: &Option<String>,
-) -> Result<Option<u64>, TextError> {
-    let Some(name) = word else {
-        return Ok(None);
-    };
-    if parse_seconds(alloc, name.as_bytes())?.is_some() {
-        return Ok(None);
+) -> Result<Option<u64>, TextError>
+    ensures { IfOk result (IsEarlierMoment (said recording.now.events.items) (option_map string_bytes word.now)) }
+{
+    match word {
+        None => Ok(None),
+        Some(word) => Ok(Some(time_of(alloc, &recording.events, word.as_str())?)),
     }
-    for event in &recording.events {
-        if let Change::Marker(marker) = &event.change
-            && marker.as_str() == name.as_str()
-        {
-            return Ok(Some(event.time));
+}
+
+// The time that a word is, or else that of the first marker of this name.
+fn time_of(alloc: Global, events: &[Event], word: &str) -> Result<u64, TextError>
+    ensures { IfOk result (λ time. time_meant (said events.now) word.now ≡ Some time) }
+{
+    if let Some(time) = parse_seconds(alloc, word.as_bytes())? {
+        return Ok(time);
+    }
+    match marker_time(events, word) {
+        Some(time) => Ok(time),
+        None => Err(TextError::Marker),
+    }
+}
+
+// The time of the first marker of this name.
+fn marker_time(events: &[Event], name: &str) -> Option<u64>
+    ensures { result ≡ marker_time name.now (said events.now) }
+{
+    for event in events {
+        if is_marker(&event.change, name) {
+            return Some(event.time);
         }
     }
-    Err(TextError::Marker)
+    None
+}
+
+fn is_marker(change: &Change, name: &str) -> bool
+    ensures { result ≡ is_marker name.now (deed_of change.now) }
+{
+    match change {
+        Change::Marker(marker) => marker.as_str() == name,
+        Change::Output(_) | Change::Resize(_) => false,
+    }
 }

@@ -1,10 +1,12 @@
 //! The rows of a screen as text.
 
+ghost use Rattle.std.specs.Prelude.{◌≡◌, ◌++◌, OnOk, false, string_bytes};
+ghost use Rattle.screentext_command.specs.Texts.{cells_at, end_text, kept_text, line_at, rows_text, scrolled, shown_text};
+ghost use Rattle.vt100.specs.Tries.{alive};
+
 use crate::error::TextError;
-use crate::sgr::push_sgr;
-use crate::words::Look;
-use recorded_screen::Style;
-use std::alloc::{AllocError, Global};
+use row_texts::{Look, push_row_text};
+use std::alloc::AllocError;
 use vt100::{Cell, Screen};
 
 /// Appends the newest `history` kept rows and those of the screen, a line each, unless `look` asks that a row that goes
@@ -14,13 +16,14 @@ pub(crate) fn push_lines(
     screen: &mut Screen,
     history: usize,
     look: Look,
-) -> Result<(), TextError> {
-    push_kept(out, screen, history.min(screen.scrollback_len()), look)?;
+) -> Result<(), TextError>
+    requires { screen.old.failed ≡ false }
+    ensures { OnOk result (string_bytes out.new ≡ string_bytes out.old ++ rows_text look history screen.old.state) }
+{
+    let count = history.min(screen.scrollback_len());
+    push_kept(out, screen, count, look)?;
     screen.set_scrollback(0)?;
-    let (rows, _) = screen.size();
-    for row in 0..rows.get() {
-        push_line(out, screen, row, look)?;
-    }
+    push_shown(out, screen, look)?;
     Ok(())
 }
 
@@ -30,7 +33,12 @@ fn push_kept(
     screen: &mut Screen,
     count: usize,
     look: Look,
-) -> Result<(), TextError> {
+) -> Result<(), TextError>
+    requires { screen.old.failed ≡ false }
+    ensures text { OnOk result (string_bytes out.new
+        ≡ string_bytes out.old ++ kept_text look screen.old.state count count) }
+    ensures screen { OnOk result (screen.new ≡ alive (scrolled screen.old.state count count)) }
+{
     for above in 0..count {
         screen.set_scrollback(count - above)?;
         push_line(out, screen, 0, look)?;
@@ -38,75 +46,38 @@ fn push_kept(
     Ok(())
 }
 
-fn push_line(out: &mut String, screen: &Screen, row: u16, look: Look) -> Result<(), AllocError> {
-    push_row(out, screen, row, look)?;
-    if !look.joined || !screen.row_wrapped(row) {
-        out.push('\n')?;
+// The rows that are shown.
+fn push_shown(out: &mut String, screen: &Screen, look: Look) -> Result<(), AllocError>
+    ensures { OnOk result (string_bytes out.new ≡ string_bytes out.old ++ shown_text look screen.now.state.shown) }
+{
+    let (rows, _) = screen.size();
+    for row in 0..rows.get() {
+        push_line(out, screen, row, look)?;
     }
     Ok(())
 }
 
-/// The text of a row, without a newline.
-pub(crate) fn row_text(
-    alloc: Global,
-    screen: &Screen,
-    row: u16,
-    look: Look,
-) -> Result<String, AllocError> {
-    let mut text = String::new(alloc);
-    push_row(&mut text, screen, row, look)?;
-    Ok(text)
-}
-
-// The cells of a row up to the last that shows anything. With colours each change of the attributes is written, and the
-// row ends with the default ones.
-fn push_row(out: &mut String, screen: &Screen, row: u16, look: Look) -> Result<(), AllocError> {
-    let mut style = Style::PLAIN;
-    for col in 0..row_end(screen, row, look) {
-        let Some(cell) = screen.cell(row, col) else {
-            break;
-        };
-        if look.colors && style != Style::of(cell) {
-            style = Style::of(cell);
-            push_sgr(out, style)?;
-        }
-        push_cell(out, cell)?;
-    }
-    if style != Style::PLAIN {
-        out.push_str("\x1b[0m")?;
-    }
+fn push_line(out: &mut String, screen: &Screen, row: u16, look: Look) -> Result<(), AllocError>
+    ensures { OnOk result (string_bytes out.new ≡ string_bytes out.old ++ line_at look screen.now.state.shown row) }
+{
+    push_row_text(out, cells_of(screen, row), look)?;
+    push_end(out, look.joined && screen.row_wrapped(row))?;
     Ok(())
 }
 
-// How many columns of a row are written.
-fn row_end(screen: &Screen, row: u16, look: Look) -> u16 {
-    let mut end = 0;
-    for col in 0..u16::MAX {
-        let Some(cell) = screen.cell(row, col) else {
-            break;
-        };
-        if is_shown(cell, look) {
-            end = col + 1;
-        }
-    }
-    end
+// A newline, unless the row goes on in the next.
+fn push_end(out: &mut String, goes_on: bool) -> Result<(), AllocError>
+    ensures { OnOk result (string_bytes out.new ≡ string_bytes out.old ++ end_text goes_on) }
+{
+    if goes_on { Ok(()) } else { out.push('\n') }
 }
 
-// Whether a cell is more than a space at a row's end.
-fn is_shown(cell: &Cell, look: Look) -> bool {
-    (cell.has_contents() && (look.joined || cell.contents() != " "))
-        || cell.is_wide_continuation()
-        || (look.colors && Style::of(cell).shows_on_blanks())
-}
-
-// Appends the text of a cell: a space where it is empty, and nothing for the second column of a wide one.
-fn push_cell(out: &mut String, cell: &Cell) -> Result<(), AllocError> {
-    if cell.is_wide_continuation() {
-        return Ok(());
-    }
-    if cell.has_contents() {
-        out.push_str(cell.contents())
-    } else {
-        out.push(' ')
+/// The cells of a row that is shown. A kept row can be wider than the screen.
+pub(crate) fn cells_of(screen: &Screen, row: u16) -> &[Cell]
+    ensures { result.now ≡ cells_at screen.now.state.shown row }
+{
+    match screen.row_cells(row) {
+        Some(cells) => cells,
+        None => &[],
     }
 }

@@ -1,11 +1,14 @@
 //! The words of the command line.
 
-ghost use Rattle.std.specs.Prelude.{◌≡◌, ◌&&◌, true, map, is_some, codes, None, Err, IfOk, IfErr};
+ghost use Rattle.std.specs.Prelude.{◌≡◌, ◌&&◌, true, map, is_some, codes, None, Some, Err, IfOk, IfErr, IfSome};
 ghost use Rattle.std.specs.Option.{option_map, option_map_or};
 ghost use Rattle.clap.specs.Words.{App, Kinds, app_of, fault_of, found_of, kind_of, matches_of, rows_of};
 ghost use Rattle.clap.specs.declared.error.ErrorKind.TheVariants.{OutOfMemory};
 ghost use Rattle.command_line.specs.Numbers.{is_count};
 ghost use Rattle.recordings.specs.Times.{json_in};
+ghost use Rattle.recordings.specs.Recorded.{size_said};
+ghost use Rattle.screentext_command.specs.Asked.{IsMadeOf, IsMeant, IsTold, Says, SaysWish, form_meant};
+ghost use Rattle.screentext_command.specs.Asked.{history_meant, screen_meant, wish_of};
 ghost use Rattle.screentext_command.specs.declared.error.TextError.TheVariants.{Memory};
 ghost use Rattle.screentext_command.specs.Words.{are_values, are_words, is_form, is_moment, is_invocation, is_request};
 ghost use Rattle.screentext_command.specs.Words.{is_screen, is_time};
@@ -17,8 +20,9 @@ use crate::source::{Source, source_of};
 use clap::error::ErrorKind;
 use clap::{ArgMatches, Error};
 use command_line::{parse_count, parse_size};
-use recorded_screen::{END, ScreenSize};
+use recorded_screen::ScreenSize;
 use recordings::{microseconds, parse_json};
+use row_texts::Look;
 use std::alloc::Global;
 use std::fmt::Write;
 
@@ -31,9 +35,20 @@ pub(crate) enum Invocation {
     Print(Request, Source, Pictures),
 }
 
-/// The form in which a screen is printed.
+/// The form in which a recording is printed.
 #[derive(Clone, Copy)]
 pub(crate) enum Form {
+    /// The screen at a moment.
+    Still(Picture),
+    /// A film in SVG.
+    Film,
+    /// A page in HTML that plays.
+    Player,
+}
+
+/// The form in which a screen is printed.
+#[derive(Clone, Copy)]
+pub(crate) enum Picture {
     /// Its rows as text.
     Text,
     /// A page in HTML.
@@ -42,19 +57,6 @@ pub(crate) enum Form {
     HtmlBlock,
     /// A picture in SVG.
     Svg,
-    /// A film in SVG.
-    Film,
-    /// A page in HTML that plays.
-    Player,
-}
-
-/// How the rows of a screen are written as text.
-#[derive(Clone, Copy)]
-pub(crate) struct Look {
-    /// Whether a row that goes on in the next has no newline, and rows keep the spaces at their ends.
-    pub(crate) joined: bool,
-    /// Whether colours and other attributes are written, as SGR.
-    pub(crate) colors: bool,
 }
 
 /// Which screen is printed, and how.
@@ -62,10 +64,6 @@ pub(crate) struct Look {
 pub(crate) struct Request {
     /// The size at first, where the command line has one.
     pub(crate) size: Option<ScreenSize>,
-    /// The moment, in microseconds.
-    pub(crate) moment: u64,
-    /// The other moment, where what changed from it on is wanted.
-    pub(crate) since: Option<u64>,
     /// How many kept rows come before those of the screen, at most.
     pub(crate) history: usize,
     pub(crate) look: Look,
@@ -76,6 +74,7 @@ pub(crate) struct Request {
 pub(crate) fn parse(alloc: Global, words: &[&str]) -> Result<Option<Invocation>, TextError>
     ensures fault { IfErr result (λ e. e ≡ Memory) }
     ensures invocation { IfOk result (λ o. is_some o ≡ is_invocation (map (λ w. w.now) words.now)) }
+    ensures says { IfOk result (λ o. IfSome o (IsMeant (map (λ w. w.now) words.now))) }
 {
     match known_words(alloc)?.try_get_matches_from(words) {
         Ok(matches) => invocation_of(alloc, &matches),
@@ -87,6 +86,7 @@ pub(crate) fn parse(alloc: Global, words: &[&str]) -> Result<Option<Invocation>,
 fn asked(alloc: Global, error: &Error) -> Result<Option<Invocation>, TextError>
     ensures fault { IfErr result (λ e. e ≡ Memory) }
     ensures invocation { IfOk result (λ o. is_some o ≡ is_request (kind_of error.now)) }
+    ensures told { IfOk result (λ o. IfSome o IsTold) }
     ensures memory { kind_of error.now ≡ OutOfMemory → result ≡ Err Memory }
 {
     match error.kind() {
@@ -101,6 +101,7 @@ fn asked(alloc: Global, error: &Error) -> Result<Option<Invocation>, TextError>
 fn invocation_of(alloc: Global, matches: &ArgMatches<'_>) -> Result<Option<Invocation>, TextError>
     ensures fault { IfErr result (λ e. e ≡ Memory) }
     ensures invocation { IfOk result (λ o. is_some o ≡ are_words (rows_of (found_of matches.now))) }
+    ensures says { IfOk result (λ o. IfSome o (Says (rows_of (found_of matches.now)))) }
 {
     let request = request_of(alloc, matches)?;
     let source = source_of(alloc, matches)?;
@@ -113,7 +114,8 @@ fn all(
     source: Option<Source>,
     pictures: Option<Pictures>,
 ) -> Option<Invocation>
-    ensures { is_some result ≡ (is_some request && (is_some source && is_some pictures)) }
+    ensures all { is_some result ≡ (is_some request && (is_some source && is_some pictures)) }
+    ensures made { IfSome result (IsMadeOf request source) }
 {
     Some(Invocation::Print(request?, source?, pictures?))
 }
@@ -121,10 +123,11 @@ fn all(
 fn request_of(alloc: Global, matches: &ArgMatches<'_>) -> Result<Option<Request>, TextError>
     ensures fault { IfErr result (λ e. e ≡ Memory) }
     ensures request { IfOk result (λ r. is_some r ≡ are_values (rows_of (found_of matches.now))) }
+    ensures says { IfOk result (λ r. IfSome r (λ request. SaysWish (rows_of (found_of matches.now)) (wish_of request))) }
 {
     let size = size_of(matches.get_str("ROWS"), matches.get_str("COLS"));
-    let moment = moment_of(alloc, matches.get_str("at"))?;
-    let since = moment_of(alloc, matches.get_str("diff"))?;
+    let moment = is_moment(alloc, matches.get_str("at"))?;
+    let since = is_moment(alloc, matches.get_str("diff"))?;
     let history = history_of(matches.get_str("history"));
     let form = form_of(
         matches.get_count("html") > 0,
@@ -137,24 +140,26 @@ fn request_of(alloc: Global, matches: &ArgMatches<'_>) -> Result<Option<Request>
         joined: matches.get_count("joined") > 0,
         colors: matches.get_count("colours") > 0,
     };
-    Ok(new_request(size, moment, since, history, form, look))
+    Ok(new_request(size, (moment, since), history, form, look))
 }
 
+// There is one if both times are such.
 fn new_request(
     size: Option<Option<ScreenSize>>,
-    moment: Option<Option<u64>>,
-    since: Option<Option<u64>>,
+    times: (bool, bool),
     history: Option<usize>,
     form: Option<Form>,
     look: Look,
 ) -> Option<Request>
-    ensures { is_some result ≡ (is_some size && (is_some moment && (is_some since
-        && (is_some history && is_some form)))) }
+    ensures request { is_some result ≡ (is_some size && (times.0 && (times.1 && (is_some history && is_some form)))) }
+    ensures found { IfSome result (λ r. (size ≡ Some r.size) × (history ≡ Some r.history) × (form ≡ Some r.form)) }
+    ensures look { IfSome result (λ r. r.look ≡ look) }
 {
+    if !times.0 || !times.1 {
+        return None;
+    }
     Some(Request {
         size: size?,
-        moment: moment?.unwrap_or(END),
-        since: since?,
         history: history?,
         look,
         form: form?,
@@ -163,7 +168,10 @@ fn new_request(
 
 // A size: of rows and columns, or none where there is neither.
 fn size_of(rows: Option<&str>, cols: Option<&str>) -> Option<Option<ScreenSize>>
-    ensures { is_some result ≡ is_screen (option_map (λ w. w.now) rows.entry) (option_map (λ w. w.now) cols.entry) }
+    ensures size { is_some result
+        ≡ is_screen (option_map (λ w. w.now) rows.entry) (option_map (λ w. w.now) cols.entry) }
+    ensures value { option_map (option_map size_said) result
+        ≡ screen_meant (option_map (λ w. w.now) rows.entry) (option_map (λ w. w.now) cols.entry) }
 {
     match (rows, cols) {
         (None, None) => Some(None),
@@ -175,34 +183,34 @@ fn size_of(rows: Option<&str>, cols: Option<&str>) -> Option<Option<ScreenSize>>
     }
 }
 
-// A time, or none where there is no word.
-fn moment_of(alloc: Global, word: Option<&str>) -> Result<Option<Option<u64>>, TextError>
+// Whether there is no word, or one that says a moment.
+fn is_moment(alloc: Global, word: Option<&str>) -> Result<bool, TextError>
     ensures fault { IfErr result (λ e. e ≡ Memory) }
-    ensures moment { IfOk result (λ t. is_some t ≡ is_moment (option_map (λ w. w.now) word.entry)) }
+    ensures moment { IfOk result (λ t. t ≡ is_moment (option_map (λ w. w.now) word.entry)) }
 {
     match word {
-        None => Ok(Some(None)),
-        Some(word) => Ok(time_of(alloc, word)?.map(Some)),
+        None => Ok(true),
+        Some(word) => is_time(alloc, word),
     }
 }
 
-// A number of seconds, written as in JSON, in whole microseconds. Any other word is a marker's name, whose time isn't
-// known yet.
-fn time_of(alloc: Global, word: &str) -> Result<Option<u64>, TextError>
+// Whether it is a number of seconds, written as in JSON, that isn't negative. Any other word is a marker's name.
+fn is_time(alloc: Global, word: &str) -> Result<bool, TextError>
     ensures fault { IfErr result (λ e. e ≡ Memory) }
-    ensures time { IfOk result (λ t. is_some t ≡ is_time (json_in word.now)) }
+    ensures time { IfOk result (λ t. t ≡ is_time (json_in word.now)) }
 {
     let Some(value) = parse_json(alloc, word.as_bytes())? else {
-        return Ok(Some(END));
+        return Ok(true);
     };
     if !value.is_number() {
-        return Ok(Some(END));
+        return Ok(true);
     }
-    Ok(microseconds(&value))
+    Ok(microseconds(&value).is_some())
 }
 
 fn history_of(word: Option<&str>) -> Option<usize>
-    ensures { is_some result ≡ option_map_or is_count (option_map (λ w. w.now) word.entry) true }
+    ensures history { is_some result ≡ option_map_or is_count (option_map (λ w. w.now) word.entry) true }
+    ensures value { result ≡ history_meant (option_map (λ w. w.now) word.entry) }
 {
     match word {
         None => Some(0),
@@ -211,13 +219,14 @@ fn history_of(word: Option<&str>) -> Option<usize>
 }
 
 fn form_of(html: bool, block: bool, svg: bool, film: bool, player: bool) -> Option<Form>
-    ensures { is_some result ≡ is_form html block svg film player }
+    ensures form { is_some result ≡ is_form html block svg film player }
+    ensures value { result ≡ form_meant html block svg film player }
 {
     match (html, block, svg, film, player) {
-        (false, false, false, false, false) => Some(Form::Text),
-        (true, false, false, false, false) => Some(Form::Html),
-        (false, true, false, false, false) => Some(Form::HtmlBlock),
-        (false, false, true, false, false) => Some(Form::Svg),
+        (false, false, false, false, false) => Some(Form::Still(Picture::Text)),
+        (true, false, false, false, false) => Some(Form::Still(Picture::Html)),
+        (false, true, false, false, false) => Some(Form::Still(Picture::HtmlBlock)),
+        (false, false, true, false, false) => Some(Form::Still(Picture::Svg)),
         (false, false, true, true, false) => Some(Form::Film),
         (false, false, false, false, true) => Some(Form::Player),
         _ => None,

@@ -3,6 +3,7 @@ use Rattle.picture_page.specs.declared.tag.Tag.TheVariants as tag
 use Rattle.picture_page.proofs.PageLemmas.{if_added, if_ended}
 use Rattle.picture_page.proofs.SeenLemmas.{draws_tag, hides_text, if_drawn_after, if_tag}
 use Rattle.row_pictures.specs.Text.{row_text}
+use Rattle.row_pictures.proofs.SvgLemmas.{path_added}
 use Rattle.row_pictures.proofs.svg.push_lines.Goals as goal
 
 pub returns-clause-adds : goal.returns-clause-adds
@@ -18,3 +19,9 @@ returns-clause-seen c =
     (if_drawn_after _ _ _ _ _ _ _ _ (draws_tag _ _ tag.LinesLabel false false [] refl refl c.in_ok-markup.ensures.bytes)
     (if_drawn_after _ _ _ _ _ _ _ _ (hides_text _ _ (row_text c.args.run.now) c.in_ok-push_cells.ensures.bytes)
     (if_tag _ _ _ tag.Close false true [] refl refl c.markup-2.ensures.bytes))))
+
+pub returns-clause-path : goal.returns-clause-path
+returns-clause-path c =
+    path_added _ _ _ _ _ _ _ c.args.color c.args.opacity (row_text c.args.run.now)
+    c.in_ok-push_lines_head.ensures.bytes c.in_ok-push_glyphs.ensures.seen c.in_ok-markup.ensures.bytes
+    c.in_ok-push_cells.ensures.bytes c.markup-2.ensures.bytes

@@ -1,0 +1,29 @@
+-- A row of cells as runs of cells that are drawn alike, one after another.
+use Rattle.std.specs.Prelude.{◌≡◌, ◌⊎◌, ℕ, ◌+◌, ◌<◌, ◌++◌, ◌&&◌, nat_lt, length, Bool, true, false, List, []}
+use Rattle.std.specs.Prelude.{Option}
+use Rattle.vt100_cells.specs.Cell.{CellView}
+use Rattle.row_pictures.specs.Paint.{cell_in, style_in}
+
+-- The cells of these columns are drawn as the first one, and none but the first is wide; or they are the two columns of
+-- a wide character.
+abbrev pub AreAlike : List CellView → Option ℕ → ℕ → ℕ → Type 0
+AreAlike cells cursor start end = (col : ℕ) → start < col → col < end
+    → (((cell_in cells col).wide ≡ false) × (style_in cells cursor col ≡ style_in cells cursor start))
+    ⊎ (((cell_in cells start).wide ≡ true) × ((cell_in cells col).continuation ≡ true) × (col ≡ start + 1))
+
+-- a wide character, with both of its columns
+abbrev pub is_wide_run : List CellView → Bool
+is_wide_run run = nat_lt 1 (length run) && (cell_in run 0).wide
+
+-- These bytes are such pictures of runs, one after another, of the columns up to this one. A picture has the columns
+-- from one up to another.
+pub data AreRuns (IsPicture : ℕ → ℕ → List ℕ → Type 0) : ℕ → List ℕ → Type 0 where
+  none : AreRuns IsPicture 0 []
+  run : {start : ℕ} {before : List ℕ} (end : ℕ) (bytes : List ℕ) → AreRuns IsPicture start before → start < end
+      → IsPicture start end bytes → AreRuns IsPicture end (before ++ bytes)
+
+-- pictures of runs are appended, which have this many columns
+pub record AddsRuns (IsPicture : ℕ → ℕ → List ℕ → Type 0) (columns : ℕ) (old new : List ℕ) : Type 0 where
+  pub more : List ℕ
+  pub joined : new ≡ old ++ more
+  pub runs : AreRuns IsPicture columns more

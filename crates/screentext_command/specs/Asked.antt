@@ -1,0 +1,149 @@
+-- What the words ask for.
+use Rattle.std.specs.Prelude.{◌≡◌, ℕ, nat_eq, nat_lt, Bool, true, false, List, [], ◌∷◌, Option, Some, None, codes}
+use Rattle.std.specs.Prelude.{option_and_then, string_bytes}
+use Rattle.std.specs.Option.{option_map}
+use Rattle.clap.specs.Words.{Kinds, Row, Text, count_of, fault_of, first_of, matches_of}
+use Rattle.command_line.specs.Numbers.{size_in}
+use Rattle.command_line.specs.Numbers.{count_of as count_in}
+use Rattle.recordings.specs.Kinds.{kind_named}
+use Rattle.recordings.specs.Recorded.{size_said}
+use Rattle.recordings.specs.declared.recording.Kind.{Kind}
+use Rattle.screentext_command.specs.Words.{known}
+use Rattle.row_texts.specs.declared.row.Look.{Look}
+use Rattle.screentext_command.specs.declared.source.Source.{Source}
+use Rattle.screentext_command.specs.declared.words.Form.{Form}
+use Rattle.screentext_command.specs.declared.words.Form.TheVariants.{Film, Player, Still}
+use Rattle.screentext_command.specs.declared.words.Invocation.{Invocation}
+use Rattle.screentext_command.specs.declared.words.Invocation.TheVariants.{Print, Tell}
+use Rattle.screentext_command.specs.declared.words.Picture.TheVariants as picture
+use Rattle.screentext_command.specs.declared.words.Request.{Request}
+
+-- which recording is meant, and which of its moments
+pub record Origin : Type 0 where
+  -- the kind, and the path of a timing file, where words say them
+  pub kind : Option Kind
+  pub timing : Option Text
+  -- the words for the moment and for the earlier one
+  pub moment : Option Text
+  pub since : Option Text
+  -- whether the recording is described, in place of a screen
+  pub list : Bool
+  pub draws_lines : Bool
+  pub strict : Bool
+  -- how many cells a size has at most
+  pub most_cells : ℕ
+
+-- which screen is printed, and how
+pub record Wish : Type 0 where
+  -- the size at first, where words say it
+  pub size : Option (ℕ × ℕ)
+  -- how many kept rows come first, at most
+  pub history : ℕ
+  pub look : Look
+  pub form : Form
+
+abbrev pub origin_of : Source → Origin
+origin_of s = record {
+  kind = s.kind;
+  timing = option_map string_bytes s.timing;
+  moment = option_map string_bytes s.moment;
+  since = option_map string_bytes s.since;
+  list = s.list;
+  draws_lines = s.draws_lines;
+  strict = s.strict;
+  most_cells = s.most_cells;
+}
+
+abbrev pub wish_of : Request → Wish
+wish_of r = record { size = option_map size_said r.size; history = r.history; look = r.look; form = r.form }
+
+-- the kind, where a word says it
+abbrev pub kind_meant : Option Text → Option (Option Kind)
+kind_meant None = Some None
+kind_meant (Some word) = option_map (λ kind. Some kind) (kind_named word)
+
+-- how many cells a size has at most: 4,000,000 without a word
+abbrev pub cells_meant : Option Text → Option ℕ
+cells_meant None = Some 4000000
+cells_meant (Some word) = count_in word
+
+-- rows and columns, where words say them
+abbrev pub screen_meant : Option Text → Option Text → Option (Option (ℕ × ℕ))
+screen_meant None None = Some None
+screen_meant (Some rows) (Some cols) =
+    option_and_then (λ r. option_map (λ c. Some (r, c)) (size_in cols)) (size_in rows)
+screen_meant _ _ = None
+
+-- how many kept rows come first: none without a word
+abbrev pub history_meant : Option Text → Option ℕ
+history_meant None = Some 0
+history_meant (Some word) = count_in word
+
+-- the form, by which of its words there are
+abbrev pub form_meant : Bool → Bool → Bool → Bool → Bool → Option Form
+form_meant false false false false false = Some (Still picture.Text)
+form_meant true false false false false = Some (Still picture.Html)
+form_meant false true false false false = Some (Still picture.HtmlBlock)
+form_meant false false true false false = Some (Still picture.Svg)
+form_meant false false true true false = Some Film
+form_meant false false false false true = Some Player
+form_meant _ _ _ _ _ = None
+
+abbrev pub has : Text → List Row → Bool
+has name rows = nat_lt 0 (count_of name rows)
+
+-- these values of the words say which recording is meant, and which of its moments
+pub record SaysOrigin (rows : List Row) (o : Origin) : Type 0 where
+  pub kind : kind_meant (first_of (codes "kind") rows) ≡ Some o.kind
+  pub timing : o.timing ≡ first_of (codes "timing") rows
+  pub moment : o.moment ≡ first_of (codes "at") rows
+  pub since : o.since ≡ first_of (codes "diff") rows
+  pub list : o.list ≡ has (codes "list") rows
+  pub draws_lines : o.draws_lines ≡ nat_eq (count_of (codes "no-line-drawing") rows) 0
+  pub strict : o.strict ≡ has (codes "strict") rows
+  pub most_cells : cells_meant (first_of (codes "max-cells") rows) ≡ Some o.most_cells
+
+-- they say which screen is printed, and how
+pub record SaysWish (rows : List Row) (w : Wish) : Type 0 where
+  pub size : screen_meant (first_of (codes "ROWS") rows) (first_of (codes "COLS") rows) ≡ Some w.size
+  pub history : history_meant (first_of (codes "history") rows) ≡ Some w.history
+  pub joined : w.look.joined ≡ has (codes "joined") rows
+  pub colors : w.look.colors ≡ has (codes "colours") rows
+  pub form : form_meant (has (codes "html") rows) (has (codes "html-block") rows) (has (codes "svg") rows)
+      (has (codes "animate") rows) (has (codes "player") rows) ≡ Some w.form
+
+-- `clap` takes these words, and their values say so
+pub record AskFor (words : List Text) (o : Origin) (w : Wish) : Type 0 where
+  pub taken : fault_of known words ≡ []
+  pub origin : SaysOrigin (matches_of known words) o
+  pub wish : SaysWish (matches_of known words) w
+
+-- `clap` doesn't take these words: they ask for the help or the version
+abbrev pub HasFault : Kinds → Type 0
+HasFault [] = ⊥
+HasFault (k ∷ ks) = Unit {0}
+
+abbrev pub AskForHelp : List Text → Type 0
+AskForHelp words = HasFault (fault_of known words)
+
+-- ---- what the code makes of them
+
+-- an invocation that is made of these
+abbrev pub IsMadeOf : Option Request → Option Source → Invocation → Type 0
+IsMadeOf r s (Tell text) = ⊥
+IsMadeOf r s (Print request source pictures) = (r ≡ Some request) × (s ≡ Some source)
+
+-- a text is told
+abbrev pub IsTold : Invocation → Type 0
+IsTold (Tell text) = Unit {0}
+IsTold (Print request source pictures) = ⊥
+
+-- what is to be printed, by these values of the words
+abbrev pub Says : List Row → Invocation → Type 0
+Says rows (Tell text) = ⊥
+Says rows (Print request source pictures) = SaysWish rows (wish_of request) × SaysOrigin rows (origin_of source)
+
+-- what these words mean
+abbrev pub IsMeant : List Text → Invocation → Type 0
+IsMeant words (Tell text) = AskForHelp words
+IsMeant words (Print request source pictures) = AskFor words (origin_of source) (wish_of request)

@@ -1,0 +1,82 @@
+-- What the command answers, reads, writes and reports.
+use Rattle.std.specs.Prelude.{◌≡◌, ◌⊎◌, ℕ, ◌^◌, List, Option, Some, None, Ok, Err, Result}
+use Rattle.std.specs.declared.io.Error.{Error}
+use Rattle.byte_streams.specs.Pump.{Pumps, Tells}
+use Rattle.clap.specs.Words.{Text}
+use Rattle.command_line.specs.Input.{Drains}
+use Rattle.command_line.specs.declared.input.InputError.{InputError}
+use Rattle.screentext_command.specs.Faults.{fault_line, input_fault}
+use Rattle.screentext_command.specs.Asked.{AskFor, AskForHelp, Origin, Wish}
+use Rattle.screentext_command.specs.Reads.{IsAnswerTo}
+use Rattle.screentext_command.specs.Words.{memory_line}
+use Rattle.screentext_command.specs.declared.error.TextError.{TextError}
+use Rattle.screentext_command.specs.declared.error.TextError.TheVariants.{Memory, Write}
+
+-- A text was pumped to a writer, which was then flushed: so it is answered, and so the writer is left.
+pub data Prints {W : Type 0} (takes : W → List ℕ → Result ℕ Error → W → Type 0)
+    (flushes : W → Result (Unit {0}) Error → W → Type 0) (w : W) (text : List ℕ) : Result (Unit {0}) TextError → W
+    → Type 0 where
+  -- a write failed or took nothing
+  stopped : {v : W} (e : Error) (n : ℕ) → Pumps takes w text (Err e) n v → Prints takes flushes w text (Err Write) v
+  -- all was written, and the flush failed
+  unflushed : {v : W} (m : W) (e : Error) (n : ℕ) → Pumps takes w text (Ok tt) n m → flushes m (Err e) v
+      → Prints takes flushes w text (Err Write) v
+  -- all went well
+  printed : {v : W} (m : W) (n : ℕ) → Pumps takes w text (Ok tt) n m → flushes m (Ok tt) v
+      → Prints takes flushes w text (Ok tt) v
+
+-- where all went well, this is still to be said
+abbrev pub remarked : Option TextError → Result (Unit {0}) TextError → Result (Option TextError) TextError
+remarked remark (Ok u) = Ok remark
+remarked remark (Err e) = Err e
+
+-- a text was printed of which this is to be said
+abbrev pub PrintsWith : {W : Type 0} → (W → List ℕ → Result ℕ Error → W → Type 0)
+    → (W → Result (Unit {0}) Error → W → Type 0) → W → List ℕ → Option TextError → Result (Option TextError) TextError
+    → W → Type 0
+PrintsWith takes flushes w text remark answer v =
+    (printing : Result (Unit {0}) TextError) × (answer ≡ remarked remark printing)
+    × Prints takes flushes w text printing v
+
+-- From an input and a writer it answers so, and leaves both so. With an answer comes what is to be said of it. Nothing
+-- is written before the input has ended.
+pub data Does {S W : Type 0} (holds : List ℕ → List ℕ → Type 0) (words : List Text)
+    (gives : S → ℕ → Result (List ℕ) Error → S → Type 0) (takes : W → List ℕ → Result ℕ Error → W → Type 0)
+    (flushes : W → Result (Unit {0}) Error → W → Type 0) (s : S) (w : W) : Result (Option TextError) TextError → S → W
+    → Type 0 where
+  -- there was no memory for the words
+  refused : Does holds words gives takes flushes s w (Err Memory) s w
+  -- the words ask for the help or the version, which was printed
+  told : {v : W} {answer : Result (Option TextError) TextError} (text : List ℕ) → AskForHelp words
+      → PrintsWith takes flushes w text None answer v → Does holds words gives takes flushes s w answer s v
+  -- a read failed, as many were made as may be, or there was no memory for what was read
+  unread : {t : S} (e : InputError) (lost : List ℕ) → Drains gives 65536 s (2 ^ 40) lost (Err e) t
+      → Does holds words gives takes flushes s w (Err (input_fault e)) t w
+  -- the input was read to its end, and there is no text of it
+  unmade : {t : S} (bytes : List ℕ) (e : TextError) → Drains gives 65536 s (2 ^ 40) bytes (Ok tt) t
+      → Does holds words gives takes flushes s w (Err e) t w
+  -- the input was read to its end, and the text was printed that the words ask for
+  done : {t : S} {v : W} {answer : Result (Option TextError) TextError} (bytes text : List ℕ)
+      (remark : Option TextError) (origin : Origin) (wish : Wish) → AskFor words origin wish
+      → Drains gives 65536 s (2 ^ 40) bytes (Ok tt) t → IsAnswerTo holds origin wish bytes text remark
+      → PrintsWith takes flushes w text remark answer v → Does holds words gives takes flushes s w answer t v
+
+-- a fault's line was written on the error output, or that of memory, where there was none for the line
+abbrev pub TellsFault : {V : Type 0} → (V → List ℕ → Result ℕ Error → V → Type 0) → V → TextError → V → Type 0
+TellsFault takes old e new = Tells takes old (fault_line e) new ⊎ Tells takes old memory_line new
+
+-- the exit status that goes with an answer, and what is written of it on the error output
+abbrev pub Reports : {V : Type 0} → (V → List ℕ → Result ℕ Error → V → Type 0) → V
+    → Result (Option TextError) TextError → ℕ → V → Type 0
+Reports takes old (Ok None) status new = (status ≡ 0) × (new ≡ old)
+Reports takes old (Ok (Some remark)) status new = (status ≡ 3) × TellsFault takes old remark new
+Reports takes old (Err e) status new = (status ≡ 1) × TellsFault takes old e new
+
+-- Words that are understood were obeyed, from an input to an output and an error output.
+pub record CarriesOut {S W V : Type 0} (holds : List ℕ → List ℕ → Type 0) (words : List Text)
+    (gives : S → ℕ → Result (List ℕ) Error → S → Type 0) (takes : W → List ℕ → Result ℕ Error → W → Type 0)
+    (flushes : W → Result (Unit {0}) Error → W → Type 0) (tells : V → List ℕ → Result ℕ Error → V → Type 0) (s : S)
+    (w : W) (e : V) (status : ℕ) (t : S) (v : W) (f : V) : Type 0 where
+  pub answer : Result (Option TextError) TextError
+  pub does : Does holds words gives takes flushes s w answer t v
+  pub reported : Reports tells e answer status f

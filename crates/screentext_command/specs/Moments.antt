@@ -1,0 +1,38 @@
+-- The moments that words mean.
+use Rattle.std.specs.Prelude.{◌≡◌, ℕ, ◌-◌, ◌^◌, Bool, false, List, [], ◌∷◌, Option, Some, None, if◌then◌else◌}
+use Rattle.std.specs.Option.{option_or}
+use Rattle.std.specs.Str.{bytes_eq}
+use Rattle.recordings.specs.Recorded.{Deed, Moment, marks, resizes, writes}
+use Rattle.recordings.specs.Times.{time_in}
+use Rattle.screentext_command.specs.Asked.{Origin}
+
+-- a marker of this name
+abbrev pub is_marker : List ℕ → Deed → Bool
+is_marker name (writes bytes) = false
+is_marker name (resizes rows cols) = false
+is_marker name (marks marker) = bytes_eq marker name
+
+-- the time of the first marker of this name
+abbrev pub marker_time : List ℕ → List Moment → Option ℕ
+marker_time name [] = None
+marker_time name (m ∷ ms) = if is_marker name m.1 then Some m.0 else marker_time name ms
+
+-- the time that a word is, or else that of the first marker of this name
+abbrev pub time_meant : List Moment → List ℕ → Option ℕ
+time_meant moments word = option_or (time_in word) (marker_time word moments)
+
+-- the moment that a word means; without one it is the end
+abbrev pub IsMoment : List Moment → Option (List ℕ) → ℕ → Type 0
+IsMoment moments None time = time ≡ 2 ^ 64 - 1
+IsMoment moments (Some word) time = time_meant moments word ≡ Some time
+
+-- the moment from which on changes are wanted, if there is one
+abbrev pub IsEarlierMoment : List Moment → Option (List ℕ) → Option ℕ → Type 0
+IsEarlierMoment moments None since = since ≡ None
+IsEarlierMoment moments (Some word) None = ⊥
+IsEarlierMoment moments (Some word) (Some time) = time_meant moments word ≡ Some time
+
+-- the moments that the words for a recording mean
+pub record AreMoments (moments : List Moment) (o : Origin) (moment : ℕ) (since : Option ℕ) : Type 0 where
+  pub moment_is : IsMoment moments o.moment moment
+  pub since_is : IsEarlierMoment moments o.since since

@@ -1,0 +1,142 @@
+-- The text that is printed of a recording.
+use Rattle.std.specs.Prelude.{◌≡◌, ◌≤◌, ◌&&◌, ℕ, zero, suc, ◌+◌, ◌-◌, Bool, true, false, List, [], ◌++◌, length, min}
+use Rattle.std.specs.Prelude.{max, nat_lt, codes, encode_utf8, Option, Some, None, unwrap_or, if◌then◌else◌}
+use Rattle.std.specs.Fmt.{decimal}
+use Rattle.std.specs.Option.{option_map, option_map_or}
+use Rattle.std.specs.Str.{bytes_eq}
+use Rattle.vt100_cells.specs.Cell.{CellView}
+use Rattle.vt100_core.specs.Grid.{GridView, visible_row_at}
+use Rattle.screen_model.specs.Made.{made}
+use Rattle.screen_model.specs.State.{State}
+use Rattle.screen_model.specs.Step.{kept_shown}
+use Rattle.picture_page.specs.Page.{IsSafe, Shows, escaped}
+use Rattle.picture_page.specs.Seen.{seen}
+use Rattle.row_texts.specs.Rows.{row_text}
+use Rattle.row_texts.specs.declared.row.Look.{Look}
+use Rattle.recordings.specs.declared.recording.Recording.{Recording}
+use Rattle.recorded_screen.specs.Moment.{acts_until}
+use Rattle.recorded_screen.specs.Picture.{block_seen, font_text, page_seen, screen_text, svg_seen}
+use Rattle.recorded_screen.specs.declared.reel.TheConstants.{LONGEST_FILM}
+use Rattle.player_page.specs.Rows.{ShowsRows}
+use Rattle.player_page.specs.declared.page.TheConstants.{LONGEST_PLAYER}
+use Rattle.screentext_command.specs.declared.words.Form.{Form}
+use Rattle.screentext_command.specs.declared.words.Form.TheVariants.{Film, Player, Still}
+use Rattle.screentext_command.specs.declared.words.Picture.{Picture}
+use Rattle.screentext_command.specs.declared.words.Picture.TheVariants.{Html, HtmlBlock, Svg, Text}
+
+-- ---- the screen at a moment
+
+-- the size at first: that of the words, or else the recording's, or else 24 rows of 80 columns
+abbrev pub size_at_first : Option (ℕ × ℕ) → Option (ℕ × ℕ) → ℕ × ℕ
+size_at_first (Some size) recorded = size
+size_at_first None (Some size) = size
+size_at_first None None = (24, 80)
+
+-- the screen once all events up to a moment have come, where so many rows are kept at most
+abbrev pub screen_at : ℕ × ℕ → ℕ → Recording → ℕ → State
+screen_at size history r moment = made size.0 size.1 history (acts_until moment r.events.items)
+
+-- ---- rows as text
+
+-- the cells of the row that is shown here, and whether it goes on in the next one
+abbrev pub cells_at : GridView → ℕ → List CellView
+cells_at g r = option_map_or (λ v. v.cells) (visible_row_at g r) []
+
+abbrev pub goes_on : GridView → ℕ → Bool
+goes_on g r = unwrap_or (option_map (λ v. v.wrapped) (visible_row_at g r)) false
+
+abbrev pub end_text : Bool → List ℕ
+end_text true = []
+end_text false = codes "\n"
+
+-- a row, and a newline, unless it is joined with the next one
+abbrev pub line_at : Look → GridView → ℕ → List ℕ
+line_at look g r = row_text look (cells_at g r) ++ end_text (look.joined && goes_on g r)
+
+-- the first n rows that are shown
+abbrev pub lines_text : Look → GridView → ℕ → List ℕ
+lines_text look g zero = []
+lines_text look g (suc n) = lines_text look g n ++ line_at look g n
+
+-- the screen that was scrolled back to `count` kept rows, then to one fewer, and so on: n times
+abbrev pub scrolled : State → ℕ → ℕ → State
+scrolled s count zero = s
+scrolled s count (suc n) = kept_shown (count - n) (scrolled s count n)
+
+-- of the newest `count` kept rows the first n: each is the first row that is shown then
+abbrev pub kept_text : Look → State → ℕ → ℕ → List ℕ
+kept_text look s count zero = []
+kept_text look s count (suc n) = kept_text look s count n ++ line_at look (scrolled s count (suc n)).shown 0
+
+-- all rows of the screen
+abbrev pub shown_text : Look → GridView → List ℕ
+shown_text look g = lines_text look g g.height
+
+-- the newest kept rows, and those of the screen
+abbrev pub rows_text : Look → ℕ → State → List ℕ
+rows_text look history s =
+    let count = min history (length s.shown.kept.rows) in
+    kept_text look s count count ++ shown_text look (kept_shown 0 (scrolled s count count)).shown
+
+-- ---- pictures
+
+-- a text is a screen in this form
+abbrev pub IsStill : Picture → Look → ℕ → State → List ℕ → Type 0
+IsStill Text look history s text = text ≡ rows_text look history s
+IsStill Html look history s text = Shows text (screen_text s.shown)
+    × (seen text ≡ page_seen (escaped (screen_text s.shown))) × IsSafe text
+IsStill HtmlBlock look history s text = Shows text (screen_text s.shown)
+    × (seen text ≡ block_seen (escaped (screen_text s.shown)) ++ codes "\n") × IsSafe text
+IsStill Svg look history s text = Shows text (screen_text s.shown)
+    × (seen text ≡ svg_seen (escaped (font_text s.shown))) × IsSafe text
+
+-- ---- what differs
+
+-- the text of a row, where there is one
+abbrev pub text_in : Look → GridView → ℕ → Option (List ℕ)
+text_in look g r = if nat_lt r g.height then Some (row_text look (cells_at g r)) else None
+
+abbrev pub are_same : Option (List ℕ) → Option (List ℕ) → Bool
+are_same None None = true
+are_same (Some a) (Some b) = bytes_eq a b
+are_same _ _ = false
+
+-- a row that one of the screens has, behind its sign and its number, counted from 1
+abbrev pub signed_text : ℕ → ℕ → Option (List ℕ) → List ℕ
+signed_text sign r None = []
+signed_text sign r (Some text) = encode_utf8 sign ++ (decimal (r + 1) ++ (codes ": " ++ (text ++ codes "\n")))
+
+-- the old text of a row behind `-`, and the new one behind `+`
+abbrev pub pair_text : ℕ → Option (List ℕ) → Option (List ℕ) → List ℕ
+pair_text r old new = if are_same old new then [] else signed_text 45 r old ++ signed_text 43 r new
+
+abbrev pub change_text : Look → GridView → GridView → ℕ → List ℕ
+change_text look old new r = pair_text r (text_in look old r) (text_in look new r)
+
+-- those of the first n rows
+abbrev pub first_changes : Look → GridView → GridView → ℕ → List ℕ
+first_changes look old new zero = []
+first_changes look old new (suc n) = first_changes look old new n ++ change_text look old new n
+
+abbrev pub changes_text : Look → GridView → GridView → List ℕ
+changes_text look old new = first_changes look old new (max old.height new.height)
+
+-- ---- what is printed
+
+-- the screen at a moment, or what differs from an earlier one, of a terminal that has this size at first
+abbrev pub IsScreen : Picture → Look → ℕ → ℕ × ℕ → Recording → ℕ → Option ℕ → List ℕ → Type 0
+IsScreen picture look history size r moment None text = IsStill picture look history (screen_at size history r moment)
+    text
+IsScreen picture look history size r moment (Some since) text =
+    text ≡ changes_text look (screen_at size 0 r since).shown (screen_at size history r moment).shown
+
+abbrev pub IsFilm : List ℕ → Type 0
+IsFilm text = IsSafe text × (length text ≤ LONGEST_FILM)
+
+abbrev pub IsPlayer : ℕ × ℕ → Recording → List ℕ → Type 0
+IsPlayer size r text = ShowsRows size.0 size.1 r.events.items text × IsSafe text × (length text ≤ LONGEST_PLAYER)
+
+abbrev pub IsAnswer : Form → Look → ℕ → ℕ × ℕ → Recording → ℕ → Option ℕ → List ℕ → Type 0
+IsAnswer (Still picture) look history size r moment since text = IsScreen picture look history size r moment since text
+IsAnswer Film look history size r moment since text = IsFilm text
+IsAnswer Player look history size r moment since text = IsPlayer size r text

@@ -1,0 +1,196 @@
+//! What is read of a recording, and the text that is printed of it.
+
+ghost use Rattle.std.specs.Prelude.{◌≡◌, ◌&&◌, ℕ, List, Some, true, false, is_none, IfOk};
+ghost use Rattle.std.specs.Option.{option_copied};
+ghost use Rattle.screentext_command.specs.Asked.{origin_of, wish_of};
+ghost use Rattle.screentext_command.specs.Limits.{are_within};
+ghost use Rattle.screentext_command.specs.Reads.{IsAnswerTo, IsDrawnSo, IsNoted, IsPart, IsRead, IsReadAs, IsScreenText};
+ghost use Rattle.screentext_command.specs.Reads.{IsShown, begins_as_asciicast, note_of};
+
+use crate::answer::answer_of;
+use crate::error::TextError;
+use crate::files::Files;
+use crate::limits::has_only;
+use crate::list::list_of;
+use crate::outputs::with_lines_drawn;
+use crate::pictures::Pictures;
+use crate::source::{Source, moments_of};
+use crate::title::title_of;
+use crate::words::Request;
+use recordings::{Kind, Reading, Recording, RecordingError, read_recording};
+use std::alloc::{AllocError, Global};
+
+/// A text, and what is to be said of the recording that it is of.
+#[derive(Drop)]
+pub(crate) struct Answer {
+    /// The text.
+    pub(crate) text: Vec<u8>,
+    /// Why only a part of the recording was read, or that it may be none.
+    pub(crate) note: Option<TextError>,
+}
+
+/// The text that is asked for, of the recording in these bytes.
+pub(crate) fn answer_to<F: Files>(
+    alloc: Global,
+    files: &F,
+    bytes: Vec<u8>,
+    request: Request,
+    source: &Source,
+    pictures: &Pictures,
+) -> Result<Answer, TextError>
+    ensures { IfOk result (λ a. IsAnswerTo (F.holds files.now) (origin_of source.now) (wish_of request) bytes.items a.text.items a.note) }
+{
+    let title = title_of(alloc, &bytes)?;
+    let (recording, note) = recording_of(alloc, files, bytes, source)?;
+    let text = text_of(alloc, &recording, title, request, source, pictures)?;
+    Ok(Answer { text, note })
+}
+
+// A description of the recording, or a screen of it.
+fn text_of(
+    alloc: Global,
+    recording: &Recording,
+    title: String,
+    request: Request,
+    source: &Source,
+    pictures: &Pictures,
+) -> Result<Vec<u8>, TextError>
+    ensures { IfOk result (λ text. source.now.list ≡ false → IsScreenText (origin_of source.now) (wish_of request) recording.now text.items) }
+{
+    let moments = moments_of(alloc, recording, source)?;
+    if source.list {
+        return list_of(alloc, recording);
+    }
+    answer_of(alloc, recording, title, request, moments, pictures)
+}
+
+// What is recorded, with boxes as box characters unless the words say otherwise, and what is to be said of it.
+fn recording_of<F: Files>(
+    alloc: Global,
+    files: &F,
+    bytes: Vec<u8>,
+    source: &Source,
+) -> Result<(Recording, Option<TextError>), TextError>
+    ensures { IfOk result (λ r. IsShown (F.holds files.now) (origin_of source.now) bytes.items r.0 r.1) }
+{
+    let (read, note) = read_part(alloc, files, bytes, source)?;
+    let part = within(read, source.most_cells)?;
+    Ok((drawn(alloc, part, source.draws_lines)?, note))
+}
+
+// The recording, unless a size in it has more cells than this.
+fn within(recording: Recording, most: usize) -> Result<Recording, TextError>
+    ensures { IfOk result (λ r. (r ≡ recording) × (are_within most recording ≡ true)) }
+{
+    if has_only(&recording, most) {
+        Ok(recording)
+    } else {
+        Err(TextError::Cells(most))
+    }
+}
+
+// The recording, with lines drawn if that is wanted.
+fn drawn(alloc: Global, recording: Recording, draws_lines: bool) -> Result<Recording, AllocError>
+    ensures { IfOk result (λ shown. IsDrawnSo draws_lines recording shown) }
+{
+    if draws_lines {
+        with_lines_drawn(alloc, &recording)
+    } else {
+        Ok(recording)
+    }
+}
+
+// What is recorded in the bytes, and in the timing file if the words have one, up to a fault that then is to be said.
+fn read_part<F: Files>(
+    alloc: Global,
+    files: &F,
+    bytes: Vec<u8>,
+    source: &Source,
+) -> Result<(Recording, Option<TextError>), TextError>
+    ensures { IfOk result (λ r. IsPart (F.holds files.now) (origin_of source.now) bytes.items r.0 r.1) }
+{
+    let begins = may_be_cast(source.kind, &bytes);
+    let reading = read_with(alloc, files, bytes, source)?;
+    Ok(taken(reading, source.strict, begins)?)
+}
+
+// Whether the kind is to be guessed, and the bytes begin as an asciicast does.
+fn may_be_cast(kind: Option<Kind>, bytes: &[u8]) -> bool
+    ensures { result ≡ (is_none kind && begins_as_asciicast bytes.now) }
+{
+    kind.is_none() && begins_as_asciicast(bytes)
+}
+
+// What was read, and what is to be said of it; in strict reading a fault is one.
+fn taken(
+    reading: Reading,
+    strict: bool,
+    begins: bool,
+) -> Result<(Recording, Option<TextError>), RecordingError>
+    ensures recording { IfOk result (λ r. r.0 ≡ reading.recording) }
+    ensures noted { IfOk result (λ r. IsNoted strict begins reading r.1) }
+{
+    if strict {
+        return Ok((reading.whole()?, None));
+    }
+    let note = note_of(begins, reading.recording.kind, reading.fault);
+    Ok((reading.recording, note))
+}
+
+fn note_of(begins: bool, kind: Kind, fault: Option<RecordingError>) -> Option<TextError>
+    ensures { result ≡ note_of begins kind fault }
+{
+    match (fault, kind) {
+        (Some(fault), _) => Some(TextError::Cut(fault)),
+        (None, Kind::Raw) if begins => Some(TextError::Guessed),
+        _ => None,
+    }
+}
+
+fn read_with<F: Files>(
+    alloc: Global,
+    files: &F,
+    bytes: Vec<u8>,
+    source: &Source,
+) -> Result<Reading, TextError>
+    ensures { IfOk result (IsRead (F.holds files.now) (origin_of source.now) bytes.items) }
+{
+    match &source.timing {
+        None => read_bytes(alloc, bytes, None, source.kind),
+        Some(path) => read_timed(alloc, files, bytes, path.as_str(), source.kind),
+    }
+}
+
+// What is recorded in the bytes, with the timing file of this path.
+fn read_timed<F: Files>(
+    alloc: Global,
+    files: &F,
+    bytes: Vec<u8>,
+    path: &str,
+    kind: Option<Kind>,
+) -> Result<Reading, TextError>
+    ensures { IfOk result (λ r. (timing : List ℕ) × (F.holds files.now path.now timing)
+        × IsReadAs kind (Some timing) bytes.items r) }
+{
+    let timing = files.read(alloc, path)?;
+    let reading = read_bytes(alloc, bytes, Some(&timing), kind)?;
+    Ok(reading)
+}
+
+fn read_bytes(
+    alloc: Global,
+    bytes: Vec<u8>,
+    timing: Option<&[u8]>,
+    kind: Option<Kind>,
+) -> Result<Reading, TextError>
+    ensures { let lines = option_copied timing.entry in IfOk result (IsReadAs kind lines bytes.items) }
+{
+    Ok(read_recording(alloc, bytes, timing, kind)?)
+}
+
+// Whether bytes begin as the header of an asciicast does, which may have been cut or laid out over lines.
+fn begins_as_asciicast(bytes: &[u8]) -> bool
+    ensures { result ≡ begins_as_asciicast bytes.now }
+{
+    bytes.starts_with(b"{\"version\"") || bytes.starts_with(b"{\n") || bytes.starts_with(b"{\r\n")
+}
