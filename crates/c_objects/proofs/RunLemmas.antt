@@ -12,7 +12,7 @@ use Rattle.termrelay.specs.Hub.{HubState, as_kept, clients_in, pump_answer, Puts
 use Rattle.termrelay.specs.Calls as call
 use Rattle.termrelay.specs.Calls.{Call, WritesAsReported, taken_by, IsCall, Serves, done, replied}
 use Rattle.termrelay.specs.Log as log
-use Rattle.termrelay.specs.Log.{SessionView, change_last, grown, is_of, RunsLogged}
+use Rattle.termrelay.specs.Log.{SessionView, is_of, RunsLogged}
 use Rattle.termrelay.specs.declared.runs.call.Take.{Take}
 use Rattle.termrelay.specs.declared.runs.call.Take.TheVariants.{Bytes, Fault}
 use Rattle.termrelay.specs.declared.runs.call.Reply.{Reply}

@@ -1,5 +1,5 @@
 -- Recordings: what is read of a file, what each call reads of it, and the number that it returns.
-use Rattle.std.specs.Prelude.{◌≡◌, ◌⊎◌, ℕ, ℤ, List, [], length, replicate, slice_get, Option, Some, None, MatchOption}
+use Rattle.std.specs.Prelude.{◌≡◌, ◌⊎◌, ℕ, ℤ, List, [], length, slice_get, Option, Some, None, MatchOption}
 use Rattle.std.specs.Prelude.{unwrap_or}
 use Rattle.std.specs.Option.{option_map}
 use Rattle.recordings.specs.Kinds.{IsReadOfKind, IsUnreadOfKind, IsPacked, kind_taken, packer_met}

@@ -32,6 +32,9 @@ pub(crate) const NOT_OWED: i32 = -7;
 /// The row or the column is outside the screen.
 pub(crate) const NO_CELL: i32 = -8;
 
+/// A writer failed. No call here uses a writer that can fail.
+const NOT_WRITTEN: i32 = -9;
+
 /// A recording has no header.
 pub(crate) const NO_HEADER: i32 = -10;
 
@@ -40,9 +43,6 @@ pub(crate) const COMPRESSED: i32 = -11;
 
 /// A recording has fewer events.
 pub(crate) const NO_EVENT: i32 = -12;
-
-/// A writer failed. No call here uses a writer that can fail.
-const NOT_WRITTEN: i32 = -9;
 
 /// The number for a hub's error.
 pub(crate) fn refusal_code(error: HubError) -> i32

@@ -1,4 +1,4 @@
-//! Bytes that are copied into the caller's memory.
+//! What is copied into the caller's memory.
 ghost use Rattle.std.specs.Prelude.{◌≡◌, length};
 ghost use Rattle.c_objects.specs.Codes.{IsRefusal};
 ghost use Rattle.c_objects.specs.Texts.{with_prefix, Copies};
@@ -6,9 +6,9 @@ ghost use Rattle.c_objects.specs.Texts.{with_prefix, Copies};
 use crate::code::{OK, screen_refusal};
 use vt100::ScreenError;
 
-/// Copies as long a prefix of the bytes as fits, and sets `count` to how many bytes there are in all.
-pub(crate) fn copy_prefix(from: &[u8], to: &mut [u8], count: &mut usize)
-    ensures bytes { to.new ≡ with_prefix from.now to.old }
+/// Copies as long a prefix as fits, and sets `count` to how many items there are in all.
+pub(crate) fn copy_prefix<T: Copy>(from: &[T], to: &mut [T], count: &mut usize)
+    ensures prefix { to.new ≡ with_prefix from.now to.old }
     ensures count { count.new ≡ length from.now }
 {
     *count = from.len();

@@ -1,12 +1,11 @@
 //! The calls of a recording.
-ghost use Rattle.std.specs.Prelude.{◌≡◌, IfOk, IfErr, length};
+ghost use Rattle.std.specs.Prelude.{◌≡◌, IfOk, IfErr};
 ghost use Rattle.std.specs.Option.{option_copied};
 ghost use Rattle.c_objects.specs.Codes.{IsRefusal};
 ghost use Rattle.c_objects.specs.Objects.{RecordingSays};
 ghost use Rattle.c_objects.specs.Recordings.{IsReading, IsReadingOf, IsUnread, IsUnreadCode, unread_code};
 ghost use Rattle.c_objects.specs.Recordings.{LooksRecorded, HasEvent, HasEventText, HasColors};
 ghost use Rattle.c_objects.specs.Recordings.{kind_number, fault_of, recording_look, event_of, text_of};
-ghost use Rattle.c_objects.specs.Texts.{with_prefix};
 ghost use Rattle.recordings.specs.Recorded.{deed_of};
 
 use crate::code::{COMPRESSED, MEMORY, NO_EVENT, NO_HEADER, OK, OTHER_KIND};
@@ -187,21 +186,11 @@ pub fn event_text(object: &Object, index: usize, to: &mut [u8], count: &mut usiz
     }
 }
 
-/// Copies as many of the colours as fit, and sets `count` to how many there are.
-fn copy_numbers(from: &[u32], to: &mut [u32], count: &mut usize)
-    ensures numbers { to.new ≡ with_prefix from.now to.old }
-    ensures count { count.new ≡ length from.now }
-{
-    *count = from.len();
-    let n = from.len().min(to.len());
-    to[..n].copy_from_slice(&from[..n]);
-}
-
 fn copy_colors(reading: &Reading, to: &mut [u32], count: &mut usize) -> i32
     ensures colors { HasColors to.old to.new count.new reading.now result }
 {
     match &reading.recording.theme {
-        Some(theme) => copy_numbers(&theme.colors, to, count),
+        Some(theme) => copy_prefix(&theme.colors, to, count),
         None => *count = 0,
     }
     OK

@@ -4,7 +4,7 @@ ghost use Rattle.std.specs.List.{concat};
 ghost use Rattle.c_objects.specs.Codes.{IsRefusal, memory};
 ghost use Rattle.c_objects.specs.Copied.{HasRows, HasRowsDiff, ScreensSay};
 ghost use Rattle.c_objects.specs.Objects.{ScreenSays};
-ghost use Rattle.c_objects.specs.Texts.{CopiesRows, with_prefix};
+ghost use Rattle.c_objects.specs.Texts.{CopiesRows};
 
 use crate::code::{MEMORY, OK, OTHER_KIND};
 use crate::copy::copy_prefix;
@@ -43,16 +43,6 @@ fn join(alloc: Global, rows: Rows<'_>) -> Result<Joined, i32>
     Ok(Joined { text, lengths })
 }
 
-/// Copies as many of the numbers as fit, and sets `count` to how many there are.
-fn copy_numbers(from: &[usize], to: &mut [usize], count: &mut usize)
-    ensures numbers { to.new ≡ with_prefix from.now to.old }
-    ensures count { count.new ≡ length from.now }
-{
-    *count = from.len();
-    let n = from.len().min(to.len());
-    to[..n].copy_from_slice(&from[..n]);
-}
-
 /// Copies the texts of rows, one behind the other, and their lengths.
 fn copy_rows(
     alloc: Global,
@@ -69,7 +59,7 @@ fn copy_rows(
     match join(alloc, rows) {
         Ok(joined) => {
             copy_prefix(&joined.text, to, count);
-            copy_numbers(&joined.lengths, lengths, rows_count);
+            copy_prefix(&joined.lengths, lengths, rows_count);
             OK
         }
         Err(code) => code,

@@ -1,7 +1,7 @@
 -- What is seen of bytes that are appended.
 use Rattle.std.proofs.Common.{◌≡◌, ◌≢◌, ◌<◌, ◌≤◌, ◌+◌, ◌%◌, ◌/◌, ℕ, zero, suc, Bool, true, false, not, ◌&&◌, List, []}
 use Rattle.std.proofs.Common.{◌∷◌, ◌++◌, refl, sym, ap, ap₂, ◌∙◌, append_assoc, append-nil, subst, arith, cond, nat_eq}
-use Rattle.std.proofs.Common.{true≢false, decimal, Result, OnOk}
+use Rattle.std.proofs.Common.{decimal, Result, OnOk}
 use Rattle.std.specs.Fmt.{digits, digit_glyph, digits_onto}
 use Rattle.std.specs.Prelude.{if◌then◌else◌, nat_lt, ◌==◌}
 use Rattle.std.proofs.lemmas.Bool.{leb-true, ne_eqb}

@@ -1,6 +1,6 @@
 -- Parts with rows of a recording as their text.
-use Rattle.std.proofs.Common.{◌≡◌, ◌+◌, ◌<◌, ℕ, List, [], ◌∷◌, ◌++◌, inl, inr, sym, ap, subst, ◌∙◌, append-nil, take, length}
-use Rattle.std.proofs.Common.{get_or, map}
+use Rattle.std.proofs.Common.{◌≡◌, ◌+◌, ◌<◌, ℕ, List, [], ◌∷◌, ◌++◌, sym, ap, subst, ◌∙◌, append-nil, take, length}
+use Rattle.std.proofs.Common.{get_or}
 use Rattle.std.proofs.lemmas.Grind.{flat_map-append}
 use Rattle.std.proofs.lemmas.List.{map-append, take_more}
 use Rattle.std.proofs.lemmas.List.Elements.{All-append, All-cons, All-nil}
@@ -8,7 +8,7 @@ use Rattle.screen_model.specs.Call.{ScreenView}
 use Rattle.screen_model.specs.Made.{Act}
 use Rattle.vt100.specs.Parsing.{ParserIsAfter, ParserView}
 use Rattle.vt100_cells.specs.Cell.{CellView}
-use Rattle.picture_page.specs.Page.{Adds, Shows}
+use Rattle.picture_page.specs.Page.{Adds}
 use Rattle.picture_page.proofs.PageLemmas.{adds_both, adds_none, after_markup, before_markup, shows_page}
 use Rattle.row_pictures.specs.Text.{row_text}
 use Rattle.recordings.specs.declared.recording.Event.{Event}

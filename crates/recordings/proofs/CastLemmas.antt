@@ -1,15 +1,14 @@
 -- What is read of an asciicast, up to a fault.
-use Rattle.std.proofs.Common.{◌≡◌, ◌∙◌, ℕ, List, map, drop, sym, ap, subst, Option, Some, None, inl, refl}
+use Rattle.std.proofs.Common.{◌≡◌, ◌∙◌, ℕ, List, sym, ap, subst, Option, Some, None}
 use Rattle.std.specs.Prelude.{IsSomeAnd}
 use Rattle.std.specs.Option.{option_map}
-use Rattle.recordings.specs.Asciicast.{AreRead, IsFault, IsReadCast, IsReadOf, Says, body, head, header_in, header_said}
+use Rattle.recordings.specs.Asciicast.{AreRead, IsReadCast, IsReadOf, body, head, header_in, header_said}
 use Rattle.recordings.specs.Asciicast.{theme_said}
 use Rattle.recordings.specs.Recorded.{said, size_said}
 use Rattle.recordings.specs.Themes.{theme_reported}
 use Rattle.recordings.specs.declared.asciicast.Header.{Header}
 use Rattle.recordings.specs.declared.error.RecordingError.{RecordingError}
-use Rattle.recordings.specs.declared.error.RecordingError.TheVariants.{Byte, Header as NoHeader, Line, Memory, NoTiming}
-use Rattle.recordings.specs.declared.error.RecordingError.TheVariants.{Step}
+use Rattle.recordings.specs.declared.error.RecordingError.TheVariants.{Line}
 use Rattle.recordings.specs.declared.recording.Kind.TheVariants.{Asciicast}
 use Rattle.recordings.specs.declared.recording.Recording.{Recording}
 use Rattle.recordings.specs.declared.timeline.Timeline.{Timeline}

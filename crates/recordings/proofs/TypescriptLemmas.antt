@@ -16,7 +16,7 @@ use Rattle.command_line.proofs.NumberLemmas.{own}
 use Rattle.std.proofs.lemmas.List.{get_or-map, length-map, length-take-le}
 use Rattle.recordings.specs.Lines.{lines_in}
 use Rattle.recordings.specs.Recorded.{IsStateAfter, Row, said, size_said, writes}
-use Rattle.recordings.specs.Typescript.{AreSteps, IsBadStep, IsReadScript, SaysRows, event_of, events_of, gives}
+use Rattle.recordings.specs.Typescript.{AreSteps, IsReadScript, SaysRows, event_of, events_of, gives}
 use Rattle.recordings.specs.Typescript.{is_field, output_of, rest_of, shares_log, size_named, skips, taken}
 use Rattle.recordings.specs.Typescript.{value_named, word_of}
 use Rattle.recordings.specs.declared.error.RecordingError.{RecordingError}

@@ -1,16 +1,16 @@
 -- A session's later answers come after its earlier ones.
-use Rattle.std.proofs.Common.{◌≡◌, ◌∙◌, ℕ, zero, suc, Bool, true, false, List, [], ◌∷◌, ◌++◌, map, Option, Some, None}
-use Rattle.std.proofs.Common.{Result, Ok, Err, refl, sym, ap, subst, append_assoc, append-nil, if◌then◌else◌}
+use Rattle.std.proofs.Common.{◌≡◌, ◌∙◌, ℕ, zero, suc, Bool, true, false, List, [], ◌∷◌, ◌++◌, map, Some, None}
+use Rattle.std.proofs.Common.{Ok, Err, refl, sym, ap, subst, append_assoc, append-nil, if◌then◌else◌}
 use Rattle.std.specs.Prelude.{slice_get}
 use Rattle.std.specs.List.{list_any}
-use Rattle.termrelay.specs.Calls.{Call, Feed, Resize, Attach, Detach, Frame, Pump}
+use Rattle.termrelay.specs.Calls.{Call, Resize, Attach, Detach, Frame, Pump}
 use Rattle.termrelay.specs.declared.runs.call.Reply.{Reply}
-use Rattle.termrelay.specs.declared.runs.call.Reply.TheVariants.{Done, Attached, Answered, Refused}
+use Rattle.termrelay.specs.declared.runs.call.Reply.TheVariants.{Done, Attached, Answered}
 use Rattle.termrelay.specs.Hub.{HubState, clients_in}
 use Rattle.termrelay.specs.Log.{change_last, ended, grown, bytes_taken}
-use Rattle.relay_theorem.specs.History.{as_reported, Entry, Story, size_of_story, is_on, with_session, with_entries}
+use Rattle.relay_theorem.specs.History.{as_reported, Entry, Story, is_on, with_session, with_entries}
 use Rattle.relay_theorem.specs.History.{entries_of, stories_after}
-use Rattle.relay_theorem.specs.Forks.{Deed, Called, Forked, stories_since, GoesReported}
+use Rattle.relay_theorem.specs.Forks.{Deed, Called, Forked, stories_since}
 use Rattle.relay_theorem.specs.Redraws.{GrowsTo, EachStoryGrows}
 
 -- the n-th story of a list has grown

@@ -35,7 +35,7 @@ use Rattle.relay_theorem.specs.Judge.{IsSure, IsShownRight}
 use Rattle.relay_theorem.specs.Laws.{base_then, IsAnswered, AreAnswered, IsReported, IsSession}
 use Rattle.termrelay.specs.Hub.{clients_in}
 use Rattle.relay_theorem.specs.Headline.{EachTextIsAFrame, WholeSessionsAreShown, LastWholeFrameIsShown}
-use Rattle.relay_theorem.specs.Headline.{NoSessionIsTorn, ReadsFrames, ReadsPrefix, last_read, whole_read}
+use Rattle.relay_theorem.specs.Headline.{NoSessionIsTorn, ReadsFrames, ReadsPrefix, whole_read}
 use Rattle.relay_theorem.specs.Headline.{OneMomentShowsTheSame, OneMomentShowsTheSameWhole}
 use Rattle.relay_theorem.proofs.HistoryLemmas.{sessions-reported}
 use Rattle.relay_theorem.proofs.MomentLemmas.{FedBefore, these-before, those-before, one-made, all-whole, all-first}

@@ -1,13 +1,11 @@
 -- A row's writer, piece by piece, as the code appends it.
-use Rattle.std.proofs.Common.{◌≡◌, ℕ, ◌+◌, ◌<◌, ◌≤◌, ◌==◌, true, false, ◌&&◌, not, List, ◌++◌, Result, Ok, Err}
+use Rattle.std.proofs.Common.{◌≡◌, ℕ, ◌+◌, ◌<◌, ◌≤◌, ◌==◌, true, false, ◌&&◌, not, List, ◌++◌}
 use Rattle.std.proofs.Common.{arith, refl, sym, ap, ◌∙◌, append-nil, append_assoc, inl, inr, subst}
-use Rattle.std.specs.Prelude.{length, encode_utf8_all, nat_lt, String, string_bytes}
-use Rattle.std.specs.Result.{IsErr}
+use Rattle.std.specs.Prelude.{length, encode_utf8_all, nat_lt}
 use Rattle.std.proofs.lemmas.Bool.Decides.{nat_tests}
-use Rattle.std.proofs.lemmas.Bool.{and_parts, cases_Bool, cond_both, false≢true, ne_eqb}
+use Rattle.std.proofs.lemmas.Bool.{and_parts, cases_Bool, cond_both, ne_eqb}
 use Rattle.vt100_forms.specs.declared.attrs.Attrs.{Attrs}
 use Rattle.vt100_forms.specs.declared.position.Pos.{Pos}
-use Rattle.vt100_forms.specs.Form.{bytes_of}
 use Rattle.vt100_cells.proofs.CellLemmas.{or-false}
 use Rattle.vt100_cells.specs.Cell.{CellView, has_text}
 use Rattle.vt100_cells.specs.CellEq.{attrs_eq-true}
@@ -19,10 +17,10 @@ use Rattle.row_drawing.specs.declared.pen.Pen.{Pen}
 use Rattle.row_drawing.specs.Drawing.{behind, BeginsRun, GoesTo, IsAt, JoinsRun}
 use Rattle.row_drawing.specs.Writer.{Writer, ◌>>◌, goto, turn, color, print, erasing, marking}
 use Rattle.row_drawing.specs.RowWriter.{RowChange, arrive, column, last_col_of, unflag}
-use Rattle.row_drawing.specs.Writes.{Wrote, Appended}
+use Rattle.row_drawing.specs.Writes.{Wrote}
 use Rattle.row_drawing.proofs.RowLeads.{arrive-pen, arrive-goto}
 use Rattle.row_drawing.proofs.Columns.{column-is_half, column-is_whole, draw-full, flush-is_none}
-use Rattle.row_drawing.proofs.WritesLemmas.{appended_none, color_same, goto_here, wrote_both, wrote_by}
+use Rattle.row_drawing.proofs.WritesLemmas.{color_same, goto_here, wrote_both, wrote_by}
 use Rattle.row_drawing.proofs.WritesLemmas.{wrote_columns_next, wrote_skip}
 
 pub wrote_turn : (row : ℕ) (p : Pen) (s : List ℕ) (q : Pen) → q ≡ (turn row p).pen → Wrote (turn row) p s q s

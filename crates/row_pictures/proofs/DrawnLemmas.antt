@@ -11,7 +11,7 @@ use Rattle.picture_page.specs.Seen.{Draws}
 use Rattle.vt100_cells.specs.Cell.{CellView}
 use Rattle.row_pictures.specs.Drawn.{are_drawn_so, begins_drawn, font_texts, is_drawn, is_drawn_at, is_drawn_so}
 use Rattle.row_pictures.specs.Drawn.{is_run}
-use Rattle.row_pictures.specs.Text.{cell_text, row_text}
+use Rattle.row_pictures.specs.Text.{row_text}
 
 both : (a b : Bool) → a && b ≡ true → (a ≡ true) × (b ≡ true)
 both true b h = (refl, h)

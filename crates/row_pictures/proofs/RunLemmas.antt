@@ -5,7 +5,7 @@ use Rattle.std.proofs.Math.Nat.{eq-or-lt_of_le}
 use Rattle.picture_page.proofs.PageLemmas.{joined_more}
 use Rattle.vt100_cells.specs.Cell.{CellView}
 use Rattle.row_pictures.specs.Paint.{cell_in, style_in}
-use Rattle.row_pictures.specs.Runs.{AddsRuns, AreAlike, AreRuns}
+use Rattle.row_pictures.specs.Runs.{AddsRuns, AreAlike}
 use Rattle.row_pictures.specs.Runs.AreRuns.{none, run}
 
 -- the cell at its start alone

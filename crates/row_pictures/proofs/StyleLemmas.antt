@@ -1,5 +1,5 @@
 -- Styles that are equal are one.
-use Rattle.std.proofs.Common.{◌≡◌, ◌&&◌, Bool, true, false, refl, sym}
+use Rattle.std.proofs.Common.{◌≡◌, ◌&&◌, Bool, true, false, refl}
 use Rattle.std.proofs.lemmas.Bool.{and_parts, false≢true, eqb-true}
 use mathlib.Core.Bool.{beq}
 use Rattle.vt100_forms.specs.Attrs.{color_eq}

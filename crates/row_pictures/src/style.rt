@@ -58,9 +58,4 @@ impl Style {
     {
         self == other
     }
-
-    /// Whether a blank cell that is drawn so looks other than an untouched one.
-    pub fn shows_on_blanks(&self) -> bool {
-        self.bgcolor != Color::Default || self.inverse || self.underline
-    }
 }

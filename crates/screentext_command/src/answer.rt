@@ -1,6 +1,6 @@
 //! What is printed of a recording.
 
-ghost use Rattle.std.specs.Prelude.{◌≡◌, ◌<◌, IfOk, false};
+ghost use Rattle.std.specs.Prelude.{◌≡◌, IfOk, false};
 ghost use Rattle.std.specs.Option.{option_map};
 ghost use Rattle.recordings.specs.Recorded.{size_said};
 ghost use Rattle.screentext_command.specs.Texts.{IsAnswer, IsFilm, IsPlayer, IsScreen, IsStill, changes_text, rows_text};
@@ -60,18 +60,8 @@ fn usual_size() -> ScreenSize
     ensures { size_said result ≡ (24, 80) }
 {
     ScreenSize {
-        rows: side(24),
-        cols: side(80),
-    }
-}
-
-fn side(len: u16) -> NonZeroU16
-    requires { 0 < len }
-    ensures { result.value ≡ len }
-{
-    match NonZeroU16::new(len) {
-        Some(len) => len,
-        None => NonZeroU16::MIN,
+        rows: NonZeroU16::new(24).unwrap(),
+        cols: NonZeroU16::new(80).unwrap(),
     }
 }
 

@@ -1,5 +1,5 @@
 -- What is refused of forms that are appended one after the other.
-use Rattle.std.proofs.Common.{◌≡◌, ◌+◌, ◌<◌, ◌≤◌, ℕ, true, cond, List, [], ◌∷◌, ◌++◌, Result, Ok, Err, is_ok, OnErr}
+use Rattle.std.proofs.Common.{◌≡◌, ◌+◌, ◌<◌, ◌≤◌, true, cond, List, [], ◌∷◌, ◌++◌, Result, Ok, Err, is_ok, OnErr}
 use Rattle.std.proofs.Common.{length, refl, sym, append-nil}
 use Rattle.std.specs.Prelude.{String, string_bytes, string_len, string_capacity}
 use Rattle.vt100_forms.specs.declared.modes.MouseProtocolMode.TheVariants as mouse
@@ -7,7 +7,7 @@ use Rattle.vt100_forms.specs.declared.modes.MouseProtocolEncoding.TheVariants as
 use Rattle.vt100_forms.specs.declared.modes.CursorStyle.TheVariants as style
 use Rattle.vt100_forms.specs.Form.{Form, Keypad, CursorKeys, Paste, Mouse, Encoding, Style, bytes_of}
 use Rattle.terminal_model.specs.Term.{Shown}
-use Rattle.screen_drawing.specs.Modes.{switch, input_mode_formatted, input_mode_diff}
+use Rattle.screen_drawing.specs.Modes.{switch, input_mode_diff}
 use Rattle.vt100_core.specs.Writers.{AppendedForms, RefusedForms}
 use Rattle.vt100_core.proofs.WriterLemmas.{appended, appends_rest, begun_none, begun_rest, refused_prefix}
 

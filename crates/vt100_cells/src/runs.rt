@@ -88,12 +88,11 @@ fn begins_ascii_run(text: &str) -> bool {
     if bytes.len() < ASCII_LEN || !bytes[0].is_ascii() {
         return false;
     }
-    // LLVM reads so many bytes at once, and finds whether a bit stands in any of them.
-    let mut bits = 0;
-    for byte in &bytes[..ASCII_LEN] {
-        bits |= *byte;
+    let mut are_ascii = true;
+    for byte in &bytes[1..ASCII_LEN] {
+        are_ascii &= byte.is_ascii();
     }
-    bits.is_ascii()
+    are_ascii
 }
 
 /// Whether a character is no control of C1, and not U+FFFD.

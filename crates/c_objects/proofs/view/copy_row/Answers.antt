@@ -10,7 +10,7 @@ returns-in-Ok-clause-text c =
     let is : c.deref.result.now ≡ encode_utf8_all (text_shown (view_size v) (shown_by v) c.args.row) =
     c.deref.ensures.value
     ∙ row-text c.new-text.result c.row_text.new.to _ c.in-Ok.field-0 c.in-Ok.ensures c.new-text.ensures.items in
-    inl (refl, (rw is at c.copy_prefix.ensures.bytes, rw is at c.copy_prefix.ensures.count))
+    inl (refl, (rw is at c.copy_prefix.ensures.prefix, rw is at c.copy_prefix.ensures.count))
 
 pub returns-clause-text : goal.returns-clause-text
 returns-clause-text c =

@@ -1,4 +1,3 @@
-use Rattle.std.proofs.Common.{false}
 use Rattle.picture_page.proofs.PageLemmas.{if_added}
 use Rattle.picture_page.proofs.SeenLemmas.{draws_unseen, hides_text, if_drawn_after, if_unseen}
 use Rattle.recorded_screen.proofs.picture.push_font.Goals as goal

@@ -1,7 +1,7 @@
 use Rattle.std.proofs.Common.{[], ◌∷◌, codes, true, false, refl}
 use Rattle.picture_page.specs.declared.tag.Tag.TheVariants as tag
 use Rattle.picture_page.proofs.PageLemmas.{if_added}
-use Rattle.picture_page.proofs.SeenLemmas.{draws_both, draws_numbers, draws_tag, if_drawn, if_drawn_after, if_tag}
+use Rattle.picture_page.proofs.SeenLemmas.{draws_numbers, draws_tag, if_drawn, if_drawn_after, if_tag}
 use Rattle.recorded_screen.proofs.picture.push_svg_head.Goals as goal
 
 pub returns-clause-adds : goal.returns-clause-adds

@@ -1,6 +1,6 @@
-use Rattle.std.proofs.Common.{◌≡◌, ◌+◌, ◌∙◌, Bool, true, false, take, sym, arith}
+use Rattle.std.proofs.Common.{◌≡◌, ◌+◌, ◌∙◌, take, sym, arith}
 use Rattle.recordings.specs.Asciicast.{rows_of}
-use Rattle.recordings.proofs.LineLemmas.{all_read, next_line, stopped, texts}
+use Rattle.recordings.proofs.LineLemmas.{next_line, stopped, texts}
 use Rattle.recordings.proofs.asciicast.read_lines.Goals as goal
 
 pub returns-then-not-branch : goal.returns-then-not-branch

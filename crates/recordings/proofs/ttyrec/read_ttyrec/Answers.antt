@@ -1,5 +1,5 @@
-use Rattle.std.proofs.Common.{map, refl, subst}
-use Rattle.recordings.specs.Ttyrec.{piece_of, rows_after, start_of}
+use Rattle.std.proofs.Common.{map, refl}
+use Rattle.recordings.specs.Ttyrec.{piece_of}
 use Rattle.recordings.proofs.FrameLemmas.{frames_read}
 use Rattle.recordings.proofs.ttyrec.read_ttyrec.Goals as goal
 

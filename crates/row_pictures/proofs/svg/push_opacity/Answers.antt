@@ -1,6 +1,6 @@
 use Rattle.std.proofs.Common.{false, [], refl}
 use Rattle.picture_page.specs.declared.tag.Tag.TheVariants as tag
-use Rattle.picture_page.proofs.SeenLemmas.{draws_none, if_numbers}
+use Rattle.picture_page.proofs.SeenLemmas.{if_numbers}
 use Rattle.row_pictures.proofs.svg.push_opacity.Goals as goal
 
 pub returns-in-Some-clause-seen : goal.returns-in-Some-clause-seen

@@ -1,4 +1,4 @@
-use Rattle.std.proofs.Common.{◌≡◌, ◌≤◌, ℕ, arith, length, subst, true, refl}
+use Rattle.std.proofs.Common.{◌≡◌, ◌≤◌, ℕ, arith, length, subst, true}
 use Rattle.picture_page.proofs.PageLemmas.{adds_none}
 use Rattle.picture_page.proofs.SeenLemmas.{draws_none}
 use Rattle.row_pictures.specs.Runs.{AddsRuns}

@@ -1,4 +1,4 @@
-use Rattle.std.proofs.Common.{◌≡◌, ◌∷◌, [], ◌++◌, ◌/◌, ◌%◌, ap, arith, subst, OnOk}
+use Rattle.std.proofs.Common.{◌≡◌, ◌∷◌, [], ◌++◌, ◌/◌, ◌%◌, arith, subst, OnOk}
 use Rattle.picture_page.specs.Page.{digit_byte}
 use Rattle.picture_page.proofs.PageLemmas.{if_added, if_joined}
 use Rattle.picture_page.proofs.page.Page.hexadecimal.Goals as goal

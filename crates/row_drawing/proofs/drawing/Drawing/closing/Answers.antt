@@ -1,4 +1,4 @@
-use Rattle.std.proofs.Common.{refl, sym}
+use Rattle.std.proofs.Common.{sym}
 use Rattle.row_drawing.specs.Drawing.{row_change_of}
 use Rattle.row_drawing.proofs.RowWrites.{gone_col, last_inside, span_fits}
 use Rattle.row_drawing.proofs.RowEnd.{closing-none, closing-some}

@@ -1,5 +1,5 @@
 use Rattle.std.proofs.Common.{◌≡◌, ◌+◌, ◌≤◌, ap, arith, append-nil, subst, sym, ◌∙◌, ◌++◌, refl}
-use Rattle.std.specs.Prelude.{string_bytes, string_capacity}
+use Rattle.std.specs.Prelude.{string_bytes}
 use Rattle.vt100_forms.specs.Form.{bytes_of}
 use Rattle.vt100_cells.specs.Cell.{CellView}
 use Rattle.row_drawing.specs.Drawing.{row_change_of, AreQuiet}

@@ -1,5 +1,5 @@
-use Rattle.std.proofs.Common.{◌≡◌, ◌∙◌, [], ◌∷◌, ◌++◌, ap, inl, inr, rules, subst, Err, Ok}
-use Rattle.byte_streams.specs.Sent.{Sends, none, next, fault}
+use Rattle.std.proofs.Common.{◌≡◌, ◌∙◌, [], ◌∷◌, ◌++◌, ap, inl, inr, rules, Err, Ok}
+use Rattle.byte_streams.specs.Sent.{none, next, fault}
 use Rattle.screen_probe_command.specs.Command.{ended, stopped}
 use Rattle.screen_probe_command.specs.declared.error.DumpError.TheVariants.{Write}
 use Rattle.screen_probe_command.proofs.SendLemmas.{printed_so, sends_more}

@@ -1,5 +1,5 @@
-use Rattle.std.proofs.Common.{◌≡◌, ◌++◌, ◌∷◌, [], ap, subst, sym}
-use Rattle.vt100_forms.specs.Form.{HideCursor, change}
+use Rattle.std.proofs.Common.{◌≡◌, ◌++◌, ◌∷◌, []}
+use Rattle.vt100_forms.specs.Form.{change}
 use Rattle.vt100_core.specs.Writers as grid
 use Rattle.vt100_core.proofs.WriterLemmas.{appended}
 use Rattle.vt100.specs.ScreenFields.{screen_inside}

@@ -4,7 +4,6 @@ use Rattle.vt100_forms.specs.Form.{bytes_of}
 use Rattle.screen_drawing.specs.Modes.{input_mode_diff}
 use Rattle.screen_model.specs.Shown.{shown_state}
 use Rattle.vt100.specs.ScreenFields.{screen_inside}
-use Rattle.vt100_core.specs.Writers.{AppendedForms}
 use Rattle.vt100_core.proofs.WriterLemmas.{appended}
 use Rattle.vt100.proofs.RefusedWrites.{on_err, first_refused, rest_refused, last_refused, then_refused}
 use Rattle.vt100.proofs.RefusedWrites.{keypad, cursor_keys, paste}

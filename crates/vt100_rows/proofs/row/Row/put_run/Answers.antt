@@ -1,5 +1,5 @@
 use Rattle.std.proofs.Common.{subst, arith, ◌∙◌, ◌≡◌, ◌+◌, ◌*◌, ◌≤◌, length, map, ap, sym}
-use Rattle.std.specs.Prelude.{All, Some}
+use Rattle.std.specs.Prelude.{Some}
 use Rattle.std.proofs.lemmas.Grind.{common_steps}
 use Rattle.std.proofs.lemmas.List.{length-map}
 use Rattle.std.proofs.lemmas.List.Elements.{All-map}
