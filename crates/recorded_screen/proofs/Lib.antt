@@ -1,2 +1,6 @@
+mod FilmLemmas
+mod HeadLemmas
 mod MomentLemmas
 mod PictureLemmas
+mod PlacedLemmas
+mod ReelLemmas

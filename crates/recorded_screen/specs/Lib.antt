@@ -1,5 +1,10 @@
+pub mod Film
+pub mod Heads
 pub mod Moment
 pub mod Picture
+pub mod Placed
+pub mod Reel
+pub mod Shots
 pub use Rattle.picture_page.specs.Page
 pub use Rattle.picture_page.specs.Seen
 pub use Rattle.row_pictures.specs.Drawn

@@ -2,13 +2,15 @@
 #![tactic(auto)]
 
 mod error;
+mod films;
 mod moment;
 mod picture;
 mod reel;
 
 pub use error::FilmError;
+pub use films::{Pace, begins_at_once, film, is_followed, widest};
 pub use moment::{END, act, terminal_at};
 pub use picture::{cells_of, cursor_in, html, html_block, push_font, svg};
 pub use recordings::{Change, Event, Kind, Recording, RecordingError, ScreenSize};
-pub use reel::{LONGEST_FILM, Pace, begins_at_once, film, is_followed, push_decimal, widest};
+pub use reel::{LONGEST_FILM, push_decimal};
 pub use row_pictures::{Look, Rgb, Style, Theme};

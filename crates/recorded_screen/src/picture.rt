@@ -4,8 +4,12 @@ ghost use Rattle.std.specs.Prelude.{◌≡◌, ◌++◌, [], codes, true, false,
 ghost use Rattle.picture_page.specs.Page.{Adds, IsPage, IsSafe, Shows, escaped};
 ghost use Rattle.picture_page.specs.Seen.{Draws, is_plain, seen};
 ghost use Rattle.picture_page.specs.Tags.{tag_bytes};
+ghost use Rattle.picture_page.specs.declared.tag.Tag.TheVariants.{Newline, PageFoot, PageHead};
+ghost use Rattle.row_pictures.specs.Elements.{AddsSo};
+ghost use Rattle.recorded_screen.specs.Heads.{block_head, font_bytes, svg_head};
 ghost use Rattle.recorded_screen.specs.Picture.{block_seen, cells_shown, font_line, font_text, line_text, page_seen};
 ghost use Rattle.recorded_screen.specs.Picture.{screen_text, svg_seen};
+ghost use Rattle.recorded_screen.specs.Placed.{IsAround, IsBlock, IsHtmlLine, IsSvg, IsSvgLine, cursor_shown};
 
 use row_pictures::{
     COL_WIDTH, Cell, Look, Page, ROW_HEIGHT, Tag, push_html_colors, push_html_row, push_rect,
@@ -19,6 +23,8 @@ pub fn html(alloc: Global, screen: &Screen, look: &Look) -> Result<Vec<u8>, Allo
     ensures text { IfOk result (λ bytes. Shows bytes.items (screen_text screen.now.state.shown)) }
     ensures seen { IfOk result (λ bytes. seen bytes.items
         ≡ page_seen (escaped (screen_text screen.now.state.shown))) }
+    ensures placed { IfOk result (λ bytes. IsAround (tag_bytes PageHead) (tag_bytes PageFoot) look.now screen.now.state
+        bytes.items) }
     ensures page { IfOk result (λ bytes. IsPage bytes.items) }
     ensures safe { IfOk result (λ bytes. IsSafe bytes.items) }
 {
@@ -34,6 +40,7 @@ pub fn html_block(alloc: Global, screen: &Screen, look: &Look) -> Result<Vec<u8>
     ensures text { IfOk result (λ bytes. Shows bytes.items (screen_text screen.now.state.shown)) }
     ensures seen { IfOk result (λ bytes. seen bytes.items
         ≡ block_seen (escaped (screen_text screen.now.state.shown)) ++ codes "\n") }
+    ensures placed { IfOk result (λ bytes. IsAround [] (tag_bytes Newline) look.now screen.now.state bytes.items) }
     ensures page { IfOk result (λ bytes. IsPage bytes.items) }
     ensures safe { IfOk result (λ bytes. IsSafe bytes.items) }
 {
@@ -47,6 +54,7 @@ fn push_block(page: &mut Page, screen: &Screen, look: &Look) -> Result<(), Alloc
     ensures adds { OnOk result (Adds page.old page.new (screen_text screen.now.state.shown)) }
     ensures seen { OnOk result (Draws page.old page.new true true
         (block_seen (escaped (screen_text screen.now.state.shown)))) }
+    ensures placed { OnOk result (AddsSo (IsBlock look.now screen.now.state) page.old page.new) }
 {
     push_block_head(page, look)?;
     let (rows, _) = screen.size();
@@ -59,6 +67,7 @@ fn push_block(page: &mut Page, screen: &Screen, look: &Look) -> Result<(), Alloc
 fn push_block_head(page: &mut Page, look: &Look) -> Result<(), AllocError>
     ensures adds { OnOk result (Adds page.old page.new []) }
     ensures seen { OnOk result (Draws page.old page.new true true (codes "\n")) }
+    ensures bytes { OnOk result (page.new ≡ page.old ++ block_head look.now) }
 {
     page.markup(Tag::Block)?;
     push_html_colors(page, look.theme.fgcolor, look.theme.bgcolor)?;
@@ -72,6 +81,7 @@ pub fn push_font(page: &mut Page, look: &Look, before: Tag, after: Tag) -> Resul
     requires after { is_plain (tag_bytes after) ≡ true }
     ensures adds { OnOk result (Adds page.old page.new []) }
     ensures seen { OnOk result (Draws page.old page.new false false []) }
+    ensures bytes { OnOk result (page.new ≡ page.old ++ font_bytes before after look.now) }
 {
     let Some(font) = &look.font else {
         return Ok(());
@@ -84,6 +94,7 @@ pub fn push_font(page: &mut Page, look: &Look, before: Tag, after: Tag) -> Resul
 fn push_html_line(page: &mut Page, screen: &Screen, row: u16, look: &Look) -> Result<(), AllocError>
     ensures adds { OnOk result (Adds page.old page.new (line_text screen.now.state.shown row)) }
     ensures seen { OnOk result (Draws page.old page.new true true (escaped (line_text screen.now.state.shown row))) }
+    ensures line { OnOk result (AddsSo (IsHtmlLine look.now screen.now.state row) page.old page.new) }
 {
     let cells = cells_of(screen, row);
     push_html_row(page, cells, cursor_in(screen, row), look)?;
@@ -97,6 +108,7 @@ pub fn svg(alloc: Global, screen: &Screen, look: &Look) -> Result<Vec<u8>, Alloc
     ensures text { IfOk result (λ bytes. Shows bytes.items (screen_text screen.now.state.shown)) }
     ensures seen { IfOk result (λ bytes. seen bytes.items
         ≡ svg_seen (escaped (font_text screen.now.state.shown))) }
+    ensures placed { IfOk result (λ bytes. IsSvg look.now screen.now.state bytes.items) }
     ensures page { IfOk result (λ bytes. IsPage bytes.items) }
     ensures safe { IfOk result (λ bytes. IsSafe bytes.items) }
 {
@@ -119,6 +131,7 @@ pub(crate) fn push_svg_head(
 ) -> Result<(), AllocError>
     ensures adds { OnOk result (Adds page.old page.new []) }
     ensures seen { OnOk result (Draws page.old page.new true true (codes "\n\n")) }
+    ensures bytes { OnOk result (page.new ≡ page.old ++ svg_head look.now rows cols) }
 {
     let width = u32::from(cols) * COL_WIDTH;
     let height = u32::from(rows) * ROW_HEIGHT;
@@ -140,6 +153,7 @@ pub(crate) fn push_svg_head(
 fn push_svg_line(page: &mut Page, screen: &Screen, row: u16, look: &Look) -> Result<(), AllocError>
     ensures adds { OnOk result (Adds page.old page.new (line_text screen.now.state.shown row)) }
     ensures seen { OnOk result (Draws page.old page.new true true (escaped (font_line screen.now.state.shown row))) }
+    ensures line { OnOk result (AddsSo (IsSvgLine look.now screen.now.state row) page.old page.new) }
 {
     page.numbers(&[(Tag::Row, u32::from(row) * ROW_HEIGHT)])?;
     page.markup(Tag::RowCells)?;
@@ -162,7 +176,9 @@ pub fn cells_of(screen: &Screen, row: u16) -> &[Cell]
 }
 
 /// The column of a row in which the cursor is shown, if it is. One behind the last column is shown there.
-pub fn cursor_in(screen: &Screen, row: u16) -> Option<usize> {
+pub fn cursor_in(screen: &Screen, row: u16) -> Option<usize>
+    ensures { result ≡ cursor_shown screen.now.state row }
+{
     let (cursor_row, cursor_col) = screen.cursor_position();
     let (_, cols) = screen.size();
     if screen.hide_cursor() || cursor_row != row {

@@ -2,6 +2,8 @@ use Rattle.std.proofs.Common.{true, codes, refl}
 use Rattle.picture_page.specs.declared.tag.Tag.TheVariants as tag
 use Rattle.picture_page.proofs.PageLemmas.{after_markup, before_markup, shows_page}
 use Rattle.picture_page.proofs.SeenLemmas.{draws_both, draws_tag, seen_page}
+use Rattle.picture_page.specs.Tags.{tag_bytes}
+use Rattle.recorded_screen.proofs.PlacedLemmas.{around_placed}
 use Rattle.recorded_screen.proofs.picture.html.Goals as goal
 
 pub returns-clause-text : goal.returns-clause-text
@@ -17,3 +19,9 @@ returns-clause-seen c =
     (draws_tag _ _ tag.PageHead true true (codes "\nscreentext\n") refl refl c.in_ok-markup.ensures.bytes)
     (draws_both _ _ _ true true true _ _ c.in_ok-push_block.ensures.seen
     (draws_tag _ _ tag.PageFoot true true (codes "\n") refl refl c.in_ok-markup-2.ensures.bytes)))
+
+pub returns-clause-placed : goal.returns-clause-placed
+returns-clause-placed c =
+    around_placed _ _ _ _ _ (tag_bytes tag.PageHead) (tag_bytes tag.PageFoot) c.args.look.now c.args.screen.now.state
+    c.new-page.ensures c.in_ok-markup.ensures.bytes c.in_ok-push_block.ensures.placed
+    c.in_ok-markup-2.ensures.bytes c.into_bytes.ensures.bytes

@@ -1,7 +1,9 @@
-use Rattle.std.proofs.Common.{true, codes, refl}
+use Rattle.std.proofs.Common.{true, [], codes, refl, sym, append-nil}
 use Rattle.picture_page.specs.declared.tag.Tag.TheVariants as tag
 use Rattle.picture_page.proofs.PageLemmas.{before_markup, shows_page}
 use Rattle.picture_page.proofs.SeenLemmas.{draws_both, draws_tag, seen_page}
+use Rattle.picture_page.specs.Tags.{tag_bytes}
+use Rattle.recorded_screen.proofs.PlacedLemmas.{around_placed}
 use Rattle.recorded_screen.proofs.picture.html_block.Goals as goal
 
 pub returns-clause-text : goal.returns-clause-text
@@ -14,3 +16,9 @@ returns-clause-seen c =
     seen_page _ _ _ true _ c.new-page.ensures c.into_bytes.ensures.bytes
     (draws_both _ _ _ true true true _ _ c.in_ok-push_block.ensures.seen
     (draws_tag _ _ tag.Newline true true (codes "\n") refl refl c.in_ok-markup.ensures.bytes))
+
+pub returns-clause-placed : goal.returns-clause-placed
+returns-clause-placed c =
+    around_placed _ _ _ _ _ [] (tag_bytes tag.Newline) c.args.look.now c.args.screen.now.state c.new-page.ensures
+    (sym (append-nil c.new-page.result)) c.in_ok-push_block.ensures.placed c.in_ok-markup.ensures.bytes
+    c.into_bytes.ensures.bytes

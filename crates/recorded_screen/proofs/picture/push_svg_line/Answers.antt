@@ -1,4 +1,5 @@
-use Rattle.std.proofs.Common.{◌++◌, ◌∷◌, [], subst, true, false, refl, OnOk}
+use Rattle.std.proofs.Common.{◌++◌, ◌∙◌, ◌*◌, ap, ◌∷◌, [], subst, true, false, refl, OnOk}
+use Rattle.picture_page.specs.Bytes.{numbers_bytes}
 use Rattle.picture_page.specs.Page.{Adds, escaped}
 use Rattle.picture_page.specs.Seen.{Draws}
 use Rattle.picture_page.specs.declared.tag.Tag.TheVariants as tag
@@ -6,6 +7,7 @@ use Rattle.picture_page.proofs.PageLemmas.{after_markup, before_markup, if_both}
 use Rattle.picture_page.proofs.SeenLemmas.{draws_after, draws_before, draws_numbers, draws_tag, if_more_text}
 use Rattle.row_pictures.specs.Drawn.{font_texts}
 use Rattle.row_pictures.specs.Text.{row_text}
+use Rattle.recorded_screen.proofs.PlacedLemmas.{svg_line_added}
 use Rattle.recorded_screen.proofs.picture.push_svg_line.Goals as goal
 
 pub returns-clause-adds : goal.returns-clause-adds
@@ -28,3 +30,11 @@ returns-clause-seen c =
     (draws_before _ _ _ _ _ _ _ c.in_ok-push_svg_row.ensures.seen
     (draws_tag _ _ tag.RowEnd true true [] refl refl c.in_ok-markup-2.ensures.bytes))))
     c.end_row.ensures.bytes)
+
+pub returns-clause-line : goal.returns-clause-line
+returns-clause-line c =
+    svg_line_added _ _ _ _ _ _ _ c.args.look.now c.args.screen.now.state c.args.row c.cells_of.result.now
+    c.cursor_in.result c.cells_of.ensures c.cursor_in.ensures
+    (c.in_ok-numbers.ensures.bytes ∙ ap (λ r. c.args.page.now ++ numbers_bytes ((tag.Row, r * 18) ∷ [])) c.from.ensures)
+    c.in_ok-markup.ensures.bytes c.in_ok-push_svg_row.ensures.runs c.in_ok-markup-2.ensures.bytes
+    c.end_row.ensures.bytes

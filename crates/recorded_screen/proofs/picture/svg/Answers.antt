@@ -1,11 +1,13 @@
-use Rattle.std.proofs.Common.{◌≡◌, [], ◌++◌, codes, true, subst, refl, arith}
+use Rattle.std.proofs.Common.{◌≡◌, ◌∙◌, [], ◌++◌, codes, true, subst, refl, arith}
 use Rattle.picture_page.specs.Page.{Adds, escaped}
 use Rattle.picture_page.specs.Seen.{Draws}
 use Rattle.picture_page.specs.declared.tag.Tag.TheVariants as tag
 use Rattle.picture_page.proofs.PageLemmas.{before_markup, shows_page}
 use Rattle.picture_page.proofs.SeenLemmas.{draws_both, draws_tag, seen_page}
 use Rattle.recorded_screen.specs.Picture.{font_lines, lines_text}
+use Rattle.recorded_screen.specs.Placed.{IsSvgLine}
 use Rattle.recorded_screen.proofs.PictureLemmas.{font_line_seen, line_drawn}
+use Rattle.recorded_screen.proofs.PlacedLemmas.{no_lines, one_line_more, svg_begins, svg_placed}
 use Rattle.recorded_screen.proofs.picture.svg.Goals as goal
 
 pub loop-row-init : goal.loop-row-init
@@ -13,6 +15,9 @@ loop-row-init c = record {
   adds = subst (λ xs. Adds xs c.push_svg_head.new.page []) c.new-page.ensures c.in_ok-push_svg_head.ensures.adds;
   seen = subst (λ xs. Draws xs c.push_svg_head.new.page true true (codes "\n\n")) c.new-page.ensures
       c.in_ok-push_svg_head.ensures.seen;
+  placed = no_lines (IsSvgLine c.args.look.now c.args.screen.now.state) _ _
+      (svg_begins _ _ c.args.look.now _ _ _ _ c.new-page.ensures (c.get.ensures.value ∙ c.size.ensures.rows)
+      (c.get-2.ensures.value ∙ c.size.ensures.cols) c.in_ok-push_svg_head.ensures.bytes);
 }
 
 pub loop-row-preserved : goal.loop-row-preserved
@@ -21,6 +26,8 @@ loop-row-preserved c = record {
       c.in_ok-push_svg_line.ensures.adds;
   seen = font_line_seen _ _ _ c.args.screen.now.state.shown c.loop-row.row (codes "\n\n") c.loop-row.invariant.seen
       c.in_ok-push_svg_line.ensures.seen;
+  placed = one_line_more (IsSvgLine c.args.look.now c.args.screen.now.state) _ _ _ c.loop-row.row
+      c.loop-row.invariant.placed c.in_ok-push_svg_line.ensures.line;
 }
 
 pub returns-clause-text : goal.returns-clause-text
@@ -40,3 +47,9 @@ returns-clause-seen c =
     (subst (λ n. Draws [] c.loop-row.page true true (codes "\n\n" ++ escaped (font_lines g n))) end
     c.loop-row.invariant.seen)
     (draws_tag _ _ tag.SvgFoot true true (codes "\n") refl refl c.in_ok-markup.ensures.bytes))
+
+pub returns-clause-placed : goal.returns-clause-placed
+returns-clause-placed c =
+    let end : c.loop-row.row ≡ c.args.screen.now.state.shown.height = omega arith in
+    svg_placed _ _ _ c.args.look.now c.args.screen.now.state c.loop-row.row end c.loop-row.invariant.placed
+    c.in_ok-markup.ensures.bytes c.into_bytes.ensures.bytes

@@ -1,0 +1,226 @@
+-- The rows, the screens and the shots of a film in the making.
+use Rattle.std.proofs.Common.{◌≡◌, ◌<◌, ◌≤◌, ◌+◌, ◌*◌, ◌/◌, ◌%◌, ◌^◌, ◌++◌, ℕ, zero, suc, max, List, [], ◌∷◌, Bool}
+use Rattle.std.proofs.Common.{true, false, not, cond, ◌&&◌, ◌||◌, Option, Some, None, sym, ap, ◌∙◌, subst, length, take, map}
+use Rattle.std.proofs.Common.{append-nil, append_assoc, refl, arith, true≢false, nat_eq, decimal, slice_get}
+use Rattle.std.specs.Prelude.{if◌then◌else◌}
+use Rattle.std.specs.List.{flat_map, list_any, position_or_len}
+use Rattle.std.specs.Option.{option_map}
+use Rattle.std.specs.Cmp.Lexicographic.{pointwise}
+use Rattle.std.proofs.Math.Nat.{pow-succ', one-le-pow}
+use Rattle.std.proofs.lemmas.Bool.{eqb-true}
+use Rattle.std.proofs.lemmas.Grind.{flat_map-append}
+use Rattle.std.proofs.lemmas.List.{map-append}
+use Rattle.std.proofs.lemmas.Option.{slice_get-map}
+use Rattle.indexmap.specs.IndexSet.{insert_key}
+use Rattle.picture_page.specs.Page.{digit_byte}
+use Rattle.picture_page.specs.Tags.{tag_bytes}
+use Rattle.picture_page.specs.declared.tag.Tag.TheVariants as tag
+use Rattle.picture_page.proofs.PageLemmas.{joined_more}
+use Rattle.recorded_screen.specs.Reel.{decimal_point, in_32_bits, last_digits, numbered, shot_bytes}
+use Rattle.recorded_screen.specs.Shots.{Inserts}
+use Rattle.recorded_screen.specs.declared.reel.Shot.{Shot}
+
+-- ---- one after another, by number
+
+pub numbered-push : {A : Type 0} (f : ℕ → A → List ℕ) (n : ℕ) (xs : List A) (x : A)
+    → numbered f n (xs ++ x ∷ []) ≡ numbered f n xs ++ f (n + length xs) x
+numbered-push f n [] x = let is : n ≡ n + 0 = omega arith in append-nil (f n x) ∙ ap (λ (k : ℕ). f k x) is
+numbered-push f n (y ∷ ys) x =
+    let is : suc n + length ys ≡ n + suc (length ys) = omega arith in
+    ap (λ (zs : List ℕ). f n y ++ zs) (numbered-push f (suc n) ys x
+    ∙ ap (λ (k : ℕ). numbered f (suc n) ys ++ f k x) is)
+    ∙ sym (append_assoc (f n y) (numbered f (suc n) ys) (f (n + suc (length ys)) x))
+
+-- the same from the first number on
+pub numbered-push-first : {A : Type 0} (f : ℕ → A → List ℕ) (xs : List A) (x : A)
+    → numbered f 0 (xs ++ x ∷ []) ≡ numbered f 0 xs ++ f (length xs) x
+numbered-push-first f xs x =
+    let is : 0 + length xs ≡ length xs = omega arith in
+    numbered-push f 0 xs x ∙ ap (λ (k : ℕ). numbered f 0 xs ++ f k x) is
+
+length_taken : {A : Type 0} (i : ℕ) (xs : List A) → i < length xs → length (take i xs) ≡ i
+length_taken i [] lt = absurd (omega arith)
+length_taken zero (x ∷ xs) lt = refl
+length_taken (suc i) (x ∷ xs) lt = ap suc (length_taken i xs (omega arith))
+
+-- one more of those that are taken from the left
+pub numbered_more : {A : Type 0} (f : ℕ → A → List ℕ) (a b c : List ℕ) (xs : List A) (i : ℕ) (x : A)
+    → i < length xs → take (i + 1) xs ≡ take i xs ++ x ∷ [] → b ≡ a ++ numbered f 0 (take i xs) → c ≡ b ++ f i x
+    → c ≡ a ++ numbered f 0 (take (i + 1) xs)
+numbered_more f a b c xs i x lt more first second =
+    joined_more a b c (numbered f 0 (take i xs)) (f i x) first second
+    ∙ ap (λ (ys : List ℕ). a ++ ys)
+    (ap (λ (k : ℕ). numbered f 0 (take i xs) ++ f k x) (sym (length_taken i xs lt)) ∙ sym (numbered-push-first f (take i xs) x)
+    ∙ ap (numbered f 0) (sym more))
+
+-- ---- rows and screens, each by its number
+
+-- an item is drawn if it is new
+pub drawn_more : (f : ℕ → List ℕ → List ℕ) (old new : List (List ℕ)) (item : List ℕ) (number : ℕ) (is_new : Bool)
+    (a b : List ℕ) → Inserts old new item number is_new → a ≡ numbered f 0 old
+    → b ≡ a ++ (if is_new then f number item else []) → b ≡ numbered f 0 new
+drawn_more f old new item number true a b inserts drawn is =
+    is ∙ ap (λ (xs : List ℕ). xs ++ f number item) drawn
+    ∙ ap (λ (k : ℕ). numbered f 0 old ++ f k item) inserts.1
+    ∙ sym (numbered-push-first f old item) ∙ ap (numbered f 0) (sym inserts.0)
+drawn_more f old new item number false a b inserts drawn is =
+    is ∙ append-nil a ∙ drawn ∙ ap (numbered f 0) (sym inserts.0)
+
+-- what is added
+pub added_items : Bool → List ℕ → List (List ℕ)
+added_items true item = item ∷ []
+added_items false item = []
+
+pub items_grow : (old new : List (List ℕ)) (item : List ℕ) (number : ℕ) (is_new : Bool)
+    → Inserts old new item number is_new → new ≡ old ++ added_items is_new item
+unfolding added_items
+items_grow old new item number true inserts = inserts.0
+items_grow old new item number false inserts = inserts.0 ∙ sym (append-nil old)
+
+got_last : (xs : List (List ℕ)) (x : List ℕ) → slice_get (xs ++ x ∷ []) (length xs) ≡ Some x
+got_last [] x = refl
+got_last (y ∷ ys) x = got_last ys x
+
+pub item_is_at : (old new : List (List ℕ)) (item : List ℕ) (number : ℕ) (is_new : Bool)
+    → Inserts old new item number is_new → slice_get new number ≡ Some item
+item_is_at old new item number true inserts =
+    ap (λ (xs : List (List ℕ)). slice_get xs number) inserts.0
+    ∙ ap (λ (k : ℕ). slice_get (old ++ item ∷ []) k) inserts.1 ∙ got_last old item
+item_is_at old new item number false inserts =
+    ap (λ (xs : List (List ℕ)). slice_get xs number) inserts.0 ∙ inserts.1
+
+-- ---- what a set of them says
+
+both : (a b : Bool) → a && b ≡ true → (a ≡ true) × (b ≡ true)
+both true b h = (refl, h)
+both false b h = absurd (true≢false (sym h))
+
+pub same_items : (xs ys : List ℕ) → pointwise nat_eq xs ys ≡ true → xs ≡ ys
+same_items [] [] h = refl
+same_items [] (y ∷ ys) h = absurd (true≢false (sym h))
+same_items (x ∷ xs) [] h = absurd (true≢false (sym h))
+same_items (x ∷ xs) (y ∷ ys) h =
+    let all = both (nat_eq x y) (pointwise nat_eq xs ys) h in
+    ap (λ (z : ℕ). z ∷ xs) (eqb-true x y all.0) ∙ ap (λ (zs : List ℕ). y ∷ zs) (same_items xs ys all.1)
+
+got_mapped : {V : Type 0} (items : V → List ℕ) (xs : List V) (i : ℕ) (k : V) → slice_get xs i ≡ Some k
+    → slice_get (map items xs) i ≡ Some (items k)
+got_mapped items xs i k h = slice_get-map items xs i ∙ ap (option_map items) h
+
+neither : (a b : Bool) → a || b ≡ false → (a ≡ false) × (b ≡ false)
+neither false b h = (refl, h)
+neither true b h = absurd (true≢false h)
+
+position_of_none : {V : Type 0} (items : V → List ℕ) (p : V → Bool) (xs : List V) → list_any p xs ≡ false
+    → position_or_len p xs ≡ length (map items xs)
+position_of_none items p [] h = refl
+position_of_none items p (x ∷ xs) h =
+    let no = neither (p x) (list_any p xs) h in
+    let one : 1 + length (map items xs) ≡ suc (length (map items xs)) = omega arith in
+    ap (λ (b : Bool). cond (not b) (1 + position_or_len p xs) 0) no.0
+    ∙ ap (λ (n : ℕ). 1 + n) (position_of_none items p xs no.1) ∙ one
+
+pub inserted : {V : Type 0} (eq : V → V → Bool) (items : V → List ℕ)
+    → ((x y : V) → eq x y ≡ true → items x ≡ items y) → (old new : List V) (value : V) (number : ℕ) (is_new : Bool)
+    → is_new ≡ not (list_any (eq value) old) → new ≡ insert_key eq old value
+    → number ≡ position_or_len (eq value) old → (k : V) → slice_get new number ≡ Some k → eq value k ≡ true
+    → Inserts (map items old) (map items new) (items value) number is_new
+inserted {V} eq items same old new value number is_new is keys index k stored equal = by (list_any (eq value) old) refl
+  where
+    by : (b : Bool) → list_any (eq value) old ≡ b
+        → Inserts (map items old) (map items new) (items value) number is_new
+    by true there =
+        let kept : new ≡ old = keys ∙ ap (λ (b : Bool). if b then old else old ++ value ∷ []) there in
+        let none_new : is_new ≡ false = is ∙ ap not there in
+        subst (λ (b : Bool). Inserts (map items old) (map items new) (items value) number b) (sym none_new) (
+          ap (map items) kept,
+          got_mapped items old number k (ap (λ (xs : List V). slice_get xs number) (sym kept) ∙ stored)
+              ∙ ap (λ (v : List ℕ). Some v) (sym (same value k equal)),
+        )
+    by false absent =
+        let more : new ≡ old ++ value ∷ [] = keys ∙ ap (λ (b : Bool). if b then old else old ++ value ∷ []) absent in
+        let is_one : is_new ≡ true = is ∙ ap not absent in
+        subst (λ (b : Bool). Inserts (map items old) (map items new) (items value) number b) (sym is_one) (
+          ap (map items) more ∙ map-append items old (value ∷ []),
+          index ∙ position_of_none items (eq value) old absent,
+        )
+
+-- ---- decimals
+
+pub decimal_begins : (a b d : List ℕ) (value parts places : ℕ) → parts ≡ 10 ^ places
+    → b ≡ a ++ decimal (in_32_bits (value / parts)) → d ≡ b ++ tag_bytes tag.Point
+    → a ++ decimal_point places value ≡ d ++ last_digits places value
+decimal_begins a b d value parts places is first second =
+    ap (λ (p : ℕ). a ++ (decimal (in_32_bits (value / p)) ++ (tag_bytes tag.Point ++ last_digits places value))) (sym is)
+    ∙ sym (joined_more a b (d ++ last_digits places value) _ _ first
+    (joined_more b d (d ++ last_digits places value) _ _ second refl))
+
+-- the digits that are left, where so many places are
+pub record IsRest (unit : ℕ) (whole page : List ℕ) (value : ℕ) : Type 0 where
+  pub places : ℕ
+  pub is : unit ≡ 10 ^ places
+  pub rest : whole ≡ page ++ last_digits places value
+
+pub decimal_goes_on : (whole a b : List ℕ) (value unit digit : ℕ) → 1 < unit → IsRest unit whole a value
+    → digit ≡ value / max (unit / 10) 1 % 10 → b ≡ a ++ digit_byte (digit % 16) ∷ []
+    → IsRest (unit / 10) whole b value
+unfolding last_digits
+decimal_goes_on whole a b value unit digit more left digit_is is = by left.places left.is left.rest
+  where
+    by : (places : ℕ) → unit ≡ 10 ^ places → whole ≡ a ++ last_digits places value
+        → IsRest (unit / 10) whole b value
+    by zero unit_is rest = let one : unit ≡ 1 = unit_is in absurd (omega arith)
+    by (suc places) unit_is rest =
+        let power : 10 ^ suc places ≡ 10 * 10 ^ places = pow-succ' 10 places in
+        let some : 1 ≤ 10 ^ places = one-le-pow places 10 (omega arith) in
+        let next : unit / 10 ≡ 10 ^ places = omega arith in
+        let bound : max (unit / 10) 1 ≡ 10 ^ places = omega arith in
+        let small : digit % 16 ≡ digit = omega arith in
+        let digit_at : digit % 16 ≡ value / 10 ^ places % 10 =
+        small ∙ digit_is ∙ ap (λ (p : ℕ). value / p % 10) bound in
+        record {
+          places = places;
+          is = next;
+          rest = rest ∙ sym (append_assoc a (digit_byte (value / 10 ^ places % 10) ∷ []) (last_digits places value))
+              ∙ ap (λ (xs : List ℕ). xs ++ last_digits places value)
+              (ap (λ (d : ℕ). a ++ digit_byte d ∷ []) (sym digit_at) ∙ sym is);
+        }
+
+pub decimal_ends : (whole a : List ℕ) (value unit : ℕ) → unit ≤ 1 → IsRest unit whole a value → a ≡ whole
+unfolding last_digits
+decimal_ends whole a value unit least left = by left.places left.is left.rest
+  where
+    by : (places : ℕ) → unit ≡ 10 ^ places → whole ≡ a ++ last_digits places value → a ≡ whole
+    by zero unit_is rest = sym (rest ∙ append-nil a)
+    by (suc places) unit_is rest =
+        let power : 10 ^ suc places ≡ 10 * 10 ^ places = pow-succ' 10 places in
+        let some : 1 ≤ 10 ^ places = one-le-pow places 10 (omega arith) in absurd (omega arith)
+
+-- ---- the times
+
+-- a shot more of those that are taken from the left
+pub shots_more : (f : Shot → List ℕ) (a b c k : List ℕ) (shots : List Shot) (i : ℕ) (x : Shot)
+    → take (i + 1) shots ≡ take i shots ++ x ∷ [] → b ≡ a ++ (k ++ flat_map f (take i shots)) → c ≡ b ++ f x
+    → c ≡ a ++ (k ++ flat_map f (take (i + 1) shots))
+shots_more f a b c k shots i x more first second =
+    let some = flat_map f (take i shots) in
+    let joined : some ++ f x ≡ flat_map f (take (i + 1) shots) =
+    sym (ap (flat_map f) more ∙ flat_map-append f (take i shots) (x ∷ [])
+    ∙ ap (λ (xs : List ℕ). some ++ xs) (append-nil (f x))) in
+    joined_more a b c (k ++ some) (f x) first second
+    ∙ ap (λ (xs : List ℕ). a ++ xs) (append_assoc k some (f x) ∙ ap (λ (xs : List ℕ). k ++ xs) joined)
+
+pub times_end : (a b d e g k some m p q : List ℕ) → b ≡ a ++ (k ++ some) → d ≡ b ++ m → e ≡ d ++ p → g ≡ e ++ q
+    → g ≡ a ++ (k ++ (some ++ (m ++ (p ++ q))))
+times_end a b d e g k some m p q first second third fourth =
+    joined_more a b g (k ++ some) (m ++ (p ++ q)) first (joined_more b d g m (p ++ q) second
+    (joined_more d e g p q third fourth))
+    ∙ ap (λ (xs : List ℕ). a ++ xs) (append_assoc k some (m ++ (p ++ q)))
+
+-- the parts of a film, on a page that was empty at first
+pub film_developed : (empty a b d e bytes head times drawn foot : List ℕ) → empty ≡ [] → a ≡ empty ++ head
+    → b ≡ a ++ times → d ≡ b ++ drawn → e ≡ d ++ foot → bytes ≡ e → bytes ≡ head ++ (times ++ (drawn ++ foot))
+film_developed empty a b d e bytes head times drawn foot nothing first second third fourth is =
+    is ∙ joined_more empty a e head _ first (joined_more a b e times _ second (joined_more b d e drawn foot third
+    fourth))
+    ∙ ap (λ (xs : List ℕ). xs ++ (head ++ (times ++ (drawn ++ foot)))) nothing

@@ -1,0 +1,66 @@
+-- Where the rows of a whole picture stand: one below the other, each as its runs of cells.
+use Rattle.std.specs.Prelude.{◌≡◌, ℕ, suc, ◌-◌, ◌*◌, ◌==◌, ◌||◌, not, min, List, [], ◌∷◌, ◌++◌, length, Option, Some}
+use Rattle.std.specs.Prelude.{None, if◌then◌else◌}
+use Rattle.picture_page.specs.Bytes.{numbers_bytes}
+use Rattle.picture_page.specs.Tags.{tag_bytes}
+use Rattle.picture_page.specs.declared.tag.Tag.TheVariants as tag
+use Rattle.row_pictures.specs.Html.{IsHtmlRun}
+use Rattle.row_pictures.specs.Runs.{AreRuns}
+use Rattle.row_pictures.specs.Svg.{IsSvgRun}
+use Rattle.row_pictures.specs.declared.look.Look.{Look}
+use Rattle.screen_model.specs.State.{State}
+use Rattle.recorded_screen.specs.Heads.{block_head, svg_head}
+use Rattle.recorded_screen.specs.Picture.{cells_shown}
+
+-- the column of a row in which the cursor is shown, if it is: one behind the last column is shown there
+abbrev pub cursor_shown : State → ℕ → Option ℕ
+cursor_shown s r =
+    if s.hidden || not (s.shown.row == r) then None else Some (min s.shown.col (s.shown.width - 1))
+
+-- the runs of a row that is shown, with the cursor, in HTML and in SVG
+abbrev pub IsHtmlRow : Look → State → ℕ → List ℕ → Type 0
+IsHtmlRow look s r runs = let cells = cells_shown s.shown r in
+    AreRuns (IsHtmlRun look cells (cursor_shown s r)) (length cells) runs
+
+abbrev pub IsSvgRow : Look → State → ℕ → List ℕ → Type 0
+IsSvgRow look s r runs = let cells = cells_shown s.shown r in
+    AreRuns (IsSvgRun look cells (cursor_shown s r)) (length cells) runs
+
+-- a line of a block in HTML: the runs of this row, and a newline
+pub record IsHtmlLine (look : Look) (s : State) (r : ℕ) (bytes : List ℕ) : Type 0 where
+  pub runs : List ℕ
+  pub is : bytes ≡ runs ++ 10 ∷ []
+  pub row : IsHtmlRow look s r runs
+
+-- a row of a picture in SVG: the runs of this row, 18 pixels a row from the top
+pub record IsSvgLine (look : Look) (s : State) (r : ℕ) (bytes : List ℕ) : Type 0 where
+  pub runs : List ℕ
+  pub is : bytes ≡ numbers_bytes ((tag.Row, r * 18) ∷ []) ++ (tag_bytes tag.RowCells ++ (runs ++ (tag_bytes tag.RowEnd
+      ++ 10 ∷ [])))
+  pub row : IsSvgRow look s r runs
+
+-- the first rows from the top, one after another, as many as this
+pub data AreLines (IsLine : ℕ → List ℕ → Type 0) : ℕ → List ℕ → Type 0 where
+  none : AreLines IsLine 0 []
+  line : {r : ℕ} {before : List ℕ} (bytes : List ℕ) → AreLines IsLine r before → IsLine r bytes
+      → AreLines IsLine (suc r) (before ++ bytes)
+
+-- ---- pictures
+
+-- a block in HTML that has the rows of a screen, one line each
+pub record IsBlock (look : Look) (s : State) (bytes : List ℕ) : Type 0 where
+  pub lines : List ℕ
+  pub is : bytes ≡ block_head look ++ (lines ++ tag_bytes tag.BlockEnd)
+  pub placed : AreLines (IsHtmlLine look s) s.shown.height lines
+
+-- such a block between a head and a foot
+pub record IsAround (before after : List ℕ) (look : Look) (s : State) (bytes : List ℕ) : Type 0 where
+  pub block : List ℕ
+  pub is : bytes ≡ before ++ (block ++ after)
+  pub placed : IsBlock look s block
+
+-- a picture in SVG that has the rows of a screen, each at its place
+pub record IsSvg (look : Look) (s : State) (bytes : List ℕ) : Type 0 where
+  pub lines : List ℕ
+  pub is : bytes ≡ svg_head look s.shown.height s.shown.width ++ (lines ++ tag_bytes tag.SvgFoot)
+  pub placed : AreLines (IsSvgLine look s) s.shown.height lines

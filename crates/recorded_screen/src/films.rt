@@ -1,0 +1,214 @@
+//! Films: pictures in SVG that play a recording.
+
+ghost use Rattle.std.specs.Prelude.{◌≡◌, ◌≤◌, ◌<◌, ◌+◌, ◌-◌, IfOk, OnOk, length, max, min, not, nat_le, if◌then◌else◌};
+ghost use Rattle.std.specs.Option.{option_map_or};
+ghost use Rattle.picture_page.specs.Page.{IsPage, IsSafe};
+ghost use Rattle.recorded_screen.specs.Film.{IsFilm, TakesShot, TakesShotIf, cols_set, count_until as count_until_of};
+ghost use Rattle.recorded_screen.specs.Film.{is_moment as is_moment_of, most_cols, most_rows, paced, reached, rows_set};
+ghost use Rattle.recorded_screen.specs.Shots.{Grows, IsReel};
+
+use crate::error::FilmError;
+use crate::moment::act;
+use crate::picture::{cells_of, cursor_in};
+use crate::reel::{LONGEST_FILM, Reel};
+use recordings::{Change, Event, ScreenSize};
+use row_pictures::Look;
+use std::alloc::Global;
+use std::num::NonZeroU16;
+use vt100::{Parser, Screen};
+
+/// How fast a film plays.
+#[derive(Clone, Copy)]
+pub struct Pace {
+    /// How many millionths of the recorded speed.
+    pub speed: u64,
+    /// The longest time of the recording for which a screen stands, in microseconds.
+    pub idle: Option<u64>,
+}
+
+impl Pace {
+    /// The recorded speed.
+    pub const AS_RECORDED: u64 = 1_000_000;
+
+    // How long a time of the recording is in the film.
+    fn of_time(self, time: u64) -> u64
+        ensures { result ≡ paced self time }
+    {
+        let film = u128::from(self.standing(time)) * u128::from(Self::AS_RECORDED);
+        u64::try_from(film / u128::from(self.speed.max(1))).unwrap_or(u64::MAX)
+    }
+
+    // How much of a time a screen stands.
+    fn standing(self, time: u64) -> u64
+        ensures { result ≡ option_map_or (min time) self.idle time }
+    {
+        match self.idle {
+            Some(idle) => time.min(idle),
+            None => time,
+        }
+    }
+}
+
+/// A picture in SVG that plays the events up to a moment, over and over, and needs no script. Each screen and each row
+/// that occurs more than once is drawn once. The last screen stands for a second.
+pub fn film(
+    alloc: Global,
+    size: ScreenSize,
+    events: &[Event],
+    moment: u64,
+    look: &Look,
+    pace: Pace,
+) -> Result<Vec<u8>, FilmError>
+    ensures film { IfOk result (λ bytes. IsFilm look.now size pace moment events.now bytes.items) }
+    ensures page { IfOk result (λ bytes. IsPage bytes.items) }
+    ensures safe { IfOk result (λ bytes. IsSafe bytes.items) }
+    ensures short { IfOk result (λ bytes. length bytes.items ≤ LONGEST_FILM) }
+{
+    let mut terminal = Parser::new(alloc, size.rows, size.cols, 0)?;
+    let mut reel = Reel::new(alloc, widest(size, events, moment));
+    let first = is_moment(events, 0);
+    shoot_if(first, &mut reel, alloc, terminal.screen(), look)?;
+    for i in 0..count_until(events, moment) {
+        reel.wait(pace.of_time(gap_before(events, i)));
+        act(&mut terminal, &events[i].change)?;
+        let on = is_moment(events, i + 1);
+        shoot_if(on, &mut reel, alloc, terminal.screen(), look)?;
+    }
+    reel.develop(alloc, look)
+}
+
+// Takes a shot of the screen, if it is wanted.
+fn shoot_if(
+    on: bool,
+    reel: &mut Reel,
+    alloc: Global,
+    screen: &Screen,
+    look: &Look,
+) -> Result<(), FilmError>
+    requires reel { IsReel reel.old }
+    ensures reel { OnOk result (IsReel reel.new) }
+    ensures grows { OnOk result (Grows reel.old reel.new) }
+    ensures shot { OnOk result (TakesShotIf on look.now screen.now.state reel.old reel.new) }
+{
+    if on {
+        shoot(reel, alloc, screen, look)
+    } else {
+        Ok(())
+    }
+}
+
+// Takes a shot of the screen, which is shown from now on.
+fn shoot(reel: &mut Reel, alloc: Global, screen: &Screen, look: &Look) -> Result<(), FilmError>
+    requires reel { IsReel reel.old }
+    ensures reel { OnOk result (IsReel reel.new) }
+    ensures grows { OnOk result (Grows reel.old reel.new) }
+    ensures shot { OnOk result (TakesShot look.now screen.now.state reel.old reel.new) }
+{
+    let mut numbers = Vec::new(alloc);
+    let (rows, _) = screen.size();
+    for row in 0..rows.get() {
+        let cells = cells_of(screen, row);
+        let cursor = cursor_in(screen, row);
+        let number = reel.row_number(alloc, cells, cursor, look)?;
+        numbers.push(number)?;
+    }
+    reel.show(alloc, &numbers)?;
+    Ok(())
+}
+
+// How many events there are before the first one that comes later than a moment.
+fn count_until(events: &[Event], moment: u64) -> usize
+    ensures count { result ≡ count_until_of moment events.now }
+    ensures within { result ≤ length events.now }
+{
+    for (i, event) in events.iter().enumerate() {
+        if event.time > moment {
+            return i;
+        }
+    }
+    events.len()
+}
+
+// The time between an event and the one before it, or the beginning.
+fn gap_before(events: &[Event], i: usize) -> u64
+    requires { i < length events.now }
+    ensures { result ≡ reached events.now (i + 1) - reached events.now i }
+{
+    time_after(events, i + 1).saturating_sub(time_after(events, i))
+}
+
+// The time that has been reached after so many events.
+fn time_after(events: &[Event], count: usize) -> u64
+    ensures { result ≡ reached events.now count }
+{
+    if count == 0 {
+        return 0;
+    }
+    match events.get(count - 1) {
+        Some(event) => event.time,
+        None => 0,
+    }
+}
+
+// Whether a screen may stand after so many events: the next one comes at another time.
+fn is_moment(events: &[Event], count: usize) -> bool
+    ensures { result ≡ is_moment_of events.now count }
+{
+    match events.get(count) {
+        Some(next) => next.time != time_after(events, count),
+        None => true,
+    }
+}
+
+/// Whether there is no time before the first event.
+pub fn begins_at_once(events: &[Event]) -> bool
+    ensures { result ≡ not (is_moment_of events.now 0) }
+{
+    !is_moment(events, 0)
+}
+
+/// Whether the next event comes at the same time.
+pub fn is_followed(events: &[Event], i: usize) -> bool
+    requires { i < length events.now }
+    ensures { result ≡ not (is_moment_of events.now (i + 1)) }
+{
+    !is_moment(events, i + 1)
+}
+
+/// The most rows and columns that the screen has up to a moment.
+pub fn widest(size: ScreenSize, events: &[Event], moment: u64) -> ScreenSize
+    ensures rows { result.rows.value ≡ most_rows moment size events.now }
+    ensures cols { result.cols.value ≡ most_cols moment size events.now }
+{
+    let mut widest = size;
+    for event in events {
+        widest = widened(widest, event, moment);
+    }
+    widest
+}
+
+// At least the size that an event sets, unless it comes later than a moment.
+fn widened(size: ScreenSize, event: &Event, moment: u64) -> ScreenSize
+    ensures rows { result.rows.value ≡ max size.rows.value (if nat_le event.now.time moment
+        then rows_set event.now.change else 0) }
+    ensures cols { result.cols.value ≡ max size.cols.value (if nat_le event.now.time moment
+        then cols_set event.now.change else 0) }
+{
+    if event.time > moment {
+        return size;
+    }
+    match &event.change {
+        Change::Resize(other) => ScreenSize {
+            rows: larger(size.rows, other.rows),
+            cols: larger(size.cols, other.cols),
+        },
+        Change::Output(_) | Change::Marker(_) => size,
+    }
+}
+
+// The larger one.
+fn larger(one: NonZeroU16, other: NonZeroU16) -> NonZeroU16
+    ensures { result.value ≡ max one.value other.value }
+{
+    if one.get() < other.get() { other } else { one }
+}
