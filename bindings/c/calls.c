@@ -60,6 +60,32 @@ static void frames(void) {
     jeihpal_view_close(&view);
 }
 
+/* A terminal that joins late reads the redraw of a client, and goes on with the frames of a fork. */
+static void late(void) {
+    jeihpal_hub hub = JEIHPAL_INIT;
+    jeihpal_view view = JEIHPAL_INIT;
+    uint8_t text[1024];
+    size_t client, fork, length = 7;
+    CHECK(jeihpal_hub_new(&hub, 1, 20) == JEIHPAL_OK && jeihpal_view_new(&view, 1, 20) == JEIHPAL_OK);
+    CHECK(jeihpal_hub_attach(&hub, &client) == JEIHPAL_OK);
+    CHECK(jeihpal_hub_redraw(&hub, client, text, sizeof text, &length) == JEIHPAL_OK && length == 0);
+    CHECK(jeihpal_hub_feed(&hub, BYTES("one")) == JEIHPAL_OK);
+    CHECK(jeihpal_hub_frame(&hub, client) == JEIHPAL_FULL);
+    CHECK(jeihpal_hub_feed(&hub, BYTES(" two")) == JEIHPAL_OK);
+    CHECK(jeihpal_hub_redraw(&hub, client, text, sizeof text, &length) == JEIHPAL_OK);
+    CHECK(is_text(text, length, "\x1b[?2026h\x1b[?25h\x1b[m\x1b[H\x1b[Jone\x1b>\x1b[?1l\x1b[?2004l\x1b[?2026l"));
+    CHECK(jeihpal_view_advance(&view, text, length) == JEIHPAL_OK);
+    CHECK(jeihpal_hub_fork(&hub, client, &fork) == JEIHPAL_OK && fork != client);
+    CHECK(jeihpal_hub_frame(&hub, fork) == JEIHPAL_DIFFERENCE);
+    tried_carry(&hub, fork, &view, 2);
+    CHECK(jeihpal_view_row_text(&view, 0, text, sizeof text, &length) == JEIHPAL_OK);
+    CHECK(is_text(text, length, "one two"));
+    CHECK(jeihpal_hub_fork(&hub, 77, &fork) == JEIHPAL_UNKNOWN_CLIENT && fork != 77);
+    CHECK(jeihpal_hub_redraw(&hub, 77, text, sizeof text, &length) == JEIHPAL_UNKNOWN_CLIENT && length == 7);
+    jeihpal_hub_close(&hub);
+    jeihpal_view_close(&view);
+}
+
 static void other_answers(void) {
     jeihpal_hub hub = JEIHPAL_INIT;
     jeihpal_look look;
@@ -410,6 +436,7 @@ static void session(const char *folder, const char *name, uint16_t rows, uint16_
 int main(int count, char **words) {
     codes_of_words();
     frames();
+    late();
     other_answers();
     view_cells();
     screens();

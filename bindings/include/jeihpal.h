@@ -199,6 +199,11 @@ int32_t jeihpal_hub_resize(jeihpal_hub *hub, uint16_t rows, uint16_t cols);
  * again. MEMORY, FAILED. */
 int32_t jeihpal_hub_attach(jeihpal_hub *hub, size_t *client);
 
+/* A new client that has what `client` has once it has read all its frames. Its key goes to *fork. It is owed nothing,
+ * and its next frame starts from there: a terminal that has read the frames of `client`, or its redraw, goes on with
+ * the frames of *fork. UNKNOWN_CLIENT, FAILED, MEMORY. */
+int32_t jeihpal_hub_fork(jeihpal_hub *hub, size_t client, size_t *fork);
+
 /* The client ends, and what it is owed is gone. UNKNOWN_CLIENT. */
 int32_t jeihpal_hub_detach(jeihpal_hub *hub, size_t client);
 
@@ -213,6 +218,12 @@ int32_t jeihpal_hub_owed(jeihpal_hub *hub, size_t client, uint8_t *to, size_t ca
 /* The first `count` of the bytes that the client is owed were sent, and are no longer owed. UNKNOWN_CLIENT,
  * NOT_OWED. */
 int32_t jeihpal_hub_sent(jeihpal_hub *hub, size_t client, size_t count);
+
+/* The bytes that draw, on a fresh terminal of the screen's size, what the client shows once it has read all its frames,
+ * also those that it is still owed. Before its first frame there are none. The terminal goes on with the client's later
+ * frames. The answer JEIHPAL_TOO_LONG: there would be more than 2,097,150, and *length is 0. UNKNOWN_CLIENT, FAILED,
+ * MEMORY. */
+int32_t jeihpal_hub_redraw(jeihpal_hub *hub, size_t client, uint8_t *to, size_t capacity, size_t *length);
 
 /* The size, the cursor and the modes of the program's screen. */
 int32_t jeihpal_hub_look(jeihpal_hub *hub, jeihpal_look *look);

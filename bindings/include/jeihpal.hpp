@@ -164,6 +164,12 @@ public:
         checked(jeihpal_hub_attach(word(), &client));
         return client;
     }
+    // A new client that has what this one has once it has read all its frames.
+    size_t fork(size_t client) {
+        size_t fork = 0;
+        checked(jeihpal_hub_fork(word(), client, &fork));
+        return fork;
+    }
     void detach(size_t client) { checked(jeihpal_hub_detach(word(), client)); }
     jeihpal_answer frame(size_t client) {
         return static_cast<jeihpal_answer>(checked(jeihpal_hub_frame(word(), client)));
@@ -172,6 +178,16 @@ public:
         return detail::whole([&](uint8_t *to, size_t room, size_t *length) {
             return jeihpal_hub_owed(word(), client, to, room, length);
         });
+    }
+    // What draws, on a fresh terminal, what the client shows once it has read all its frames. None where that is longer
+    // than a terminal buffers.
+    std::optional<std::string> redraw(size_t client) const {
+        int32_t answer = JEIHPAL_OK;
+        std::string text = detail::whole([&](uint8_t *to, size_t room, size_t *length) {
+            return answer = jeihpal_hub_redraw(word(), client, to, room, length);
+        });
+        if (answer != JEIHPAL_OK) return std::nullopt;
+        return text;
     }
     void sent(size_t client, size_t count) { checked(jeihpal_hub_sent(word(), client, count)); }
     std::string contents() const {

@@ -58,6 +58,16 @@ class Hub(Shown):
         self._call("attach", client)
         return client.value
 
+    def fork(self, client: int) -> int:
+        """A new client that has what this one has once it has read all its frames.
+
+        It is owed nothing, and its next frame starts from there: a terminal that has read this client's frames, or its
+        redraw, goes on with the new client's frames.
+        """
+        fork = ctypes.c_size_t()
+        self._call("fork", checked_count(client), fork)
+        return fork.value
+
     def detach(self, client: int) -> None:
         """Ends a client; what it is owed is gone."""
         self._call("detach", checked_count(client))
@@ -69,6 +79,15 @@ class Hub(Shown):
     def owed(self, client: int, most: int | None = None) -> bytes:
         """The bytes that the client is owed, or the first `most` of them."""
         return self._text("owed", checked_count(client), most=most)
+
+    def redraw(self, client: int) -> bytes | None:
+        """What draws, on a fresh terminal, what the client shows once it has read all its frames.
+
+        Frames that are still owed count as read. Before the first frame it is empty. None where it is longer than a
+        terminal buffers.
+        """
+        answer, text = self._answered("redraw", checked_count(client))
+        return None if answer else text
 
     def sent(self, client: int, count: int) -> None:
         """The first `count` of the bytes that the client is owed were sent. They are owed no longer."""

@@ -83,12 +83,18 @@ class Object:
     def _text(self, name: str, *arguments: Any, most: int | None = None, after: tuple[Any, ...] = ()) -> bytes:
         """What a function copies out: all of it, or at most so many bytes of its front. The room for it belongs to
         this call alone."""
+        return self._answered(name, *arguments, most=most, after=after)[1]
+
+    def _answered(
+        self, name: str, *arguments: Any, most: int | None = None, after: tuple[Any, ...] = ()
+    ) -> tuple[int, bytes]:
+        """The same, behind the function's answer."""
         room, count = ctypes.create_string_buffer(_FIRST_ROOM), ctypes.c_size_t()
         while True:
-            self._call(name, *arguments, room, len(room), count, *after)
+            answer = self._call(name, *arguments, room, len(room), count, *after)
             wanted = count.value if most is None else min(most, count.value)
             if wanted <= len(room):
-                return ctypes.string_at(room, wanted)
+                return answer, ctypes.string_at(room, wanted)
             room = ctypes.create_string_buffer(2 * wanted)
 
     def close(self) -> None:

@@ -118,6 +118,16 @@ impl Hub {
         Ok(Client(key))
     }
 
+    /// A new client that has what this one has once it has read all its frames. It is owed nothing, and its next frame
+    /// starts from there: a terminal that has read this client's frames, or its [`redraw`](Self::redraw), goes on with
+    /// the new client's frames.
+    pub fn fork(&mut self, client: Client) -> Result<Client> {
+        let mut key = 0;
+        self.object
+            .call(|word| unsafe { raw::jeihpal_hub_fork(word, client.0, &mut key) })?;
+        Ok(Client(key))
+    }
+
     /// Ends a client; what it is owed is gone.
     pub fn detach(&mut self, client: Client) -> Result<()> {
         self.object
@@ -145,6 +155,19 @@ impl Hub {
         self.object.bytes(|word, to, room, length| unsafe {
             raw::jeihpal_hub_owed(word, client.0, to, room, length)
         })
+    }
+
+    /// What draws, on a fresh terminal of the screen's size, what the client shows once it has read all its frames.
+    ///
+    /// Frames that it is still owed count as read. Before its first frame the redraw is empty. `None` where it is longer
+    /// than a terminal buffers.
+    pub fn redraw(&self, client: Client) -> Result<Option<Vec<u8>>> {
+        let mut answer = 0;
+        let text = self.object.bytes(|word, to, room, length| {
+            answer = unsafe { raw::jeihpal_hub_redraw(word, client.0, to, room, length) };
+            answer
+        })?;
+        Ok((answer == 0).then_some(text))
     }
 
     /// The first `count` of the bytes that the client is owed were sent. They are owed no longer.

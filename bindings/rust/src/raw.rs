@@ -118,9 +118,17 @@ extern "C" {
     pub(crate) fn jeihpal_hub_feed(hub: *mut Word, bytes: *const u8, count: usize) -> i32;
     pub(crate) fn jeihpal_hub_resize(hub: *mut Word, rows: u16, cols: u16) -> i32;
     pub(crate) fn jeihpal_hub_attach(hub: *mut Word, client: *mut usize) -> i32;
+    pub(crate) fn jeihpal_hub_fork(hub: *mut Word, client: usize, fork: *mut usize) -> i32;
     pub(crate) fn jeihpal_hub_detach(hub: *mut Word, client: usize) -> i32;
     pub(crate) fn jeihpal_hub_frame(hub: *mut Word, client: usize) -> i32;
     pub(crate) fn jeihpal_hub_owed(
+        hub: *mut Word,
+        client: usize,
+        to: *mut u8,
+        capacity: usize,
+        length: *mut usize,
+    ) -> i32;
+    pub(crate) fn jeihpal_hub_redraw(
         hub: *mut Word,
         client: usize,
         to: *mut u8,

@@ -1,6 +1,6 @@
 -- What each call does to a hub, by the library's call, and the number that it returns.
-use Rattle.std.specs.Prelude.{◌≡◌, ◌≢◌, ◌⊎◌, ℕ, ◌≤◌, ◌<◌, ◌*◌, ℤ, false, List, length, drop, Some, Ok, Err, Result}
-use Rattle.std.specs.Prelude.{IfOk, OnOk}
+use Rattle.std.specs.Prelude.{◌≡◌, ◌≢◌, ◌⊎◌, ℕ, ◌≤◌, ◌<◌, ◌*◌, ℤ, false, List, length, drop, Option, Some, None, Ok, Err}
+use Rattle.std.specs.Prelude.{Result, IfOk, OnOk}
 use Rattle.std.specs.Prelude.{MatchOption, encode_utf8_all}
 use Rattle.vt100_core.specs.Grid.{visible_row_at, cell_in}
 use Rattle.vt100_core.specs.Contents.{newlines_cut, text_lines}
@@ -13,8 +13,9 @@ use Rattle.termrelay.specs.Hub as hub
 use Rattle.termrelay.specs.Hub.{HubState, as_kept, IsNewHub, clients_in, Puts, OwesOneFrame, OwesLocalFrame, size_in}
 use Rattle.termrelay.specs.Hub.{is_failed}
 use Rattle.termrelay.specs.Hub.{screen_in}
+use Rattle.termrelay.specs.Joins as joins
 use Rattle.c_objects.specs.Codes.{ok, bad_size, memory, unknown_client, not_owed, no_cell, refusal_code, code_of}
-use Rattle.c_objects.specs.Codes.{frame_code}
+use Rattle.c_objects.specs.Codes.{answer_code, frame_code}
 use Rattle.c_objects.specs.Texts.{IsCopied, CopiesText}
 use Rattle.c_objects.specs.Looks.{cell_of, screen_look}
 use Rattle.c_objects.specs.declared.plain.CCell.{CCell}
@@ -55,6 +56,10 @@ Attached (Err e) old new code = (code ≡ refusal_code e) × (new ≡ old)
 abbrev pub Attaches : ℕ → ℕ → HubState as_kept → ℤ → HubState as_kept → Type 0
 Attaches old new h code g = (answer : Result ℕ HubError) × hub.Attaches h answer g × Attached answer old new code
 
+-- the new client's key is stored if there is one
+abbrev pub Forks : ℕ → ℕ → ℕ → HubState as_kept → ℤ → HubState as_kept → Type 0
+Forks key old new h code g = (answer : Result ℕ HubError) × joins.Forks h key answer g × Attached answer old new code
+
 abbrev pub Detaches : ℕ → HubState as_kept → ℤ → HubState as_kept → Type 0
 Detaches key h code g =
     (answer : Result (Unit {0}) HubError) × hub.Detaches h key answer g × (code ≡ code_of answer)
@@ -82,6 +87,16 @@ Sends key count h code g =
 pub record Owes (key : ℕ) (old new : List ℕ) (count : ℕ) (h : HubState as_kept) (code : ℤ) : Type 0 where
   pub owed : MatchOption (clients_in h key) (code ≡ unknown_client) (λ c. (code ≡ ok) × IsCopied c.owed old new count)
   pub short : is_failed h ≡ false → OwesOneFrame h key
+
+-- the bytes of a redraw are copied, as many as fit, and counted; of one that is too long there are none
+abbrev pub Redrawn : Result (Option (List ℕ)) HubError → List ℕ → List ℕ → ℕ → ℤ → Type 0
+Redrawn (Ok (Some text)) old new count code = (code ≡ ok) × IsCopied text old new count
+Redrawn (Ok None) old new count code = (code ≡ answer_code TooLong) × (new ≡ old) × (count ≡ 0)
+Redrawn (Err e) old new count code = code ≡ refusal_code e
+
+abbrev pub Redraws : ℕ → List ℕ → List ℕ → ℕ → HubState as_kept → ℤ → Type 0
+Redraws key old new count h code =
+    (answer : Result (Option (List ℕ)) HubError) × joins.Redraws h key answer × Redrawn answer old new count code
 
 -- a cell of a screen is copied, or the place is outside it
 abbrev pub ShowsCell : ScreenView → ℕ → ℕ → CCell → ℤ → Type 0

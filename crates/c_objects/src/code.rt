@@ -20,6 +20,9 @@ pub(crate) const BAD_SIZE: i32 = -3;
 /// An allocation failed.
 pub(crate) const MEMORY: i32 = -4;
 
+/// A redraw is longer than a terminal buffers: the number of `Answer::TooLong`.
+pub(crate) const TOO_LONG: i32 = 3;
+
 /// The screen has failed: an allocation failed in an earlier call.
 pub(crate) const FAILED: i32 = -5;
 

@@ -4,12 +4,12 @@ ghost use Rattle.c_objects.specs.Cells.{HubHasCells};
 ghost use Rattle.c_objects.specs.Codes.{IsRefusal};
 ghost use Rattle.c_objects.specs.Objects.{HubDoes, HubSays};
 ghost use Rattle.c_objects.specs.Hubs.{IsNewHubOf, IsNoObjectCode, Feeds, Resizes, Attaches, Detaches, Frames, Sends};
-ghost use Rattle.c_objects.specs.Hubs.{Owes, Looks, HasCell, HasRow, HasContents, ShowsCell, ShowsRow, ShowsContents};
+ghost use Rattle.c_objects.specs.Hubs.{Forks, Owes, Redraws, Looks, HasCell, HasRow, HasContents, ShowsCell, ShowsRow, ShowsContents};
 
 use crate::cells::copy_screen_cells;
 use crate::code::{
-    BAD_SIZE, MEMORY, NO_CELL, NOT_OWED, OK, OTHER_KIND, UNKNOWN_CLIENT, code_of, frame_code,
-    refusal_code,
+    BAD_SIZE, MEMORY, NO_CELL, NOT_OWED, OK, OTHER_KIND, TOO_LONG, UNKNOWN_CLIENT, code_of,
+    frame_code, refusal_code,
 };
 use crate::copy::{copy_prefix, copy_text};
 use crate::look::{cell_of, screen_look};
@@ -93,6 +93,30 @@ pub fn attach(object: &mut Object, client: &mut usize) -> i32
     }
 }
 
+fn fork_in(hub: &mut Hub, client: Client, fork: &mut usize) -> i32
+    ensures forked { Forks client fork.old fork.new hub.old result hub.new }
+    ensures refused { IsRefusal result → fork.new ≡ fork.old }
+{
+    match hub.fork(client) {
+        Ok(new) => {
+            *fork = new.key();
+            OK
+        }
+        Err(error) => refusal_code(error),
+    }
+}
+
+/// Adds a client that has what this one has once it has read all its frames, and sets `fork` to its key.
+pub fn fork(object: &mut Object, client: usize, fork: &mut usize) -> i32
+    ensures forked { HubDoes (Forks client fork.old fork.new) object.old result object.new }
+    ensures refused { IsRefusal result → fork.new ≡ fork.old }
+{
+    match object {
+        Object::Hub(hub) => fork_in(hub, Client::from_key(client), fork),
+        _ => OTHER_KIND,
+    }
+}
+
 /// Detaches a client from a hub.
 pub fn detach(object: &mut Object, client: usize) -> i32
     ensures { HubDoes (Detaches client) object.old result object.new }
@@ -133,6 +157,35 @@ pub fn owed(object: &Object, client: usize, to: &mut [u8], count: &mut usize) ->
 {
     match object {
         Object::Hub(hub) => copy_owed(hub, Client::from_key(client), to, count),
+        _ => OTHER_KIND,
+    }
+}
+
+fn copy_redraw(hub: &Hub, client: Client, to: &mut [u8], count: &mut usize) -> i32
+    ensures redraws { Redraws client to.old to.new count.new hub.now result }
+    ensures refused { IsRefusal result → (to.new ≡ to.old) × (count.new ≡ count.old) }
+{
+    match hub.redraw(client) {
+        Ok(Some(text)) => {
+            copy_prefix(&text, to, count);
+            OK
+        }
+        Ok(None) => {
+            *count = 0;
+            TOO_LONG
+        }
+        Err(error) => refusal_code(error),
+    }
+}
+
+/// Copies as many as fit of the bytes that draw what a client shows once it has read all its frames, and sets `count`
+/// to how many there are. There are none if they are more than a terminal buffers.
+pub fn redraw(object: &Object, client: usize, to: &mut [u8], count: &mut usize) -> i32
+    ensures redraws { HubSays (Redraws client to.old to.new count.new) object.now result }
+    ensures refused { IsRefusal result → (to.new ≡ to.old) × (count.new ≡ count.old) }
+{
+    match object {
+        Object::Hub(hub) => copy_redraw(hub, Client::from_key(client), to, count),
         _ => OTHER_KIND,
     }
 }
