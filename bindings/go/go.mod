@@ -1,0 +1,3 @@
+module jeihpal
+
+go 1.19

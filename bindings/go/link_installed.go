@@ -1,0 +1,8 @@
+//go:build jeihpal_installed
+
+package jeihpal
+
+/*
+#cgo pkg-config: jeihpal
+*/
+import "C"
