@@ -1,7 +1,8 @@
 -- The shots of a film, moment by moment.
-use Rattle.std.proofs.Common.{◌≡◌, ◌<◌, ◌≤◌, ◌+◌, ◌++◌, ℕ, zero, suc, Bool, true, false, List, [], ◌∷◌, Some, inl, inr}
-use Rattle.std.proofs.Common.{Vec, Global, sym, ap, ◌∙◌, subst, length, take, map, max, append-nil, append_assoc, add-one, refl}
-use Rattle.std.proofs.Common.{Ok, Err, Result, IfOk, ◌-◌, ap₂, length-append, arith, below_more, get_or, nat_le, slice_get, drop}
+use Rattle.std.proofs.Common.{◌≡◌, ◌<◌, ◌≤◌, ◌+◌, ◌++◌, ℕ, zero, suc, Bool, true, false, List, [], ◌∷◌, Some}
+use Rattle.std.proofs.Common.{Vec, Global, sym, ap, ◌∙◌, subst, length, take, map, max, add-one, refl}
+use Rattle.std.proofs.Common.{append-nil, append_assoc, Ok, Err, Result, IfOk, ◌-◌, ap₂, length-append, arith, drop}
+use Rattle.std.proofs.Common.{below_more, get_or, nat_le, slice_get}
 use Rattle.std.proofs.lemmas.Bool.{le-leb}
 use Rattle.std.proofs.lemmas.List.{map-append, take_more}
 use Rattle.std.proofs.lemmas.List.Sums.{prefix_len-drop_yes}
@@ -25,7 +26,8 @@ use Rattle.recorded_screen.specs.declared.reel.Shot.{Shot}
 
 -- ---- what is there stays there
 
-got_before : (xs more : List (List ℕ)) (n : ℕ) (x : List ℕ) → slice_get xs n ≡ Some x → slice_get (xs ++ more) n ≡ Some x
+got_before : (xs more : List (List ℕ)) (n : ℕ) (x : List ℕ) → slice_get xs n ≡ Some x
+    → slice_get (xs ++ more) n ≡ Some x
 got_before [] more n x h = absurd (cc)
 got_before (y ∷ ys) more zero x h = h
 got_before (y ∷ ys) more (suc n) x h = got_before ys more n x h
@@ -149,7 +151,8 @@ pub moment_passed : (look : Look) (size : ScreenSize) (pace : Pace) (events : Li
     → AreShots look size pace events (rows_of old) (screens_of old) n old.shots.items
     → AreShots look size pace events (rows_of new) (screens_of new) (suc n) new.shots.items
 moment_passed look size pace events old new n true is time grows takes before =
-    shot new.shots.items takes.screen (sym is) (shots_still look size pace events old new n old.shots.items grows before)
+    shot new.shots.items takes.screen (sym is)
+    (shots_still look size pace events old new n old.shots.items grows before)
     takes.at
     (subst (λ (t : ℕ). IsShown old.shots.items new.shots.items t takes.screen) time takes.shown)
 moment_passed look size pace events old new n false is time grows takes before =
@@ -239,6 +242,7 @@ film_of_reel r look size pace moment events reel n all rows cols time shots =
           ∙ ap (λ (t : ℕ). film_bytes look (most_rows moment size events) (most_cols moment size events)
           (in_64_bits (t + 1000000)) (rows_of reel) (screens_of reel) reel.shots.items)
           (time ∙ ap (film_time pace events) all);
-      shown = subst (λ (k : ℕ). AreShots look size pace events (rows_of reel) (screens_of reel) (suc k) reel.shots.items)
+      shown = subst (λ (k : ℕ). AreShots look size pace events (rows_of reel) (screens_of reel) (suc k)
+          reel.shots.items)
           all shots;
     })

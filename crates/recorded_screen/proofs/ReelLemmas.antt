@@ -1,7 +1,8 @@
 -- The rows, the screens and the shots of a film in the making.
 use Rattle.std.proofs.Common.{◌≡◌, ◌<◌, ◌≤◌, ◌+◌, ◌*◌, ◌/◌, ◌%◌, ◌^◌, ◌++◌, ℕ, zero, suc, max, List, [], ◌∷◌, Bool}
-use Rattle.std.proofs.Common.{true, false, not, cond, ◌&&◌, ◌||◌, Option, Some, None, sym, ap, ◌∙◌, subst, length, take, map}
-use Rattle.std.proofs.Common.{append-nil, append_assoc, refl, arith, true≢false, nat_eq, decimal, slice_get}
+use Rattle.std.proofs.Common.{true, false, not, cond, ◌&&◌, ◌||◌, Some, sym, ap, ◌∙◌, length, map}
+use Rattle.std.proofs.Common.{subst, take, append-nil, append_assoc, refl, arith, true≢false, nat_eq, decimal}
+use Rattle.std.proofs.Common.{slice_get}
 use Rattle.std.specs.Prelude.{if◌then◌else◌}
 use Rattle.std.specs.List.{flat_map, list_any, position_or_len}
 use Rattle.std.specs.Option.{option_map}
@@ -16,7 +17,7 @@ use Rattle.picture_page.specs.Page.{digit_byte}
 use Rattle.picture_page.specs.Tags.{tag_bytes}
 use Rattle.picture_page.specs.declared.tag.Tag.TheVariants as tag
 use Rattle.picture_page.proofs.PageLemmas.{joined_more}
-use Rattle.recorded_screen.specs.Reel.{decimal_point, in_32_bits, last_digits, numbered, shot_bytes}
+use Rattle.recorded_screen.specs.Reel.{decimal_point, in_32_bits, last_digits, numbered}
 use Rattle.recorded_screen.specs.Shots.{Inserts}
 use Rattle.recorded_screen.specs.declared.reel.Shot.{Shot}
 
@@ -50,7 +51,8 @@ pub numbered_more : {A : Type 0} (f : ℕ → A → List ℕ) (a b c : List ℕ)
 numbered_more f a b c xs i x lt more first second =
     joined_more a b c (numbered f 0 (take i xs)) (f i x) first second
     ∙ ap (λ (ys : List ℕ). a ++ ys)
-    (ap (λ (k : ℕ). numbered f 0 (take i xs) ++ f k x) (sym (length_taken i xs lt)) ∙ sym (numbered-push-first f (take i xs) x)
+    (ap (λ (k : ℕ). numbered f 0 (take i xs) ++ f k x) (sym (length_taken i xs lt))
+    ∙ sym (numbered-push-first f (take i xs) x)
     ∙ ap (numbered f 0) (sym more))
 
 -- ---- rows and screens, each by its number
@@ -151,7 +153,8 @@ pub decimal_begins : (a b d : List ℕ) (value parts places : ℕ) → parts ≡
     → b ≡ a ++ decimal (in_32_bits (value / parts)) → d ≡ b ++ tag_bytes tag.Point
     → a ++ decimal_point places value ≡ d ++ last_digits places value
 decimal_begins a b d value parts places is first second =
-    ap (λ (p : ℕ). a ++ (decimal (in_32_bits (value / p)) ++ (tag_bytes tag.Point ++ last_digits places value))) (sym is)
+    ap (λ (p : ℕ). a ++ (decimal (in_32_bits (value / p)) ++ (tag_bytes tag.Point ++ last_digits places value)))
+    (sym is)
     ∙ sym (joined_more a b (d ++ last_digits places value) _ _ first
     (joined_more b d (d ++ last_digits places value) _ _ second refl))
 

@@ -1,6 +1,6 @@
 -- Which screens of a recording a film shows, and when.
-use Rattle.std.specs.Prelude.{◌≡◌, ℕ, zero, suc, ◌+◌, ◌-◌, ◌*◌, ◌/◌, ◌<◌, ◌==◌, not, max, min, Bool, true, false, List, []}
-use Rattle.std.specs.Prelude.{◌∷◌, length, map, nat_le, slice_get, slice_index, take, if◌then◌else◌}
+use Rattle.std.specs.Prelude.{◌≡◌, ℕ, zero, suc, ◌+◌, ◌-◌, ◌*◌, ◌/◌, ◌<◌, ◌==◌, not, max, min, Bool, true, false, List}
+use Rattle.std.specs.Prelude.{[], ◌∷◌, length, map, nat_le, slice_get, slice_index, take, if◌then◌else◌}
 use Rattle.std.specs.List.{prefix_len}
 use Rattle.std.specs.Option.{option_map_or}
 use Rattle.row_pictures.specs.declared.look.Look.{Look}
@@ -25,7 +25,8 @@ abbrev pub reached : List Event → ℕ → ℕ
 reached events zero = 0
 reached events (suc n) = option_map_or (λ e. e.time) (slice_get events n) 0
 
--- how long a time of the recording is in the film: a screen stands no longer than `idle`, and the film has its own speed
+-- How long a time of the recording is in the film: a screen stands no longer than `idle`, and the film has its own
+-- speed.
 abbrev pub paced : Pace → ℕ → ℕ
 paced pace time = in_64_bits (option_map_or (min time) pace.idle time * 1000000 / max pace.speed 1)
 

@@ -1,3 +1,4 @@
+pub mod Examples
 pub mod Film
 pub mod Heads
 pub mod Moment

@@ -3,6 +3,7 @@
 
 mod error;
 mod films;
+pub mod laws;
 mod moment;
 mod picture;
 mod reel;

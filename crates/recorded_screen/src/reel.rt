@@ -7,7 +7,8 @@ ghost use Rattle.picture_page.specs.Page.{Adds, IsPage, IsSafe};
 ghost use Rattle.row_pictures.specs.Runs.{AreRuns};
 ghost use Rattle.row_pictures.specs.Svg.{IsSvgRun};
 ghost use Rattle.recorded_screen.specs.Reel.{decimal_point, drawn_bytes, drawn_row, film_bytes, in_32_bits, in_64_bits};
-ghost use Rattle.recorded_screen.specs.Reel.{last_place, numbered, place, row_at, screen_at, shot_bytes, times_bytes, used_row};
+ghost use Rattle.recorded_screen.specs.Reel.{last_place, numbered, place, row_at, screen_at, shot_bytes, times_bytes};
+ghost use Rattle.recorded_screen.specs.Reel.{used_row};
 ghost use Rattle.recorded_screen.specs.Shots.{Grows, Inserts, IsAt, IsReel, IsShown, Shows, rows_of, screens_of};
 
 use crate::error::FilmError;
@@ -328,7 +329,8 @@ fn part_of(time: u64, length: u64) -> u64
 /// Appends a number that counts such parts of one, as a decimal. The unit is a power of ten.
 pub fn push_decimal(page: &mut Page, value: u64, unit: u32) -> Result<(), AllocError>
     ensures adds { OnOk result (Adds page.old page.new []) }
-    ensures bytes { OnOk result ((places : ℕ) → unit ≡ 10 ^ places → page.new ≡ page.old ++ decimal_point places value) }
+    ensures bytes { OnOk result ((places : ℕ) → unit ≡ 10 ^ places
+        → page.new ≡ page.old ++ decimal_point places value) }
 {
     let parts = u64::from(unit).max(1);
     page.number(whole_of(value, parts))?;

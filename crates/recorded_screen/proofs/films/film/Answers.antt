@@ -1,4 +1,5 @@
-use Rattle.std.proofs.Common.{◌≡◌, ◌<◌, ◌∙◌, ◌+◌, ◌++◌, ◌∷◌, ap, arith, add-one, length, map, subst, sym, take, ℕ, List, []}
+use Rattle.std.proofs.Common.{◌≡◌, ◌<◌, ◌∙◌, ◌+◌, ◌++◌, ◌∷◌, ap, arith, add-one, length, map, subst}
+use Rattle.std.proofs.Common.{sym, take, ℕ, List, []}
 use Rattle.screen_model.specs.Call.{ScreenView}
 use Rattle.screen_model.specs.Made.{Act}
 use Rattle.screen_model.specs.State.{State}

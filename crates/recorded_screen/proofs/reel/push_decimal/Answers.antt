@@ -14,7 +14,8 @@ loop-unit-init c = record {
         places = places;
         is = unit;
         rest = decimal_begins _ _ _ c.args.value c.max-parts.result places unit
-            (c.in_ok-number.ensures.bytes ∙ ap (λ n. c.args.page.now ++ decimal n) c.whole_of.ensures) c.in_ok-markup.ensures.bytes;
+            (c.in_ok-number.ensures.bytes ∙ ap (λ n. c.args.page.now ++ decimal n) c.whole_of.ensures)
+            c.in_ok-markup.ensures.bytes;
       };
 }
 
