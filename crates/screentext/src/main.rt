@@ -32,6 +32,9 @@ struct Disk<'a>(&'a HostRuntime);
 
 impl Files for Disk<'_> {
     fn read(&self, _alloc: Global, path: &str) -> Result<Vec<u8>, TextError> {
-        fs::read(self.0, path).map_err(|_| TextError::File)
+        match fs::read(self.0, path) {
+            Ok(bytes) => Ok(bytes),
+            Err(_) => Err(TextError::File),
+        }
     }
 }

@@ -1,4 +1,6 @@
 mod DrawnLemmas
 mod KindLemmas
+mod ListLemmas
+mod MissingLemmas
 mod TextLemmas
 mod WordsLemmas

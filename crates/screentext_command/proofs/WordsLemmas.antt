@@ -9,14 +9,17 @@ use Rattle.clap.specs.Words.{matches_of}
 use Rattle.clap.specs.Words.{is_simple_and_free}
 use Rattle.clap.specs.Words.{rule_of, with_rule}
 use Rattle.clap.specs.declared.error.ErrorKind.{ErrorKind}
+use Rattle.clap.specs.declared.error.ErrorKind.TheVariants.{DisplayHelp, DisplayVersion}
 use Rattle.clap.proofs.OnLiterals.{clap_on_literals}
-use Rattle.screentext_command.specs.Asked.{HasFault, IsMadeOf, IsMeant, IsTold, Says, SaysOrigin, SaysWish, form_meant}
-use Rattle.screentext_command.specs.Asked.{origin_of, wish_of}
+use Rattle.screentext_command.specs.Asked.{AskForText, IsMadeOf, IsMeant, IsRequested, IsToldFor, Says, SaysOrigin}
+use Rattle.screentext_command.specs.Asked.{SaysWish}
+use Rattle.screentext_command.specs.Asked.{form_meant, origin_of, wish_of}
 use Rattle.screentext_command.specs.Words.{are_words, is_form, is_invocation_of, is_request, known}
 use Rattle.screentext_command.proofs.KindLemmas.{IsSingle}
+use Rattle.screentext_command.specs.declared.help.TheConstants.{HELP, VERSION}
 use Rattle.screentext_command.specs.declared.source.Source.{Source}
 use Rattle.screentext_command.specs.declared.words.Invocation.{Invocation}
-use Rattle.screentext_command.specs.declared.words.Invocation.TheVariants.{Print, Tell}
+use Rattle.screentext_command.specs.declared.words.Invocation.TheVariants.{Help, Print, Version}
 use Rattle.screentext_command.specs.declared.words.Request.{Request}
 use Rattle.clap.specs.declared.Arg.{Arg}
 use Rattle.clap.specs.declared.Command.{Command}
@@ -108,7 +111,8 @@ forms_meant a b c d p e f g h q v w x y z =
 pub says_both : (rows : List Row) (request : Option Request) (source : Option Source) (i : Invocation)
     → IfSome request (λ r. SaysWish rows (wish_of r)) → IfSome source (λ s. SaysOrigin rows (origin_of s))
     → IsMadeOf request source i → Says rows i
-says_both rows request source (Tell text) first second made = absurd made
+says_both rows request source Help first second made = absurd made
+says_both rows request source Version first second made = absurd made
 says_both rows request source (Print r s p) first second made = (
   subst (λ (o : Option Request). IfSome o (λ r. SaysWish rows (wish_of r))) made.0 first,
   subst (λ (o : Option Source). IfSome o (λ s. SaysOrigin rows (origin_of s))) made.1 second,
@@ -117,18 +121,30 @@ says_both rows request source (Print r s p) first second made = (
 -- words that are taken mean what their values say
 pub means : (words : List Text) (rows : List Row) (i : Invocation) → fault_of known words ≡ []
     → rows ≡ matches_of known words → Says rows i → IsMeant words i
-means words rows (Tell text) none same says = absurd says
+means words rows Help none same says = absurd says
+means words rows Version none same says = absurd says
 means words rows (Print r s p) none same says = record {
   taken = none;
   origin = subst (λ (x : List Row). SaysOrigin x (origin_of s)) same says.1;
   wish = subst (λ (x : List Row). SaysWish x (wish_of r)) same says.0;
 }
 
-pub tells : (words : List Text) (i : Invocation) → HasFault (fault_of known words) → IsTold i → IsMeant words i
-tells words (Tell text) fault told = fault
-tells words (Print r s p) fault told = absurd told
+-- an error of this kind that is the only one
+only_kind : (k : ErrorKind) (kinds : Kinds) → IsSingle kinds → IsAmong k kinds → kinds ≡ k ∷ []
+only_kind k [] single among = absurd among
+only_kind k (x ∷ []) single (inl e) = ap (λ y. y ∷ []) (sym e)
+only_kind k (x ∷ []) single (inr a) = absurd a
+only_kind k (x ∷ (y ∷ ys)) single among = absurd single
 
--- an error that is among others
-pub among_some : (k : ErrorKind) (kinds : Kinds) → IsAmong k kinds → HasFault kinds
-among_some k [] among = absurd among
-among_some k (x ∷ xs) among = tt
+-- words that ask for the help or the version mean it
+pub requests : (words : List Text) (k : ErrorKind) (i : Invocation) → IsSingle (fault_of known words)
+    → IsAmong k (fault_of known words) → IsRequested k i → IsMeant words i
+requests words k Help single among is = only_kind k (fault_of known words) single among ∙ ap (λ x. x ∷ []) is
+requests words k Version single among is = only_kind k (fault_of known words) single among ∙ ap (λ x. x ∷ []) is
+requests words k (Print r s p) single among is = absurd is
+
+pub help_told : (words : List Text) → fault_of known words ≡ DisplayHelp ∷ [] → AskForText words HELP.now
+help_told words is = subst (λ (ks : Kinds). IsToldFor ks HELP.now) (sym is) refl
+
+pub version_told : (words : List Text) → fault_of known words ≡ DisplayVersion ∷ [] → AskForText words VERSION.now
+version_told words is = subst (λ (ks : Kinds). IsToldFor ks VERSION.now) (sym is) refl

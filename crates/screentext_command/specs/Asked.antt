@@ -3,6 +3,8 @@ use Rattle.std.specs.Prelude.{◌≡◌, ℕ, nat_eq, nat_lt, Bool, true, false,
 use Rattle.std.specs.Prelude.{option_and_then, string_bytes}
 use Rattle.std.specs.Option.{option_map}
 use Rattle.clap.specs.Words.{Kinds, Row, Text, count_of, fault_of, first_of, matches_of}
+use Rattle.clap.specs.declared.error.ErrorKind.{ErrorKind}
+use Rattle.clap.specs.declared.error.ErrorKind.TheVariants.{DisplayHelp, DisplayVersion}
 use Rattle.command_line.specs.Numbers.{size_in}
 use Rattle.command_line.specs.Numbers.{count_of as count_in}
 use Rattle.recordings.specs.Kinds.{kind_named}
@@ -10,11 +12,12 @@ use Rattle.recordings.specs.Recorded.{size_said}
 use Rattle.recordings.specs.declared.recording.Kind.{Kind}
 use Rattle.screentext_command.specs.Words.{known}
 use Rattle.row_texts.specs.declared.row.Look.{Look}
+use Rattle.screentext_command.specs.declared.help.TheConstants.{HELP, VERSION}
 use Rattle.screentext_command.specs.declared.source.Source.{Source}
 use Rattle.screentext_command.specs.declared.words.Form.{Form}
 use Rattle.screentext_command.specs.declared.words.Form.TheVariants.{Film, Player, Still}
 use Rattle.screentext_command.specs.declared.words.Invocation.{Invocation}
-use Rattle.screentext_command.specs.declared.words.Invocation.TheVariants.{Print, Tell}
+use Rattle.screentext_command.specs.declared.words.Invocation.TheVariants.{Help, Print, Version}
 use Rattle.screentext_command.specs.declared.words.Picture.TheVariants as picture
 use Rattle.screentext_command.specs.declared.words.Request.{Request}
 
@@ -118,32 +121,36 @@ pub record AskFor (words : List Text) (o : Origin) (w : Wish) : Type 0 where
   pub origin : SaysOrigin (matches_of known words) o
   pub wish : SaysWish (matches_of known words) w
 
--- `clap` doesn't take these words: they ask for the help or the version
-abbrev pub HasFault : Kinds → Type 0
-HasFault [] = ⊥
-HasFault (k ∷ ks) = Unit {0}
+-- the text that `clap` finds to be asked for: the help, or the version
+abbrev pub IsToldFor : Kinds → List ℕ → Type 0
+IsToldFor (DisplayHelp ∷ []) text = text ≡ HELP.now
+IsToldFor (DisplayVersion ∷ []) text = text ≡ VERSION.now
+IsToldFor _ text = ⊥
 
-abbrev pub AskForHelp : List Text → Type 0
-AskForHelp words = HasFault (fault_of known words)
+-- the words ask for this text
+abbrev pub AskForText : List Text → List ℕ → Type 0
+AskForText words text = IsToldFor (fault_of known words) text
 
 -- ---- what the code makes of them
 
 -- an invocation that is made of these
 abbrev pub IsMadeOf : Option Request → Option Source → Invocation → Type 0
-IsMadeOf r s (Tell text) = ⊥
 IsMadeOf r s (Print request source pictures) = (r ≡ Some request) × (s ≡ Some source)
+IsMadeOf r s _ = ⊥
 
--- a text is told
-abbrev pub IsTold : Invocation → Type 0
-IsTold (Tell text) = Unit {0}
-IsTold (Print request source pictures) = ⊥
+-- the help or the version is requested, by the kind of `clap`'s error
+abbrev pub IsRequested : ErrorKind → Invocation → Type 0
+IsRequested kind Help = kind ≡ DisplayHelp
+IsRequested kind Version = kind ≡ DisplayVersion
+IsRequested kind (Print request source pictures) = ⊥
 
 -- what is to be printed, by these values of the words
 abbrev pub Says : List Row → Invocation → Type 0
-Says rows (Tell text) = ⊥
 Says rows (Print request source pictures) = SaysWish rows (wish_of request) × SaysOrigin rows (origin_of source)
+Says rows _ = ⊥
 
 -- what these words mean
 abbrev pub IsMeant : List Text → Invocation → Type 0
-IsMeant words (Tell text) = AskForHelp words
+IsMeant words Help = fault_of known words ≡ DisplayHelp ∷ []
+IsMeant words Version = fault_of known words ≡ DisplayVersion ∷ []
 IsMeant words (Print request source pictures) = AskFor words (origin_of source) (wish_of request)

@@ -6,7 +6,8 @@ use Rattle.clap.specs.Words.{Text}
 use Rattle.command_line.specs.Input.{Drains}
 use Rattle.command_line.specs.declared.input.InputError.{InputError}
 use Rattle.screentext_command.specs.Faults.{fault_line, input_fault}
-use Rattle.screentext_command.specs.Asked.{AskFor, AskForHelp, Origin, Wish}
+use Rattle.screentext_command.specs.Asked.{AskFor, AskForText, Origin, Wish}
+use Rattle.screentext_command.specs.Missing.{IsMissing}
 use Rattle.screentext_command.specs.Reads.{IsAnswerTo}
 use Rattle.screentext_command.specs.Words.{memory_line}
 use Rattle.screentext_command.specs.declared.error.TextError.{TextError}
@@ -40,26 +41,27 @@ PrintsWith takes flushes w text remark answer v =
 
 -- From an input and a writer it answers so, and leaves both so. With an answer comes what is to be said of it. Nothing
 -- is written before the input has ended.
-pub data Does {S W : Type 0} (holds : List ℕ → List ℕ → Type 0) (words : List Text)
+pub data Does {S W : Type 0} (holds : List ℕ → List ℕ → Type 0) (lacks : List ℕ → Type 0) (words : List Text)
     (gives : S → ℕ → Result (List ℕ) Error → S → Type 0) (takes : W → List ℕ → Result ℕ Error → W → Type 0)
     (flushes : W → Result (Unit {0}) Error → W → Type 0) (s : S) (w : W) : Result (Option TextError) TextError → S → W
     → Type 0 where
   -- there was no memory for the words
-  refused : Does holds words gives takes flushes s w (Err Memory) s w
+  refused : Does holds lacks words gives takes flushes s w (Err Memory) s w
   -- the words ask for the help or the version, which was printed
-  told : {v : W} {answer : Result (Option TextError) TextError} (text : List ℕ) → AskForHelp words
-      → PrintsWith takes flushes w text None answer v → Does holds words gives takes flushes s w answer s v
+  told : {v : W} {answer : Result (Option TextError) TextError} (text : List ℕ) → AskForText words text
+      → PrintsWith takes flushes w text None answer v → Does holds lacks words gives takes flushes s w answer s v
   -- a read failed, as many were made as may be, or there was no memory for what was read
   unread : {t : S} (e : InputError) (lost : List ℕ) → Drains gives 65536 s (2 ^ 40) lost (Err e) t
-      → Does holds words gives takes flushes s w (Err (input_fault e)) t w
-  -- the input was read to its end, and there is no text of it
-  unmade : {t : S} (bytes : List ℕ) (e : TextError) → Drains gives 65536 s (2 ^ 40) bytes (Ok tt) t
-      → Does holds words gives takes flushes s w (Err e) t w
+      → Does holds lacks words gives takes flushes s w (Err (input_fault e)) t w
+  -- the input was read to its end, and for this reason no text of it is printed
+  unmade : {t : S} (bytes : List ℕ) (e : TextError) (origin : Origin) (wish : Wish) → AskFor words origin wish
+      → Drains gives 65536 s (2 ^ 40) bytes (Ok tt) t → IsMissing holds lacks origin wish bytes e
+      → Does holds lacks words gives takes flushes s w (Err e) t w
   -- the input was read to its end, and the text was printed that the words ask for
   done : {t : S} {v : W} {answer : Result (Option TextError) TextError} (bytes text : List ℕ)
       (remark : Option TextError) (origin : Origin) (wish : Wish) → AskFor words origin wish
       → Drains gives 65536 s (2 ^ 40) bytes (Ok tt) t → IsAnswerTo holds origin wish bytes text remark
-      → PrintsWith takes flushes w text remark answer v → Does holds words gives takes flushes s w answer t v
+      → PrintsWith takes flushes w text remark answer v → Does holds lacks words gives takes flushes s w answer t v
 
 -- a fault's line was written on the error output, or that of memory, where there was none for the line
 abbrev pub TellsFault : {V : Type 0} → (V → List ℕ → Result ℕ Error → V → Type 0) → V → TextError → V → Type 0
@@ -73,10 +75,11 @@ Reports takes old (Ok (Some remark)) status new = (status ≡ 3) × TellsFault t
 Reports takes old (Err e) status new = (status ≡ 1) × TellsFault takes old e new
 
 -- Words that are understood were obeyed, from an input to an output and an error output.
-pub record CarriesOut {S W V : Type 0} (holds : List ℕ → List ℕ → Type 0) (words : List Text)
-    (gives : S → ℕ → Result (List ℕ) Error → S → Type 0) (takes : W → List ℕ → Result ℕ Error → W → Type 0)
+pub record CarriesOut {S W V : Type 0} (holds : List ℕ → List ℕ → Type 0) (lacks : List ℕ → Type 0)
+    (words : List Text) (gives : S → ℕ → Result (List ℕ) Error → S → Type 0)
+    (takes : W → List ℕ → Result ℕ Error → W → Type 0)
     (flushes : W → Result (Unit {0}) Error → W → Type 0) (tells : V → List ℕ → Result ℕ Error → V → Type 0) (s : S)
     (w : W) (e : V) (status : ℕ) (t : S) (v : W) (f : V) : Type 0 where
   pub answer : Result (Option TextError) TextError
-  pub does : Does holds words gives takes flushes s w answer t v
+  pub does : Does holds lacks words gives takes flushes s w answer t v
   pub reported : Reports tells e answer status f

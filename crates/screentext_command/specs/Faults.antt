@@ -3,7 +3,13 @@ use Rattle.std.specs.Prelude.{ℕ, List, [], ◌∷◌, ◌++◌, codes}
 use Rattle.std.specs.Fmt.{decimal}
 use Rattle.command_line.specs.declared.input.InputError.{InputError}
 use Rattle.command_line.specs.declared.input.InputError.TheVariants as input
+use Rattle.player_page.specs.declared.error.PlayerError.{PlayerError}
+use Rattle.player_page.specs.declared.error.PlayerError.TheVariants as player
+use Rattle.recorded_screen.specs.declared.error.FilmError.{FilmError}
+use Rattle.recorded_screen.specs.declared.error.FilmError.TheVariants as film
 use Rattle.recordings.specs.Faults.{fault_text as recording_fault_text}
+use Rattle.recordings.specs.declared.error.RecordingError.{RecordingError}
+use Rattle.recordings.specs.declared.error.RecordingError.TheVariants as recording
 use Rattle.screentext_command.specs.declared.error.TextError.{TextError}
 use Rattle.screentext_command.specs.declared.error.TextError.TheVariants.{Cells, Cut, File, Film, Guessed, Marker, Memory}
 use Rattle.screentext_command.specs.declared.error.TextError.TheVariants.{Player, Read, Recording, Write}
@@ -13,6 +19,19 @@ abbrev pub input_fault : InputError → TextError
 input_fault (input.Read e) = Read
 input_fault input.Memory = Memory
 input_fault input.TooManyReads = Read
+
+-- a fault of reading a recording, of a film, and of a page that plays
+abbrev pub recording_fault : RecordingError → TextError
+recording_fault recording.Memory = Memory
+recording_fault e = Recording e
+
+abbrev pub film_fault : FilmError → TextError
+film_fault film.Memory = Memory
+film_fault film.TooLong = Film
+
+abbrev pub player_fault : PlayerError → TextError
+player_fault player.Memory = Memory
+player_fault player.TooLong = Player
 
 -- what is said of a fault
 abbrev pub fault_text : TextError → List ℕ

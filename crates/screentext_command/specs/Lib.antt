@@ -3,6 +3,8 @@ pub mod Command
 pub mod Drawn
 pub mod Faults
 pub mod Limits
+pub mod Listed
+pub mod Missing
 pub mod Moments
 pub mod Reads
 pub mod Texts

@@ -13,6 +13,7 @@ use Rattle.recordings.specs.declared.recording.Recording.{Recording}
 use Rattle.screentext_command.specs.Asked.{Origin, Wish}
 use Rattle.screentext_command.specs.Drawn.{IsDrawn}
 use Rattle.screentext_command.specs.Limits.{are_within}
+use Rattle.screentext_command.specs.Listed.{list_text}
 use Rattle.screentext_command.specs.Moments.{AreMoments}
 use Rattle.screentext_command.specs.Texts.{IsAnswer, size_at_first}
 use Rattle.screentext_command.specs.declared.error.TextError.{TextError}
@@ -85,4 +86,5 @@ pub record IsAnswerTo (holds : List ℕ → List ℕ → Type 0) (o : Origin)
     (w : Wish) (bytes text : List ℕ) (remark : Option TextError) : Type 0 where
   pub recording : Recording
   pub shown : IsShown holds o bytes recording remark
+  pub list : o.list ≡ true → text ≡ list_text recording
   pub screen : o.list ≡ false → IsScreenText o w recording text

@@ -1,10 +1,13 @@
 //! What is printed of a recording.
 
-ghost use Rattle.std.specs.Prelude.{◌≡◌, IfOk, false};
+ghost use Rattle.std.specs.Prelude.{◌≡◌, ◌⊎◌, IfErr, IfOk, Some, false};
 ghost use Rattle.std.specs.Option.{option_map};
 ghost use Rattle.recordings.specs.Recorded.{size_said};
+ghost use Rattle.screentext_command.specs.Missing.{too_long};
 ghost use Rattle.screentext_command.specs.Texts.{IsAnswer, IsFilm, IsPlayer, IsScreen, IsStill, changes_text, rows_text};
 ghost use Rattle.screentext_command.specs.Texts.{screen_at, size_at_first};
+ghost use Rattle.screentext_command.specs.declared.error.TextError.TheVariants.{Film as LongFilm, Memory};
+ghost use Rattle.screentext_command.specs.declared.error.TextError.TheVariants.{Player as LongPlayer};
 
 use crate::changes::push_changes;
 use crate::error::TextError;
@@ -30,9 +33,10 @@ pub(crate) fn answer_of(
     moments: Moments,
     pictures: &Pictures,
 ) -> Result<Vec<u8>, TextError>
-    ensures { IfOk result (λ text. IsAnswer request.form request.look request.history
+    ensures text { IfOk result (λ text. IsAnswer request.form request.look request.history
         (size_at_first (option_map size_said request.size) (option_map size_said recording.now.size)) recording.now
         moments.moment moments.since text.items) }
+    ensures fault { IfErr result (λ e. (e ≡ Memory) ⊎ (too_long request.form ≡ Some e)) }
 {
     let size = size_of(recording, request.size);
     match request.form {
@@ -75,8 +79,9 @@ fn screen_of(
     moments: Moments,
     pictures: &Pictures,
 ) -> Result<Vec<u8>, TextError>
-    ensures { IfOk result (λ text. IsScreen picture request.look request.history (size_said size) recording.now
+    ensures text { IfOk result (λ text. IsScreen picture request.look request.history (size_said size) recording.now
         moments.moment moments.since text.items) }
+    ensures fault { IfErr result (λ e. e ≡ Memory) }
 {
     let mut terminal = terminal_of(alloc, recording, size, request.history, moments.moment)?;
     match moments.since {
@@ -98,6 +103,7 @@ fn terminal_of(
 ) -> Result<Parser<()>, TextError>
     ensures live { IfOk result (λ p. p.screen.failed ≡ false) }
     ensures shows { IfOk result (λ p. p.screen.state ≡ screen_at (size_said size) capacity recording.now moment) }
+    ensures fault { IfErr result (λ e. e ≡ Memory) }
 {
     let terminal = terminal_at(alloc, size, capacity, &recording.events, moment)?;
     Ok(terminal)
@@ -117,7 +123,8 @@ fn film_of(
     moment: u64,
     pictures: &Pictures,
 ) -> Result<Vec<u8>, TextError>
-    ensures { IfOk result (λ text. IsFilm text.items) }
+    ensures film { IfOk result (λ text. IsFilm text.items) }
+    ensures fault { IfErr result (λ e. (e ≡ Memory) ⊎ (e ≡ LongFilm)) }
 {
     let colors = pictures.look(alloc, theme_of(recording))?;
     Ok(film(
@@ -139,7 +146,8 @@ fn player_of(
     moment: u64,
     pictures: &Pictures,
 ) -> Result<Vec<u8>, TextError>
-    ensures { IfOk result (λ text. IsPlayer (size_said size) recording.now text.items) }
+    ensures player { IfOk result (λ text. IsPlayer (size_said size) recording.now text.items) }
+    ensures fault { IfErr result (λ e. (e ≡ Memory) ⊎ (e ≡ LongPlayer)) }
 {
     let colors = pictures.look(alloc, theme_of(recording))?;
     let play = Play {
@@ -161,8 +169,9 @@ fn picture_of(
     colors: &Colors,
 ) -> Result<Vec<u8>, TextError>
     requires { terminal.old.screen.failed ≡ false }
-    ensures { IfOk result (λ text. IsStill picture request.look request.history terminal.old.screen.state
+    ensures picture { IfOk result (λ text. IsStill picture request.look request.history terminal.old.screen.state
         text.items) }
+    ensures fault { IfErr result (λ e. e ≡ Memory) }
 {
     match picture {
         Picture::Text => lines_of(alloc, terminal, request.history, request.look),
@@ -179,7 +188,8 @@ fn lines_of(
     look: Look,
 ) -> Result<Vec<u8>, TextError>
     requires { terminal.old.screen.failed ≡ false }
-    ensures { IfOk result (λ text. text.items ≡ rows_text look history terminal.old.screen.state) }
+    ensures lines { IfOk result (λ text. text.items ≡ rows_text look history terminal.old.screen.state) }
+    ensures fault { IfErr result (λ e. e ≡ Memory) }
 {
     let mut text = String::new(alloc);
     push_lines(&mut text, terminal.screen_mut(), history, look)?;
@@ -195,8 +205,9 @@ fn changes_since(
     since: u64,
     after: &Parser<()>,
 ) -> Result<Vec<u8>, TextError>
-    ensures { IfOk result (λ text. text.items ≡ changes_text look
+    ensures changes { IfOk result (λ text. text.items ≡ changes_text look
         (screen_at (size_said size) 0 recording.now since).shown after.now.screen.state.shown) }
+    ensures fault { IfErr result (λ e. e ≡ Memory) }
 {
     let before = terminal_of(alloc, recording, size, 0, since)?;
     changes_of(alloc, &before, after, look)
@@ -208,8 +219,9 @@ fn changes_of(
     after: &Parser<()>,
     look: Look,
 ) -> Result<Vec<u8>, TextError>
-    ensures { IfOk result (λ text. text.items ≡ changes_text look before.now.screen.state.shown
+    ensures changes { IfOk result (λ text. text.items ≡ changes_text look before.now.screen.state.shown
         after.now.screen.state.shown) }
+    ensures fault { IfErr result (λ e. e ≡ Memory) }
 {
     let mut text = String::new(alloc);
     push_changes(alloc, &mut text, before.screen(), after.screen(), look)?;

@@ -11,6 +11,7 @@ ghost use Rattle.screentext_command.specs.declared.error.TextError.TheVariants.{
 
 use crate::error::TextError;
 use crate::files::{Files, NoFiles};
+use crate::help::{HELP, VERSION};
 use crate::pictures::Pictures;
 use crate::reading::answer_to;
 use crate::source::Source as Asked;
@@ -44,8 +45,8 @@ pub fn command<R: Source, W: FlushSink, V: ByteSink>(
         × (output.new ≡ output.old) × (((result ≡ 2) × Tells V.takes errors.old usage_line errors.new)
         ⊎ ((result ≡ 1) × Tells V.takes errors.old memory_line errors.new)) }
     ensures does { is_invocation (map (λ w. w.now) words.now) ≡ true → CarriesOut (λ path bytes. ⊥)
-        (map (λ w. w.now) words.now) R.gives W.takes W.flushes V.takes input.old output.old errors.old
-        result input.new output.new errors.new }
+        (λ path. Unit {0}) (map (λ w. w.now) words.now) R.gives W.takes W.flushes V.takes input.old output.old
+        errors.old result input.new output.new errors.new }
     ensures understood { is_invocation (map (λ w. w.now) words.now) ≡ true → (result ≤ 1) ⊎ (result ≡ 3) }
 
     // Whatever the words are:
@@ -75,8 +76,8 @@ pub fn command_with<F: Files, R: Source, W: FlushSink, V: ByteSink>(
         × (output.new ≡ output.old) × (((result ≡ 2) × Tells V.takes errors.old usage_line errors.new)
         ⊎ ((result ≡ 1) × Tells V.takes errors.old memory_line errors.new)) }
     ensures does { is_invocation (map (λ w. w.now) words.now) ≡ true → CarriesOut (F.holds files.now)
-        (map (λ w. w.now) words.now) R.gives W.takes W.flushes V.takes input.old output.old errors.old
-        result input.new output.new errors.new }
+        (F.lacks files.now) (map (λ w. w.now) words.now) R.gives W.takes W.flushes V.takes input.old output.old
+        errors.old result input.new output.new errors.new }
     ensures understood { is_invocation (map (λ w. w.now) words.now) ≡ true → (result ≤ 1) ⊎ (result ≡ 3) }
 
     // Whatever the words are:
@@ -149,11 +150,12 @@ fn obey<F: Files, R: Source, W: FlushSink>(
     input: &mut R,
     output: &mut W,
 ) -> Result<Option<TextError>, TextError>
-    ensures { (words : List Text) → IsMeant words invocation → Does (F.holds files.now) words R.gives W.takes W.flushes
-        input.old output.old result input.new output.new }
+    ensures { (words : List Text) → IsMeant words invocation → Does (F.holds files.now) (F.lacks files.now) words
+        R.gives W.takes W.flushes input.old output.old result input.new output.new }
 {
     match invocation {
-        Invocation::Tell(text) => print(output, text.as_bytes(), None),
+        Invocation::Help => print(output, HELP, None),
+        Invocation::Version => print(output, VERSION, None),
         Invocation::Print(request, source, pictures) => {
             print_answer(alloc, files, (request, source, pictures), input, output)
         }
@@ -168,8 +170,8 @@ fn print_answer<F: Files, R: Source, W: FlushSink>(
     input: &mut R,
     output: &mut W,
 ) -> Result<Option<TextError>, TextError>
-    ensures { (words : List Text) → AskFor words (origin_of asked.1) (wish_of asked.0) → Does (F.holds files.now) words
-        R.gives W.takes W.flushes input.old output.old result input.new output.new }
+    ensures { (words : List Text) → AskFor words (origin_of asked.1) (wish_of asked.0) → Does (F.holds files.now)
+        (F.lacks files.now) words R.gives W.takes W.flushes input.old output.old result input.new output.new }
 {
     let (request, source, pictures) = asked;
     let bytes = read_all(alloc, input)?;

@@ -1,11 +1,8 @@
 //! Why a command ended before its work was done.
 
 ghost use Rattle.std.specs.Prelude.{◌≡◌};
-ghost use Rattle.screentext_command.specs.Faults.{input_fault};
+ghost use Rattle.screentext_command.specs.Faults.{film_fault, input_fault, player_fault, recording_fault};
 ghost use Rattle.screentext_command.specs.declared.error.TextError.TheVariants.{Memory};
-ghost use Rattle.recorded_screen.specs.declared.error.FilmError.TheVariants.{Memory as NoMemory};
-ghost use Rattle.player_page.specs.declared.error.PlayerError.TheVariants.{Memory as NoRoom};
-ghost use Rattle.recordings.specs.declared.error.RecordingError.TheVariants.{Memory as Refused};
 
 use command_line::InputError;
 use player_page::PlayerError;
@@ -115,7 +112,7 @@ impl From<ScreenError> for TextError {
 }
 
 impl From<FilmError> for TextError {
-    ghost from_gives = { λ old e. old ≡ NoMemory → e ≡ Memory };
+    ghost from_gives = { λ error e. e ≡ film_fault error };
 
     fn from(error: FilmError) -> Self {
         match error {
@@ -126,7 +123,7 @@ impl From<FilmError> for TextError {
 }
 
 impl From<PlayerError> for TextError {
-    ghost from_gives = { λ old e. old ≡ NoRoom → e ≡ Memory };
+    ghost from_gives = { λ error e. e ≡ player_fault error };
 
     fn from(error: PlayerError) -> Self {
         match error {
@@ -137,7 +134,7 @@ impl From<PlayerError> for TextError {
 }
 
 impl From<RecordingError> for TextError {
-    ghost from_gives = { λ old e. old ≡ Refused → e ≡ Memory };
+    ghost from_gives = { λ error e. e ≡ recording_fault error };
 
     fn from(error: RecordingError) -> Self {
         match error {

@@ -1,11 +1,17 @@
 //! What is read of a recording, and the text that is printed of it.
 
-ghost use Rattle.std.specs.Prelude.{◌≡◌, ◌&&◌, ℕ, List, Some, true, false, is_none, IfOk};
-ghost use Rattle.std.specs.Option.{option_copied};
-ghost use Rattle.screentext_command.specs.Asked.{origin_of, wish_of};
+ghost use Rattle.std.specs.Prelude.{◌≡◌, ◌&&◌, ◌⊎◌, ℕ, List, Some, true, false, is_none, IfErr, IfOk};
+ghost use Rattle.std.specs.Option.{option_copied, option_map};
+ghost use Rattle.std.specs.Vec.{vec_items};
+ghost use Rattle.recordings.specs.declared.error.RecordingError.{RecordingError as Fault};
+ghost use Rattle.screentext_command.specs.Asked.{Wish, origin_of, wish_of};
 ghost use Rattle.screentext_command.specs.Limits.{are_within};
+ghost use Rattle.screentext_command.specs.Listed.{list_text};
+ghost use Rattle.screentext_command.specs.Missing.{HasNoText, IsMissing, IsUnreadAs};
 ghost use Rattle.screentext_command.specs.Reads.{IsAnswerTo, IsDrawnSo, IsNoted, IsPart, IsRead, IsReadAs, IsScreenText};
-ghost use Rattle.screentext_command.specs.Reads.{IsShown, begins_as_asciicast, note_of};
+ghost use Rattle.screentext_command.specs.Reads.{IsShown, IsTiming, begins_as_asciicast, note_of};
+ghost use Rattle.screentext_command.specs.declared.error.TextError.TheVariants.{Cells, Memory};
+ghost use Rattle.screentext_command.specs.declared.error.TextError.TheVariants.{Recording as OfRecording};
 
 use crate::answer::answer_of;
 use crate::error::TextError;
@@ -38,7 +44,10 @@ pub(crate) fn answer_to<F: Files>(
     source: &Source,
     pictures: &Pictures,
 ) -> Result<Answer, TextError>
-    ensures { IfOk result (λ a. IsAnswerTo (F.holds files.now) (origin_of source.now) (wish_of request) bytes.items a.text.items a.note) }
+    ensures text { IfOk result (λ a. IsAnswerTo (F.holds files.now) (origin_of source.now) (wish_of request) bytes.items
+        a.text.items a.note) }
+    ensures fault { IfErr result (IsMissing (F.holds files.now) (F.lacks files.now) (origin_of source.now)
+        (wish_of request) bytes.items) }
 {
     let title = title_of(alloc, &bytes)?;
     let (recording, note) = recording_of(alloc, files, bytes, source)?;
@@ -55,7 +64,11 @@ fn text_of(
     source: &Source,
     pictures: &Pictures,
 ) -> Result<Vec<u8>, TextError>
-    ensures { IfOk result (λ text. source.now.list ≡ false → IsScreenText (origin_of source.now) (wish_of request) recording.now text.items) }
+    ensures list { IfOk result (λ text. source.now.list ≡ true → text.items ≡ list_text recording.now) }
+    ensures screen { IfOk result (λ text. source.now.list ≡ false → IsScreenText (origin_of source.now)
+        (wish_of request) recording.now text.items) }
+    ensures fault { IfErr result (λ e. (e ≡ Memory) ⊎ HasNoText (origin_of source.now) (wish_of request) recording.now
+        e) }
 {
     let moments = moments_of(alloc, recording, source)?;
     if source.list {
@@ -71,7 +84,9 @@ fn recording_of<F: Files>(
     bytes: Vec<u8>,
     source: &Source,
 ) -> Result<(Recording, Option<TextError>), TextError>
-    ensures { IfOk result (λ r. IsShown (F.holds files.now) (origin_of source.now) bytes.items r.0 r.1) }
+    ensures shown { IfOk result (λ r. IsShown (F.holds files.now) (origin_of source.now) bytes.items r.0 r.1) }
+    ensures fault { (wish : Wish) → IfErr result (IsMissing (F.holds files.now) (F.lacks files.now)
+        (origin_of source.now) wish bytes.items) }
 {
     let (read, note) = read_part(alloc, files, bytes, source)?;
     let part = within(read, source.most_cells)?;
@@ -80,7 +95,8 @@ fn recording_of<F: Files>(
 
 // The recording, unless a size in it has more cells than this.
 fn within(recording: Recording, most: usize) -> Result<Recording, TextError>
-    ensures { IfOk result (λ r. (r ≡ recording) × (are_within most recording ≡ true)) }
+    ensures recording { IfOk result (λ r. (r ≡ recording) × (are_within most recording ≡ true)) }
+    ensures fault { IfErr result (λ e. (e ≡ Cells most) × (are_within most recording ≡ false)) }
 {
     if has_only(&recording, most) {
         Ok(recording)
@@ -107,7 +123,9 @@ fn read_part<F: Files>(
     bytes: Vec<u8>,
     source: &Source,
 ) -> Result<(Recording, Option<TextError>), TextError>
-    ensures { IfOk result (λ r. IsPart (F.holds files.now) (origin_of source.now) bytes.items r.0 r.1) }
+    ensures part { IfOk result (λ r. IsPart (F.holds files.now) (origin_of source.now) bytes.items r.0 r.1) }
+    ensures fault { (wish : Wish) → IfErr result (IsMissing (F.holds files.now) (F.lacks files.now)
+        (origin_of source.now) wish bytes.items) }
 {
     let begins = may_be_cast(source.kind, &bytes);
     let reading = read_with(alloc, files, bytes, source)?;
@@ -129,6 +147,7 @@ fn taken(
 ) -> Result<(Recording, Option<TextError>), RecordingError>
     ensures recording { IfOk result (λ r. r.0 ≡ reading.recording) }
     ensures noted { IfOk result (λ r. IsNoted strict begins reading r.1) }
+    ensures fault { IfErr result (λ e. (strict ≡ true) × (reading.fault ≡ Some e)) }
 {
     if strict {
         return Ok((reading.whole()?, None));
@@ -153,28 +172,30 @@ fn read_with<F: Files>(
     bytes: Vec<u8>,
     source: &Source,
 ) -> Result<Reading, TextError>
-    ensures { IfOk result (IsRead (F.holds files.now) (origin_of source.now) bytes.items) }
+    ensures reading { IfOk result (IsRead (F.holds files.now) (origin_of source.now) bytes.items) }
+    ensures fault { (wish : Wish) → IfErr result (IsMissing (F.holds files.now) (F.lacks files.now)
+        (origin_of source.now) wish bytes.items) }
 {
-    match &source.timing {
-        None => read_bytes(alloc, bytes, None, source.kind),
-        Some(path) => read_timed(alloc, files, bytes, path.as_str(), source.kind),
-    }
+    let timing = timing_of(alloc, files, source)?;
+    let reading = read_bytes(alloc, bytes, timing.as_deref(), source.kind)?;
+    Ok(reading)
 }
 
-// What is recorded in the bytes, with the timing file of this path.
-fn read_timed<F: Files>(
+// The bytes of the timing file that the words name, if they name one.
+fn timing_of<F: Files>(
     alloc: Global,
     files: &F,
-    bytes: Vec<u8>,
-    path: &str,
-    kind: Option<Kind>,
-) -> Result<Reading, TextError>
-    ensures { IfOk result (λ r. (timing : List ℕ) × (F.holds files.now path.now timing)
-        × IsReadAs kind (Some timing) bytes.items r) }
+    source: &Source,
+) -> Result<Option<Vec<u8>>, TextError>
+    ensures timing { IfOk result (λ t. IsTiming (F.holds files.now) (origin_of source.now).timing
+        (option_map vec_items t)) }
+    ensures fault { (wish : Wish) (bytes : List ℕ) → IfErr result (IsMissing (F.holds files.now) (F.lacks files.now)
+        (origin_of source.now) wish bytes) }
 {
-    let timing = files.read(alloc, path)?;
-    let reading = read_bytes(alloc, bytes, Some(&timing), kind)?;
-    Ok(reading)
+    match &source.timing {
+        None => Ok(None),
+        Some(path) => Ok(Some(files.read(alloc, path.as_str())?)),
+    }
 }
 
 fn read_bytes(
@@ -183,7 +204,9 @@ fn read_bytes(
     timing: Option<&[u8]>,
     kind: Option<Kind>,
 ) -> Result<Reading, TextError>
-    ensures { let lines = option_copied timing.entry in IfOk result (IsReadAs kind lines bytes.items) }
+    ensures reading { let lines = option_copied timing.entry in IfOk result (IsReadAs kind lines bytes.items) }
+    ensures fault { let lines = option_copied timing.entry in IfErr result (λ e. (e ≡ Memory)
+        ⊎ ((fault : Fault) × (e ≡ OfRecording fault) × IsUnreadAs kind lines bytes.items fault)) }
 {
     Ok(read_recording(alloc, bytes, timing, kind)?)
 }

@@ -1,12 +1,13 @@
 //! Which recording is meant, and which of its moments.
 
-ghost use Rattle.std.specs.Prelude.{◌≡◌, ◌&&◌, is_some, IfOk, IfSome, true, Some, string_bytes};
+ghost use Rattle.std.specs.Prelude.{◌≡◌, ◌&&◌, ◌⊎◌, is_some, IfErr, IfOk, IfSome, true, Some, string_bytes};
 ghost use Rattle.std.specs.Option.{option_map, option_map_or};
 ghost use Rattle.clap.specs.Words.{found_of, rows_of};
 ghost use Rattle.command_line.specs.Numbers.{is_count};
 ghost use Rattle.recordings.specs.Kinds.{kind_named};
 ghost use Rattle.recordings.specs.Recorded.{deed_of, said};
 ghost use Rattle.screentext_command.specs.Asked.{SaysOrigin, cells_meant, kind_meant, origin_of};
+ghost use Rattle.screentext_command.specs.Missing.{IsNoMoment};
 ghost use Rattle.screentext_command.specs.Moments.{AreMoments, IsEarlierMoment, IsMoment, is_marker, marker_time};
 ghost use Rattle.screentext_command.specs.Moments.{time_meant};
 ghost use Rattle.screentext_command.specs.Words.{are_sources};
@@ -131,8 +132,10 @@ pub(crate) fn moments_of(
     recording: &Recording,
     source: &Source,
 ) -> Result<Moments, TextError>
-    ensures { IfOk result (λ m. AreMoments (said recording.now.events.items) (origin_of source.now)
+    ensures moments { IfOk result (λ m. AreMoments (said recording.now.events.items) (origin_of source.now)
         m.moment m.since) }
+    ensures fault { IfErr result (λ e. IsNoMoment (said recording.now.events.items) (origin_of source.now).moment e
+        ⊎ IsNoMoment (said recording.now.events.items) (origin_of source.now).since e) }
 {
     Ok(Moments {
         moment: moment_of(alloc, recording, &source.moment)?,
@@ -142,7 +145,8 @@ pub(crate) fn moments_of(
 
 // The moment that a word says, or the end.
 fn moment_of(alloc: Global, recording: &Recording, word: &Option<String>) -> Result<u64, TextError>
-    ensures { IfOk result (IsMoment (said recording.now.events.items) (option_map string_bytes word.now)) }
+    ensures moment { IfOk result (IsMoment (said recording.now.events.items) (option_map string_bytes word.now)) }
+    ensures fault { IfErr result (IsNoMoment (said recording.now.events.items) (option_map string_bytes word.now)) }
 {
     match word {
         None => Ok(END),
@@ -156,7 +160,9 @@ fn since_of(
     recording: &Recording,
     word: &Option<String>,
 ) -> Result<Option<u64>, TextError>
-    ensures { IfOk result (IsEarlierMoment (said recording.now.events.items) (option_map string_bytes word.now)) }
+    ensures moment { IfOk result (IsEarlierMoment (said recording.now.events.items)
+        (option_map string_bytes word.now)) }
+    ensures fault { IfErr result (IsNoMoment (said recording.now.events.items) (option_map string_bytes word.now)) }
 {
     match word {
         None => Ok(None),
@@ -166,7 +172,8 @@ fn since_of(
 
 // The time that a word is, or else that of the first marker of this name.
 fn time_of(alloc: Global, events: &[Event], word: &str) -> Result<u64, TextError>
-    ensures { IfOk result (λ time. time_meant (said events.now) word.now ≡ Some time) }
+    ensures time { IfOk result (λ time. time_meant (said events.now) word.now ≡ Some time) }
+    ensures fault { IfErr result (IsNoMoment (said events.now) (Some word.now)) }
 {
     if let Some(time) = parse_seconds(alloc, word.as_bytes())? {
         return Ok(time);

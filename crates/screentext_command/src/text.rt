@@ -1,7 +1,8 @@
 //! The rows of a screen as text.
 
-ghost use Rattle.std.specs.Prelude.{◌≡◌, ◌++◌, OnOk, false, string_bytes};
+ghost use Rattle.std.specs.Prelude.{◌≡◌, ◌++◌, IfErr, OnOk, false, string_bytes};
 ghost use Rattle.screentext_command.specs.Texts.{cells_at, end_text, kept_text, line_at, rows_text, scrolled, shown_text};
+ghost use Rattle.screentext_command.specs.declared.error.TextError.TheVariants.{Memory};
 ghost use Rattle.vt100.specs.Tries.{alive};
 
 use crate::error::TextError;
@@ -18,7 +19,9 @@ pub(crate) fn push_lines(
     look: Look,
 ) -> Result<(), TextError>
     requires { screen.old.failed ≡ false }
-    ensures { OnOk result (string_bytes out.new ≡ string_bytes out.old ++ rows_text look history screen.old.state) }
+    ensures text { OnOk result (string_bytes out.new
+        ≡ string_bytes out.old ++ rows_text look history screen.old.state) }
+    ensures fault { IfErr result (λ e. e ≡ Memory) }
 {
     let count = history.min(screen.scrollback_len());
     push_kept(out, screen, count, look)?;
@@ -38,6 +41,7 @@ fn push_kept(
     ensures text { OnOk result (string_bytes out.new
         ≡ string_bytes out.old ++ kept_text look screen.old.state count count) }
     ensures screen { OnOk result (screen.new ≡ alive (scrolled screen.old.state count count)) }
+    ensures fault { IfErr result (λ e. e ≡ Memory) }
 {
     for above in 0..count {
         screen.set_scrollback(count - above)?;

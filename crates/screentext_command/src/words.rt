@@ -7,7 +7,7 @@ ghost use Rattle.clap.specs.declared.error.ErrorKind.TheVariants.{OutOfMemory};
 ghost use Rattle.command_line.specs.Numbers.{is_count};
 ghost use Rattle.recordings.specs.Times.{json_in};
 ghost use Rattle.recordings.specs.Recorded.{size_said};
-ghost use Rattle.screentext_command.specs.Asked.{IsMadeOf, IsMeant, IsTold, Says, SaysWish, form_meant};
+ghost use Rattle.screentext_command.specs.Asked.{IsMadeOf, IsMeant, IsRequested, Says, SaysWish, form_meant};
 ghost use Rattle.screentext_command.specs.Asked.{history_meant, screen_meant, wish_of};
 ghost use Rattle.screentext_command.specs.declared.error.TextError.TheVariants.{Memory};
 ghost use Rattle.screentext_command.specs.Words.{are_values, are_words, is_form, is_moment, is_invocation, is_request};
@@ -24,13 +24,14 @@ use recorded_screen::ScreenSize;
 use recordings::{microseconds, parse_json};
 use row_texts::Look;
 use std::alloc::Global;
-use std::fmt::Write;
 
 /// What the program is asked to do.
 #[derive(Drop)]
 pub(crate) enum Invocation {
-    /// Print this text: the help or the version.
-    Tell(String),
+    /// Print the help.
+    Help,
+    /// Print the version.
+    Version,
     /// Print a screen, or describe the recording.
     Print(Request, Source, Pictures),
 }
@@ -78,22 +79,21 @@ pub(crate) fn parse(alloc: Global, words: &[&str]) -> Result<Option<Invocation>,
 {
     match known_words(alloc)?.try_get_matches_from(words) {
         Ok(matches) => invocation_of(alloc, &matches),
-        Err(error) => asked(alloc, &error),
+        Err(error) => asked(&error),
     }
 }
 
 // What words ask for with which `clap` doesn't go on: the help, the version or nothing.
-fn asked(alloc: Global, error: &Error) -> Result<Option<Invocation>, TextError>
+fn asked(error: &Error) -> Result<Option<Invocation>, TextError>
     ensures fault { IfErr result (λ e. e ≡ Memory) }
     ensures invocation { IfOk result (λ o. is_some o ≡ is_request (kind_of error.now)) }
-    ensures told { IfOk result (λ o. IfSome o IsTold) }
+    ensures told { IfOk result (λ o. IfSome o (IsRequested (kind_of error.now))) }
     ensures memory { kind_of error.now ≡ OutOfMemory → result ≡ Err Memory }
 {
     match error.kind() {
         ErrorKind::OutOfMemory => Err(TextError::Memory),
-        ErrorKind::DisplayHelp | ErrorKind::DisplayVersion => {
-            Ok(Some(Invocation::Tell(format!(in alloc; "{error}")?)))
-        }
+        ErrorKind::DisplayHelp => Ok(Some(Invocation::Help)),
+        ErrorKind::DisplayVersion => Ok(Some(Invocation::Version)),
         _ => Ok(None),
     }
 }

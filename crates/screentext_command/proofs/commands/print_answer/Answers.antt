@@ -14,9 +14,9 @@ pub returns-in_err-answer : goal.returns-in_err-answer
 returns-in_err-answer g c = λ words asks.
     let e = c.in_err-answer.field-0.0 in
     let is : c.from_residual-in_err-answer.result ≡ Err e = search rules in
-    rw is (unmade c.in_ok-bytes.bytes.items e c.in_ok-bytes.ensures.reads)
+    rw is (unmade c.in_ok-bytes.bytes.items e _ _ asks c.in_ok-bytes.ensures.reads c.in_err-answer.ensures.fault)
 
 pub returns : goal.returns
 returns g c = λ words asks.
     done c.in_ok-bytes.bytes.items _ _ (origin_of c.args.asked.1) (wish_of c.args.asked.0) asks
-    c.in_ok-bytes.ensures.reads c.in_ok-answer.ensures (rw c.deref.ensures.value at c.print.ensures)
+    c.in_ok-bytes.ensures.reads c.in_ok-answer.ensures.text (rw c.deref.ensures.value at c.print.ensures)

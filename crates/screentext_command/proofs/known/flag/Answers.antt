@@ -5,8 +5,8 @@ use Rattle.screentext_command.proofs.known.flag.Goals as goal
 
 pub returns-clause-rule : goal.returns-clause-rule
 returns-clause-rule c =
-    rw (c.help.ensures, c.action.ensures, c.long.ensures)
+    rw (c.action.ensures, c.long.ensures)
     (ap (λ (r : Rule). record r { long = Some c.args.id.now; action = Some Count }) c.new.ensures.rule)
 
 pub returns-clause-local : goal.returns-clause-local
-returns-clause-local c = rw (c.help.ensures, c.action.ensures, c.long.ensures) c.new.ensures.optional.1
+returns-clause-local c = rw (c.action.ensures, c.long.ensures) c.new.ensures.optional.1

@@ -7,9 +7,6 @@ returns c =
     rw (
       c.args_override_self.ensures,
       c.no_binary_name.ensures,
-      c.after_help.ensures,
-      c.override_usage.ensures,
-      c.about.ensures,
       c.version.ensures,
     ) (ap (λ (a : App). record a {
       top = record a.top { has_version = true; no_binary_name = true; args_override_self = true };

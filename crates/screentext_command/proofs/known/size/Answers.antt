@@ -1,9 +1,7 @@
-use Rattle.std.proofs.Common.{◌∙◌, ap}
-use Rattle.clap.specs.Words.{rule_of}
 use Rattle.screentext_command.proofs.known.size.Goals as goal
 
 pub returns-clause-rule : goal.returns-clause-rule
-returns-clause-rule c = ap rule_of c.help.ensures ∙ c.new.ensures.rule
+returns-clause-rule c = c.new.ensures.rule
 
 pub returns-clause-local : goal.returns-clause-local
-returns-clause-local c = ap (λ a. a.global) c.help.ensures ∙ c.new.ensures.optional.1
+returns-clause-local c = c.new.ensures.optional.1

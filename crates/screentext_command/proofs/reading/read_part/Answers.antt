@@ -1,11 +1,21 @@
-use Rattle.std.proofs.Common.{◌∙◌, ◌&&◌, Bool, List, ℕ, ap, is_none, subst}
+use Rattle.std.proofs.Common.{◌≡◌, ◌∙◌, ◌&&◌, Bool, Err, List, ℕ, ap, is_none, rules, subst}
+use Rattle.screentext_command.proofs.MissingLemmas.{cut_missing}
+use Rattle.screentext_command.specs.Asked.{origin_of}
+use Rattle.screentext_command.specs.Faults.{recording_fault}
 use Rattle.screentext_command.specs.Reads.{IsNoted, begins_as_asciicast}
 use Rattle.screentext_command.proofs.reading.read_part.Goals as goal
 
-pub returns : goal.returns
-returns g c = record {
+pub returns-in_err-taken-clause-fault : goal.returns-in_err-taken-clause-fault
+returns-in_err-taken-clause-fault g c = λ wish.
+    let e = c.in_err-taken.field-0.0 in
+    let is : c.from_residual-in_err-taken.result ≡ Err (recording_fault e) = search rules in
+    rw is (cut_missing _ _ (origin_of c.args.source.now) wish c.args.bytes.items c.in_ok-reading.reading e
+    c.in_ok-reading.ensures.reading c.in_err-taken.ensures.fault.0 c.in_err-taken.ensures.fault.1)
+
+pub returns-clause-part : goal.returns-clause-part
+returns-clause-part g c = record {
   reading = c.in_ok-reading.reading;
-  read = c.in_ok-reading.ensures;
+  read = c.in_ok-reading.ensures.reading;
   same = c.in_ok-taken.ensures.recording;
   noted = subst (λ (b : Bool). IsNoted c.args.source.now.strict b c.in_ok-reading.reading c.in_ok-taken.field-0.1)
       (c.may_be_cast-begins.ensures

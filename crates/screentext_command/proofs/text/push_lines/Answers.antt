@@ -20,8 +20,8 @@ both old kept all look s history count now next is first second third adds =
     ∙ append_assoc old (kept_text look s count count) (shown_text look (kept_shown 0 (scrolled s count count)).shown)
     ∙ ap (λ n. old ++ (kept_text look s n n ++ shown_text look (kept_shown 0 (scrolled s n n)).shown)) is
 
-pub returns : goal.returns
-returns c =
+pub returns-clause-text : goal.returns-clause-text
+returns-clause-text c =
     let count : c.min-count.result ≡ min c.args.history (length c.args.screen.now.state.shown.kept.rows) = omega arith in
     both _ _ _ c.args.look c.args.screen.now.state c.args.history c.min-count.result c.push_kept.new.screen
     c.set_scrollback.new.self count c.in_ok-push_kept.ensures.text c.in_ok-push_kept.ensures.screen

@@ -1,12 +1,11 @@
 use Rattle.std.proofs.Common.{◌≡◌, ◌∙◌, ap, inl, inr, subst, sym, map, List, ℕ}
 use Rattle.std.specs.Borrow.{Bor}
-use Rattle.clap.specs.Words.{App, Text, app_of, fault_of, found_of, is_simple, is_simple_and_free, kind_of, matches_of}
-use Rattle.clap.specs.Words.{rows_of}
-use Rattle.screentext_command.specs.Asked.{HasFault}
+use Rattle.clap.specs.Words.{App, IsAmong, Text, app_of, fault_of, found_of, is_simple, is_simple_and_free, kind_of}
+use Rattle.clap.specs.Words.{matches_of, rows_of}
 use Rattle.screentext_command.specs.Words.{are_words, is_invocation, is_request, known}
 use Rattle.screentext_command.proofs.KindLemmas.{one_kind}
-use Rattle.screentext_command.proofs.WordsLemmas.{among_some, by_same_test, err_passes, known_is_free, known_is_simple}
-use Rattle.screentext_command.proofs.WordsLemmas.{means, not_taken, ok_goes, some_goes, taken, tells}
+use Rattle.screentext_command.proofs.WordsLemmas.{by_same_test, err_passes, known_is_free, known_is_simple}
+use Rattle.screentext_command.proofs.WordsLemmas.{means, not_taken, ok_goes, requests, some_goes, taken}
 use Rattle.screentext_command.proofs.words.parse.Goals as goal
 
 pub returns-in-Ok-clause-invocation : goal.returns-in-Ok-clause-invocation
@@ -39,9 +38,10 @@ returns-in-Err-clause-says c =
     let why = c.in-Err.ensures.kinds (ap is_simple_and_free app ∙ known_is_free) in
     elim why [
       | inl e ↦ err_passes c.asked.result _ _ (c.asked.ensures.memory e)
-      | inr among ↦ let fault : HasFault (fault_of known words) = subst HasFault
-          (ap (λ (a : App). fault_of a words) app) (among_some (kind_of c.in-Err.error) _ among) in
-          ok_goes c.asked.result c.asked.ensures.told (λ o some. some_goes o some (λ i told. tells words i fault told))
+      | inr among ↦ let known_among : IsAmong (kind_of c.in-Err.error) (fault_of known words) =
+          subst (IsAmong (kind_of c.in-Err.error)) (ap (λ (a : App). fault_of a words) app) among in
+          ok_goes c.asked.result c.asked.ensures.told (λ o some. some_goes o some (λ i is. requests words
+          (kind_of c.in-Err.error) i (one_kind words) known_among is))
     ]
 
 pub returns-in-Err-clause-invocation : goal.returns-in-Err-clause-invocation

@@ -1,0 +1,99 @@
+-- Why no text of a recording is printed.
+use Rattle.std.proofs.Common.{◌≡◌, ◌⊎◌, ◌∙◌, ℕ, List, Option, Some, Ok, Err, Result, IfErr, inl, inr, true, false}
+use Rattle.std.proofs.Common.{ap, refl, subst, sym}
+use Rattle.player_page.specs.declared.error.PlayerError.{PlayerError}
+use Rattle.player_page.specs.declared.error.PlayerError.TheVariants as player
+use Rattle.recorded_screen.specs.declared.error.FilmError.{FilmError}
+use Rattle.recorded_screen.specs.declared.error.FilmError.TheVariants as film
+use Rattle.recordings.specs.Recorded.{said}
+use Rattle.recordings.specs.declared.error.RecordingError.{RecordingError}
+use Rattle.recordings.specs.declared.error.RecordingError.TheVariants as recording
+use Rattle.recordings.specs.declared.recording.Reading.{Reading}
+use Rattle.recordings.specs.declared.recording.Recording.{Recording}
+use Rattle.screentext_command.specs.Asked.{Origin, Wish}
+use Rattle.screentext_command.specs.Faults.{film_fault, player_fault, recording_fault}
+use Rattle.screentext_command.specs.Limits.{are_within}
+use Rattle.screentext_command.specs.Missing.{HasNoText, IsMissing, IsNoMoment, IsUnreadAs, cut, large, long, no_file}
+use Rattle.screentext_command.specs.Missing.{no_moment, no_text, refused, too_long, unread}
+use Rattle.screentext_command.specs.Moments.{AreMoments}
+use Rattle.screentext_command.specs.Reads.{IsPart, IsRead, IsShown, IsTiming}
+use Rattle.screentext_command.specs.declared.error.TextError.{TextError}
+use Rattle.screentext_command.specs.declared.error.TextError.TheVariants as error
+use Rattle.screentext_command.specs.declared.words.Form.{Form}
+
+module _ (holds : List ℕ → List ℕ → Type 0) (lacks : List ℕ → Type 0) (o : Origin) (w : Wish) (bytes : List ℕ) where
+  -- the timing file can't be read
+  pub file_missing : (path : List ℕ) (e : TextError) → o.timing ≡ Some path
+      → (e ≡ error.Memory) ⊎ ((e ≡ error.File) × lacks path) → IsMissing holds lacks o w bytes e
+  file_missing path e at (inl memory) = subst (IsMissing holds lacks o w bytes) (sym memory) refused
+  file_missing path e at (inr file) = subst (IsMissing holds lacks o w bytes) (sym file.0) (no_file path at file.1)
+
+  -- nothing is read of the bytes
+  pub unread_missing : (timing lines : Option (List ℕ)) (e : TextError) → IsTiming holds o.timing timing
+      → lines ≡ timing
+      → (e ≡ error.Memory) ⊎ ((f : RecordingError) × (e ≡ error.Recording f) × IsUnreadAs o.kind lines bytes f)
+      → IsMissing holds lacks o w bytes e
+  unread_missing timing lines e given same (inl memory) = subst (IsMissing holds lacks o w bytes) (sym memory) refused
+  unread_missing timing lines e given same (inr fault) =
+      subst (IsMissing holds lacks o w bytes) (sym fault.1) (unread timing fault.0 given
+      (subst (λ (t : Option (List ℕ)). IsUnreadAs o.kind t bytes fault.0) same fault.2))
+
+  -- the recording has a fault
+  pub cut_missing : (r : Reading) (e : RecordingError) → IsRead holds o bytes r → o.strict ≡ true → r.fault ≡ Some e
+      → IsMissing holds lacks o w bytes (recording_fault e)
+  cut_missing r recording.Memory read strict fault = refused
+  cut_missing r recording.Header read strict fault = cut r recording.Header read strict fault
+  cut_missing r (recording.Line n) read strict fault = cut r (recording.Line n) read strict fault
+  cut_missing r (recording.Byte n) read strict fault = cut r (recording.Byte n) read strict fault
+  cut_missing r (recording.Step n) read strict fault = cut r (recording.Step n) read strict fault
+  cut_missing r recording.NoTiming read strict fault = cut r recording.NoTiming read strict fault
+  cut_missing r (recording.Packed p) read strict fault = cut r (recording.Packed p) read strict fault
+
+  -- a size is too large
+  pub large_missing : (r : Recording) (remark : Option TextError) (e : TextError) → IsPart holds o bytes r remark
+      → (e ≡ error.Cells o.most_cells) × (are_within o.most_cells r ≡ false) → IsMissing holds lacks o w bytes e
+  large_missing r remark e part fault =
+      subst (IsMissing holds lacks o w bytes) (sym fault.0) (large r remark part fault.1)
+
+module _ (o : Origin) (w : Wish) (r : Recording) where
+  -- a word means no moment of it
+  pub no_moment_text : (e : TextError) → IsNoMoment (said r.events.items) o.moment e
+      ⊎ IsNoMoment (said r.events.items) o.since e → (e ≡ error.Memory) ⊎ HasNoText o w r e
+  no_moment_text e (inl (inl memory)) = inl memory
+  no_moment_text e (inl (inr fault)) = inr (subst (HasNoText o w r) (sym fault.0) (no_moment (inl fault.1)))
+  no_moment_text e (inr (inl memory)) = inl memory
+  no_moment_text e (inr (inr fault)) = inr (subst (HasNoText o w r) (sym fault.0) (no_moment (inr fault.1)))
+
+  -- the film or the page would be too long
+  pub long_text : (e : TextError) (moment : ℕ) (since : Option ℕ) → AreMoments (said r.events.items) o moment since
+      → o.list ≡ false → (e ≡ error.Memory) ⊎ (too_long w.form ≡ Some e) → (e ≡ error.Memory) ⊎ HasNoText o w r e
+  long_text e moment since meant shown (inl memory) = inl memory
+  long_text e moment since meant shown (inr fault) = inr (long e moment since meant shown fault)
+
+-- there is no text of the recording that is shown
+pub text_missing : (holds : List ℕ → List ℕ → Type 0) (lacks : List ℕ → Type 0) (o : Origin) (w : Wish)
+    (bytes : List ℕ) (r : Recording) (remark : Option TextError) (e : TextError) → IsShown holds o bytes r remark
+    → (e ≡ error.Memory) ⊎ HasNoText o w r e → IsMissing holds lacks o w bytes e
+text_missing holds lacks o w bytes r remark e shown (inl memory) =
+    subst (IsMissing holds lacks o w bytes) (sym memory) refused
+text_missing holds lacks o w bytes r remark e shown (inr why) = no_text e r remark shown why
+
+pub err_goes : {X E : Type 0} {P T : E → Type 0} (r : Result X E) → IfErr r P → ((e : E) → P e → T e) → IfErr r T
+err_goes (Ok x) p f = tt
+err_goes (Err e) p f = f e p
+
+-- ---- films and pages
+
+pub film_faulted : (e : FilmError) → (film_fault e ≡ error.Memory) ⊎ (film_fault e ≡ error.Film)
+film_faulted film.Memory = inl refl
+film_faulted film.TooLong = inr refl
+
+pub player_faulted : (e : PlayerError) → (player_fault e ≡ error.Memory) ⊎ (player_fault e ≡ error.Player)
+player_faulted player.Memory = inl refl
+player_faulted player.TooLong = inr refl
+
+-- the fault of a form, by what it is
+pub long_form : (form : Form) (e fault : TextError) → too_long form ≡ Some fault → (e ≡ error.Memory) ⊎ (e ≡ fault)
+    → (e ≡ error.Memory) ⊎ (too_long form ≡ Some e)
+long_form form e fault is (inl memory) = inl memory
+long_form form e fault is (inr same) = inr (is ∙ ap Some (sym same))

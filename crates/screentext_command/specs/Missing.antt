@@ -1,0 +1,66 @@
+-- Why no text of a recording is printed.
+use Rattle.std.specs.Prelude.{◌≡◌, ◌⊎◌, ℕ, true, false, List, Option, Some, None}
+use Rattle.recordings.specs.Kinds.{IsPacked, IsUnreadOfKind, kind_taken, packer_met}
+use Rattle.recordings.specs.Recorded.{Moment, said}
+use Rattle.recordings.specs.declared.error.RecordingError.{RecordingError}
+use Rattle.recordings.specs.declared.recording.Kind.{Kind}
+use Rattle.recordings.specs.declared.recording.Reading.{Reading}
+use Rattle.recordings.specs.declared.recording.Recording.{Recording}
+use Rattle.screentext_command.specs.Asked.{Origin, Wish}
+use Rattle.screentext_command.specs.Limits.{are_within}
+use Rattle.screentext_command.specs.Moments.{AreMoments, time_meant}
+use Rattle.screentext_command.specs.Reads.{IsPart, IsRead, IsShown, IsTiming}
+use Rattle.screentext_command.specs.declared.error.TextError.{TextError}
+use Rattle.screentext_command.specs.declared.error.TextError.TheVariants as error
+use Rattle.screentext_command.specs.declared.words.Form.{Form}
+use Rattle.screentext_command.specs.declared.words.Form.TheVariants.{Film, Player, Still}
+
+-- nothing is read of bytes with this kind and these lines of a timing file: they are compressed, they have no header,
+-- or the kind needs a timing file
+abbrev pub IsUnreadAs : Option Kind → Option (List ℕ) → List ℕ → RecordingError → Type 0
+IsUnreadAs kind timing bytes e =
+    IsPacked (packer_met kind timing bytes) e ⊎ IsUnreadOfKind (kind_taken kind timing bytes) bytes timing e
+
+-- there is a word, and it means no moment
+abbrev pub MeansNone : List Moment → Option (List ℕ) → Type 0
+MeansNone moments None = ⊥
+MeansNone moments (Some word) = time_meant moments word ≡ None
+
+-- why there is no moment of a word: memory was refused, or it means none
+abbrev pub IsNoMoment : List Moment → Option (List ℕ) → TextError → Type 0
+IsNoMoment moments word e = (e ≡ error.Memory) ⊎ ((e ≡ error.Marker) × MeansNone moments word)
+
+-- the fault of a text in this form that would be too long
+abbrev pub too_long : Form → Option TextError
+too_long (Still picture) = None
+too_long Film = Some error.Film
+too_long Player = Some error.Player
+
+-- Why there is no text of a recording that is shown, but for memory.
+pub data HasNoText (o : Origin) (w : Wish) (r : Recording) : TextError → Type 0 where
+  -- a word means no moment of it
+  no_moment : MeansNone (said r.events.items) o.moment ⊎ MeansNone (said r.events.items) o.since
+      → HasNoText o w r error.Marker
+  -- the film or the page would be too long
+  long : (e : TextError) (moment : ℕ) (since : Option ℕ) → AreMoments (said r.events.items) o moment since
+      → o.list ≡ false → too_long w.form ≡ Some e → HasNoText o w r e
+
+-- Why no text of these bytes is printed: memory was refused, or this is the first reason that holds.
+pub data IsMissing (holds : List ℕ → List ℕ → Type 0) (lacks : List ℕ → Type 0) (o : Origin) (w : Wish)
+    (bytes : List ℕ) : TextError → Type 0 where
+  -- memory was refused
+  refused : IsMissing holds lacks o w bytes error.Memory
+  -- the words name a timing file that can't be read
+  no_file : (path : List ℕ) → o.timing ≡ Some path → lacks path → IsMissing holds lacks o w bytes error.File
+  -- nothing is read of the bytes
+  unread : (timing : Option (List ℕ)) (e : RecordingError) → IsTiming holds o.timing timing
+      → IsUnreadAs o.kind timing bytes e → IsMissing holds lacks o w bytes (error.Recording e)
+  -- the recording has this fault, and the words want all of it
+  cut : (r : Reading) (e : RecordingError) → IsRead holds o bytes r → o.strict ≡ true → r.fault ≡ Some e
+      → IsMissing holds lacks o w bytes (error.Recording e)
+  -- a size in what is read has too many cells
+  large : (r : Recording) (remark : Option TextError) → IsPart holds o bytes r remark
+      → are_within o.most_cells r ≡ false → IsMissing holds lacks o w bytes (error.Cells o.most_cells)
+  -- there is no text of the recording that is shown
+  no_text : (e : TextError) (r : Recording) (remark : Option TextError) → IsShown holds o bytes r remark
+      → HasNoText o w r e → IsMissing holds lacks o w bytes e
