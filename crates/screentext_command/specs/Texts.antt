@@ -7,6 +7,9 @@ use Rattle.std.specs.Str.{bytes_eq}
 use Rattle.vt100_cells.specs.Cell.{CellView}
 use Rattle.vt100_core.specs.Grid.{GridView, visible_row_at}
 use Rattle.screen_model.specs.Made.{made}
+use Rattle.picture_page.specs.Tags.{tag_bytes}
+use Rattle.picture_page.specs.declared.tag.Tag.TheVariants.{Newline, PageFoot, PageHead}
+use Rattle.row_pictures.specs.declared.look.Look as pictures
 use Rattle.screen_model.specs.State.{State}
 use Rattle.screen_model.specs.Step.{kept_shown}
 use Rattle.picture_page.specs.Page.{IsSafe, Shows, escaped}
@@ -14,7 +17,12 @@ use Rattle.picture_page.specs.Seen.{seen}
 use Rattle.row_texts.specs.Rows.{row_text}
 use Rattle.row_texts.specs.declared.row.Look.{Look}
 use Rattle.recordings.specs.declared.recording.Recording.{Recording}
+use Rattle.recordings.specs.Recorded.{size_said}
+use Rattle.recordings.specs.declared.recording.ScreenSize.{ScreenSize}
+use Rattle.recorded_screen.specs.Film as films
 use Rattle.recorded_screen.specs.Moment.{acts_until}
+use Rattle.recorded_screen.specs.Placed.{IsAround, IsSvg}
+use Rattle.recorded_screen.specs.declared.films.Pace.{Pace}
 use Rattle.recorded_screen.specs.Picture.{block_seen, font_text, page_seen, screen_text, svg_seen}
 use Rattle.recorded_screen.specs.declared.reel.TheConstants.{LONGEST_FILM}
 use Rattle.player_page.specs.Rows.{ShowsRows}
@@ -80,15 +88,21 @@ rows_text look history s =
 
 -- ---- pictures
 
+-- the rows of the screen stand at their places, in some theme and font
+abbrev pub HasPlaces : (pictures.Look → Type 0) → Type 0
+HasPlaces IsPlaced = (look : pictures.Look) × IsPlaced look
+
 -- a text is a screen in this form
 abbrev pub IsStill : Picture → Look → ℕ → State → List ℕ → Type 0
 IsStill Text look history s text = text ≡ rows_text look history s
 IsStill Html look history s text = Shows text (screen_text s.shown)
     × (seen text ≡ page_seen (escaped (screen_text s.shown))) × IsSafe text
+    × HasPlaces (λ l. IsAround (tag_bytes PageHead) (tag_bytes PageFoot) l s text)
 IsStill HtmlBlock look history s text = Shows text (screen_text s.shown)
     × (seen text ≡ block_seen (escaped (screen_text s.shown)) ++ codes "\n") × IsSafe text
+    × HasPlaces (λ l. IsAround [] (tag_bytes Newline) l s text)
 IsStill Svg look history s text = Shows text (screen_text s.shown)
-    × (seen text ≡ svg_seen (escaped (font_text s.shown))) × IsSafe text
+    × (seen text ≡ svg_seen (escaped (font_text s.shown))) × IsSafe text × HasPlaces (λ l. IsSvg l s text)
 
 -- ---- what differs
 
@@ -130,13 +144,20 @@ IsScreen picture look history size r moment None text = IsStill picture look his
 IsScreen picture look history size r moment (Some since) text =
     text ≡ changes_text look (screen_at size 0 r since).shown (screen_at size history r moment).shown
 
-abbrev pub IsFilm : List ℕ → Type 0
-IsFilm text = IsSafe text × (length text ≤ LONGEST_FILM)
+-- a film of a terminal of this size at first up to a moment, in some theme and font and at some pace
+pub record IsFilm (size : ℕ × ℕ) (r : Recording) (moment : ℕ) (text : List ℕ) : Type 0 where
+  pub safe : IsSafe text
+  pub short : length text ≤ LONGEST_FILM
+  pub look : pictures.Look
+  pub at_first : ScreenSize
+  pub is_size : size_said at_first ≡ size
+  pub pace : Pace
+  pub shows : films.IsFilm look at_first pace moment r.events.items text
 
 abbrev pub IsPlayer : ℕ × ℕ → Recording → List ℕ → Type 0
 IsPlayer size r text = ShowsRows size.0 size.1 r.events.items text × IsSafe text × (length text ≤ LONGEST_PLAYER)
 
 abbrev pub IsAnswer : Form → Look → ℕ → ℕ × ℕ → Recording → ℕ → Option ℕ → List ℕ → Type 0
 IsAnswer (Still picture) look history size r moment since text = IsScreen picture look history size r moment since text
-IsAnswer Film look history size r moment since text = IsFilm text
+IsAnswer Film look history size r moment since text = IsFilm size r moment text
 IsAnswer Player look history size r moment since text = IsPlayer size r text

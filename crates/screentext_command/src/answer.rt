@@ -123,7 +123,7 @@ fn film_of(
     moment: u64,
     pictures: &Pictures,
 ) -> Result<Vec<u8>, TextError>
-    ensures film { IfOk result (λ text. IsFilm text.items) }
+    ensures film { IfOk result (λ text. IsFilm (size_said size) recording.now moment text.items) }
     ensures fault { IfErr result (λ e. (e ≡ Memory) ⊎ (e ≡ LongFilm)) }
 {
     let colors = pictures.look(alloc, theme_of(recording))?;

@@ -1,4 +1,4 @@
-use Rattle.std.proofs.Common.{◌≡◌, Err, rules}
+use Rattle.std.proofs.Common.{◌≡◌, Err, refl, rules}
 use Rattle.screentext_command.proofs.MissingLemmas.{film_faulted}
 use Rattle.screentext_command.specs.Faults.{film_fault}
 use Rattle.screentext_command.proofs.answer.film_of.Goals as goal
@@ -7,3 +7,14 @@ pub returns-in_err-film-clause-fault : goal.returns-in_err-film-clause-fault
 returns-in_err-film-clause-fault c =
     let e = c.in_err-film.field-0.0 in
     let is : c.from_residual-in_err-film.result ≡ Err (film_fault e) = search rules in rw is (film_faulted e)
+
+pub returns-clause-film : goal.returns-clause-film
+returns-clause-film c = record {
+  safe = c.in_ok-film.ensures.safe;
+  short = c.in_ok-film.ensures.short;
+  look = _;
+  at_first = c.args.size;
+  is_size = refl;
+  pace = c.args.pictures.now.pace;
+  shows = rw c.deref.ensures.value at c.in_ok-film.ensures.film;
+}
