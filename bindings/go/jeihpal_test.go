@@ -132,12 +132,14 @@ func TestDifferencesAndClones(t *testing.T) {
 	clone, err := screen.Clone()
 	must(t, err)
 	fmt.Fprint(screen, "\rt")
-	difference, err := screen.Difference()
-	if err != nil || string(difference) != "\rt" {
-		t.Fatalf("%q %v", difference, err)
-	}
 	if text, err := clone.Contents(); err != nil || text != "one" {
 		t.Fatal(text, err)
+	}
+	difference, err := screen.Difference()
+	must(t, err)
+	clone.Write(difference)
+	if text, err := clone.Contents(); err != nil || text != "tne" {
+		t.Fatalf("%q %q %v", difference, text, err)
 	}
 	state, err := screen.StateFormatted()
 	if err != nil || !bytes.Contains(state, []byte("tne")) {
