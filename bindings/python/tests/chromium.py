@@ -12,15 +12,16 @@ import tempfile
 from typing import Any
 
 PROGRAM = shutil.which("chromium") or shutil.which("chromium-browser") or shutil.which("google-chrome")
-_WORDS = ["--headless=new", "--no-sandbox", "--disable-gpu", "--no-first-run", "--window-size=900,560"]
+_WORDS = ["--no-sandbox", "--disable-gpu", "--no-first-run", "--window-size=900,560"]
 
 
 class Chromium:
-    """A browser without a window, with one page."""
+    """A browser with one page. It has a window where an X display is given, and else none."""
 
-    def __init__(self, url: str, *more: str) -> None:
+    def __init__(self, url: str, *more: str, display: str | None = None) -> None:
         self._folder = tempfile.mkdtemp(prefix="chromium-")
-        more = (*more, "--remote-debugging-pipe", f"--user-data-dir={self._folder}")
+        env = {**os.environ, "DISPLAY": display} if display else None
+        more = (*more, *(() if display else ("--headless=new",)), "--remote-debugging-pipe", f"--user-data-dir={self._folder}")
         words = [str(PROGRAM), *_WORDS, *more, "about:blank"]
         there, self._write = os.pipe()
         self._read, back = os.pipe()
@@ -29,6 +30,7 @@ class Chromium:
         self._run = subprocess.Popen(
             ["bash", "-c", line.replace('"$IN"', str(there)).replace('"$OUT"', str(back)), "", *words],
             pass_fds=(there, back),
+            env=env,
             stdin=subprocess.DEVNULL,
             stdout=subprocess.DEVNULL,
             stderr=subprocess.DEVNULL,

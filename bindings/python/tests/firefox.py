@@ -24,14 +24,16 @@ _SECONDS = 120.0
 
 
 class Firefox:
-    """A browser without a window, with one page."""
+    """A browser with one page. It has a window where an X display is given, and else none."""
 
-    def __init__(self, url: str) -> None:
+    def __init__(self, url: str, display: str | None = None) -> None:
         self._folder = tempfile.mkdtemp(prefix="firefox-")
         with open(os.path.join(self._folder, "user.js"), "w", encoding="utf-8") as file:
             file.write(_PREFERENCES)
-        words = [str(PROGRAM), "--headless", "--marionette", "--no-remote", "--profile", self._folder]
+        words = [str(PROGRAM), "--marionette", "--no-remote", "--profile", self._folder]
+        words += [] if display else ["--headless"]
         env = {**os.environ, "MOZ_HEADLESS_WIDTH": "900", "MOZ_HEADLESS_HEIGHT": "640", "HOME": self._folder}
+        env.update({"DISPLAY": display} if display else {})
         quiet = subprocess.DEVNULL
         self._run = subprocess.Popen(words, env=env, stdin=quiet, stdout=quiet, stderr=quiet, start_new_session=True)
         self._number, self._said = 0, b""

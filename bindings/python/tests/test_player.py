@@ -3,10 +3,12 @@
 from __future__ import annotations
 
 import contextlib
+import itertools
 import json
 import os
 import random
 import re
+import shutil
 import signal
 import struct
 import subprocess
@@ -84,22 +86,27 @@ def recordings() -> Iterator[tuple[str, bytes]]:
         yield "build", file.read()
     with open(os.path.join(ROOT, "examples", "editor.session"), "rb") as file:
         yield "editor", spread(file.read(), 8, 40)
-    folder = os.environ.get("JEIHPAL_RECORDINGS")
+    folder = os.environ.get("JEIHPAL_RECORDINGS", "")
     for name in sorted(os.listdir(folder)) if folder else ():
+        with open(os.path.join(folder, name), "rb") as file:
+            data = file.read()
         if size := re.fullmatch(r"(.*)\.(\d+)x(\d+)\.bin", name):
-            with open(os.path.join(str(folder), name), "rb") as file:
-                yield size[1], spread(file.read(), int(size[2]), int(size[3]))
+            yield size[1], spread(data, int(size[2]), int(size[3]))
+        elif name.endswith(".cast"):
+            yield name[:-5], data
 
 
-def screentext(data: bytes, *words: str) -> bytes:
+def screentext(data: bytes, *words: str, seconds: float = 60.0) -> bytes:
     """What screentext prints of a recording."""
-    return subprocess.run([SCREENTEXT, *words], input=data, stdout=subprocess.PIPE, check=True, timeout=60).stdout
+    return subprocess.run([SCREENTEXT, *words], input=data, stdout=subprocess.PIPE, check=True, timeout=seconds).stdout
 
 
 def times(data: bytes, count: int) -> list[str]:
     """Moments of a recording: those of events, others shortly before, and any others."""
-    lines = [json.loads(line) for line in data.decode().splitlines()[1:]]
+    header, *lines = [json.loads(line) for line in data.decode().split("\n") if line and not line.startswith("#")]
     own = [float(line[0]) for line in lines]
+    if header["version"] == 3:  # times since the event before
+        own = list(itertools.accumulate(own))
     chance = random.Random(count)
     any_other = [round(chance.uniform(0, own[-1]), 6) for _ in range(count)]
     found = [0.0, own[-1], *own, *(max(it - 0.000001, 0) for it in own), *any_other]
@@ -140,6 +147,37 @@ def press(browser: Any, key: str) -> None:
     """Presses a key in a page."""
     event = f"new KeyboardEvent('keydown', {{ key: {json.dumps(key)}, bubbles: true, cancelable: true }})"
     browser.value(f"document.body.dispatchEvent({event})")
+
+
+@contextlib.contextmanager
+def display() -> Iterator[str]:
+    """An X display of its own, in which keys go to the browser and not only to its page."""
+    if not (shutil.which("Xvfb") and shutil.which("xdotool")):
+        raise unittest.SkipTest("there is no Xvfb or no xdotool")
+    there, back = os.pipe()
+    words = ["Xvfb", "-displayfd", str(back), "-screen", "0", "1000x700x24"]
+    server = subprocess.Popen(words, pass_fds=(back,), stderr=subprocess.DEVNULL)
+    os.close(back)
+    try:
+        with os.fdopen(there) as said:
+            yield f":{said.readline().strip()}"
+    finally:
+        server.terminate()
+        server.wait()
+
+
+def keys(name: str, *words: str) -> None:
+    """Presses keys on a display."""
+    subprocess.run(["xdotool", *words], env={**os.environ, "DISPLAY": name}, check=True, stderr=subprocess.DEVNULL)
+
+
+SELECTED = "(document.hasFocus() && String(getSelection()))"
+COPIED = """(() => {
+  getSelection().selectAllChildren(document.getElementById("screen"));
+  const copy = new ClipboardEvent("copy", { clipboardData: new DataTransfer(), bubbles: true, cancelable: true });
+  document.getElementById("screen").dispatchEvent(copy);
+  return copy.clipboardData.getData("text/plain");
+})()"""
 
 
 def says(browser: Any, name: str) -> str:
@@ -219,6 +257,38 @@ class Pages(unittest.TestCase):
                 self.assertEqual((says(browser, "time"), says(browser, "found")), (f"{place} / 0:04", found))
             selected = "(getSelection().selectAllChildren(document.getElementById('screen')), String(getSelection()))"
             self.assertIn("two", browser.value(selected))
+
+    def test_the_browsers_own_search_finds_texts(self):
+        data = cast((5, 20), [[1, "o", "one\r\ntwo words\r\nthree"]])
+        for name, kind in BROWSERS:
+            with self.subTest(name), display() as shown, page(data) as url, kind(url, display=shown) as browser:
+                wait(browser, READY)
+                wait(browser, "document.hasFocus()")
+                keys(shown, "key", "ctrl+f")
+                wait(browser, "!document.hasFocus()")
+                keys(shown, "type", "--delay", "50", "two words")
+                time.sleep(2)  # it isn't told to the page what was found
+                keys(shown, "key", "Escape")
+                self.assertEqual(wait(browser, SELECTED), "two words")
+
+    def test_what_is_copied_has_no_spaces_at_the_ends_of_rows(self):
+        for _, browser in self.each(cast((3, 20), [[1, "o", "one   \x1b[2;3Htwo"]])):
+            self.assertEqual(browser.value(COPIED).strip("\n").split("\n"), ["one", "  two"])
+
+    def test_it_loads_nothing(self):
+        for _, browser in self.each(hostile()):
+            self.assertEqual(browser.value("performance.getEntriesByType('resource').length"), 0)
+
+    def test_it_is_light_or_dark_as_the_reader_has_it(self):
+        if not chromium.PROGRAM:
+            self.skipTest("there is no Chromium")
+        with page(hostile()) as url, chromium.Chromium(url) as browser:
+            wait(browser, READY)
+            colors = []
+            for scheme in ("light", "dark"):
+                browser.ask("Emulation.setEmulatedMedia", features=[{"name": "prefers-color-scheme", "value": scheme}])
+                colors.append(browser.value("getComputedStyle(document.body).backgroundColor"))
+            self.assertEqual(colors, ["rgb(255, 255, 255)", "rgb(18, 18, 18)"])
 
     def test_long_pauses_are_shortened(self):
         data = cast((5, 20), [[1, "o", "a"], [1000, "o", "b"], [1002, "o", "c"]])
