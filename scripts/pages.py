@@ -107,11 +107,28 @@ SCRIPTS = {
         ],
         "Plays each script, and prints TAP.",
     ),
+    "screenplay": (
+        "play a recording of a terminal session in a terminal, forward and back",
+        [("FILE", "An asciicast v1, v2 or v3, a ttyrec, or a typescript")],
+        [
+            ("at", "TIME", None, "Begin, paused, at this second of the recording or at this marker"),
+            ("idle", "SECONDS", None, "No screen stands longer than this time of the recording"),
+            ("speed", "N", None, "Play N times as fast as it was recorded"),
+            ("size", "RxC", None, "Rows and columns at first, in place of those of the recording"),
+            ("timing", "FILE", FILES, "The timing file of a typescript"),
+            NO_LINE_DRAWING,
+            ("find", "TEXT", None, "Print the seconds at which a text comes to the screen, and end"),
+            ("print", None, None, "Print the text of the last screen, or that of --at, and end"),
+            HELP,
+        ],
+        "Plays in the terminal until q is pressed, and leaves the terminal as it was. Its help lists the keys.",
+    ),
 }
 ALL = {**PROGRAMS, **SCRIPTS}
 
 STATUS = "0 at success, 1 at a fault, 2 for words that aren't understood"
-STATUSES = {"screentext": STATUS + ", 3 for a recording of which only a part was read."}
+IN_PART = STATUS + ", 3 for a recording of which only a part was read."
+STATUSES = {"screentext": IN_PART, "screenplay": IN_PART}
 SHORT = {"help": "h", "version": "V"}
 EXAMPLES = {
     "screenrelay": [
@@ -131,6 +148,11 @@ EXAMPLES = {
         ("screentext --player --idle 2 < demo.cast > demo.html", "A page that plays it"),
         ("screentext --timing times 24 80 < typescript", "A session that script(1) recorded"),
         ("screentext --list < game.ttyrec", "Its kind, length and markers"),
+    ],
+    "screenplay": [
+        ("screenplay --idle 2 demo.cast", "Plays it, without long pauses"),
+        ("screenplay --find error demo.cast", "When an error came to the screen"),
+        ("screenplay --timing times typescript", "A session that script(1) recorded"),
     ],
 }
 
