@@ -6,10 +6,10 @@ import bisect
 import itertools
 from typing import Iterator, NamedTuple
 
-from jeihpal import Screen
+from jeihpal import Screen, Size
 
 from .drawing_set import LineDrawing
-from .recording import Event, Marker, Recording, Size
+from .recording import Event, Marker, Recording
 
 
 class Moment(NamedTuple):
@@ -62,13 +62,16 @@ class Playback:
         if moment < self._done:
             self.screen.close()
             self._begin()
-        changes = (change for each in self._moments[self._done + 1 : moment + 1] for change in each.changes)
-        for is_size, group in itertools.groupby(changes, key=lambda change: isinstance(change, Size)):
-            if is_size:
-                for size in group:
-                    self.screen.resize(*size)
-            else:
-                self.screen.process(b"".join(group))
+        written: list[bytes] = []
+        for each in self._moments[self._done + 1 : moment + 1]:
+            for change in each.changes:
+                if isinstance(change, Size):
+                    self.screen.process(b"".join(written))
+                    self.screen.resize(*change)
+                    written.clear()
+                else:
+                    written.append(change)
+        self.screen.process(b"".join(written))
         self._done = moment
 
     def go(self, place: float) -> None:

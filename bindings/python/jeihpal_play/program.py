@@ -9,13 +9,16 @@ import sys
 import time
 from typing import Callable
 
+from jeihpal import Size
+
 from .drawing import Display
 from .playback import Playback
-from .recording import NoRecording, Recording, Size, microseconds, parse
+from .recording import NoRecording, Recording, microseconds, parse
 from .terminal import Ended, Terminal
 
-ABOUT = """Plays a recording of a terminal session: an asciicast v1, v2 or v3, or a ttyrec. It goes to any moment, back
-too, and shows exactly what the terminal showed then."""
+ABOUT = """Plays a recording of a terminal session: an asciicast v1, v2 or v3, a ttyrec, or with its timing file a
+typescript. It goes to any moment, back too, and shows exactly what the terminal showed then. The status is 0; 1 at a
+fault, and where --find finds nothing; 2 for words that aren't understood; 3 where only a part of FILE was read."""
 KEYS = """keys:
   space          play or pause
   .  ,           the next or the previous moment at which the screen changes
@@ -43,13 +46,13 @@ def clock(micros: int) -> str:
 class Player:
     """Plays in the terminal, until it is left."""
 
-    def __init__(self, terminal: Terminal, playback: Playback, speed: float, is_playing: bool) -> None:
+    def __init__(self, terminal: Terminal, playback: Playback, speed: float, is_playing: bool, note: str) -> None:
         self._terminal, self._playback = terminal, playback
         self._speeds = sorted({*SPEEDS, speed})
         self._speed, self._is_playing = speed, is_playing
         self._began = time.monotonic() - self._lasted()
         self._display = Display(*terminal.size())
-        self._note = ""  # what is said in place of the keys
+        self._note = note  # what is said behind the bar, until a key comes
         self._typed: str | None = None  # the text that is being typed
         self._found: list[int] = []
         self._is_over = False
@@ -217,6 +220,7 @@ def _parser() -> argparse.ArgumentParser:
     parser.add_argument("--idle", type=_seconds, metavar="SECONDS", help="no screen stands longer than this")
     parser.add_argument("--speed", type=_speed, default=1.0, metavar="N", help="play N times as fast")
     parser.add_argument("--size", type=_size, metavar="RxC", help="rows and columns at first (as recorded, else 24x80)")
+    parser.add_argument("--timing", metavar="FILE", help="the timing file of a typescript that was made by script")
     parser.add_argument("--no-line-drawing", action="store_true", help="letters stay where DEC's line drawing is used")
     parser.add_argument("--find", metavar="TEXT", help="print the seconds at which a text comes to the screen, and end")
     parser.add_argument("--print", action="store_true", help="print the text of the last screen, or --at, and end")
@@ -235,35 +239,55 @@ def _time(playback: Playback, word: str) -> int:
         return times[0]
 
 
-def _read(path: str) -> Recording:
+def _bytes(path: str) -> bytes:
     try:
         with open(path, "rb") as file:
-            return parse(file.read())
+            return file.read()
     except OSError as error:
         sys.exit(f"screenplay: {path}: {error.strerror}")
+
+
+def _read(path: str, timing: str | None) -> Recording:
+    """Reads a recording. Where it is one in part alone, that is said."""
+    try:
+        recording = parse(_bytes(path), None if timing is None else _bytes(timing))
     except NoRecording as error:
         sys.exit(f"screenplay: {path}: {error}")
+    if recording.fault:
+        print(f"screenplay: {path}: {recording.fault}. What is before it is played", file=sys.stderr)
+    return recording
 
 
-def _print_found(playback: Playback, text: str) -> int:
-    """Prints when a text comes to the screen. The status is 1 where it never does."""
+def _print_found(playback: Playback, text: str) -> bool:
+    """Prints when a text comes to the screen. Answers whether it does."""
     found = playback.first_shown(text)
     for moment in found:
         print(f"{playback.times[moment] / 1e6:.6f}")
-    return 0 if found else 1
+    return bool(found)
 
 
-def _print_screen(playback: Playback) -> int:
+def _print_screen(playback: Playback) -> None:
     screen = playback.screen
     for row in range(screen.look().rows):
         print(screen.row_text(row).rstrip(" "))
-    return 0
+
+
+def _play(playback: Playback, speed: float, is_playing: bool, note: str) -> None:
+    """Plays in the terminal. A signal that ends this program does so once the terminal is as it was."""
+    if not Terminal.is_there():
+        sys.exit("screenplay: standard input and output are no terminal")
+    try:
+        with Terminal() as terminal:
+            Player(terminal, playback, speed, is_playing, note).run()
+    except Ended as ended:
+        signal.signal(ended.number, signal.SIG_DFL)
+        os.kill(os.getpid(), ended.number)
 
 
 def main(words: list[str] | None = None) -> int:
     """Runs the program on its words, and answers its status."""
     given = _parser().parse_args(words)
-    recording = _read(given.file)
+    recording = _read(given.file, given.timing)
     size = given.size or recording.size or Size(24, 80)
     playback = Playback(recording, size, given.idle, not given.no_line_drawing)
     if given.at is not None:
@@ -271,15 +295,10 @@ def main(words: list[str] | None = None) -> int:
     elif given.print:
         playback.go(playback.end)
     if given.find is not None:
-        return _print_found(playback, given.find)
-    if given.print:
-        return _print_screen(playback)
-    if not Terminal.is_there():
-        sys.exit("screenplay: standard input and output are no terminal")
-    try:
-        with Terminal() as terminal:
-            Player(terminal, playback, given.speed, given.at is None).run()
-    except Ended as ended:
-        signal.signal(ended.number, signal.SIG_DFL)
-        os.kill(os.getpid(), ended.number)
-    return 0
+        if not _print_found(playback, given.find):
+            return 1
+    elif given.print:
+        _print_screen(playback)
+    else:
+        _play(playback, given.speed, given.at is None, recording.fault)
+    return 3 if recording.fault else 0

@@ -1,26 +1,25 @@
-"""Recordings, read to events: asciicasts of version 1 to 3, and ttyrecs."""
+"""Recordings as events. The library reads them; an asciicast of version 1 is read here."""
 
 from __future__ import annotations
 
 import json
 import math
-import re
-from typing import Any, Iterator, NamedTuple, Union
+from typing import Any, NamedTuple, Union
+
+import jeihpal
+from jeihpal import EventKind, FaultKind, RecordingKind, Size
 
 _MOST = 65535  # rows or columns
-_FRAME = 12  # bytes before a frame of a ttyrec
-_SIZE = re.compile(r"([0-9]{1,5})x([0-9]{1,5})")
+_MOST_CELLS = 4_000_000  # of a size in the recording
+_FAULTS = {
+    FaultKind.LINE: "line {}: not an event of asciicast",
+    FaultKind.BYTE: "byte {}: not a frame of ttyrec",
+    FaultKind.STEP: "line {} of the timing file: not a step",
+}
 
 
 class NoRecording(Exception):
     """What was read is no recording."""
-
-
-class Size(NamedTuple):
-    """Another size."""
-
-    rows: int
-    cols: int
 
 
 class Marker(NamedTuple):
@@ -40,7 +39,7 @@ class Event(NamedTuple):
 
 
 class Recording(NamedTuple):
-    """A recording."""
+    """A recording, up to the first fault."""
 
     size: Size | None
     """The size at first, where the recording says it."""
@@ -48,11 +47,8 @@ class Recording(NamedTuple):
     """What happens, in order."""
     length: int
     """The time of the last event, in microseconds, be it one that changes nothing here."""
-    title: str
-
-
-def _is_time(value: Any) -> bool:
-    return isinstance(value, (int, float)) and not isinstance(value, bool) and 0 <= value < math.inf
+    fault: str = ""
+    """Where it stops making sense, if it does."""
 
 
 def microseconds(seconds: float) -> int:
@@ -60,76 +56,57 @@ def microseconds(seconds: float) -> int:
     return math.floor(seconds * 1_000_000 + 0.5)
 
 
+def _fitting(size: Size) -> Size:
+    """The size, which a screen can well have. Raises NoRecording where it is too large."""
+    if size.rows * size.cols > _MOST_CELLS:
+        raise NoRecording(f"a size of {size.rows} rows and {size.cols} columns: more than {_MOST_CELLS:,} cells")
+    return size
+
+
+def _event(event: jeihpal.Event) -> Event:
+    if event.kind == EventKind.MARKER:
+        return Event(event.time, Marker(event.data.decode("utf-8", "replace")))
+    return Event(event.time, event.data if event.size is None else _fitting(event.size))
+
+
+def _read(data: bytes, timing: bytes | None) -> Recording:
+    """What the library reads."""
+    try:
+        with jeihpal.Recording(data, timing) as found:
+            if found.kind == RecordingKind.RAW:
+                raise NoRecording("neither an asciicast nor a ttyrec, and a typescript wants --timing")
+            fault = _FAULTS.get(found.fault.kind, "{}").format(found.fault.place) if found.fault else ""
+            size = found.size and _fitting(found.size)
+            return Recording(size, list(map(_event, found)), found.length, fault)
+    except jeihpal.NoRecording as error:
+        raise NoRecording(str(error)) from None
+
+
+# ---- asciicasts of version 1
+
+
+def _is_time(value: Any) -> bool:
+    return isinstance(value, (int, float)) and not isinstance(value, bool) and 0 <= value < math.inf
+
+
 def _size(rows: Any, cols: Any) -> Size | None:
-    sides = (rows, cols)
-    if all(isinstance(side, int) and not isinstance(side, bool) and 1 <= side <= _MOST for side in sides):
+    if all(isinstance(it, int) and not isinstance(it, bool) and 1 <= it <= _MOST for it in (rows, cols)):
         return Size(rows, cols)
     return None
 
 
-def _json(text: str) -> Any:
+def _header(data: bytes) -> dict[str, Any] | None:
+    """The one object that an asciicast of version 1 is; None of any other file."""
     try:
-        return json.loads(text)
-    except ValueError:
+        found = json.loads(data) if data.lstrip()[:1] == b"{" else None
+    except (ValueError, RecursionError):
         return None
+    return found if isinstance(found, dict) and found.get("version") == 1 else None
 
 
-def _resize(text: str) -> Size | None:
-    found = _SIZE.fullmatch(text)
-    return found and _size(int(found[2]), int(found[1]))
-
-
-def _change(code: str, text: str) -> Change | None:
-    """What an event does; nothing where that is no matter of a screen. Raises ValueError where it is none."""
-    if code == "o":
-        return text.encode("utf-8", "replace")
-    if code == "m":
-        return Marker(text)
-    if code == "r":
-        size = _resize(text)
-        if size is None:
-            raise ValueError
-        return size
-    return None
-
-
-def _rows(lines: list[str], has_comments: bool) -> Iterator[tuple[int, Change | None]]:
-    """Times as they are written, in microseconds, with what happens then."""
-    for number, line in enumerate(lines, 2):
-        if not line.strip() or (has_comments and line.startswith("#")):
-            continue
-        parts = _json(line)
-        try:
-            time, code, text = parts
-            if not (isinstance(parts, list) and _is_time(time) and isinstance(code, str) and isinstance(text, str)):
-                raise ValueError
-            yield microseconds(time), _change(code, text)
-        except (TypeError, ValueError):
-            raise NoRecording(f"line {number}: not an event of asciicast") from None
-
-
-def _later(header: dict[str, Any], lines: list[str]) -> Recording:
-    """An asciicast of version 2 or 3."""
-    term = header.get("term")
-    if header["version"] == 3:
-        size = _size(term.get("rows"), term.get("cols")) if isinstance(term, dict) else None
-    else:
-        size = _size(header.get("height"), header.get("width"))
-    if size is None:
-        raise NoRecording("line 1: no size of 1 to 65,535 rows and columns")
-    events, now = [], 0
-    for time, change in _rows(lines, header["version"] == 3):
-        now = now + time if header["version"] == 3 else max(now, time)
-        if change is not None:
-            events.append(Event(now, change))
-    title = header.get("title")
-    return Recording(size, events, now, title if isinstance(title, str) else "")
-
-
-def _first(header: dict[str, Any]) -> Recording:
-    """An asciicast of version 1: one object, with times between outputs."""
-    size = _size(header.get("height"), header.get("width"))
-    frames = header.get("stdout")
+def _first_version(header: dict[str, Any]) -> Recording:
+    """An asciicast of version 1: times between outputs."""
+    size, frames = _size(header.get("height"), header.get("width")), header.get("stdout")
     if size is None or not isinstance(frames, list):
         raise NoRecording("not an asciicast of version 1")
     events, now = [], 0
@@ -138,45 +115,10 @@ def _first(header: dict[str, Any]) -> Recording:
             raise NoRecording(f"output {number}: not one of asciicast of version 1")
         now += microseconds(frame[0])
         events.append(Event(now, frame[1].encode("utf-8", "replace")))
-    title = header.get("title")
-    return Recording(size, events, now, title if isinstance(title, str) else "")
+    return Recording(_fitting(size), events, now)
 
 
-def _frames(data: bytes) -> Iterator[tuple[int, bytes]]:
-    """The frames of a ttyrec: a time in microseconds, and bytes."""
-    place = 0
-    while place < len(data):
-        head = data[place : place + _FRAME]
-        seconds, micros, length = (int.from_bytes(head[i : i + 4], "little") for i in (0, 4, 8))
-        text = data[place + _FRAME : place + _FRAME + length]
-        if len(head) < _FRAME or len(text) < length:
-            raise NoRecording(f"byte {place}: not a frame of ttyrec")
-        yield seconds * 1_000_000 + micros, text
-        place += _FRAME + length
-
-
-def _ttyrec(data: bytes) -> Recording:
-    events: list[Event] = []
-    now = first = None
-    for time, text in _frames(data):
-        first = time if first is None else first
-        now = max(now or 0, time - first)
-        events.append(Event(now, text))
-    return Recording(None, events, now or 0, "")
-
-
-def parse(data: bytes) -> Recording:
-    """Reads a recording. A file of another kind raises NoRecording."""
-    first, _, rest = data.partition(b"\n")
-    header = _json(first.decode("utf-8", "replace"))
-    if not isinstance(header, dict):
-        header = _json(data.decode("utf-8", "replace")) if data.lstrip()[:1] == b"{" else None
-    if isinstance(header, dict):
-        if header.get("version") == 1:
-            return _first(header)
-        if header.get("version") in (2, 3):
-            return _later(header, rest.decode("utf-8", "replace").split("\n"))
-        raise NoRecording("line 1: not a header of asciicast v1, v2 or v3")
-    if len(data) >= _FRAME and int.from_bytes(data[4:8], "little") < 1_000_000:
-        return _ttyrec(data)
-    raise NoRecording("neither an asciicast nor a ttyrec")
+def parse(data: bytes, timing: bytes | None = None) -> Recording:
+    """Reads a recording; with the file of its times a typescript. A file of another kind raises NoRecording."""
+    header = _header(data) if timing is None else None
+    return _read(data, timing) if header is None else _first_version(header)

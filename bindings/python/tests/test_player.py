@@ -421,7 +421,36 @@ class Terminals(unittest.TestCase):
         for data, at in ((json.dumps(first).encode(), 0.75), ("\n".join(third).encode(), 0.75), (frames, 1)):
             self.kept(data)
             self.assertEqual(self.said("--find", "ab"), f"{at:.6f}\n")
-        for data in (b'{"version": 4}\n', b"raw", b'{"version": 2, "width": 20, "height": 3}\n[1, "o"]\n'):
-            self.kept(data)
-            with self.assertRaises(subprocess.CalledProcessError):
-                self.said("--print")
+        with open(f"{self.path}.times", "wb") as file:
+            file.write(b"0.25 1\n0.5 1\n")
+        self.kept(b"Script started\nab")
+        self.assertEqual(self.said("--find", "ab", "--timing", f"{self.path}.times"), "0.750000\n")
+
+    def refused(self, status: int, data: bytes, *words: str) -> tuple[str, str]:
+        """What is printed, and what is said of a fault, where the status is this one."""
+        run = [*self.kept(data), *words]
+        ended = subprocess.run(run, cwd=PYTHON, capture_output=True, check=False, timeout=60)
+        self.assertEqual(ended.returncode, status, ended.stderr)
+        return ended.stdout.decode(), ended.stderr.decode()
+
+    def test_what_is_no_recording(self):
+        huge = b'{"version": 2, "width": 65535, "height": 65535}\n'
+        for data, words in (
+            (b'{"version": 4}\n', "no header"),
+            (b"raw", "neither an asciicast nor a ttyrec"),
+            (b"\x1f\x8b\x08\0", "compressed"),
+            (b'{"version": 1, "width": 0}', "not an asciicast of version 1"),
+            (huge, "more than 4,000,000 cells"),
+            (cast((3, 20), [[1, "r", "65535x65535"]]), "more than 4,000,000 cells"),
+        ):
+            self.assertIn(words, self.refused(1, data, "--print")[1])
+
+    def test_a_recording_in_part(self):
+        data = cast((2, 20), [[1, "o", "whole"]]) + b'[2, "o"]\n'
+        shown, said = self.refused(3, data, "--print")
+        self.assertEqual(shown, "whole\n\n")
+        self.assertIn("a.cast: line 3: not an event of asciicast", said)
+        with Terminal([*self.kept(data), "--at", "1"], rows=4, cols=100, cwd=PYTHON) as terminal:
+            terminal.wait_for("line 3: not an event of asciicast")
+            terminal.press("q")
+            self.assertEqual(terminal.wait_for_exit(), 3)
