@@ -105,7 +105,8 @@ def figures(browser: Any) -> Iterator[tuple[str, list[float]]]:
     tenths = [timed(browser, pressed(str(tenth))) for tenth in (5, 1, 9, 2, 8, 3, 7, 4, 6, 0)]
     yield "to any tenth, at most", [max(times) for times in zip(*tenths)]
     yield "one moment on", timed(browser, pressed("."))
-    yield "a text found in time", timed(browser, "at('text').value = '100%'; find(1)")
+    browser.value("(document.getElementById('text').value = '100%')")
+    yield "a text found in time", timed(browser, "document.querySelector('#search button').click()")
 
 
 def main() -> int:

@@ -57,15 +57,18 @@ def busy_processors(count: int) -> Iterator[None]:
 def _started(folder: str, number: int, times: int) -> subprocess.Popen[bytes]:
     """pytest on the examples, so many times each."""
     words = [with_pytest(), "-m", "pytest", "-q", "-p", "jeihpal.testing.pytest_plugin", "-p", "no:cacheprovider"]
-    words += ["--times", str(times), "--failed-screens", f"{folder}/failed{number}"]
+    words += [f"--times={times}", "--failed-screens", f"{folder}/failed{number}"]
     words += [f"--basetemp={folder}/made{number}", f"--junitxml={folder}/result{number}.xml", EXAMPLES]
-    quiet = subprocess.DEVNULL
-    return subprocess.Popen(words, env=ENV, cwd=folder, stdin=quiet, stdout=quiet, stderr=quiet)
+    with open(f"{folder}/said{number}", "wb") as said:
+        return subprocess.Popen(words, env=ENV, cwd=folder, stdin=subprocess.DEVNULL, stdout=said, stderr=said)
 
 
-def _result(path: str) -> Result:
-    """What pytest has written of a run."""
-    cases = xml.etree.ElementTree.parse(path).getroot().findall(".//testcase")
+def _result(folder: str, number: int) -> Result:
+    """What a run of pytest has written."""
+    if not os.path.exists(f"{folder}/result{number}.xml"):
+        with open(f"{folder}/said{number}", encoding="utf-8") as said:
+            raise RuntimeError(f"pytest ran no tests: {said.read()}")
+    cases = xml.etree.ElementTree.parse(f"{folder}/result{number}.xml").getroot().findall(".//testcase")
     skipped = sum(case.find("skipped") is not None for case in cases)
     failed = []
     for case in cases:
@@ -92,7 +95,7 @@ def play(times: int, workers: int) -> Result:
         runs = [_started(folder, number, share) for number, share in enumerate(shares)]
         for run in runs:
             run.wait()
-        results = [_result(f"{folder}/result{number}.xml") for number in range(len(shares))]
+        results = [_result(folder, number) for number in range(len(shares))]
         results.append(_scripts(folder, times))
     failed = [name for result in results for name in result.failed]
     return Result(sum(it.ran for it in results), sum(it.skipped for it in results), failed)
