@@ -8,6 +8,7 @@ from typing import Iterator, NamedTuple
 from ._cells import OpenEnum, Size
 from ._library import RawEvent, RawRecorded
 from ._object import Object
+from ._screen import Screen
 
 _COLORS = 18
 
@@ -115,6 +116,19 @@ class Recording(Object):
     def __iter__(self) -> Iterator[Event]:
         """The events, in order."""
         return (self[index] for index in range(self._events))
+
+    def screen_at(self, time: int, size: Size | None = None) -> Screen:
+        """A new screen as it is after all events up to a time, in microseconds. It begins in the size that the
+        recording says, or else in this one, or in 24 rows of 80 columns."""
+        screen = Screen(*(self.size or size or Size(24, 80)))
+        for event in self:
+            if event.time > time:
+                break
+            if event.kind == EventKind.OUTPUT:
+                screen.process(event.data)
+            elif event.size:
+                screen.resize(*event.size)
+        return screen
 
     @property
     def colors(self) -> list[int]:

@@ -392,6 +392,16 @@ class Recordings(unittest.TestCase):
                 shown.append((screen.size, screen.row_text(0)))
             self.assertEqual(shown, [((24, 80), "hi"), ((30, 90), "hi"), ((30, 90), "hi")])
 
+    def test_a_screen_at_a_time(self):
+        with Recording(CAST) as recording:
+            for time, size, text in ((499999, (24, 80), ""), (500000, (24, 80), "hi"), (9**9, (30, 90), "hi")):
+                with recording.screen_at(time) as screen:
+                    self.assertEqual((screen.size, screen.row_text(0)), (size, text))
+        with Recording(b"raw") as recording:
+            for size, shown in ((None, (24, 80)), (Size(2, 5), (2, 5))):
+                with recording.screen_at(0, size) as screen:
+                    self.assertEqual((screen.size, screen.row_text(0)), (shown, "raw"))
+
     def test_other_kinds(self):
         ttyrec = (5).to_bytes(4, "little") + bytes(4) + (2).to_bytes(4, "little") + b"ab"
         with Recording(ttyrec + b"cut") as recording:

@@ -2,6 +2,7 @@
 use crate::error::{answer, Result};
 use crate::object::Owned;
 use crate::raw::{self, RawEvent, RawRecorded, Word};
+use crate::screen::Screen;
 use std::num::NonZeroU16;
 
 /// The library's answer to an event that isn't there.
@@ -71,6 +72,8 @@ pub struct Event {
 ///
 /// let cast = b"{\"version\": 2, \"width\": 80, \"height\": 24}\n[0.5, \"o\", \"hello\"]\n";
 /// let recording = Recording::new(cast)?;
+/// assert_eq!(recording.screen_at(499_999)?.contents()?, "");
+/// assert_eq!(recording.screen_at(500_000)?.contents()?, "hello");
 /// let (rows, cols) = recording.size().unwrap();
 /// let mut screen = Screen::new(rows, cols, 0)?;
 /// for event in recording.events() {
@@ -179,6 +182,25 @@ impl Recording {
         (0..self.look.events).filter_map(|index| self.event(index).transpose())
     }
 
+    /// A new screen as it is after all events up to a time, in microseconds. It begins in the size that the recording
+    /// says, or else in 24 rows of 80 columns.
+    pub fn screen_at(&self, time: u64) -> Result<Screen> {
+        let (rows, cols) = self.size().unwrap_or_else(usual_size);
+        let mut screen = Screen::new(rows, cols, 0)?;
+        for event in self.events() {
+            let Event { time: then, change } = event?;
+            if then > time {
+                break;
+            }
+            match change {
+                Change::Output(bytes) => screen.process(&bytes)?,
+                Change::Resize(rows, cols) => screen.resize(rows, cols)?,
+                _ => {}
+            }
+        }
+        Ok(screen)
+    }
+
     /// The colours that an asciicast has of its own, each as 0xRRGGBB: that of texts, that of backgrounds, and the
     /// first sixteen.
     pub fn colors(&self) -> Option<[u32; COLORS]> {
@@ -190,6 +212,12 @@ impl Recording {
             .expect("it is never refused");
         (count == COLORS).then_some(colors)
     }
+}
+
+/// The rows and columns of a recording that says none.
+fn usual_size() -> (NonZeroU16, NonZeroU16) {
+    let side = |number| NonZeroU16::new(number).expect("it isn't 0");
+    (side(24), side(80))
 }
 
 impl Change {
