@@ -2,7 +2,8 @@
 busy.
 
 python3 -m tests.often [--times N] [--calm | --busy] prints how many tests ran, how many failed, and how busy the
-processors were. It fails where one of them fails. pytest is wanted.
+processors were. It fails where one of them fails. pytest is wanted. Where others work on the machine,
+`chrt -r 1 python3 -m tests.often --calm` is nearly as on an idle one: the tests, and what they start, come first.
 """
 
 from __future__ import annotations
