@@ -24,6 +24,20 @@ static void frames() {
     }
 }
 
+static void late() {
+    jeihpal::hub hub(1, 20);
+    jeihpal::view view(1, 20);
+    size_t client = hub.attach();
+    hub.feed("one");
+    CHECK(hub.redraw(client)->empty() && hub.frame(client) == JEIHPAL_FULL);
+    hub.feed(" two");
+    view.advance(*hub.redraw(client));
+    size_t fork = hub.fork(client);
+    CHECK(view.row_text(0) == "one" && hub.frame(fork) == JEIHPAL_DIFFERENCE);
+    view.advance(hub.owed(fork));
+    CHECK(view.row_text(0) == "one two");
+}
+
 static void screens() {
     jeihpal::screen screen(2, 5, 3);
     screen.process("a\r\nb\r\nc\x1b]2;title\a");
@@ -68,6 +82,7 @@ static void recordings() {
 int main() {
     CHECK(jeihpal_runs_here());
     frames();
+    late();
     screens();
     recordings();
     puts("cpp: well");

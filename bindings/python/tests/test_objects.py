@@ -40,6 +40,24 @@ class Hubs(unittest.TestCase):
             with self.assertRaises(UnknownClient):
                 hub.frame(client)
 
+    def test_a_late_terminal_goes_on(self):
+        with Hub(1, 20) as hub, View(1, 20) as view:
+            client = hub.attach()
+            self.assertEqual(hub.redraw(client), b"")
+            hub.feed(b"one")
+            self.assertIs(hub.frame(client), Answer.FULL)
+            hub.feed(b" two")
+            view.advance(hub.redraw(client))
+            self.assertEqual(view.text(), "one")
+            fork = hub.fork(client)
+            self.assertIs(hub.frame(fork), Answer.DIFFERENCE)
+            carry(hub, fork, view, 5)
+            self.assertEqual(view.text(), "one two")
+            hub.detach(fork)
+            for late in (hub.redraw, hub.fork):
+                with self.assertRaises(UnknownClient):
+                    late(fork)
+
     def test_a_frame_byte_for_byte(self):
         with Hub(1, 20) as hub:
             client = hub.attach()

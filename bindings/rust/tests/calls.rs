@@ -42,6 +42,26 @@ fn a_frame_arrives() {
     assert_eq!(hub.frame(client), Err(Error::UnknownClient));
 }
 
+/// A terminal that joins late reads the redraw of a client, and goes on with the frames of a fork.
+#[test]
+fn a_late_terminal_goes_on() {
+    let (mut hub, mut view, client) = pair(1, 20);
+    assert_eq!(hub.redraw(client), Ok(Some(Vec::new())));
+    hub.write_all(b"one").unwrap();
+    assert_eq!(hub.frame(client), Ok(Answer::Full));
+    hub.write_all(b" two").unwrap();
+    view.advance(&hub.redraw(client).unwrap().unwrap());
+    assert_eq!(view.row_text(0).unwrap(), "one");
+    let fork = hub.fork(client).unwrap();
+    assert_eq!(hub.owed(fork), Ok(Vec::new()));
+    assert_eq!(hub.frame(fork), Ok(Answer::Difference));
+    view.advance(&hub.owed(fork).unwrap());
+    assert_eq!(view.row_text(0).unwrap(), "one two");
+    hub.detach(fork).unwrap();
+    assert_eq!(hub.redraw(fork), Err(Error::UnknownClient));
+    assert_eq!(hub.fork(fork), Err(Error::UnknownClient));
+}
+
 /// Takes so many bytes in all, and then is at fault.
 struct Narrow(usize);
 
