@@ -1,5 +1,6 @@
 -- Elements that are copied one by one.
-use Rattle.std.proofs.Common.{◌≡◌, ◌∙◌, ℕ, ◌+◌, ◌<◌, ◌≤◌, List, ◌++◌, ◌∷◌, [], length, take, drop, map, get_or, set, min}
+use Rattle.std.proofs.Common.{◌≡◌, ◌∙◌, ℕ, ◌+◌, ◌<◌, ◌≤◌, List, ◌++◌, ◌∷◌, [], length, take, drop, map, get_or, set}
+use Rattle.std.proofs.Common.{min}
 use Rattle.std.proofs.Common.{ap, sym, arith}
 use Rattle.std.specs.List.{range_with_len}
 use Rattle.std.proofs.lemmas.List.{take_more, set-append_right, drop-set, drop-set-add, length-take-le, length-map}

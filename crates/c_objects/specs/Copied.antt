@@ -117,8 +117,8 @@ ScreensSay says (Recording r) y code = code ≡ other_kind
 
 abbrev pub HasContentsDiff : List ℕ → List ℕ → ℕ → Marked → Marked → ℤ → Type 0
 HasContentsDiff old new count m e code =
-    CopiesGiven (GivesDifference contents_diff picture.contents_diff 512 e.parser.screen.state m.parser.screen.state) old
-    new count code
+    CopiesGiven (GivesDifference contents_diff picture.contents_diff 512 e.parser.screen.state m.parser.screen.state)
+    old new count code
 
 abbrev pub HasStateDiff : List ℕ → List ℕ → ℕ → Marked → Marked → ℤ → Type 0
 HasStateDiff old new count m e code =
@@ -127,7 +127,8 @@ HasStateDiff old new count m e code =
 
 abbrev pub HasModesDiff : List ℕ → List ℕ → ℕ → Marked → Marked → ℤ → Type 0
 HasModesDiff old new count m e code =
-    CopiesGiven (GivesModes (input_mode_diff (shown_state e.parser.screen.state) (shown_state m.parser.screen.state)) 128)
+    CopiesGiven
+    (GivesModes (input_mode_diff (shown_state e.parser.screen.state) (shown_state m.parser.screen.state)) 128)
     old new count code
 
 abbrev pub HasRowsDiff : ℕ × ℕ → List ℕ → List ℕ → ℕ → List ℕ → List ℕ → ℕ → Marked → Marked → ℤ → Type 0

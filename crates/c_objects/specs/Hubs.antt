@@ -1,5 +1,6 @@
 -- What each call does to a hub, by the library's call, and the number that it returns.
-use Rattle.std.specs.Prelude.{◌≡◌, ◌≢◌, ◌⊎◌, ℕ, ◌≤◌, ◌<◌, ◌*◌, ℤ, false, List, length, drop, Option, Some, None, Ok, Err}
+use Rattle.std.specs.Prelude.{◌≡◌, ◌≢◌, ◌⊎◌, ℕ, ◌≤◌, ◌<◌, ◌*◌, ℤ, false, List, length, drop, Option, Some, None, Ok}
+use Rattle.std.specs.Prelude.{Err}
 use Rattle.std.specs.Prelude.{Result, IfOk, OnOk}
 use Rattle.std.specs.Prelude.{MatchOption, encode_utf8_all}
 use Rattle.vt100_core.specs.Grid.{visible_row_at, cell_in}

@@ -1,5 +1,6 @@
 -- Texts that are copied into the caller's memory.
-use Rattle.std.specs.Prelude.{◌≡◌, ◌≢◌, ◌⊎◌, ℕ, ℤ, List, [], ◌++◌, length, min, take, drop, map, Ok, Err, Result, String}
+use Rattle.std.specs.Prelude.{◌≡◌, ◌≢◌, ◌⊎◌, ℕ, ℤ, List, [], ◌++◌, length, min, take, drop, map, Ok, Err, Result}
+use Rattle.std.specs.Prelude.{String}
 use Rattle.std.specs.Prelude.{string_bytes}
 use Rattle.std.specs.List.{concat}
 use Rattle.vt100.specs.declared.error.ScreenError.{ScreenError}

@@ -54,8 +54,8 @@ ViewMoves v (Gives piece ∷ moves) w =
     (u : Object) × (code : ℤ) × ViewDoes (Advances piece) v code u × ViewMoves u moves w
 ViewMoves v (Stops ∷ moves) w = (u : Object) × (code : ℤ) × ViewDoes view.Stops v code u × ViewMoves u moves w
 
--- The view of a word, which has the session's size, holds nothing back. It shows the screen at the moment of this frame,
--- or a blank screen without one, unless that screen had U+FE0F.
+-- The view of a word, which has the session's size, holds nothing back. It shows the screen at the moment of this
+-- frame, or a blank screen without one, unless that screen had U+FE0F.
 pub record ShowsWhole (rows cols : ℕ) (s : SessionView) (last : Option Entry) (w : Object) : Type 0 where
   pub view : ViewState
   pub is : w ≡ View view

@@ -36,8 +36,8 @@ pub fn whole_frames_from_c_are_shown()
     until_cleared_is_exact();
 }
 
-/// C lets a new view of a client's size read a prefix of the bytes that the client was handed, and then more of them. If
-/// no further frame is whole then, the view still shows the same, also where the last whole frame showed U+FE0F.
+/// C lets a new view of a client's size read a prefix of the bytes that the client was handed, and then more of them.
+/// If no further frame is whole then, the view still shows the same, also where the last whole frame showed U+FE0F.
 pub fn no_frame_from_c_is_torn()
     ensures { NoFrameFromCIsTorn }
 {

@@ -43,7 +43,8 @@ impl CharsetFilter {
     /// Reads the next bytes, and appends to the output what they give, at most four bytes for each.
     ///
     /// Memory is refused only where the output has no room for four times as many bytes. Then the error tells how many
-    /// bytes at the start have been read, and what these give is appended. The others, at least one, have not been read.
+    /// bytes at the start have been read, and what these give is appended. The others, at least one, have not been
+    /// read.
     pub fn advance(&mut self, bytes: &[u8], output: &mut Vec<u8>) -> Result<(), AdvanceError>
         ensures given { OnOk result (Gives self.old bytes.now (length bytes.now) self.new output.old.items
             output.new.items) }

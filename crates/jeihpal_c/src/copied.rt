@@ -64,7 +64,8 @@ pub extern "C" fn jeihpal_screen_drawing(word: &mut Word, drawing: &mut CDrawing
     }
 }
 
-/// Copies the rows as text with its attributes: no control sequences but SGR, and no control characters but newlines. Refused if an allocation fails.
+/// Copies the rows as text with its attributes: no control sequences but SGR, and no control characters but newlines.
+/// Refused if an allocation fails.
 #[unsafe(no_mangle)]
 pub extern "C" fn jeihpal_screen_contents_formatted_basic(
     word: &mut Word,
@@ -115,7 +116,8 @@ pub extern "C" fn jeihpal_screen_attributes_formatted(
     }
 }
 
-/// Copies the bytes that bring a terminal's cursor to the screen's, and hide or show it. Refused if an allocation fails.
+/// Copies the bytes that bring a terminal's cursor to the screen's, and hide or show it. Refused if an allocation
+/// fails.
 #[unsafe(no_mangle)]
 pub extern "C" fn jeihpal_screen_cursor_state_formatted(
     word: &mut Word,
@@ -132,7 +134,8 @@ pub extern "C" fn jeihpal_screen_cursor_state_formatted(
     }
 }
 
-/// Copies the bytes that take a terminal from the picture of `earlier` to that of the screen. Refused if an allocation fails.
+/// Copies the bytes that take a terminal from the picture of `earlier` to that of the screen. Refused if an allocation
+/// fails.
 #[unsafe(no_mangle)]
 pub extern "C" fn jeihpal_screen_contents_diff(
     word: &mut Word,
@@ -140,7 +143,8 @@ pub extern "C" fn jeihpal_screen_contents_diff(
     to: &mut [u8],
     count: &mut usize,
 ) -> i32
-    ensures says { InWords (ScreensSay (HasContentsDiff to.old to.new count.new)) word.old.held earlier.old.held result }
+    ensures says { InWords (ScreensSay (HasContentsDiff to.old to.new count.new)) word.old.held earlier.old.held
+        result }
     ensures same { word.new.held ≡ word.old.held }
     ensures same_earlier { earlier.new.held ≡ earlier.old.held }
     ensures refused { IsRefusal result → (to.new ≡ to.old) × (count.new ≡ count.old) }
@@ -154,7 +158,8 @@ pub extern "C" fn jeihpal_screen_contents_diff(
     }
 }
 
-/// Copies the bytes that take a terminal from all that `earlier` shows to all that the screen shows. Refused if an allocation fails.
+/// Copies the bytes that take a terminal from all that `earlier` shows to all that the screen shows. Refused if an
+/// allocation fails.
 #[unsafe(no_mangle)]
 pub extern "C" fn jeihpal_screen_state_diff(
     word: &mut Word,
@@ -176,7 +181,8 @@ pub extern "C" fn jeihpal_screen_state_diff(
     }
 }
 
-/// Copies the bytes that take a terminal from the modes of `earlier` to those of the screen. Refused if an allocation fails.
+/// Copies the bytes that take a terminal from the modes of `earlier` to those of the screen. Refused if an allocation
+/// fails.
 #[unsafe(no_mangle)]
 pub extern "C" fn jeihpal_screen_input_mode_diff(
     word: &mut Word,
@@ -199,8 +205,8 @@ pub extern "C" fn jeihpal_screen_input_mode_diff(
 }
 
 /// Copies the bytes that draw each row: `width` columns from column `start` on. They stand one behind the other, and
-/// `lengths` says how many each row has. `count` is set to how many bytes there are in all, and `rows_count` to how many
-/// rows. Refused if an allocation fails.
+/// `lengths` says how many each row has. `count` is set to how many bytes there are in all, and `rows_count` to how
+/// many rows. Refused if an allocation fails.
 #[unsafe(no_mangle)]
 pub extern "C" fn jeihpal_screen_rows_formatted(
     alloc: Global,
@@ -234,8 +240,8 @@ pub extern "C" fn jeihpal_screen_rows_formatted(
     }
 }
 
-/// Copies the bytes that draw each row over the row that `earlier` shows there, as `jeihpal_screen_rows_formatted` does.
-/// Refused if an allocation fails.
+/// Copies the bytes that draw each row over the row that `earlier` shows there, as `jeihpal_screen_rows_formatted`
+/// does. Refused if an allocation fails.
 #[unsafe(no_mangle)]
 pub extern "C" fn jeihpal_screen_rows_diff(
     alloc: Global,

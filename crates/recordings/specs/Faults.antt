@@ -2,7 +2,8 @@
 use Rattle.std.specs.Prelude.{List, ℕ, ◌++◌, codes}
 use Rattle.std.specs.Fmt.{decimal}
 use Rattle.recordings.specs.declared.error.RecordingError.{RecordingError}
-use Rattle.recordings.specs.declared.error.RecordingError.TheVariants.{Byte, Header, Line, Memory, NoTiming, Packed, Step}
+use Rattle.recordings.specs.declared.error.RecordingError.TheVariants.{Byte, Header, Line, Memory, NoTiming, Packed}
+use Rattle.recordings.specs.declared.error.RecordingError.TheVariants.{Step}
 use Rattle.recordings.specs.declared.error.Packer.TheVariants.{Bzip2, Gzip, Xz, Zstd}
 
 abbrev pub fault_text : RecordingError → List ℕ

@@ -4,9 +4,11 @@ ghost use Rattle.std.specs.Prelude.{◌≡◌, ◌∷◌, ◌++◌, [], List, ma
 ghost use Rattle.std.specs.Option.{option_map};
 ghost use Rattle.command_line.specs.Numbers.{count_of, size_in as size_of};
 ghost use Rattle.recordings.specs.Recorded.{Row, IsStateAfter, size_said};
-ghost use Rattle.recordings.specs.Typescript.{AreSteps, IsFaultOfStep, IsReadScript, IsTypescript, counted_in, input_in};
+ghost use Rattle.recordings.specs.Typescript.{AreSteps, IsFaultOfStep, IsReadScript, IsTypescript, counted_in};
+ghost use Rattle.recordings.specs.Typescript.input_in;
 ghost use Rattle.recordings.specs.Typescript.{other_in, output_in, output_of, rest_of, shares_log as shares_log_of};
-ghost use Rattle.recordings.specs.Typescript.{side_named, signal_in, size_named, step_in, step_said, taken, value_named};
+ghost use Rattle.recordings.specs.Typescript.{side_named, signal_in, size_named, step_in, step_said, taken};
+ghost use Rattle.recordings.specs.Typescript.value_named;
 ghost use Rattle.recordings.specs.Typescript.{window_in as window_of, word_of};
 ghost use Rattle.recordings.specs.declared.error.RecordingError.TheVariants.{Step};
 ghost use Rattle.recordings.specs.declared.timeline.Pace.TheVariants.{FromLast as Last};
@@ -122,7 +124,8 @@ fn push_step<'a>(
     left: &'a [u8],
 ) -> Result<Option<&'a [u8]>, AllocError>
     ensures { IfOk result (λ rest. MatchOption rest
-        ((taken left.now (step_said step) ≡ None) × (timeline.new ≡ timeline.old)) (λ after. (row : Row) × (taken left.now (step_said step) ≡ Some (row, after.now))
+        ((taken left.now (step_said step) ≡ None) × (timeline.new ≡ timeline.old))
+        (λ after. (row : Row) × (taken left.now (step_said step) ≡ Some (row, after.now))
         × ((rows : List Row) → IsStateAfter Last rows timeline.old → IsStateAfter Last (rows ++ row ∷ [])
         timeline.new))) }
 {

@@ -1,5 +1,6 @@
 -- A turn: what feeding a piece, asking for a frame and pumping leave.
-use Rattle.std.proofs.Common.{◌≡◌, ◌≢◌, ◌∙◌, ℕ, false, List, [], ◌∷◌, ◌++◌, map, drop, Option, Some, None, Ok, Err, Result}
+use Rattle.std.proofs.Common.{◌≡◌, ◌≢◌, ◌∙◌, ℕ, false, List, [], ◌∷◌, ◌++◌, map, drop, Option, Some, None, Ok, Err}
+use Rattle.std.proofs.Common.{Result}
 use Rattle.std.proofs.Common.{refl, sym, ap, subst, if◌then◌else◌, inl, inr, true}
 use Rattle.std.specs.List.{concat}
 use Rattle.std.proofs.lemmas.Bool.{eq-eqb}
@@ -19,7 +20,8 @@ use Rattle.byte_streams.specs.Pump.{Pumps}
 use Rattle.termrelay.specs.Hub.{HubState, as_kept, clients_in, new_client, size_in, shown_in, Puts, IsNewHub}
 use Rattle.termrelay.specs.Hub.{Attaches, Feeds, CanFrame, Framed, Frames, pump_answer, PumpsFrom, PumpsClient}
 use Rattle.termrelay.specs.declared.answer.Answer.{Answer}
-use Rattle.termrelay.specs.declared.answer.Answer.TheVariants.{Full, Difference, Unsure, Unchanged, Behind, Held, TooLong}
+use Rattle.termrelay.specs.declared.answer.Answer.TheVariants.{Full, Difference, Unsure, Unchanged, Behind, Held}
+use Rattle.termrelay.specs.declared.answer.Answer.TheVariants.{TooLong}
 use Rattle.termrelay.specs.declared.error.HubError.{HubError}
 use Rattle.termrelay.specs.declared.error.HubError.TheVariants as hub
 use Rattle.byte_streams.proofs.PumpLaws.{takes-all, writes-nothing}

@@ -54,9 +54,9 @@ pub record HasReadAll (lines : LineDrawing) (rows cols : ℕ) (pieces : List (Li
   pub joined : concat cuts ≡ concat frames
   pub leads : Drives (map Gives cuts) [] None parsed hold
 
--- A new view of the size that has read all that was relayed of the pieces so far, of which there is one, shows the screen
--- that these make, with its lines drawn or not. It holds nothing back. Left out are a screen that shows U+FE0F and one
--- inside an update of its own.
+-- A new view of the size that has read all that was relayed of the pieces so far, of which there is one, shows the
+-- screen that these make, with its lines drawn or not. It holds nothing back. Left out are a screen that shows U+FE0F
+-- and one inside an update of its own.
 abbrev pub LiveIsShown : Type 0
 LiveIsShown = (lines : LineDrawing) (rows cols : ℕ) (past : List (List ℕ)) (piece parsed : List ℕ)
     (hold : Option (List ℕ)) → HasReadAll lines rows cols (past ++ piece ∷ []) parsed hold

@@ -39,7 +39,8 @@ pub fn relay<S: Source, W: FlushSink>(
     ensures relays { Relays S.gives W.takes W.flushes rows.value cols.value input.old output.old result input.new
         output.new }
     ensures text { OnOk result (IfSome (S.left input.old) (λ bytes. (text : List ℕ)
-        × IsRelayText rows.value cols.value bytes text × Appends (W.contents output.old) (W.contents output.new) text)) }
+        × IsRelayText rows.value cols.value bytes text
+        × Appends (W.contents output.old) (W.contents output.new) text)) }
     ensures prefix { IfSome (S.left input.old) (λ bytes. (key : ℕ) (t : Story)
         → IsRelayed rows.value cols.value key (pieces_of bytes) t
         → TakesPrefix (W.contents output.old) (W.contents output.new) t.session.pumped) }

@@ -22,7 +22,8 @@ use Rattle.relay_theorem.specs.Judge.{texts, last_frame, whole_in}
 use Rattle.relay_theorem.specs.Laws.{last_text, base_after, AreAnswered, IsReported}
 use Rattle.relay_theorem.specs.Headline.{whole_read}
 use Rattle.relay_theorem.specs.Serves.{Matches}
-use Rattle.relay_theorem.specs.Forks.{Deed, Called, Forked, only_calls, fork_of, last_that, stories_since, Happens, Goes}
+use Rattle.relay_theorem.specs.Forks.{Deed, Called, Forked, only_calls, fork_of, last_that, stories_since, Happens}
+use Rattle.relay_theorem.specs.Forks.{Goes}
 use Rattle.relay_theorem.specs.Forks.{GoesReported, IsForkSession, EachSessionIsOneWithForks, EachForkIsReported}
 use Rattle.relay_theorem.specs.Forks.{LastWholeForkedFrameIsShown, EachForkedRunHasAHistory}
 use Rattle.relay_theorem.specs.Redraws.{ReadsRedraw, redrawn_then, RedrawnFramesAreShown, NoRedrawIsTorn}

@@ -1,5 +1,6 @@
 -- Runs of cells that are alike.
-use Rattle.std.proofs.Common.{◌≡◌, ◌⊎◌, ◌<◌, ◌≤◌, ◌+◌, ◌++◌, ℕ, List, [], Option, true, false, inl, inr, arith, subst, sym}
+use Rattle.std.proofs.Common.{◌≡◌, ◌⊎◌, ◌<◌, ◌≤◌, ◌+◌, ◌++◌, ℕ, List, [], Option, true, false, inl, inr, arith, subst}
+use Rattle.std.proofs.Common.{sym}
 use Rattle.std.proofs.Common.{append-nil}
 use Rattle.std.proofs.Math.Nat.{eq-or-lt_of_le}
 use Rattle.picture_page.proofs.PageLemmas.{joined_more}

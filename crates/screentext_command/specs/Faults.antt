@@ -11,7 +11,8 @@ use Rattle.recordings.specs.Faults.{fault_text as recording_fault_text}
 use Rattle.recordings.specs.declared.error.RecordingError.{RecordingError}
 use Rattle.recordings.specs.declared.error.RecordingError.TheVariants as recording
 use Rattle.screentext_command.specs.declared.error.TextError.{TextError}
-use Rattle.screentext_command.specs.declared.error.TextError.TheVariants.{Cells, Cut, File, Film, Guessed, Marker, Memory}
+use Rattle.screentext_command.specs.declared.error.TextError.TheVariants.{Cells, Cut, File, Film, Guessed, Marker}
+use Rattle.screentext_command.specs.declared.error.TextError.TheVariants.{Memory}
 use Rattle.screentext_command.specs.declared.error.TextError.TheVariants.{Player, Read, Recording, Write}
 
 -- a fault of the input

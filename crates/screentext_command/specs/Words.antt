@@ -92,7 +92,8 @@ are_values rows = is_screen (first_of (codes "ROWS") rows) (first_of (codes "COL
     && (is_moment (first_of (codes "at") rows) && (is_moment (first_of (codes "diff") rows)
     && (option_map_or is_count (first_of (codes "history") rows) true
     && is_form (nat_lt 0 (count_of (codes "html") rows)) (nat_lt 0 (count_of (codes "html-block") rows))
-    (nat_lt 0 (count_of (codes "svg") rows)) (nat_lt 0 (count_of (codes "animate") rows)) (nat_lt 0 (count_of (codes "player") rows)))))
+    (nat_lt 0 (count_of (codes "svg") rows)) (nat_lt 0 (count_of (codes "animate") rows))
+    (nat_lt 0 (count_of (codes "player") rows)))))
 
 abbrev pub are_sources : List Row → Bool
 are_sources rows = option_map_or (λ word. is_some (kind_named word)) (first_of (codes "kind") rows) true

@@ -60,10 +60,10 @@ pub fn command<R: Source, W: FlushSink, V: ByteSink>(
 
 /// Runs the program on the words after its name, and answers its exit status.
 ///
-/// A fault is reported in a line on `errors`. So is the reason why only a part of the recording was read, with status 3.
-/// Words that aren't understood get the usage line there, and then nothing is read or written, unless memory is refused
-/// before that is known: that is a fault. Such a line is written whole, unless a write of it fails or takes nothing. That
-/// changes nothing else.
+/// A fault is reported in a line on `errors`. So is the reason why only a part of the recording was read, with
+/// status 3. Words that aren't understood get the usage line there, and then nothing is read or written, unless
+/// memory is refused before that is known: that is a fault. Such a line is written whole, unless a write of it fails
+/// or takes nothing. That changes nothing else.
 pub fn command_with<F: Files, R: Source, W: FlushSink, V: ByteSink>(
     alloc: Global,
     words: &[&str],

@@ -46,7 +46,8 @@ pub(crate) fn source_of(
     matches: &ArgMatches<'_>,
 ) -> Result<Option<Source>, AllocError>
     ensures source { IfOk result (λ s. is_some s ≡ are_sources (rows_of (found_of matches.now))) }
-    ensures says { IfOk result (λ s. IfSome s (λ source. SaysOrigin (rows_of (found_of matches.now)) (origin_of source))) }
+    ensures says { IfOk result (λ s. IfSome s (λ source.
+        SaysOrigin (rows_of (found_of matches.now)) (origin_of source))) }
 {
     let kind = kind_of(matches.get_str("kind"));
     let timing = owned(alloc, matches.get_str("timing"))?;

@@ -123,7 +123,8 @@ fn all(
 fn request_of(alloc: Global, matches: &ArgMatches<'_>) -> Result<Option<Request>, TextError>
     ensures fault { IfErr result (λ e. e ≡ Memory) }
     ensures request { IfOk result (λ r. is_some r ≡ are_values (rows_of (found_of matches.now))) }
-    ensures says { IfOk result (λ r. IfSome r (λ request. SaysWish (rows_of (found_of matches.now)) (wish_of request))) }
+    ensures says { IfOk result (λ r. IfSome r (λ request.
+        SaysWish (rows_of (found_of matches.now)) (wish_of request))) }
 {
     let size = size_of(matches.get_str("ROWS"), matches.get_str("COLS"));
     let moment = is_moment(alloc, matches.get_str("at"))?;

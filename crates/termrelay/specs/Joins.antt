@@ -12,8 +12,8 @@ forked c = record { owed = []; base = c.base }
 
 -- For each way to describe a hub:
 module _ {way : Telling} where
-  -- The results that a request for a redraw can have, by the client at the key, if there is one. Memory is taken only if
-  -- the client has had a frame.
+  -- The results that a request for a redraw can have, by the client at the key, if there is one. Memory is taken only
+  -- if the client has had a frame.
   abbrev pub RedrawsFrom : HubState way → Option ClientState → Result (Option (List ℕ)) HubError → Type 0
   RedrawsFrom h None result = result ≡ Err UnknownClient
   RedrawsFrom h (Some c) (Ok text) = (is_failed h ≡ false) × (text ≡ redraw_of (size_in h) c.base)

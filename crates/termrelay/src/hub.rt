@@ -136,8 +136,8 @@ impl Hub {
         }
     }
 
-    /// Adds a client that has what this one has once it has read all its frames. The new client is owed nothing, and its
-    /// next frame starts from the screen at this one's last frame, which the two share.
+    /// Adds a client that has what this one has once it has read all its frames. The new client is owed nothing, and
+    /// its next frame starts from the screen at this one's last frame, which the two share.
     ///
     /// A terminal that has read this client's frames so far, or its [`redraw`](Self::redraw), goes on with the new
     /// client's frames. If this client has had no frame, the call does what [`attach`](Self::attach) does. Fails only

@@ -188,7 +188,8 @@ impl Picture {
         requires drawn { drawn_columns c ≡ Some columns }
         requires spacing { 0 < columns }
         requires fits { self.old.col + columns ≤ self.old.size.cols }
-        ensures { Becomes self.old self.new (print self.old.size (cell_of c self.old.attrs) (term_of_picture self.old)) }
+        ensures { Becomes self.old self.new (print self.old.size (cell_of c self.old.attrs)
+            (term_of_picture self.old)) }
     {
         let col = self.pos.col;
         self.rows[usize::from(self.pos.row)].put(col, c, columns, self.attrs.attrs());
@@ -200,7 +201,8 @@ impl Picture {
     fn print_printable(&mut self, c: u8)
         requires printable { IsPrintable c }
         requires fits { self.old.col + 1 ≤ self.old.size.cols }
-        ensures { Becomes self.old self.new (print self.old.size (cell_of c self.old.attrs) (term_of_picture self.old)) }
+        ensures { Becomes self.old self.new (print self.old.size (cell_of c self.old.attrs)
+            (term_of_picture self.old)) }
     {
         let col = self.pos.col;
         self.rows[usize::from(self.pos.row)].put_printable(col, c, &self.attrs);

@@ -37,8 +37,8 @@ same_extras s t =
     bool_eq s.hidden t.hidden && ((style_number s.style == style_number t.style)
     && (same_modes s.modes t.modes && attrs_eq s.attrs t.attrs))
 
--- two screens have one size, the same rows that are drawn on, cursor, attributes, input modes and cursor style, whatever
--- kept rows they show
+-- two screens have one size, the same rows that are drawn on, cursor, attributes, input modes and cursor style,
+-- whatever kept rows they show
 pub record DrawTheSame (s t : State) : Type 0 where
   pub drawn : AreDrawnAlike s.shown t.shown
   pub extras : same_extras s t ≡ true

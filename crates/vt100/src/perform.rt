@@ -665,7 +665,7 @@ fn canonicalize_params_1(params: &Params, default: u16) -> u16
     }
 }
 
-/// The same by the groups.
+/// The first number of the first group, or the default where it is absent or 0.
 #[inline(never)]
 fn led_by_group(params: &Params, default: u16) -> u16
     ensures { result ≡ number_or default params.now }
@@ -693,7 +693,7 @@ fn canonicalize_params_2(params: &Params, default1: u16, default2: u16) -> (u16,
     }
 }
 
-/// The same by the groups.
+/// The first numbers of the first two groups, where not each group is one number.
 #[inline(never)]
 fn led_by_groups(params: &Params, default1: u16, default2: u16) -> (u16, u16)
     ensures first { result.0 ≡ number_or default1 params.now }

@@ -1,4 +1,5 @@
-use Rattle.std.proofs.Common.{◌≡◌, ◌∙◌, ℕ, List, [], ◌∷◌, ◌++◌, take, length, arith, ap, sym, subst, Ok, Err, IsOk, None}
+use Rattle.std.proofs.Common.{◌≡◌, ◌∙◌, ℕ, List, [], ◌∷◌, ◌++◌, take, length, arith, ap, sym, subst, Ok, Err, IsOk}
+use Rattle.std.proofs.Common.{None}
 use Rattle.std.proofs.Common.{refl, false, true}
 use Rattle.std.proofs.Common.{rules}
 use Rattle.std.specs.List.{concat, list_any}
