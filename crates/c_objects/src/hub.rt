@@ -5,7 +5,7 @@ ghost use Rattle.c_objects.specs.Codes.{IsRefusal};
 ghost use Rattle.c_objects.specs.Objects.{HubDoes, HubSays};
 ghost use Rattle.c_objects.specs.Hubs.{IsNewHubOf, IsNoObjectCode, Feeds, Resizes, Attaches, Detaches, Frames, Sends};
 ghost use Rattle.c_objects.specs.Hubs.{Forks, Owes, Redraws, Looks, HasCell, HasRow, HasContents, ShowsCell, ShowsRow};
-ghost use Rattle.c_objects.specs.Hubs.ShowsContents;
+ghost use Rattle.c_objects.specs.Hubs.{ShowsContents};
 
 use crate::cells::copy_screen_cells;
 use crate::code::{

@@ -6,7 +6,7 @@ ghost use Rattle.serde_json.specs.View.{items_view, view};
 ghost use Rattle.std.specs.Option.{option_map};
 ghost use Rattle.recordings.specs.Recorded.{Row, IsStateAfter, deed_of, size_said};
 ghost use Rattle.recordings.specs.Asciicast.{AreRead, IsAsciicast, IsFault, IsReadCast, IsUnreadCast, comments};
-ghost use Rattle.recordings.specs.Asciicast.deed_in;
+ghost use Rattle.recordings.specs.Asciicast.{deed_in};
 ghost use Rattle.recordings.specs.Asciicast.{entry_said, header_in, header_of as header_of_data, header_said};
 ghost use Rattle.recordings.specs.Asciicast.{is_header, resize_in, row_in, rows_in, side_in, sides_in, text_in};
 ghost use Rattle.recordings.specs.Asciicast.{theme_said};

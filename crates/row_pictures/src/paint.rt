@@ -2,7 +2,7 @@
 
 ghost use Rattle.std.specs.Prelude.{◌≡◌, ◌+◌, ◌/◌, ◌%◌};
 ghost use Rattle.row_pictures.specs.Paint.{back_color, between as between_of, brightened as brightened_of};
-ghost use Rattle.row_pictures.specs.Paint.level as level_of;
+ghost use Rattle.row_pictures.specs.Paint.{level as level_of};
 ghost use Rattle.row_pictures.specs.Paint.{numbered as numbered_of, painted as painted_of, text_color};
 
 use crate::look::Look;

@@ -5,7 +5,7 @@ ghost use Rattle.std.specs.Option.{option_map};
 ghost use Rattle.recordings.specs.Recorded.{size_said};
 ghost use Rattle.screentext_command.specs.Missing.{too_long};
 ghost use Rattle.screentext_command.specs.Texts.{IsAnswer, IsFilm, IsPlayer, IsScreen, IsStill, changes_text};
-ghost use Rattle.screentext_command.specs.Texts.rows_text;
+ghost use Rattle.screentext_command.specs.Texts.{rows_text};
 ghost use Rattle.screentext_command.specs.Texts.{screen_at, size_at_first};
 ghost use Rattle.screentext_command.specs.declared.error.TextError.TheVariants.{Film as LongFilm, Memory};
 ghost use Rattle.screentext_command.specs.declared.error.TextError.TheVariants.{Player as LongPlayer};

@@ -9,7 +9,7 @@ ghost use Rattle.screentext_command.specs.Limits.{are_within};
 ghost use Rattle.screentext_command.specs.Listed.{list_text};
 ghost use Rattle.screentext_command.specs.Missing.{HasNoText, IsMissing, IsUnreadAs};
 ghost use Rattle.screentext_command.specs.Reads.{IsAnswerTo, IsDrawnSo, IsNoted, IsPart, IsRead, IsReadAs};
-ghost use Rattle.screentext_command.specs.Reads.IsScreenText;
+ghost use Rattle.screentext_command.specs.Reads.{IsScreenText};
 ghost use Rattle.screentext_command.specs.Reads.{IsShown, IsTiming, begins_as_asciicast, note_of};
 ghost use Rattle.screentext_command.specs.declared.error.TextError.TheVariants.{Cells, Memory};
 ghost use Rattle.screentext_command.specs.declared.error.TextError.TheVariants.{Recording as OfRecording};
