@@ -1,1 +1,4 @@
+mod CheckLemmas
+mod ReplayLemmas
 mod SendLemmas
+mod TextLemmas

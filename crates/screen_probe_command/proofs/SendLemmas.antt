@@ -1,5 +1,5 @@
 -- Texts that are written one after another.
-use Rattle.std.proofs.Common.{◌≡◌, ℕ, List, [], ◌∷◌, ◌++◌, Ok, Err, Result, sym, subst}
+use Rattle.std.proofs.Common.{ℕ, List, [], ◌∷◌, ◌++◌, Ok, Err, Result, sym, subst}
 use Rattle.std.specs.declared.io.Error.{Error}
 use Rattle.byte_streams.specs.Sent.{Sends, none, next}
 use Rattle.screen_probe_command.specs.Command.{Flushes, Prints, printed, unflushed}
@@ -15,10 +15,10 @@ sends_more W takes w m v (text ∷ texts) more answer (next k pumped rest) secon
 
 -- the flush after them
 pub printed_so : (W : Type 0) (takes : W → List ℕ → Result ℕ Error → W → Type 0)
-    (flushes : W → Result (Unit {0}) Error → W → Type 0) (w m v : W) (texts : List (List ℕ))
-    (answer : Result (Unit {0}) DumpError) → Sends takes w texts (Ok tt) m → Flushes flushes m answer v
-    → Prints takes flushes w answer v
-printed_so W takes flushes w m v texts (Ok u) sent flushed = printed m texts sent flushed
-printed_so W takes flushes w m v texts (Err e) sent flushed =
-    subst (λ (x : DumpError). Prints takes flushes w (Err x) v) (sym flushed.0)
-    (unflushed m texts flushed.1.0 sent flushed.1.1)
+    (flushes : W → Result (Unit {0}) Error → W → Type 0) (some all : List (List ℕ) → Type 0) (w m v : W)
+    (texts : List (List ℕ)) (answer : Result (Unit {0}) DumpError) → all texts → Sends takes w texts (Ok tt) m
+    → Flushes flushes m answer v → Prints takes flushes some all w answer v
+printed_so W takes flushes some all w m v texts (Ok u) told sent flushed = printed m texts told sent flushed
+printed_so W takes flushes some all w m v texts (Err e) told sent flushed =
+    subst (λ (x : DumpError). Prints takes flushes some all w (Err x) v) (sym flushed.0)
+    (unflushed m texts flushed.1.0 told sent flushed.1.1)

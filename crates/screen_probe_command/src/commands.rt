@@ -2,7 +2,8 @@
 
 ghost use Rattle.std.specs.Prelude.{◌≡◌, ◌≤◌, map, true, false};
 ghost use Rattle.byte_streams.specs.Pump.{Tells};
-ghost use Rattle.screen_probe_command.specs.Command.{CarriesOut, Does};
+ghost use Rattle.screen_probe_command.specs.Coded.{asked_of};
+ghost use Rattle.screen_probe_command.specs.Command.{AreTold, AreToldFirst, CarriesOut, Does};
 ghost use Rattle.screen_probe_command.specs.Faults.{fault_line};
 ghost use Rattle.screen_probe_command.specs.Words.{is_invocation, usage_line};
 
@@ -29,7 +30,7 @@ pub fn command<R: Source, W: FlushSink, V: ByteSink>(
     ensures usage { is_invocation (map (λ w. w.now) words.now) ≡ false → (result ≡ 2) × (input.new ≡ input.old)
         × (output.new ≡ output.old) × Tells V.takes errors.old usage_line errors.new }
     ensures does { is_invocation (map (λ w. w.now) words.now) ≡ true → CarriesOut R.gives W.takes W.flushes V.takes
-        input.old output.old errors.old result input.new output.new errors.new }
+        (map (λ w. w.now) words.now) input.old output.old errors.old result input.new output.new errors.new }
     ensures understood { is_invocation (map (λ w. w.now) words.now) ≡ true → result ≤ 1 }
 {
     let Some(invocation) = parse(words) else {
@@ -51,7 +52,8 @@ fn obey<R: Source, W: FlushSink>(
     input: &mut R,
     output: &mut W,
 ) -> Result<(), DumpError>
-    ensures { Does R.gives W.takes W.flushes input.old output.old result input.new output.new }
+    ensures { Does R.gives W.takes W.flushes (AreToldFirst (asked_of invocation)) (AreTold (asked_of invocation))
+        input.old output.old result input.new output.new }
 {
     match invocation {
         Invocation::Dump(dump) => dump_stream(alloc, dump, input, output),

@@ -1,8 +1,13 @@
 //! The state that a stream leaves.
 
-ghost use Rattle.std.specs.Prelude.{◌≡◌, true, IfErr};
-ghost use Rattle.screen_probe_command.specs.Command.{Does, Prints};
+ghost use Rattle.std.specs.Prelude.{◌≡◌, ◌⊎◌, ◌∷◌, [], true, IfErr, IfOk};
+ghost use Rattle.screen_model.specs.Made.{Fed};
+ghost use Rattle.vt100.specs.Parsing.{ParserIsAfter};
+ghost use Rattle.vt100.specs.Tries.{alive};
+ghost use Rattle.screen_probe_command.specs.Command.{AreTold, AreToldFirst, Does, Prints, state_left};
+ghost use Rattle.screen_probe_command.specs.Dumped.{dump_text};
 ghost use Rattle.screen_probe_command.specs.Faults.{is_late};
+ghost use Rattle.screen_probe_command.specs.Words.{State};
 
 use crate::dump::push_screen;
 use crate::error::DumpError;
@@ -12,9 +17,6 @@ use command_line::read_all;
 use std::alloc::Global;
 use std::num::NonZeroU16;
 use vt100::{Parser, Screen};
-
-/// Bytes that are processed at once.
-const PIECE_LEN: usize = 4096;
 
 /// How a stream is processed.
 #[derive(Clone, Copy, Debug, PartialEq, Eq)]
@@ -39,7 +41,10 @@ pub fn dump_stream<R: Source, W: FlushSink>(
     input: &mut R,
     output: &mut W,
 ) -> Result<(), DumpError>
-    ensures { Does R.gives W.takes W.flushes input.old output.old result input.new output.new }
+    ensures { Does R.gives W.takes W.flushes
+        (AreToldFirst (State dump.rows.value dump.cols.value dump.capacity dump.times))
+        (AreTold (State dump.rows.value dump.cols.value dump.capacity dump.times)) input.old output.old result input.new
+        output.new }
 {
     let bytes = read_all(alloc, input)?;
     dump_bytes(alloc, dump, &bytes, output)
@@ -51,15 +56,21 @@ fn dump_bytes<W: FlushSink>(
     bytes: &[u8],
     output: &mut W,
 ) -> Result<(), DumpError>
-    ensures { Prints W.takes W.flushes output.old result output.new }
+    ensures { Prints W.takes W.flushes
+        (AreToldFirst (State dump.rows.value dump.cols.value dump.capacity dump.times) bytes.now)
+        (AreTold (State dump.rows.value dump.cols.value dump.capacity dump.times) bytes.now) output.old result
+        output.new }
 {
     let parser = parser_of(alloc, dump, bytes)?;
     write_screen(alloc, parser.screen(), output)
 }
 
 // A parser that has processed the stream, the last of so many.
+#[tactic(auto, unfolding(crate::specs::Command::state_left))]
 fn parser_of(alloc: Global, dump: Dump, bytes: &[u8]) -> Result<Parser<()>, DumpError>
-    ensures { IfErr result (λ e. is_late e ≡ true) }
+    ensures screen { IfOk result (λ parser. parser.screen
+        ≡ alive (state_left dump.rows.value dump.cols.value dump.capacity dump.times bytes.now)) }
+    ensures late { IfErr result (λ e. is_late e ≡ true) }
 {
     for _ in 1..dump.times {
         processed(alloc, dump, bytes)?;
@@ -72,26 +83,20 @@ fn parser_of(alloc: Global, dump: Dump, bytes: &[u8]) -> Result<Parser<()>, Dump
 }
 
 fn processed(alloc: Global, dump: Dump, bytes: &[u8]) -> Result<Parser<()>, DumpError>
-    ensures { IfErr result (λ e. is_late e ≡ true) }
+    ensures after { IfOk result (λ parser. ParserIsAfter parser dump.rows.value dump.cols.value dump.capacity
+        (Fed bytes.now ∷ [])) }
+    ensures late { IfErr result (λ e. is_late e ≡ true) }
 {
     let mut parser = new_parser(alloc, dump)?;
-    process(&mut parser, bytes)?;
+    parser.process(bytes)?;
     Ok(parser)
 }
 
 fn new_parser(alloc: Global, dump: Dump) -> Result<Parser<()>, DumpError>
-    ensures { IfErr result (λ e. is_late e ≡ true) }
+    ensures after { IfOk result (λ parser. ParserIsAfter parser dump.rows.value dump.cols.value dump.capacity []) }
+    ensures late { IfErr result (λ e. is_late e ≡ true) }
 {
     Ok(Parser::new(alloc, dump.rows, dump.cols, dump.capacity)?)
-}
-
-fn process(parser: &mut Parser<()>, bytes: &[u8]) -> Result<(), DumpError>
-    ensures { IfErr result (λ e. is_late e ≡ true) }
-{
-    for piece in bytes.chunks(PIECE_LEN) {
-        parser.process(piece)?;
-    }
-    Ok(())
 }
 
 fn write_screen<W: FlushSink>(
@@ -99,7 +104,8 @@ fn write_screen<W: FlushSink>(
     screen: &Screen,
     output: &mut W,
 ) -> Result<(), DumpError>
-    ensures { Prints W.takes W.flushes output.old result output.new }
+    ensures { Prints W.takes W.flushes (λ texts. (texts ≡ []) ⊎ (texts ≡ dump_text screen.now.state ∷ []))
+        (λ texts. texts ≡ dump_text screen.now.state ∷ []) output.old result output.new }
 {
     let mut text = String::new(alloc);
     push_screen(&mut text, screen)?;

@@ -2,12 +2,14 @@
 //! command line of `screen_probe`, which asks for either.
 #![tactic(auto)]
 
+mod check;
 mod commands;
 mod dump;
 mod dumping;
 mod error;
 mod hex_digits;
 mod script;
+mod steps;
 mod stream;
 mod texts;
 mod words;

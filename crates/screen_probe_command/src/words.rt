@@ -1,10 +1,11 @@
 //! The words of the command line.
 
-ghost use Rattle.std.specs.Prelude.{◌≡◌, ◌&&◌, map, codes};
-ghost use Rattle.std.specs.Option.{is_some};
+ghost use Rattle.std.specs.Prelude.{◌≡◌, ◌&&◌, ◌∷◌, [], map, codes};
+ghost use Rattle.std.specs.Option.{is_some, option_map};
 ghost use Rattle.std.specs.Str.{bytes_eq};
 ghost use Rattle.command_line.specs.Numbers.{is_size, is_count};
-ghost use Rattle.screen_probe_command.specs.Words.{is_invocation};
+ghost use Rattle.screen_probe_command.specs.Coded.{asked_of};
+ghost use Rattle.screen_probe_command.specs.Words.{asked, is_invocation, state_asked};
 
 use crate::dumping::Dump;
 use command_line::{parse_count, parse_size};
@@ -20,7 +21,8 @@ pub(crate) enum Invocation {
 
 /// Reads `ROWS COLS [CAPACITY [TIMES]]` or `run`.
 pub(crate) fn parse(words: &[&str]) -> Option<Invocation>
-    ensures { is_some result ≡ is_invocation (map (λ w. w.now) words.now) }
+    ensures some { is_some result ≡ is_invocation (map (λ w. w.now) words.now) }
+    ensures value { option_map asked_of result ≡ asked (map (λ w. w.now) words.now) }
 {
     match words {
         [word] => parse_run(word),
@@ -32,7 +34,8 @@ pub(crate) fn parse(words: &[&str]) -> Option<Invocation>
 }
 
 fn parse_run(word: &str) -> Option<Invocation>
-    ensures { is_some result ≡ bytes_eq word.now (codes "run") }
+    ensures some { is_some result ≡ bytes_eq word.now (codes "run") }
+    ensures value { option_map asked_of result ≡ asked (word.now ∷ []) }
 {
     if word == "run" {
         Some(Invocation::Run)
@@ -42,8 +45,9 @@ fn parse_run(word: &str) -> Option<Invocation>
 }
 
 fn parse_dump(rows: &str, cols: &str, capacity: &str, times: &str) -> Option<Invocation>
-    ensures { is_some result ≡ (is_size rows.now && (is_size cols.now && (is_count capacity.now
+    ensures some { is_some result ≡ (is_size rows.now && (is_size cols.now && (is_count capacity.now
         && is_count times.now))) }
+    ensures value { option_map asked_of result ≡ state_asked rows.now cols.now capacity.now times.now }
 {
     Some(Invocation::Dump(Dump {
         rows: parse_size(rows)?,
