@@ -12,11 +12,12 @@ use Rattle.clap.specs.declared.error.ErrorKind.{ErrorKind}
 use Rattle.clap.specs.declared.error.ErrorKind.TheVariants.{DisplayHelp, DisplayVersion}
 use Rattle.clap.proofs.OnLiterals.{clap_on_literals}
 use Rattle.screentext_command.specs.Asked.{AskForText, IsMadeOf, IsMeant, IsRequested, IsToldFor, Says, SaysOrigin}
-use Rattle.screentext_command.specs.Asked.{SaysWish}
-use Rattle.screentext_command.specs.Asked.{form_meant, origin_of, wish_of}
+use Rattle.screentext_command.specs.Asked.{SaysManner, SaysWish}
+use Rattle.screentext_command.specs.Asked.{form_meant, manner_of, origin_of, wish_of}
 use Rattle.screentext_command.specs.Words.{are_words, is_form, is_invocation_of, is_request, known}
 use Rattle.screentext_command.proofs.KindLemmas.{IsSingle}
 use Rattle.screentext_command.specs.declared.help.TheConstants.{HELP, VERSION}
+use Rattle.screentext_command.specs.declared.pictures.Pictures.{Pictures}
 use Rattle.screentext_command.specs.declared.source.Source.{Source}
 use Rattle.screentext_command.specs.declared.words.Invocation.{Invocation}
 use Rattle.screentext_command.specs.declared.words.Invocation.TheVariants.{Help, Print, Version}
@@ -107,16 +108,23 @@ forms_meant a b c d p e f g h q v w x y z =
     ∙ (ap₂ (λ i j. form_meant (nat_lt 0 e) (nat_lt 0 f) (nat_lt 0 i) (nat_lt 0 j) (nat_lt 0 p)) x y
     ∙ ap (λ i. form_meant (nat_lt 0 e) (nat_lt 0 f) (nat_lt 0 g) (nat_lt 0 h) (nat_lt 0 i)) z)
 
--- what is made of a request and a source says what they say
-pub says_both : (rows : List Row) (request : Option Request) (source : Option Source) (i : Invocation)
-    → IfSome request (λ r. SaysWish rows (wish_of r)) → IfSome source (λ s. SaysOrigin rows (origin_of s))
-    → IsMadeOf request source i → Says rows i
-says_both rows request source Help first second made = absurd made
-says_both rows request source Version first second made = absurd made
-says_both rows request source (Print r s p) first second made = (
-  subst (λ (o : Option Request). IfSome o (λ r. SaysWish rows (wish_of r))) made.0 first,
-  subst (λ (o : Option Source). IfSome o (λ s. SaysOrigin rows (origin_of s))) made.1 second,
-)
+-- a request says what is wished, with what is said of pictures
+abbrev pub SaysWishWith : List Row → Request → Type 0
+SaysWishWith rows r = (p : Pictures) → SaysManner rows (manner_of p) → SaysWish rows (wish_of r p)
+
+-- what is made of a request, a source and pictures says what they say
+pub says_all : (rows : List Row) (request : Option Request) (source : Option Source) (pictures : Option Pictures)
+    (i : Invocation) → IfSome request (SaysWishWith rows) → IfSome source (λ s. SaysOrigin rows (origin_of s))
+    → IfSome pictures (λ p. SaysManner rows (manner_of p)) → IsMadeOf request source pictures i → Says rows i
+says_all rows request source pictures Help first second third made = absurd made
+says_all rows request source pictures Version first second third made = absurd made
+says_all rows request source pictures (Print r s p) first second third made =
+    let wish : SaysWishWith rows r = subst (λ (o : Option Request). IfSome o (SaysWishWith rows)) made.0 first in
+    let manner : SaysManner rows (manner_of p) =
+    subst (λ (o : Option Pictures). IfSome o (λ q. SaysManner rows (manner_of q))) made.2 third in (
+      wish p manner,
+      subst (λ (o : Option Source). IfSome o (λ t. SaysOrigin rows (origin_of t))) made.1 second,
+    )
 
 -- words that are taken mean what their values say
 pub means : (words : List Text) (rows : List Row) (i : Invocation) → fault_of known words ≡ []
@@ -126,7 +134,7 @@ means words rows Version none same says = absurd says
 means words rows (Print r s p) none same says = record {
   taken = none;
   origin = subst (λ (x : List Row). SaysOrigin x (origin_of s)) same says.1;
-  wish = subst (λ (x : List Row). SaysWish x (wish_of r)) same says.0;
+  wish = subst (λ (x : List Row). SaysWish x (wish_of r p)) same says.0;
 }
 
 -- an error of this kind that is the only one

@@ -1,6 +1,7 @@
 -- What the words ask for.
 use Rattle.std.specs.Prelude.{◌≡◌, ℕ, nat_eq, nat_lt, Bool, true, false, List, [], ◌∷◌, Option, Some, None, codes}
 use Rattle.std.specs.Prelude.{option_and_then, string_bytes}
+use Rattle.std.specs.Bool.{then_some}
 use Rattle.std.specs.Option.{option_map}
 use Rattle.clap.specs.Words.{Kinds, Row, Text, count_of, fault_of, first_of, matches_of}
 use Rattle.clap.specs.declared.error.ErrorKind.{ErrorKind}
@@ -9,10 +10,15 @@ use Rattle.command_line.specs.Numbers.{size_in}
 use Rattle.command_line.specs.Numbers.{count_of as count_in}
 use Rattle.recordings.specs.Kinds.{kind_named}
 use Rattle.recordings.specs.Recorded.{size_said}
+use Rattle.recordings.specs.Times.{time_in}
 use Rattle.recordings.specs.declared.recording.Kind.{Kind}
+use Rattle.recorded_screen.specs.declared.films.Pace.{Pace}
+use Rattle.row_pictures.specs.Themes.{theme_named}
+use Rattle.row_pictures.specs.declared.theme.Theme.{Theme}
 use Rattle.screentext_command.specs.Words.{known}
 use Rattle.row_texts.specs.declared.row.Look.{Look}
 use Rattle.screentext_command.specs.declared.help.TheConstants.{HELP, VERSION}
+use Rattle.screentext_command.specs.declared.pictures.Pictures.{Pictures}
 use Rattle.screentext_command.specs.declared.source.Source.{Source}
 use Rattle.screentext_command.specs.declared.words.Form.{Form}
 use Rattle.screentext_command.specs.declared.words.Form.TheVariants.{Film, Player, Still}
@@ -36,6 +42,14 @@ pub record Origin : Type 0 where
   -- how many cells a size has at most
   pub most_cells : ℕ
 
+-- how pictures look, and how fast a film plays
+pub record Manner : Type 0 where
+  -- the theme and the name of the font, where words say them
+  pub theme : Option Theme
+  pub font : Option Text
+  pub bold_is_bright : Bool
+  pub pace : Pace
+
 -- which screen is printed, and how
 pub record Wish : Type 0 where
   -- the size at first, where words say it
@@ -44,6 +58,7 @@ pub record Wish : Type 0 where
   pub history : ℕ
   pub look : Look
   pub form : Form
+  pub manner : Manner
 
 abbrev pub origin_of : Source → Origin
 origin_of s = record {
@@ -57,8 +72,22 @@ origin_of s = record {
   most_cells = s.most_cells;
 }
 
-abbrev pub wish_of : Request → Wish
-wish_of r = record { size = option_map size_said r.size; history = r.history; look = r.look; form = r.form }
+abbrev pub manner_of : Pictures → Manner
+manner_of p = record {
+  theme = p.theme;
+  font = option_map string_bytes p.font;
+  bold_is_bright = p.bold_is_bright;
+  pace = p.pace;
+}
+
+abbrev pub wish_of : Request → Pictures → Wish
+wish_of r p = record {
+  size = option_map size_said r.size;
+  history = r.history;
+  look = r.look;
+  form = r.form;
+  manner = manner_of p;
+}
 
 -- the kind, where a word says it
 abbrev pub kind_meant : Option Text → Option (Option Kind)
@@ -92,6 +121,25 @@ form_meant false false true true false = Some Film
 form_meant false false false false true = Some Player
 form_meant _ _ _ _ _ = None
 
+-- the theme, where a word names one
+abbrev pub theme_meant : Option Text → Option (Option Theme)
+theme_meant None = Some None
+theme_meant (Some word) = option_map (λ theme. Some theme) (theme_named word)
+
+-- a number that isn't 0, in millionths
+abbrev pub speed_in : Text → Option ℕ
+speed_in word = option_and_then (λ n. then_some (nat_lt 0 n) n) (time_in word)
+
+-- how many millionths of the recorded speed a film has: all of it without a word
+abbrev pub speed_meant : Option Text → Option ℕ
+speed_meant None = Some 1000000
+speed_meant (Some word) = speed_in word
+
+-- the longest time for which a screen stands, where a word says it
+abbrev pub idle_meant : Option Text → Option (Option ℕ)
+idle_meant None = Some None
+idle_meant (Some word) = option_map (λ time. Some time) (time_in word)
+
 abbrev pub has : Text → List Row → Bool
 has name rows = nat_lt 0 (count_of name rows)
 
@@ -106,6 +154,14 @@ pub record SaysOrigin (rows : List Row) (o : Origin) : Type 0 where
   pub strict : o.strict ≡ has (codes "strict") rows
   pub most_cells : cells_meant (first_of (codes "max-cells") rows) ≡ Some o.most_cells
 
+-- they say how pictures look, and how fast a film plays
+pub record SaysManner (rows : List Row) (m : Manner) : Type 0 where
+  pub theme : theme_meant (first_of (codes "theme") rows) ≡ Some m.theme
+  pub font : m.font ≡ first_of (codes "font") rows
+  pub bold_is_bright : m.bold_is_bright ≡ has (codes "bold-is-bright") rows
+  pub speed : speed_meant (first_of (codes "speed") rows) ≡ Some m.pace.speed
+  pub idle : idle_meant (first_of (codes "idle") rows) ≡ Some m.pace.idle
+
 -- they say which screen is printed, and how
 pub record SaysWish (rows : List Row) (w : Wish) : Type 0 where
   pub size : screen_meant (first_of (codes "ROWS") rows) (first_of (codes "COLS") rows) ≡ Some w.size
@@ -114,6 +170,7 @@ pub record SaysWish (rows : List Row) (w : Wish) : Type 0 where
   pub colors : w.look.colors ≡ has (codes "colours") rows
   pub form : form_meant (has (codes "html") rows) (has (codes "html-block") rows) (has (codes "svg") rows)
       (has (codes "animate") rows) (has (codes "player") rows) ≡ Some w.form
+  pub manner : SaysManner rows w.manner
 
 -- `clap` takes these words, and their values say so
 pub record AskFor (words : List Text) (o : Origin) (w : Wish) : Type 0 where
@@ -134,9 +191,9 @@ AskForText words text = IsToldFor (fault_of known words) text
 -- ---- what the code makes of them
 
 -- an invocation that is made of these
-abbrev pub IsMadeOf : Option Request → Option Source → Invocation → Type 0
-IsMadeOf r s (Print request source pictures) = (r ≡ Some request) × (s ≡ Some source)
-IsMadeOf r s _ = ⊥
+abbrev pub IsMadeOf : Option Request → Option Source → Option Pictures → Invocation → Type 0
+IsMadeOf r s p (Print request source pictures) = (r ≡ Some request) × (s ≡ Some source) × (p ≡ Some pictures)
+IsMadeOf r s p _ = ⊥
 
 -- the help or the version is requested, by the kind of `clap`'s error
 abbrev pub IsRequested : ErrorKind → Invocation → Type 0
@@ -146,11 +203,12 @@ IsRequested kind (Print request source pictures) = ⊥
 
 -- what is to be printed, by these values of the words
 abbrev pub Says : List Row → Invocation → Type 0
-Says rows (Print request source pictures) = SaysWish rows (wish_of request) × SaysOrigin rows (origin_of source)
+Says rows (Print request source pictures) =
+    SaysWish rows (wish_of request pictures) × SaysOrigin rows (origin_of source)
 Says rows _ = ⊥
 
 -- what these words mean
 abbrev pub IsMeant : List Text → Invocation → Type 0
 IsMeant words Help = fault_of known words ≡ DisplayHelp ∷ []
 IsMeant words Version = fault_of known words ≡ DisplayVersion ∷ []
-IsMeant words (Print request source pictures) = AskFor words (origin_of source) (wish_of request)
+IsMeant words (Print request source pictures) = AskFor words (origin_of source) (wish_of request pictures)

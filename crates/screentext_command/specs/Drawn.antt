@@ -24,5 +24,6 @@ drawn_after past (m ∷ ms) = (m.0, drawn_deed past m.1) ∷ drawn_after (past +
 pub record IsDrawn (recording drawn : Recording) : Type 0 where
   pub same_kind : drawn.kind ≡ recording.kind
   pub same_size : drawn.size ≡ recording.size
+  pub same_theme : drawn.theme ≡ recording.theme
   pub same_length : drawn.length ≡ recording.length
   pub moments : said drawn.events.items ≡ drawn_after [] (said recording.events.items)

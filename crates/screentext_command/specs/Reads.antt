@@ -78,8 +78,7 @@ pub record IsScreenText (o : Origin) (w : Wish) (r : Recording) (text : List ℕ
   pub moment : ℕ
   pub since : Option ℕ
   pub meant : AreMoments (said r.events.items) o moment since
-  pub prints : IsAnswer w.form w.look w.history
-      (size_at_first w.size (option_map size_said r.size)) r moment since text
+  pub prints : IsAnswer w.form w (size_at_first w.size (option_map size_said r.size)) r moment since text
 
 -- this text is printed of the bytes, and this is said of them
 pub record IsAnswerTo (holds : List ℕ → List ℕ → Type 0) (o : Origin)

@@ -1,6 +1,7 @@
 -- The text that is printed of a recording.
 use Rattle.std.specs.Prelude.{◌≡◌, ◌≤◌, ◌&&◌, ℕ, zero, suc, ◌+◌, ◌-◌, Bool, true, false, List, [], ◌++◌, length, min}
 use Rattle.std.specs.Prelude.{max, nat_lt, codes, encode_utf8, Option, Some, None, unwrap_or, if◌then◌else◌}
+use Rattle.std.specs.Prelude.{string_bytes}
 use Rattle.std.specs.Fmt.{decimal}
 use Rattle.std.specs.Option.{option_map, option_map_or}
 use Rattle.std.specs.Str.{bytes_eq}
@@ -9,7 +10,9 @@ use Rattle.vt100_core.specs.Grid.{GridView, visible_row_at}
 use Rattle.screen_model.specs.Made.{made}
 use Rattle.picture_page.specs.Tags.{tag_bytes}
 use Rattle.picture_page.specs.declared.tag.Tag.TheVariants.{Newline, PageFoot, PageHead}
+use Rattle.row_pictures.specs.Themes.{theme_of, xterm}
 use Rattle.row_pictures.specs.declared.look.Look as pictures
+use Rattle.row_pictures.specs.declared.theme.Theme.{Theme}
 use Rattle.screen_model.specs.State.{State}
 use Rattle.screen_model.specs.Step.{kept_shown}
 use Rattle.picture_page.specs.Page.{IsSafe, Shows, escaped}
@@ -18,15 +21,16 @@ use Rattle.row_texts.specs.Rows.{row_text}
 use Rattle.row_texts.specs.declared.row.Look.{Look}
 use Rattle.recordings.specs.declared.recording.Recording.{Recording}
 use Rattle.recordings.specs.Recorded.{size_said}
+use Rattle.recordings.specs.Themes.{theme_reported}
 use Rattle.recordings.specs.declared.recording.ScreenSize.{ScreenSize}
 use Rattle.recorded_screen.specs.Film as films
 use Rattle.recorded_screen.specs.Moment.{acts_until}
 use Rattle.recorded_screen.specs.Placed.{IsAround, IsSvg}
-use Rattle.recorded_screen.specs.declared.films.Pace.{Pace}
 use Rattle.recorded_screen.specs.Picture.{block_seen, font_text, page_seen, screen_text, svg_seen}
 use Rattle.recorded_screen.specs.declared.reel.TheConstants.{LONGEST_FILM}
 use Rattle.player_page.specs.Rows.{ShowsRows}
 use Rattle.player_page.specs.declared.page.TheConstants.{LONGEST_PLAYER}
+use Rattle.screentext_command.specs.Asked.{Manner, Wish}
 use Rattle.screentext_command.specs.declared.words.Form.{Form}
 use Rattle.screentext_command.specs.declared.words.Form.TheVariants.{Film, Player, Still}
 use Rattle.screentext_command.specs.declared.words.Picture.{Picture}
@@ -88,21 +92,33 @@ rows_text look history s =
 
 -- ---- pictures
 
--- the rows of the screen stand at their places, in some theme and font
-abbrev pub HasPlaces : (pictures.Look → Type 0) → Type 0
-HasPlaces IsPlaced = (look : pictures.Look) × IsPlaced look
+-- the theme of the words, or else the recording's, or else xterm's
+abbrev pub theme_shown : Option Theme → Option (List ℕ) → Theme
+theme_shown (Some theme) recorded = theme
+theme_shown None (Some colors) = theme_of colors
+theme_shown None None = theme_of xterm
 
--- a text is a screen in this form
-abbrev pub IsStill : Picture → Look → ℕ → State → List ℕ → Type 0
-IsStill Text look history s text = text ≡ rows_text look history s
-IsStill Html look history s text = Shows text (screen_text s.shown)
+-- how pictures of a recording look
+pub record IsLook (m : Manner) (r : Recording) (look : pictures.Look) : Type 0 where
+  pub theme : look.theme ≡ theme_shown m.theme (theme_reported r.theme)
+  pub font : option_map string_bytes look.font ≡ m.font
+  pub bold_is_bright : look.bold_is_bright ≡ m.bold_is_bright
+
+-- the rows of the screen stand at their places, in the look that the words ask for
+abbrev pub HasPlaces : Manner → Recording → (pictures.Look → Type 0) → Type 0
+HasPlaces m r IsPlaced = (look : pictures.Look) × IsLook m r look × IsPlaced look
+
+-- a text is a screen of the recording, in this form
+abbrev pub IsStill : Picture → Wish → Recording → State → List ℕ → Type 0
+IsStill Text w r s text = text ≡ rows_text w.look w.history s
+IsStill Html w r s text = Shows text (screen_text s.shown)
     × (seen text ≡ page_seen (escaped (screen_text s.shown))) × IsSafe text
-    × HasPlaces (λ l. IsAround (tag_bytes PageHead) (tag_bytes PageFoot) l s text)
-IsStill HtmlBlock look history s text = Shows text (screen_text s.shown)
+    × HasPlaces w.manner r (λ l. IsAround (tag_bytes PageHead) (tag_bytes PageFoot) l s text)
+IsStill HtmlBlock w r s text = Shows text (screen_text s.shown)
     × (seen text ≡ block_seen (escaped (screen_text s.shown)) ++ codes "\n") × IsSafe text
-    × HasPlaces (λ l. IsAround [] (tag_bytes Newline) l s text)
-IsStill Svg look history s text = Shows text (screen_text s.shown)
-    × (seen text ≡ svg_seen (escaped (font_text s.shown))) × IsSafe text × HasPlaces (λ l. IsSvg l s text)
+    × HasPlaces w.manner r (λ l. IsAround [] (tag_bytes Newline) l s text)
+IsStill Svg w r s text = Shows text (screen_text s.shown)
+    × (seen text ≡ svg_seen (escaped (font_text s.shown))) × IsSafe text × HasPlaces w.manner r (λ l. IsSvg l s text)
 
 -- ---- what differs
 
@@ -138,26 +154,25 @@ changes_text look old new = first_changes look old new (max old.height new.heigh
 -- ---- what is printed
 
 -- the screen at a moment, or what differs from an earlier one, of a terminal that has this size at first
-abbrev pub IsScreen : Picture → Look → ℕ → ℕ × ℕ → Recording → ℕ → Option ℕ → List ℕ → Type 0
-IsScreen picture look history size r moment None text = IsStill picture look history (screen_at size history r moment)
-    text
-IsScreen picture look history size r moment (Some since) text =
-    text ≡ changes_text look (screen_at size 0 r since).shown (screen_at size history r moment).shown
+abbrev pub IsScreen : Picture → Wish → ℕ × ℕ → Recording → ℕ → Option ℕ → List ℕ → Type 0
+IsScreen picture w size r moment None text = IsStill picture w r (screen_at size w.history r moment) text
+IsScreen picture w size r moment (Some since) text =
+    text ≡ changes_text w.look (screen_at size 0 r since).shown (screen_at size w.history r moment).shown
 
--- a film of a terminal of this size at first up to a moment, in some theme and font and at some pace
-pub record IsFilm (size : ℕ × ℕ) (r : Recording) (moment : ℕ) (text : List ℕ) : Type 0 where
+-- a film of a terminal of this size at first up to a moment, in the look and at the pace that the words ask for
+pub record IsFilm (m : Manner) (size : ℕ × ℕ) (r : Recording) (moment : ℕ) (text : List ℕ) : Type 0 where
   pub safe : IsSafe text
   pub short : length text ≤ LONGEST_FILM
   pub look : pictures.Look
+  pub is_look : IsLook m r look
   pub at_first : ScreenSize
   pub is_size : size_said at_first ≡ size
-  pub pace : Pace
-  pub shows : films.IsFilm look at_first pace moment r.events.items text
+  pub shows : films.IsFilm look at_first m.pace moment r.events.items text
 
 abbrev pub IsPlayer : ℕ × ℕ → Recording → List ℕ → Type 0
 IsPlayer size r text = ShowsRows size.0 size.1 r.events.items text × IsSafe text × (length text ≤ LONGEST_PLAYER)
 
-abbrev pub IsAnswer : Form → Look → ℕ → ℕ × ℕ → Recording → ℕ → Option ℕ → List ℕ → Type 0
-IsAnswer (Still picture) look history size r moment since text = IsScreen picture look history size r moment since text
-IsAnswer Film look history size r moment since text = IsFilm size r moment text
-IsAnswer Player look history size r moment since text = IsPlayer size r text
+abbrev pub IsAnswer : Form → Wish → ℕ × ℕ → Recording → ℕ → Option ℕ → List ℕ → Type 0
+IsAnswer (Still picture) w size r moment since text = IsScreen picture w size r moment since text
+IsAnswer Film w size r moment since text = IsFilm w.manner size r moment text
+IsAnswer Player w size r moment since text = IsPlayer size r text

@@ -3,10 +3,10 @@
 ghost use Rattle.std.specs.Prelude.{◌≡◌, ◌⊎◌, IfErr, IfOk, Some, false};
 ghost use Rattle.std.specs.Option.{option_map};
 ghost use Rattle.recordings.specs.Recorded.{size_said};
+ghost use Rattle.screentext_command.specs.Asked.{manner_of, wish_of};
 ghost use Rattle.screentext_command.specs.Missing.{too_long};
 ghost use Rattle.screentext_command.specs.Texts.{IsAnswer, IsFilm, IsPlayer, IsScreen, IsStill, changes_text};
-ghost use Rattle.screentext_command.specs.Texts.{rows_text};
-ghost use Rattle.screentext_command.specs.Texts.{screen_at, size_at_first};
+ghost use Rattle.screentext_command.specs.Texts.{rows_text, screen_at, size_at_first};
 ghost use Rattle.screentext_command.specs.declared.error.TextError.TheVariants.{Film as LongFilm, Memory};
 ghost use Rattle.screentext_command.specs.declared.error.TextError.TheVariants.{Player as LongPlayer};
 
@@ -17,9 +17,7 @@ use crate::source::Moments;
 use crate::text::push_lines;
 use crate::words::{Form, Picture, Request};
 use player_page::{Play, player};
-use recorded_screen::{
-    Look as Colors, Recording, ScreenSize, Theme, film, html, html_block, svg, terminal_at,
-};
+use recorded_screen::{Recording, ScreenSize, film, html, html_block, svg, terminal_at};
 use row_texts::Look;
 use std::alloc::Global;
 use std::num::NonZeroU16;
@@ -34,7 +32,7 @@ pub(crate) fn answer_of(
     moments: Moments,
     pictures: &Pictures,
 ) -> Result<Vec<u8>, TextError>
-    ensures text { IfOk result (λ text. IsAnswer request.form request.look request.history
+    ensures text { IfOk result (λ text. IsAnswer request.form (wish_of request pictures.now)
         (size_at_first (option_map size_said request.size) (option_map size_said recording.now.size)) recording.now
         moments.moment moments.since text.items) }
     ensures fault { IfErr result (λ e. (e ≡ Memory) ⊎ (too_long request.form ≡ Some e)) }
@@ -80,17 +78,14 @@ fn screen_of(
     moments: Moments,
     pictures: &Pictures,
 ) -> Result<Vec<u8>, TextError>
-    ensures text { IfOk result (λ text. IsScreen picture request.look request.history (size_said size) recording.now
-        moments.moment moments.since text.items) }
+    ensures text { IfOk result (λ text. IsScreen picture (wish_of request pictures.now) (size_said size)
+        recording.now moments.moment moments.since text.items) }
     ensures fault { IfErr result (λ e. e ≡ Memory) }
 {
     let mut terminal = terminal_of(alloc, recording, size, request.history, moments.moment)?;
     match moments.since {
         Some(since) => changes_since(alloc, recording, size, request.look, since, &terminal),
-        None => {
-            let colors = pictures.look(alloc, theme_of(recording))?;
-            picture_of(alloc, &mut terminal, request, picture, &colors)
-        }
+        None => picture_of(alloc, &mut terminal, recording, request, picture, pictures),
     }
 }
 
@@ -110,12 +105,6 @@ fn terminal_of(
     Ok(terminal)
 }
 
-// The colours that the recording has of its own.
-fn theme_of(recording: &Recording) -> Option<Theme> {
-    let theme = recording.theme?;
-    Some(Theme::of_colors(&theme.colors))
-}
-
 // The film of what happens until a moment.
 fn film_of(
     alloc: Global,
@@ -124,10 +113,11 @@ fn film_of(
     moment: u64,
     pictures: &Pictures,
 ) -> Result<Vec<u8>, TextError>
-    ensures film { IfOk result (λ text. IsFilm (size_said size) recording.now moment text.items) }
+    ensures film { IfOk result (λ text. IsFilm (manner_of pictures.now) (size_said size) recording.now moment
+        text.items) }
     ensures fault { IfErr result (λ e. (e ≡ Memory) ⊎ (e ≡ LongFilm)) }
 {
-    let colors = pictures.look(alloc, theme_of(recording))?;
+    let colors = pictures.look(alloc, recording)?;
     Ok(film(
         alloc,
         size,
@@ -150,7 +140,7 @@ fn player_of(
     ensures player { IfOk result (λ text. IsPlayer (size_said size) recording.now text.items) }
     ensures fault { IfErr result (λ e. (e ≡ Memory) ⊎ (e ≡ LongPlayer)) }
 {
-    let colors = pictures.look(alloc, theme_of(recording))?;
+    let colors = pictures.look(alloc, recording)?;
     let play = Play {
         title,
         length: recording.length,
@@ -165,20 +155,22 @@ fn player_of(
 fn picture_of(
     alloc: Global,
     terminal: &mut Parser<()>,
+    recording: &Recording,
     request: Request,
     picture: Picture,
-    colors: &Colors,
+    pictures: &Pictures,
 ) -> Result<Vec<u8>, TextError>
     requires { terminal.old.screen.failed ≡ false }
-    ensures picture { IfOk result (λ text. IsStill picture request.look request.history terminal.old.screen.state
-        text.items) }
+    ensures picture { IfOk result (λ text. IsStill picture (wish_of request pictures.now) recording.now
+        terminal.old.screen.state text.items) }
     ensures fault { IfErr result (λ e. e ≡ Memory) }
 {
+    let colors = pictures.look(alloc, recording)?;
     match picture {
         Picture::Text => lines_of(alloc, terminal, request.history, request.look),
-        Picture::Html => Ok(html(alloc, terminal.screen(), colors)?),
-        Picture::HtmlBlock => Ok(html_block(alloc, terminal.screen(), colors)?),
-        Picture::Svg => Ok(svg(alloc, terminal.screen(), colors)?),
+        Picture::Html => Ok(html(alloc, terminal.screen(), &colors)?),
+        Picture::HtmlBlock => Ok(html_block(alloc, terminal.screen(), &colors)?),
+        Picture::Svg => Ok(svg(alloc, terminal.screen(), &colors)?),
     }
 }
 

@@ -170,8 +170,9 @@ fn print_answer<F: Files, R: Source, W: FlushSink>(
     input: &mut R,
     output: &mut W,
 ) -> Result<Option<TextError>, TextError>
-    ensures { (words : List Text) → AskFor words (origin_of asked.1) (wish_of asked.0) → Does (F.holds files.now)
-        (F.lacks files.now) words R.gives W.takes W.flushes input.old output.old result input.new output.new }
+    ensures { (words : List Text) → AskFor words (origin_of asked.1) (wish_of asked.0 asked.2) → Does
+        (F.holds files.now) (F.lacks files.now) words R.gives W.takes W.flushes input.old output.old result input.new
+        output.new }
 {
     let (request, source, pictures) = asked;
     let bytes = read_all(alloc, input)?;

@@ -1,15 +1,18 @@
 //! How pictures are asked for.
 
-ghost use Rattle.std.specs.Prelude.{◌≡◌, ◌&&◌, is_some, true, false, nat_lt, IfOk};
+ghost use Rattle.std.specs.Prelude.{◌≡◌, ◌&&◌, is_some, true, false, nat_lt, IfOk, IfSome, Some};
 ghost use Rattle.std.specs.Option.{option_map, option_map_or};
 ghost use Rattle.clap.specs.Words.{found_of, rows_of};
+ghost use Rattle.recordings.specs.Themes.{theme_reported};
 ghost use Rattle.recordings.specs.Times.{time_in};
 ghost use Rattle.row_pictures.specs.Themes.{is_theme};
+ghost use Rattle.screentext_command.specs.Asked.{SaysManner, idle_meant, manner_of, speed_meant, theme_meant};
+ghost use Rattle.screentext_command.specs.Texts.{IsLook, theme_shown};
 ghost use Rattle.screentext_command.specs.Words.{are_pictures, is_speed};
 
 use crate::source::owned;
 use clap::ArgMatches;
-use recorded_screen::{Look, Pace, Theme};
+use recorded_screen::{Look, Pace, Recording, Theme};
 use recordings::parse_seconds;
 use std::alloc::{AllocError, Global};
 
@@ -27,18 +30,26 @@ pub(crate) struct Pictures {
 }
 
 impl Pictures {
-    /// How pictures look whose recording has a theme of its own, or none.
-    pub(crate) fn look(&self, alloc: Global, theme: Option<Theme>) -> Result<Look, AllocError> {
-        let theme = match (self.theme, theme) {
-            (Some(theme), _) => theme,
-            (None, Some(theme)) => theme,
-            (None, None) => Theme::new(),
-        };
+    /// How pictures of a recording look.
+    pub(crate) fn look(&self, alloc: Global, recording: &Recording) -> Result<Look, AllocError>
+        ensures { IfOk result (IsLook (manner_of self.now) recording.now) }
+    {
         Ok(Look {
-            theme,
-            font: self.font.clone()?,
+            theme: theme_shown(self.theme, recording),
+            font: owned(alloc, self.font.as_deref())?,
             bold_is_bright: self.bold_is_bright,
         })
+    }
+}
+
+// The theme of the words, or else that of the recording, or else the usual one.
+fn theme_shown(named: Option<Theme>, recording: &Recording) -> Theme
+    ensures { result ≡ theme_shown named (theme_reported recording.now.theme) }
+{
+    match (named, recording.theme) {
+        (Some(theme), _) => theme,
+        (None, Some(theme)) => Theme::of_colors(&theme.colors),
+        (None, None) => Theme::new(),
     }
 }
 
@@ -47,7 +58,9 @@ pub(crate) fn pictures_of(
     alloc: Global,
     matches: &ArgMatches<'_>,
 ) -> Result<Option<Pictures>, AllocError>
-    ensures { IfOk result (λ p. is_some p ≡ are_pictures (rows_of (found_of matches.now))) }
+    ensures pictures { IfOk result (λ p. is_some p ≡ are_pictures (rows_of (found_of matches.now))) }
+    ensures says { IfOk result (λ p. IfSome p (λ pictures.
+        SaysManner (rows_of (found_of matches.now)) (manner_of pictures))) }
 {
     let theme = theme_of(matches.get_str("theme"));
     let speed = speed_of(alloc, matches.get_str("speed"))?;
@@ -64,7 +77,10 @@ fn new_pictures(
     font: Option<String>,
     bold_is_bright: bool,
 ) -> Option<Pictures>
-    ensures { is_some result ≡ (is_some theme && (is_some speed && is_some idle)) }
+    ensures pictures { is_some result ≡ (is_some theme && (is_some speed && is_some idle)) }
+    ensures found { IfSome result (λ p. (theme ≡ Some p.theme) × (speed ≡ Some p.pace.speed)
+        × (idle ≡ Some p.pace.idle)) }
+    ensures given { IfSome result (λ p. (p.font ≡ font) × (p.bold_is_bright ≡ bold_is_bright)) }
 {
     Some(Pictures {
         theme: theme?,
@@ -79,7 +95,8 @@ fn new_pictures(
 
 // The theme of this name, or none where there is no word.
 fn theme_of(word: Option<&str>) -> Option<Option<Theme>>
-    ensures { is_some result ≡ option_map_or is_theme (option_map (λ w. w.now) word.entry) true }
+    ensures theme { is_some result ≡ option_map_or is_theme (option_map (λ w. w.now) word.entry) true }
+    ensures value { result ≡ theme_meant (option_map (λ w. w.now) word.entry) }
 {
     match word {
         None => Some(None),
@@ -89,7 +106,8 @@ fn theme_of(word: Option<&str>) -> Option<Option<Theme>>
 
 // How many millionths of the recorded speed a film has: a million where there is no word.
 fn speed_of(alloc: Global, word: Option<&str>) -> Result<Option<u64>, AllocError>
-    ensures { IfOk result (λ s. is_some s ≡ option_map_or is_speed (option_map (λ w. w.now) word.entry) true) }
+    ensures speed { IfOk result (λ s. is_some s ≡ option_map_or is_speed (option_map (λ w. w.now) word.entry) true) }
+    ensures value { IfOk result (λ s. s ≡ speed_meant (option_map (λ w. w.now) word.entry)) }
 {
     match word {
         None => Ok(Some(Pace::AS_RECORDED)),
@@ -99,8 +117,9 @@ fn speed_of(alloc: Global, word: Option<&str>) -> Result<Option<u64>, AllocError
 
 // The longest time in which nothing changes, in microseconds, or none where there is no word.
 fn idle_of(alloc: Global, word: Option<&str>) -> Result<Option<Option<u64>>, AllocError>
-    ensures { IfOk result (λ t. is_some t ≡ option_map_or (λ w. is_some (time_in w))
+    ensures idle { IfOk result (λ t. is_some t ≡ option_map_or (λ w. is_some (time_in w))
         (option_map (λ w. w.now) word.entry) true) }
+    ensures value { IfOk result (λ t. t ≡ idle_meant (option_map (λ w. w.now) word.entry)) }
 {
     match word {
         None => Ok(Some(None)),

@@ -45,10 +45,10 @@ pub(crate) fn answer_to<F: Files>(
     source: &Source,
     pictures: &Pictures,
 ) -> Result<Answer, TextError>
-    ensures text { IfOk result (λ a. IsAnswerTo (F.holds files.now) (origin_of source.now) (wish_of request) bytes.items
-        a.text.items a.note) }
+    ensures text { IfOk result (λ a. IsAnswerTo (F.holds files.now) (origin_of source.now)
+        (wish_of request pictures.now) bytes.items a.text.items a.note) }
     ensures fault { IfErr result (IsMissing (F.holds files.now) (F.lacks files.now) (origin_of source.now)
-        (wish_of request) bytes.items) }
+        (wish_of request pictures.now) bytes.items) }
 {
     let title = title_of(alloc, &bytes)?;
     let (recording, note) = recording_of(alloc, files, bytes, source)?;
@@ -67,9 +67,9 @@ fn text_of(
 ) -> Result<Vec<u8>, TextError>
     ensures list { IfOk result (λ text. source.now.list ≡ true → text.items ≡ list_text recording.now) }
     ensures screen { IfOk result (λ text. source.now.list ≡ false → IsScreenText (origin_of source.now)
-        (wish_of request) recording.now text.items) }
-    ensures fault { IfErr result (λ e. (e ≡ Memory) ⊎ HasNoText (origin_of source.now) (wish_of request) recording.now
-        e) }
+        (wish_of request pictures.now) recording.now text.items) }
+    ensures fault { IfErr result (λ e. (e ≡ Memory) ⊎ HasNoText (origin_of source.now)
+        (wish_of request pictures.now) recording.now e) }
 {
     let moments = moments_of(alloc, recording, source)?;
     if source.list {

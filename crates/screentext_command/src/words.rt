@@ -7,9 +7,10 @@ ghost use Rattle.clap.specs.declared.error.ErrorKind.TheVariants.{OutOfMemory};
 ghost use Rattle.command_line.specs.Numbers.{is_count};
 ghost use Rattle.recordings.specs.Times.{json_in};
 ghost use Rattle.recordings.specs.Recorded.{size_said};
-ghost use Rattle.screentext_command.specs.Asked.{IsMadeOf, IsMeant, IsRequested, Says, SaysWish, form_meant};
-ghost use Rattle.screentext_command.specs.Asked.{history_meant, screen_meant, wish_of};
+ghost use Rattle.screentext_command.specs.Asked.{IsMadeOf, IsMeant, IsRequested, Says, SaysManner, SaysWish};
+ghost use Rattle.screentext_command.specs.Asked.{form_meant, history_meant, manner_of, screen_meant, wish_of};
 ghost use Rattle.screentext_command.specs.declared.error.TextError.TheVariants.{Memory};
+ghost use Rattle.screentext_command.specs.declared.pictures.Pictures.{Pictures as Shown};
 ghost use Rattle.screentext_command.specs.Words.{are_values, are_words, is_form, is_moment, is_invocation, is_request};
 ghost use Rattle.screentext_command.specs.Words.{is_screen, is_time};
 
@@ -115,7 +116,7 @@ fn all(
     pictures: Option<Pictures>,
 ) -> Option<Invocation>
     ensures all { is_some result ≡ (is_some request && (is_some source && is_some pictures)) }
-    ensures made { IfSome result (IsMadeOf request source) }
+    ensures made { IfSome result (IsMadeOf request source pictures) }
 {
     Some(Invocation::Print(request?, source?, pictures?))
 }
@@ -123,8 +124,9 @@ fn all(
 fn request_of(alloc: Global, matches: &ArgMatches<'_>) -> Result<Option<Request>, TextError>
     ensures fault { IfErr result (λ e. e ≡ Memory) }
     ensures request { IfOk result (λ r. is_some r ≡ are_values (rows_of (found_of matches.now))) }
-    ensures says { IfOk result (λ r. IfSome r (λ request.
-        SaysWish (rows_of (found_of matches.now)) (wish_of request))) }
+    ensures says { IfOk result (λ r. IfSome r (λ request. (pictures : Shown)
+        → SaysManner (rows_of (found_of matches.now)) (manner_of pictures)
+        → SaysWish (rows_of (found_of matches.now)) (wish_of request pictures))) }
 {
     let size = size_of(matches.get_str("ROWS"), matches.get_str("COLS"));
     let moment = is_moment(alloc, matches.get_str("at"))?;

@@ -12,9 +12,9 @@ pub returns-clause-film : goal.returns-clause-film
 returns-clause-film c = record {
   safe = c.in_ok-film.ensures.safe;
   short = c.in_ok-film.ensures.short;
-  look = _;
+  look = c.in_ok-colors.colors;
+  is_look = c.in_ok-colors.ensures;
   at_first = c.args.size;
   is_size = refl;
-  pace = c.args.pictures.now.pace;
   shows = rw c.deref.ensures.value at c.in_ok-film.ensures.film;
 }

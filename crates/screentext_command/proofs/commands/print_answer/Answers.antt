@@ -18,5 +18,5 @@ returns-in_err-answer g c = λ words asks.
 
 pub returns : goal.returns
 returns g c = λ words asks.
-    done c.in_ok-bytes.bytes.items _ _ (origin_of c.args.asked.1) (wish_of c.args.asked.0) asks
+    done c.in_ok-bytes.bytes.items _ _ (origin_of c.args.asked.1) (wish_of c.args.asked.0 c.args.asked.2) asks
     c.in_ok-bytes.ensures.reads c.in_ok-answer.ensures.text (rw c.deref.ensures.value at c.print.ensures)

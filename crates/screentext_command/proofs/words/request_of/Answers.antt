@@ -31,7 +31,7 @@ pub returns-clause-says : goal.returns-clause-says
 returns-clause-says c =
     let f = found_of c.args.matches.now in
     let made = c.new_request.ensures in
-    some_both c.new_request.result made.found made.look (λ r found look. record {
+    some_both c.new_request.result made.found made.look (λ r found look pictures manner. record {
       size = sym (c.size_of-size.ensures.value
           ∙ ap₂ screen_meant (c.get_str.ensures ∙ first_value-rows f (codes "ROWS")) (c.get_str-2.ensures
           ∙ first_value-rows f (codes "COLS"))) ∙ ap (option_map (option_map size_said)) found.0;
@@ -42,4 +42,5 @@ returns-clause-says c =
       form = sym (c.form_of-form.ensures.value
           ∙ forms_meant _ _ _ _ _ _ _ _ _ _ c.get_count.ensures.value c.get_count-2.ensures.value
           c.get_count-3.ensures.value c.get_count-4.ensures.value c.get_count-5.ensures.value) ∙ found.2;
+      manner = manner;
     })
