@@ -1,14 +1,14 @@
 -- The rows, the screens and the shots of a film in the making.
-use Rattle.std.proofs.Common.{◌≡◌, ◌<◌, ◌≤◌, ◌+◌, ◌*◌, ◌/◌, ◌%◌, ◌^◌, ◌++◌, ℕ, zero, suc, max, List, [], ◌∷◌, Bool}
+use Rattle.std.proofs.Common.{◌≡◌, ◌≢◌, ◌⊎◌, inl, inr, ◌<◌, ◌≤◌, ◌+◌, ◌*◌, ◌/◌, ◌%◌, ◌^◌, ◌++◌, ℕ, zero, suc, max, List, [], ◌∷◌, Bool}
 use Rattle.std.proofs.Common.{true, false, not, cond, ◌&&◌, ◌||◌, Some, sym, ap, ◌∙◌, length, map}
 use Rattle.std.proofs.Common.{subst, take, append-nil, append_assoc, refl, arith, true≢false, nat_eq, decimal}
-use Rattle.std.proofs.Common.{slice_get}
+use Rattle.std.proofs.Common.{below_more, drop, length-append, slice_get, take-append-drop}
 use Rattle.std.specs.Prelude.{if◌then◌else◌}
 use Rattle.std.specs.List.{flat_map, list_any, position_or_len}
 use Rattle.std.specs.Option.{option_map}
 use Rattle.std.specs.Cmp.Lexicographic.{pointwise}
 use Rattle.std.proofs.Math.Nat.{pow-succ', one-le-pow}
-use Rattle.std.proofs.lemmas.Bool.{eqb-true}
+use Rattle.std.proofs.lemmas.Bool.{eq-eqb, eqb-true}
 use Rattle.std.proofs.lemmas.Grind.{flat_map-append}
 use Rattle.std.proofs.lemmas.List.{map-append}
 use Rattle.std.proofs.lemmas.Option.{slice_get-map}
@@ -18,7 +18,7 @@ use Rattle.picture_page.specs.Tags.{tag_bytes}
 use Rattle.picture_page.specs.declared.tag.Tag.TheVariants as tag
 use Rattle.picture_page.proofs.PageLemmas.{joined_more}
 use Rattle.recorded_screen.specs.Reel.{decimal_point, in_32_bits, last_digits, numbered}
-use Rattle.recorded_screen.specs.Shots.{Inserts}
+use Rattle.recorded_screen.specs.Shots.{AddsOnly, AreDifferent, Inserts}
 use Rattle.recorded_screen.specs.declared.reel.Shot.{Shot}
 
 -- ---- one after another, by number
@@ -79,7 +79,7 @@ unfolding added_items
 items_grow old new item number true inserts = inserts.0
 items_grow old new item number false inserts = inserts.0 ∙ sym (append-nil old)
 
-got_last : (xs : List (List ℕ)) (x : List ℕ) → slice_get (xs ++ x ∷ []) (length xs) ≡ Some x
+pub got_last : {A : Type 0} (xs : List A) (x : A) → slice_get (xs ++ x ∷ []) (length xs) ≡ Some x
 got_last [] x = refl
 got_last (y ∷ ys) x = got_last ys x
 
@@ -90,6 +90,46 @@ item_is_at old new item number true inserts =
     ∙ ap (λ (k : ℕ). slice_get (old ++ item ∷ []) k) inserts.1 ∙ got_last old item
 item_is_at old new item number false inserts =
     ap (λ (xs : List (List ℕ)). slice_get xs number) inserts.0 ∙ inserts.1
+
+-- the one that is added is the only new one
+pub number_added : (old new : List (List ℕ)) (item : List ℕ) (number : ℕ) (is_new : Bool)
+    → Inserts old new item number is_new → AddsOnly (λ i. i ≡ number) old new
+number_added old new item number true inserts = λ i lt.
+    let len : length new ≡ length old + 1 =
+    ap (λ (xs : List (List ℕ)). length xs) inserts.0 ∙ length-append old (item ∷ []) in
+    below_more (λ (k : ℕ). (k < length old) ⊎ (k ≡ number)) (length old) (λ r below. inl below) (inr (sym inserts.1)) i
+    (omega arith)
+number_added old new item number false inserts = λ i lt.
+    inl (subst (λ (xs : List (List ℕ)). i < length xs) inserts.0 lt)
+
+got_either : (xs : List (List ℕ)) (x : List ℕ) (i : ℕ) (y : List ℕ) → slice_get (xs ++ x ∷ []) i ≡ Some y
+    → (slice_get xs i ≡ Some y) ⊎ ((y ≡ x) × (i ≡ length xs))
+got_either [] x zero y h = let same : x ≡ y = cc in inr (sym same, refl)
+got_either [] x (suc i) y h = absurd (cc)
+got_either (z ∷ zs) x zero y h = inl h
+got_either (z ∷ zs) x (suc i) y h = further (got_either zs x i y h)
+  where
+    further : (slice_get zs i ≡ Some y) ⊎ ((y ≡ x) × (i ≡ length zs))
+        → (slice_get zs i ≡ Some y) ⊎ ((y ≡ x) × (suc i ≡ suc (length zs)))
+    further (inl at) = inl at
+    further (inr last) = inr (last.0, ap suc last.1)
+
+different_push : (xs : List (List ℕ)) (x : List ℕ) → AreDifferent xs → ((i : ℕ) → slice_get xs i ≢ Some x)
+    → AreDifferent (xs ++ x ∷ [])
+different_push xs x before absent = λ i j y a b. by i j y (got_either xs x i y a) (got_either xs x j y b)
+  where
+    by : (i j : ℕ) (y : List ℕ) → (slice_get xs i ≡ Some y) ⊎ ((y ≡ x) × (i ≡ length xs))
+        → (slice_get xs j ≡ Some y) ⊎ ((y ≡ x) × (j ≡ length xs)) → i ≡ j
+    by i j y (inl a) (inl b) = before i j y a b
+    by i j y (inl a) (inr b) = absurd (absent i (a ∙ ap (λ (zs : List ℕ). Some zs) b.0))
+    by i j y (inr a) (inl b) = absurd (absent j (b ∙ ap (λ (zs : List ℕ). Some zs) a.0))
+    by i j y (inr a) (inr b) = a.1 ∙ sym b.1
+
+pub different_more : (old new : List (List ℕ)) (item : List ℕ) (number : ℕ) (is_new : Bool)
+    → Inserts old new item number is_new → AreDifferent old → AreDifferent new
+different_more old new item number true inserts before =
+    subst AreDifferent (sym inserts.0) (different_push old item before inserts.2)
+different_more old new item number false inserts before = subst AreDifferent (sym inserts.0) before
 
 -- ---- what a set of them says
 
@@ -104,6 +144,14 @@ same_items (x ∷ xs) [] h = absurd (true≢false (sym h))
 same_items (x ∷ xs) (y ∷ ys) h =
     let all = both (nat_eq x y) (pointwise nat_eq xs ys) h in
     ap (λ (z : ℕ). z ∷ xs) (eqb-true x y all.0) ∙ ap (λ (zs : List ℕ). y ∷ zs) (same_items xs ys all.1)
+
+equal_to_itself : (xs : List ℕ) → pointwise nat_eq xs xs ≡ true
+equal_to_itself [] = refl
+equal_to_itself (x ∷ xs) =
+    ap (λ (b : Bool). b && pointwise nat_eq xs xs) (eq-eqb x x refl) ∙ equal_to_itself xs
+
+pub items_same : (xs ys : List ℕ) → xs ≡ ys → pointwise nat_eq xs ys ≡ true
+items_same xs ys is = subst (λ (zs : List ℕ). pointwise nat_eq xs zs ≡ true) is (equal_to_itself xs)
 
 got_mapped : {V : Type 0} (items : V → List ℕ) (xs : List V) (i : ℕ) (k : V) → slice_get xs i ≡ Some k
     → slice_get (map items xs) i ≡ Some (items k)
@@ -122,12 +170,24 @@ position_of_none items p (x ∷ xs) h =
     ap (λ (b : Bool). cond (not b) (1 + position_or_len p xs) 0) no.0
     ∙ ap (λ (n : ℕ). 1 + n) (position_of_none items p xs no.1) ∙ one
 
+none_there : {V : Type 0} (eq : V → V → Bool) (items : V → List ℕ)
+    → ((x y : V) → items x ≡ items y → eq x y ≡ true) → (value : V) (old : List V) (i : ℕ)
+    → list_any (eq value) old ≡ false → slice_get (map items old) i ≢ Some (items value)
+none_there eq items equal value [] i h = λ at. absurd (cc)
+none_there eq items equal value (x ∷ xs) zero h = λ at.
+    let no = neither (eq value x) (list_any (eq value) xs) h in
+    let same : items x ≡ items value = cc in
+    absurd (true≢false (sym (equal value x (sym same)) ∙ no.0))
+none_there eq items equal value (x ∷ xs) (suc i) h =
+    none_there eq items equal value xs i (neither (eq value x) (list_any (eq value) xs) h).1
+
 pub inserted : {V : Type 0} (eq : V → V → Bool) (items : V → List ℕ)
-    → ((x y : V) → eq x y ≡ true → items x ≡ items y) → (old new : List V) (value : V) (number : ℕ) (is_new : Bool)
+    → ((x y : V) → eq x y ≡ true → items x ≡ items y) → ((x y : V) → items x ≡ items y → eq x y ≡ true)
+    → (old new : List V) (value : V) (number : ℕ) (is_new : Bool)
     → is_new ≡ not (list_any (eq value) old) → new ≡ insert_key eq old value
     → number ≡ position_or_len (eq value) old → (k : V) → slice_get new number ≡ Some k → eq value k ≡ true
     → Inserts (map items old) (map items new) (items value) number is_new
-inserted {V} eq items same old new value number is_new is keys index k stored equal = by (list_any (eq value) old) refl
+inserted {V} eq items same complete old new value number is_new is keys index k stored equal = by (list_any (eq value) old) refl
   where
     by : (b : Bool) → list_any (eq value) old ≡ b
         → Inserts (map items old) (map items new) (items value) number is_new
@@ -145,6 +205,7 @@ inserted {V} eq items same old new value number is_new is keys index k stored eq
         subst (λ (b : Bool). Inserts (map items old) (map items new) (items value) number b) (sym is_one) (
           ap (map items) more ∙ map-append items old (value ∷ []),
           index ∙ position_of_none items (eq value) old absent,
+          λ i. none_there eq items complete value old i absent,
         )
 
 -- ---- decimals
@@ -212,6 +273,37 @@ shots_more f a b c k shots i x more first second =
     ∙ ap (λ (xs : List ℕ). some ++ xs) (append-nil (f x))) in
     joined_more a b c (k ++ some) (f x) first second
     ∙ ap (λ (xs : List ℕ). a ++ xs) (append_assoc k some (f x) ∙ ap (λ (xs : List ℕ). k ++ xs) joined)
+
+-- the times on a page are no fewer bytes than some of them
+pub times_part : (f : Shot → List ℕ) (a b k rest : List ℕ) (shots : List Shot) (i most : ℕ)
+    → b ≡ a ++ (k ++ flat_map f (take i shots)) → most < length b
+    → most < length a + length (k ++ (flat_map f shots ++ rest))
+times_part f a b k rest shots i most is long =
+    let some = flat_map f (take i shots) in
+    let others = flat_map f (drop i shots) in
+    let split : flat_map f shots ≡ flat_map f (take i shots) ++ flat_map f (drop i shots) =
+    sym (ap (flat_map f) (take-append-drop i shots)) ∙ flat_map-append f (take i shots) (drop i shots) in
+    let whole = ap (λ (xs : List ℕ). length xs) is in
+    let first = length-append a (k ++ some) in
+    let second = length-append k some in
+    let third = length-append k (flat_map f shots ++ rest) in
+    let fourth = length-append (flat_map f shots) rest in
+    let fifth = ap (λ (xs : List ℕ). length xs) split in
+    let sixth = length-append some others in omega arith
+
+-- times that are too long on a page make a film that is
+pub film_of_times : (most : ℕ) (empty page head times drawn foot : List ℕ) → empty ≡ [] → page ≡ empty ++ head
+    → most < length page + length times → most < length (head ++ (times ++ (drawn ++ foot)))
+film_of_times most empty page head times drawn foot nothing is long =
+    let none = ap (λ (xs : List ℕ). length xs) nothing in
+    let whole = ap (λ (xs : List ℕ). length xs) is in
+    let first = length-append empty head in
+    let second = length-append head (times ++ (drawn ++ foot)) in
+    let third = length-append times (drawn ++ foot) in omega arith
+
+pub other_fault : {A B C D : Type 0} → (C → D) → A ⊎ (B × C) → A ⊎ (B × D)
+other_fault f (inl a) = inl a
+other_fault f (inr fault) = inr (fault.0, f fault.1)
 
 pub times_end : (a b d e g k some m p q : List ℕ) → b ≡ a ++ (k ++ some) → d ≡ b ++ m → e ≡ d ++ p → g ≡ e ++ q
     → g ≡ a ++ (k ++ (some ++ (m ++ (p ++ q))))

@@ -1,6 +1,6 @@
 -- Which screens of a recording a film shows, and when.
-use Rattle.std.specs.Prelude.{◌≡◌, ℕ, zero, suc, ◌+◌, ◌-◌, ◌*◌, ◌/◌, ◌<◌, ◌==◌, not, max, min, Bool, true, false, List}
-use Rattle.std.specs.Prelude.{[], ◌∷◌, length, map, nat_le, slice_get, slice_index, take, if◌then◌else◌}
+use Rattle.std.specs.Prelude.{◌≡◌, ℕ, zero, suc, ◌+◌, ◌-◌, ◌*◌, ◌/◌, ◌≤◌, ◌<◌, ◌==◌, not, max, min, Bool, true, false}
+use Rattle.std.specs.Prelude.{List, [], ◌∷◌, length, map, nat_le, slice_get, slice_index, take, if◌then◌else◌}
 use Rattle.std.specs.List.{prefix_len}
 use Rattle.std.specs.Option.{option_map_or}
 use Rattle.row_pictures.specs.declared.look.Look.{Look}
@@ -13,7 +13,7 @@ use Rattle.recordings.specs.declared.recording.ScreenSize.{ScreenSize}
 use Rattle.recorded_screen.specs.Moment.{act_of}
 use Rattle.recorded_screen.specs.Placed.{IsSvgRow}
 use Rattle.recorded_screen.specs.Reel.{film_bytes, in_64_bits}
-use Rattle.recorded_screen.specs.Shots.{IsAt, IsShown, rows_of, screens_of}
+use Rattle.recorded_screen.specs.Shots.{AreDifferent, IsAt, IsShot, IsShown, IsUsed, rows_of, screens_of}
 use Rattle.recorded_screen.specs.declared.films.Pace.{Pace}
 use Rattle.recorded_screen.specs.declared.reel.Reel.{Reel}
 use Rattle.recorded_screen.specs.declared.reel.Shot.{Shot}
@@ -104,13 +104,32 @@ pub data AreShots (look : Look) (size : ScreenSize) (pace : Pace) (events : List
       → IsShown old new (film_time pace events n) screen
       → AreShots look size pace events rows screens (suc n) new
 
--- A film of the events up to a time: it shows the screens that may stand, each from its time on, and the last one for a
--- second.
-pub record IsFilm (look : Look) (size : ScreenSize) (pace : Pace) (moment : ℕ) (events : List Event) (bytes : List ℕ)
-    : Type 0 where
+-- A film of the first n events, at the size of all up to a time: it shows the screens that may stand, each from its time
+-- on, and the last one for a second. Its rows are all different, and each is in one of its screens. These are all
+-- different too, and each is shown.
+pub record IsFilmOf (look : Look) (size : ScreenSize) (pace : Pace) (moment : ℕ) (events : List Event) (n : ℕ)
+    (bytes : List ℕ) : Type 0 where
   pub rows : List (List ℕ)
   pub screens : List (List ℕ)
   pub shots : List Shot
   pub is : bytes ≡ film_bytes look (most_rows moment size events) (most_cols moment size events)
-      (in_64_bits (film_time pace events (count_until moment events) + 1000000)) rows screens shots
-  pub shown : AreShots look size pace events rows screens (suc (count_until moment events)) shots
+      (in_64_bits (film_time pace events n + 1000000)) rows screens shots
+  pub shown : AreShots look size pace events rows screens (suc n) shots
+  pub different_rows : AreDifferent rows
+  pub used_rows : (i : ℕ) → i < length rows → IsUsed screens i
+  pub different_screens : AreDifferent screens
+  pub used_screens : (i : ℕ) → i < length screens → IsShot shots i
+
+-- a film of the events up to a time
+abbrev pub IsFilm : Look → ScreenSize → Pace → ℕ → List Event → List ℕ → Type 0
+IsFilm look size pace moment events bytes =
+    IsFilmOf look size pace moment events (count_until moment events) bytes
+
+-- the film of the events up to a time, or already that of fewer events, has more bytes than this
+pub record IsTooLong (most : ℕ) (look : Look) (size : ScreenSize) (pace : Pace) (moment : ℕ) (events : List Event)
+    : Type 0 where
+  pub count : ℕ
+  pub within : count ≤ count_until moment events
+  pub bytes : List ℕ
+  pub film : IsFilmOf look size pace moment events count bytes
+  pub long : most < length bytes

@@ -1,11 +1,14 @@
 //! Films: pictures in SVG that play a recording.
 
-ghost use Rattle.std.specs.Prelude.{◌≡◌, ◌≤◌, ◌<◌, ◌+◌, ◌-◌, IfOk, OnOk, length, max, min, not, nat_le, if◌then◌else◌};
+ghost use Rattle.std.specs.Prelude.{◌≡◌, ◌⊎◌, ◌≤◌, ◌<◌, ◌+◌, ◌-◌, IfOk, IfErr, OnOk, length, max, min, not, nat_le};
+ghost use Rattle.std.specs.Prelude.{if◌then◌else◌};
 ghost use Rattle.std.specs.Option.{option_map_or};
 ghost use Rattle.picture_page.specs.Page.{IsPage, IsSafe};
-ghost use Rattle.recorded_screen.specs.Film.{IsFilm, TakesShot, TakesShotIf, cols_set, count_until as count_until_of};
+ghost use Rattle.recorded_screen.specs.Film.{IsFilm, IsTooLong, TakesShot, TakesShotIf, cols_set};
+ghost use Rattle.recorded_screen.specs.Film.{count_until as count_until_of};
 ghost use Rattle.recorded_screen.specs.Film.{is_moment as is_moment_of, most_cols, most_rows, paced, reached, rows_set};
-ghost use Rattle.recorded_screen.specs.Shots.{Grows, IsReel};
+ghost use Rattle.recorded_screen.specs.Shots.{Grows, IsReel, IsShot, IsUsed, screens_of};
+ghost use Rattle.recorded_screen.specs.declared.error.FilmError.TheVariants.{Memory, TooLong};
 
 use crate::error::FilmError;
 use crate::moment::act;
@@ -63,16 +66,20 @@ pub fn film(
     ensures page { IfOk result (λ bytes. IsPage bytes.items) }
     ensures safe { IfOk result (λ bytes. IsSafe bytes.items) }
     ensures short { IfOk result (λ bytes. length bytes.items ≤ LONGEST_FILM) }
+    ensures fault { IfErr result (λ e. (e ≡ Memory) ⊎ ((e ≡ TooLong)
+        × IsTooLong LONGEST_FILM look.now size pace moment events.now)) }
 {
     let mut terminal = Parser::new(alloc, size.rows, size.cols, 0)?;
     let mut reel = Reel::new(alloc, widest(size, events, moment));
     let first = is_moment(events, 0);
     shoot_if(first, &mut reel, alloc, terminal.screen(), look)?;
+    reel.check()?;
     for i in 0..count_until(events, moment) {
         reel.wait(pace.of_time(gap_before(events, i)));
         act(&mut terminal, &events[i].change)?;
         let on = is_moment(events, i + 1);
         shoot_if(on, &mut reel, alloc, terminal.screen(), look)?;
+        reel.check()?;
     }
     reel.develop(alloc, look)
 }
@@ -87,8 +94,9 @@ fn shoot_if(
 ) -> Result<(), FilmError>
     requires reel { IsReel reel.old }
     ensures reel { OnOk result (IsReel reel.new) }
-    ensures grows { OnOk result (Grows reel.old reel.new) }
+    ensures grows { OnOk result (Grows (IsUsed (screens_of reel.new)) (IsShot reel.new.shots.items) reel.old reel.new) }
     ensures shot { OnOk result (TakesShotIf on look.now screen.now.state reel.old reel.new) }
+    ensures memory { IfErr result (λ e. e ≡ Memory) }
 {
     if on {
         shoot(reel, alloc, screen, look)
@@ -101,8 +109,9 @@ fn shoot_if(
 fn shoot(reel: &mut Reel, alloc: Global, screen: &Screen, look: &Look) -> Result<(), FilmError>
     requires reel { IsReel reel.old }
     ensures reel { OnOk result (IsReel reel.new) }
-    ensures grows { OnOk result (Grows reel.old reel.new) }
+    ensures grows { OnOk result (Grows (IsUsed (screens_of reel.new)) (IsShot reel.new.shots.items) reel.old reel.new) }
     ensures shot { OnOk result (TakesShot look.now screen.now.state reel.old reel.new) }
+    ensures memory { IfErr result (λ e. e ≡ Memory) }
 {
     let mut numbers = Vec::new(alloc);
     let (rows, _) = screen.size();

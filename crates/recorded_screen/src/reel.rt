@@ -1,7 +1,7 @@
 //! What a film is made of: rows that are drawn once, screens side by side, and when which one is shown.
 
-ghost use Rattle.std.specs.Prelude.{◌≡◌, ◌≤◌, ◌<◌, ◌+◌, ◌*◌, ◌/◌, ◌^◌, ◌++◌, ℕ, [], ◌∷◌, IfOk, OnOk, length, max};
-ghost use Rattle.std.specs.Prelude.{Some, if◌then◌else◌, map, slice_get};
+ghost use Rattle.std.specs.Prelude.{◌≡◌, ◌⊎◌, ◌≤◌, ◌<◌, ◌+◌, ◌*◌, ◌/◌, ◌^◌, ◌++◌, ℕ, [], ◌∷◌, IfOk, IfErr, OnOk};
+ghost use Rattle.std.specs.Prelude.{Some, if◌then◌else◌, length, map, max, slice_get};
 ghost use Rattle.picture_page.specs.Bytes.{numbers_bytes};
 ghost use Rattle.picture_page.specs.Page.{Adds, IsPage, IsSafe};
 ghost use Rattle.row_pictures.specs.Runs.{AreRuns};
@@ -9,7 +9,9 @@ ghost use Rattle.row_pictures.specs.Svg.{IsSvgRun};
 ghost use Rattle.recorded_screen.specs.Reel.{decimal_point, drawn_bytes, drawn_row, film_bytes, in_32_bits, in_64_bits};
 ghost use Rattle.recorded_screen.specs.Reel.{last_place, numbered, place, row_at, screen_at, shot_bytes, times_bytes};
 ghost use Rattle.recorded_screen.specs.Reel.{used_row};
-ghost use Rattle.recorded_screen.specs.Shots.{Grows, Inserts, IsAt, IsReel, IsShown, Shows, rows_of, screens_of};
+ghost use Rattle.recorded_screen.specs.Shots.{Grows, Inserts, IsAt, IsReel, IsShot, IsShown, Shows, rows_of};
+ghost use Rattle.recorded_screen.specs.Shots.{screens_of};
+ghost use Rattle.recorded_screen.specs.declared.error.FilmError.TheVariants.{Memory, TooLong};
 
 use crate::error::FilmError;
 use crate::picture::push_svg_head;
@@ -87,10 +89,11 @@ impl Reel {
     ) -> Result<usize, FilmError>
         requires reel { IsReel self.old }
         ensures reel { OnOk result (IsReel self.new) }
-        ensures grows { OnOk result (Grows self.old self.new) }
+        ensures grows { IfOk result (λ n. Grows (λ i. i ≡ n) (λ i. ⊥) self.old self.new) }
         ensures shots { OnOk result (self.new.shots ≡ self.old.shots) }
         ensures row { IfOk result (λ n. IsAt (rows_of self.new) n (λ runs.
             AreRuns (IsSvgRun look.now cells.now cursor) (length cells.now) runs)) }
+        ensures memory { IfErr result (λ e. e ≡ Memory) }
     {
         let mut page = Page::new(alloc);
         push_svg_row(&mut page, cells, cursor, look)?;
@@ -98,7 +101,6 @@ impl Reel {
         row.append(&page)?;
         let (number, new) = insert_row(&mut self.rows, row.into_bytes())?;
         draw_row_if(new, &mut self.drawn_rows, number, &page)?;
-        check_length(&self.drawn_rows)?;
         Ok(number)
     }
 
@@ -106,8 +108,9 @@ impl Reel {
     pub(crate) fn show(&mut self, alloc: Global, rows: &[usize]) -> Result<(), FilmError>
         requires reel { IsReel self.old }
         ensures reel { OnOk result (IsReel self.new) }
-        ensures grows { OnOk result (Grows self.old self.new) }
+        ensures grows { OnOk result (Grows (λ i. ⊥) (IsShot self.new.shots.items) self.old self.new) }
         ensures shows { OnOk result (Shows rows.now self.old self.new) }
+        ensures memory { IfErr result (λ e. e ≡ Memory) }
     {
         let screen = self.screen_number(alloc, rows)?;
         push_shot(&mut self.shots, self.time, screen)?;
@@ -118,15 +121,24 @@ impl Reel {
     fn screen_number(&mut self, alloc: Global, rows: &[usize]) -> Result<usize, FilmError>
         requires reel { IsReel self.old }
         ensures reel { OnOk result (IsReel self.new) }
-        ensures grows { OnOk result (Grows self.old self.new) }
+        ensures grows { IfOk result (λ n. Grows (λ i. ⊥) (λ i. i ≡ n) self.old self.new) }
         ensures shots { OnOk result (self.new.shots ≡ self.old.shots) }
         ensures screen { IfOk result (λ n. slice_get (screens_of self.new) n ≡ Some rows.now) }
+        ensures memory { IfErr result (λ e. e ≡ Memory) }
     {
         let (number, new) = insert_screen(&mut self.screens, rows.to_vec(alloc)?)?;
         let x = self.place_of(number);
         draw_screen_if(new, &mut self.drawn_screens, x, rows)?;
-        check_length(&self.drawn_screens)?;
         Ok(number)
+    }
+
+    /// A film whose rows or screens get longer than the longest film is given up.
+    pub(crate) fn check(&self) -> Result<(), FilmError>
+        ensures { IfErr result (λ e. (e ≡ TooLong) × ((LONGEST_FILM < length self.now.drawn_rows)
+            ⊎ (LONGEST_FILM < length self.now.drawn_screens))) }
+    {
+        check_length(&self.drawn_rows)?;
+        check_length(&self.drawn_screens)
     }
 
     // Where a screen stands, in pixels.
@@ -155,6 +167,9 @@ impl Reel {
         ensures page { IfOk result (λ bytes. IsPage bytes.items) }
         ensures safe { IfOk result (λ bytes. IsSafe bytes.items) }
         ensures short { IfOk result (λ bytes. length bytes.items ≤ LONGEST_FILM) }
+        ensures fault { IfErr result (λ e. (e ≡ Memory) ⊎ ((e ≡ TooLong) × (LONGEST_FILM < length (film_bytes look.now
+            self.size.rows.value self.size.cols.value (in_64_bits (self.time + 1000000)) (rows_of self)
+            (screens_of self) self.shots.items)))) }
     {
         let mut page = Page::new(alloc);
         push_svg_head(&mut page, self.size.rows.get(), self.size.cols.get(), look)?;
@@ -181,8 +196,11 @@ impl Reel {
 
     // Appends when which screen is shown.
     fn push_times(&self, page: &mut Page) -> Result<(), FilmError>
-        ensures { OnOk result (page.new ≡ page.old ++ times_bytes self.now.size.cols.value
+        ensures times { OnOk result (page.new ≡ page.old ++ times_bytes self.now.size.cols.value
             (in_64_bits (self.now.time + 1000000)) self.now.shots.items) }
+        ensures fault { IfErr result (λ e. (e ≡ Memory) ⊎ ((e ≡ TooLong) × (LONGEST_FILM < length page.old
+            + length (times_bytes self.now.size.cols.value (in_64_bits (self.now.time + 1000000))
+            self.now.shots.items)))) }
     {
         let length = self.time.saturating_add(LAST);
         page.markup(Tag::Keyframes)?;
@@ -207,8 +225,9 @@ impl Reel {
 
 // Inserts a row that is written so, and returns its number with whether it is new.
 fn insert_row(rows: &mut IndexSet<Vec<u8>>, row: Vec<u8>) -> Result<(usize, bool), FilmError>
-    ensures { IfOk result (λ r. Inserts (map (λ v. v.items) rows.old.keys) (map (λ v. v.items) rows.new.keys) row.items
-        r.0 r.1) }
+    ensures inserts { IfOk result (λ r. Inserts (map (λ v. v.items) rows.old.keys) (map (λ v. v.items) rows.new.keys)
+        row.items r.0 r.1) }
+    ensures memory { IfErr result (λ e. e ≡ Memory) }
 {
     Ok(rows.insert_full(row)?)
 }
@@ -218,8 +237,9 @@ fn insert_screen(
     screens: &mut IndexSet<Vec<usize>>,
     rows: Vec<usize>,
 ) -> Result<(usize, bool), FilmError>
-    ensures { IfOk result (λ r. Inserts (map (λ v. v.items) screens.old.keys) (map (λ v. v.items) screens.new.keys)
-        rows.items r.0 r.1) }
+    ensures inserts { IfOk result (λ r. Inserts (map (λ v. v.items) screens.old.keys)
+        (map (λ v. v.items) screens.new.keys) rows.items r.0 r.1) }
+    ensures memory { IfErr result (λ e. e ≡ Memory) }
 {
     Ok(screens.insert_full(rows)?)
 }
@@ -239,7 +259,8 @@ fn push_shot(shots: &mut Vec<Shot>, time: u64, screen: usize) -> Result<(), Allo
 
 // A film that gets longer than the longest one is given up.
 fn check_length(page: &Page) -> Result<(), FilmError>
-    ensures { OnOk result (length page.now ≤ LONGEST_FILM) }
+    ensures short { OnOk result (length page.now ≤ LONGEST_FILM) }
+    ensures long { IfErr result (λ e. (e ≡ TooLong) × (LONGEST_FILM < length page.now)) }
 {
     if page.len() > LONGEST_FILM {
         return Err(FilmError::TooLong);

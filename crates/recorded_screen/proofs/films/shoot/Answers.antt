@@ -1,6 +1,7 @@
 use Rattle.std.proofs.Common.{◌≡◌, ◌∙◌, ◌+◌, ap, arith, length, refl, subst, sym, ℕ, List}
-use Rattle.recorded_screen.specs.Shots.{rows_of}
-use Rattle.recorded_screen.proofs.FilmLemmas.{AreNumbered, grows_both, grows_none, one_row_more, shot_taken}
+use Rattle.recorded_screen.specs.Shots.{Grows, rows_of}
+use Rattle.recorded_screen.proofs.FilmLemmas.{AreNumbered, IsAmong, grows_by_row, grows_by_shot, grows_none}
+use Rattle.recorded_screen.proofs.FilmLemmas.{one_row_more, shot_taken}
 use Rattle.recorded_screen.proofs.PlacedLemmas.{svg_row_is}
 use Rattle.recorded_screen.proofs.films.shoot.Goals as goal
 
@@ -19,7 +20,10 @@ loop-row-preserved c =
     let row = c.in_ok-number.ensures.row in
     record {
       reel = c.in_ok-number.ensures.reel;
-      grows = grows_both _ _ _ c.loop-row.invariant.grows c.in_ok-number.ensures.grows;
+      grows = subst (λ (xs : List ℕ). Grows (IsAmong xs) (λ i. ⊥) c.args.reel.now c.row_number.new.self)
+          (sym c.in_ok-push.ensures.items)
+          (grows_by_row c.args.reel.now c.loop-row.reel c.row_number.new.self c.loop-row.numbers.items
+          c.in_ok-number.number c.loop-row.invariant.grows c.in_ok-number.ensures.grows);
       shots = c.in_ok-number.ensures.shots ∙ c.loop-row.invariant.shots;
       numbered = subst (λ (xs : List ℕ). AreNumbered look s (rows_of c.row_number.new.self) xs (c.loop-row.row + 1))
           (sym c.in_ok-push.ensures.items)
@@ -34,7 +38,9 @@ loop-row-preserved c =
     }
 
 pub returns-clause-grows : goal.returns-clause-grows
-returns-clause-grows c = grows_both _ _ _ c.loop-row.invariant.grows c.in_ok-show.ensures.grows
+returns-clause-grows c =
+    grows_by_shot c.args.reel.now c.loop-row.reel c.show.new.self c.loop-row.numbers.items c.deref.result.now
+    c.deref.ensures.value c.loop-row.invariant.grows c.in_ok-show.ensures.grows c.in_ok-show.ensures.shows
 
 pub returns-clause-shot : goal.returns-clause-shot
 returns-clause-shot c =
