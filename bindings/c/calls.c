@@ -360,8 +360,10 @@ static void requests(void) {
 }
 
 static void recordings(void) {
-    jeihpal_recording recording = JEIHPAL_INIT;
+    jeihpal_recording recording = JEIHPAL_INIT, none = JEIHPAL_INIT;
+    jeihpal_screen screen = JEIHPAL_INIT, other = JEIHPAL_INIT;
     jeihpal_recorded look;
+    jeihpal_look shown;
     jeihpal_event event;
     uint32_t colors[18];
     uint8_t text[16];
@@ -388,6 +390,16 @@ static void recordings(void) {
     CHECK(jeihpal_recording_event(&recording, 3, &event) == JEIHPAL_NO_EVENT && event.kind == JEIHPAL_MARKER);
     CHECK(jeihpal_recording_event_text(&recording, 3, text, 2, &length) == JEIHPAL_NO_EVENT && length == 4);
     CHECK(jeihpal_recording_colors(&recording, colors, 18, &length) == JEIHPAL_OK && length == 0);
+    CHECK(jeihpal_recording_screen(&recording, &screen, 0, 9, 0, 1) == JEIHPAL_BAD_SIZE && !screen.held);
+    CHECK(jeihpal_recording_screen(&recording, &screen, 24, 80, 0, 499999) == JEIHPAL_OK);
+    CHECK(jeihpal_screen_row_text(&screen, 0, text, sizeof text, &length) == JEIHPAL_OK && length == 0);
+    CHECK(jeihpal_recording_screen(&recording, &screen, 24, 80, 0, UINT64_MAX) == JEIHPAL_OK);
+    CHECK(jeihpal_screen_row_text(&screen, 0, text, sizeof text, &length) == JEIHPAL_OK &&
+          is_text(text, length, "hello"));
+    CHECK(jeihpal_screen_look(&screen, &shown) == JEIHPAL_OK && shown.rows == 30 && shown.cols == 90);
+    CHECK(jeihpal_recording_screen((jeihpal_recording *)&screen, &other, 2, 2, 0, 1) == JEIHPAL_OTHER_KIND);
+    CHECK(jeihpal_recording_screen(&none, &screen, 2, 2, 0, 1) == JEIHPAL_CLOSED && screen.held && !other.held);
+    jeihpal_screen_close(&screen);
     CHECK(jeihpal_screen_mark((jeihpal_screen *)&recording) == JEIHPAL_OTHER_KIND);
     CHECK(jeihpal_recording_open_script(&recording, BYTES("Script started\nabc"), BYTES("0.25 2\n")) == JEIHPAL_OK);
     CHECK(jeihpal_recording_look(&recording, &look) == JEIHPAL_OK && look.kind == JEIHPAL_TYPESCRIPT);

@@ -111,7 +111,7 @@ static void use_screen(jeihpal_screen *screen) {
 }
 
 /* A recording whose first line and whose events take memory. */
-static void use_recording(jeihpal_recording *recording) {
+static void use_recording(jeihpal_recording *recording, jeihpal_screen *screen) {
     size_t length;
     jeihpal_recorded look;
     if (noted(jeihpal_recording_open(recording, BYTES("{\"version\": 2, \"width\": 9, \"height\": 2}\n"
@@ -121,6 +121,11 @@ static void use_recording(jeihpal_recording *recording) {
     }
     CHECK(jeihpal_recording_look(recording, &look) == JEIHPAL_OK && look.events == 2 && look.fault == 0);
     CHECK(jeihpal_recording_event_text(recording, 1, to, sizeof to, &length) == JEIHPAL_OK && length == 3);
+    void *held = screen->held;
+    if (noted(jeihpal_recording_screen(recording, screen, 2, 9, 3, 500000)) < 0)
+        CHECK(screen->held == held);
+    else
+        CHECK(jeihpal_screen_look(screen, &(jeihpal_look){0}) == JEIHPAL_OK);
 }
 
 /* Uses an object of each kind, and closes them. */
@@ -136,7 +141,7 @@ static void run(void) {
     if (view.held) noted(jeihpal_view_row_text(&view, 0, to, sizeof to, &length));
     if (noted(jeihpal_screen_new(&screen, 5, 20, 3)) < 0) CHECK(!screen.held);
     if (screen.held) use_screen(&screen);
-    use_recording(&recording);
+    use_recording(&recording, &screen);
     jeihpal_hub_close(&hub);
     jeihpal_view_close(&view);
     jeihpal_screen_close(&screen);

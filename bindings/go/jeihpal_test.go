@@ -7,6 +7,7 @@ import (
 	"runtime"
 	"sync"
 	"testing"
+	"time"
 )
 
 func ExampleScreen() {
@@ -162,6 +163,15 @@ func TestRecording(t *testing.T) {
 	}
 	if event, err = recording.Event(1); err != nil || event.Kind != NewSize || event.Rows != 3 || event.Cols != 7 {
 		t.Fatalf("%+v %v", event, err)
+	}
+	screen, err := recording.ScreenAt(500*time.Millisecond, 2, 9, 0)
+	must(t, err)
+	defer screen.Close()
+	if row, err := screen.RowText(0); err != nil || row != "hi" {
+		t.Error(row, err)
+	}
+	if _, err := recording.ScreenAt(0, 0, 9, 0); !errors.Is(err, ErrBadSize) {
+		t.Error(err)
 	}
 	if _, err := recording.Event(2); !errors.Is(err, ErrNoEvent) {
 		t.Fatal(err)

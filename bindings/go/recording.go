@@ -111,3 +111,19 @@ func (r *Recording) Event(index int) (Event, error) {
 	})
 	return Event{microseconds(event.time), EventKind(event.kind), text, int(event.rows), int(event.cols)}, err
 }
+
+// ScreenAt is a screen of this size that keeps up to scrollback rows, as it is after all events up to a time. It has no
+// requests.
+func (r *Recording) ScreenAt(time time.Duration, rows, cols uint16, scrollback uint) (*Screen, error) {
+	screen := &Screen{shown: shown{reads: screenReads}}
+	err := screen.made(closeScreen, func(w *word) C.int32_t {
+		r.lock.Lock()
+		defer r.lock.Unlock()
+		return C.jeihpal_recording_screen(recordingOf(r.word), screenOf(w), C.uint16_t(rows), C.uint16_t(cols),
+			C.size_t(scrollback), C.uint64_t(time.Microseconds()))
+	})
+	if err != nil {
+		return nil, err
+	}
+	return screen, nil
+}

@@ -483,6 +483,12 @@ int32_t jeihpal_recording_event_text(jeihpal_recording *recording, size_t index,
  * sixteen. As many as fit into `most` are copied, and *count is how many there are: 18, or 0. */
 int32_t jeihpal_recording_colors(jeihpal_recording *recording, uint32_t *colors, size_t most, size_t *count);
 
+/* Makes a screen of this size that keeps at most `scrollback` rows, as it is once the recording did to it all that it
+ * does up to a time, in microseconds, and puts it into `screen`. It has no mark and no requests. What `screen` held is
+ * closed, unless the call is refused. CLOSED and OTHER_KIND speak of `recording`. BAD_SIZE, MEMORY. */
+int32_t jeihpal_recording_screen(jeihpal_recording *recording, jeihpal_screen *screen, uint16_t rows, uint16_t cols,
+                                 size_t scrollback, uint64_t time);
+
 /* Closes the word: what it holds, of any kind, is freed. */
 void jeihpal_recording_close(jeihpal_recording *recording);
 

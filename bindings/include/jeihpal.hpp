@@ -347,6 +347,13 @@ public:
                               told.cols};
     }
 
+    // A screen of this size as it is after all events up to a time, in microseconds. It has no requests.
+    jeihpal::screen screen_at(uint64_t time, uint16_t rows, uint16_t cols, size_t scrollback = 0) const {
+        jeihpal::screen screen(1, 1);
+        checked(jeihpal_recording_screen(word(), screen.word(), rows, cols, scrollback, time));
+        return screen;
+    }
+
     // None, or the colour of texts, that of backgrounds and sixteen others, each as 0xRRGGBB.
     std::vector<uint32_t> colors() const {
         std::vector<uint32_t> colors(18);

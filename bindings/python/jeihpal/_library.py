@@ -161,6 +161,7 @@ PARAMETERS: dict[str, list[Any]] = {
     "recording_event": [_SIZE, ctypes.POINTER(RawEvent)],
     "recording_event_text": [_SIZE, *_TEXT],
     "recording_colors": [ctypes.c_void_p, _SIZE, _OUT_SIZE],
+    "recording_screen": [_WORD, _U16, _U16, _SIZE, ctypes.c_uint64],
 }
 CLOSES = ("hub_close", "view_close", "screen_close", "recording_close")
 

@@ -361,6 +361,14 @@ extern "C" {
         most: usize,
         count: *mut usize,
     ) -> i32;
+    pub(crate) fn jeihpal_recording_screen(
+        recording: *mut Word,
+        screen: *mut Word,
+        rows: u16,
+        cols: u16,
+        scrollback: usize,
+        time: u64,
+    ) -> i32;
     pub(crate) fn jeihpal_recording_close(recording: *mut Word);
 }
 

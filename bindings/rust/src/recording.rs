@@ -183,22 +183,13 @@ impl Recording {
     }
 
     /// A new screen as it is after all events up to a time, in microseconds. It begins in the size that the recording
-    /// says, or else in 24 rows of 80 columns.
+    /// says, or else in 24 rows of 80 columns. It has no requests.
     pub fn screen_at(&self, time: u64) -> Result<Screen> {
         let (rows, cols) = self.size().unwrap_or_else(usual_size);
-        let mut screen = Screen::new(rows, cols, 0)?;
-        for event in self.events() {
-            let Event { time: then, change } = event?;
-            if then > time {
-                break;
-            }
-            match change {
-                Change::Output(bytes) => screen.process(&bytes)?,
-                Change::Resize(rows, cols) => screen.resize(rows, cols)?,
-                _ => {}
-            }
-        }
-        Ok(screen)
+        let from = self.owned.word();
+        Screen::filled(|word| unsafe {
+            raw::jeihpal_recording_screen(from, word, rows.get(), cols.get(), 0, time)
+        })
     }
 
     /// The colours that an asciicast has of its own, each as 0xRRGGBB: that of texts, that of backgrounds, and the

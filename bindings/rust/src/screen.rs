@@ -44,8 +44,13 @@ impl Screen {
     /// A blank screen of this size that keeps up to `scrollback` rows that scroll off.
     pub fn new(rows: NonZeroU16, cols: NonZeroU16, scrollback: usize) -> Result<Screen> {
         // SAFETY, here and below: the word is as the last call left it, and what is lent is lent for the call.
-        let fill =
-            |word| unsafe { raw::jeihpal_screen_new(word, rows.get(), cols.get(), scrollback) };
+        Screen::filled(|word| unsafe {
+            raw::jeihpal_screen_new(word, rows.get(), cols.get(), scrollback)
+        })
+    }
+
+    /// What a call puts into a word.
+    pub(crate) fn filled(fill: impl FnOnce(*mut Word) -> i32) -> Result<Screen> {
         Ok(Screen {
             object: Object::new(&FUNCTIONS, fill)?,
             dropped: 0,
@@ -57,11 +62,7 @@ impl Screen {
     pub fn try_clone(&self) -> Result<Screen> {
         let from = self.object.word();
         // SAFETY: the new word is null, and another one than that of this screen.
-        let fill = |word| unsafe { raw::jeihpal_screen_clone(word, from) };
-        Ok(Screen {
-            object: Object::new(&FUNCTIONS, fill)?,
-            dropped: 0,
-        })
+        Screen::filled(|word| unsafe { raw::jeihpal_screen_clone(word, from) })
     }
 
     /// Reads the program's next bytes. They may be cut anywhere. After [`Error::Memory`] the screen has failed: it can

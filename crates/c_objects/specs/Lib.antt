@@ -4,6 +4,7 @@ pub mod Copied
 pub mod Hubs
 pub mod Looks
 pub mod Objects
+pub mod Played
 pub mod Recordings
 pub mod Requests
 pub mod Runs

@@ -17,7 +17,7 @@ use std::num::NonZeroU16;
 use vt100::{Parser, Screen};
 
 /// An object around a screen, which has read nothing since.
-fn marked_of(alloc: Global, screen: Screen) -> Result<Marked, i32>
+pub(crate) fn marked_of(alloc: Global, screen: Screen) -> Result<Marked, i32>
     ensures made { IfOk result (λ n. IsMadeOf screen n) }
     ensures refused { IfErr result (λ code. code ≡ memory) }
 {

@@ -1,19 +1,24 @@
 //! The calls of a recording.
 ghost use Rattle.std.specs.Prelude.{◌≡◌, IfOk, IfErr};
 ghost use Rattle.std.specs.Option.{option_copied};
-ghost use Rattle.c_objects.specs.Codes.{IsRefusal};
+ghost use Rattle.c_objects.specs.Codes.{IsRefusal, memory, ok};
+ghost use Rattle.c_objects.specs.Hubs.{IsNoObjectCode};
 ghost use Rattle.c_objects.specs.Objects.{RecordingSays};
+ghost use Rattle.c_objects.specs.Played.{IsPlayed, IsScreenAt};
 ghost use Rattle.c_objects.specs.Recordings.{IsReading, IsReadingOf, IsUnread, IsUnreadCode, unread_code};
 ghost use Rattle.c_objects.specs.Recordings.{LooksRecorded, HasEvent, HasEventText, HasColors};
 ghost use Rattle.c_objects.specs.Recordings.{kind_number, fault_of, recording_look, event_of, text_of};
 ghost use Rattle.recordings.specs.Recorded.{deed_of};
 
-use crate::code::{COMPRESSED, MEMORY, NO_EVENT, NO_HEADER, OK, OTHER_KIND};
+use crate::code::{BAD_SIZE, COMPRESSED, MEMORY, NO_EVENT, NO_HEADER, OK, OTHER_KIND};
+use crate::copied::marked_of;
 use crate::copy::copy_prefix;
-use crate::object::Object;
+use crate::object::{Marked, Object};
 use crate::plain::{CEvent, CRecording};
-use recordings::{Change, Event, Kind, Reading, RecordingError, read_recording};
+use recorded_screen::terminal_at;
+use recordings::{Change, Event, Kind, Reading, RecordingError, ScreenSize, read_recording};
 use std::alloc::Global;
+use std::num::NonZeroU16;
 
 fn read(alloc: Global, bytes: &[u8], timing: Option<&[u8]>) -> Result<Reading, RecordingError>
     ensures read { let lines = option_copied timing.entry in IfOk result (IsReading bytes.now lines) }
@@ -205,5 +210,66 @@ pub fn colors(object: &Object, to: &mut [u32], count: &mut usize) -> i32
     match object {
         Object::Recording(reading) => copy_colors(reading, to, count),
         _ => OTHER_KIND,
+    }
+}
+
+fn played(
+    alloc: Global,
+    reading: &Reading,
+    size: ScreenSize,
+    scrollback: usize,
+    time: u64,
+) -> Result<Marked, i32>
+    ensures made { IfOk result (λ m. IsPlayed size.rows.value size.cols.value scrollback time reading.now m) }
+    ensures refused { IfErr result (λ code. code ≡ memory) }
+{
+    let Ok(parser) = terminal_at(alloc, size, scrollback, &reading.recording.events, time) else {
+        return Err(MEMORY);
+    };
+    match parser.screen().clone() {
+        Ok(screen) => marked_of(alloc, screen),
+        Err(_) => Err(MEMORY),
+    }
+}
+
+fn boxed_screen(
+    alloc: Global,
+    reading: &Reading,
+    rows: u16,
+    cols: u16,
+    scrollback: usize,
+    time: u64,
+) -> Result<Box<Object>, i32>
+    ensures made { IfOk result (λ b. IsScreenAt rows cols scrollback time b.value reading.now ok) }
+    ensures refused { IfErr result (λ code. IsNoObjectCode rows cols code) }
+{
+    let (Some(rows), Some(cols)) = (NonZeroU16::new(rows), NonZeroU16::new(cols)) else {
+        return Err(BAD_SIZE);
+    };
+    let Ok(screen) = played(alloc, reading, ScreenSize { rows, cols }, scrollback, time) else {
+        return Err(MEMORY);
+    };
+    match Box::new(alloc, Object::Screen(screen)) {
+        Ok(b) => Ok(b),
+        Err(_) => Err(MEMORY),
+    }
+}
+
+/// Makes a screen of this size that keeps at most `scrollback` rows, and does to it what a recording does up to a time,
+/// in microseconds. It has no mark and no requests. Refused for a size without cells, and if an allocation fails.
+pub fn screen_at(
+    alloc: Global,
+    object: &Object,
+    rows: u16,
+    cols: u16,
+    scrollback: usize,
+    time: u64,
+) -> Result<Box<Object>, i32>
+    ensures made { IfOk result (λ b. RecordingSays (IsScreenAt rows cols scrollback time b.value) object.now ok) }
+    ensures refused { IfErr result (λ code. RecordingSays (λ r c. IsNoObjectCode rows cols c) object.now code) }
+{
+    match object {
+        Object::Recording(reading) => boxed_screen(alloc, reading, rows, cols, scrollback, time),
+        _ => Err(OTHER_KIND),
     }
 }

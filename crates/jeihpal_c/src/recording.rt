@@ -1,14 +1,16 @@
 //! The functions of a recording, for C.
-ghost use Rattle.std.specs.Prelude.{◌≡◌, None, Some};
+ghost use Rattle.std.specs.Prelude.{◌≡◌, IfOk, IfErr, None, Some};
 ghost use Rattle.std.specs.Option.{option_copied};
-ghost use Rattle.c_objects.specs.Codes.{IsRefusal};
+ghost use Rattle.c_objects.specs.Codes.{IsRefusal, ok};
+ghost use Rattle.c_objects.specs.Hubs.{IsNoObjectCode};
 ghost use Rattle.c_objects.specs.Objects.{RecordingSays};
+ghost use Rattle.c_objects.specs.Played.{GetsScreenAt, IsScreenAt};
 ghost use Rattle.c_objects.specs.Recordings.{IsReadingOf, IsUnreadCode};
 ghost use Rattle.c_objects.specs.Recordings.{LooksRecorded, HasEvent, HasEventText, HasColors};
 ghost use Rattle.c_objects.specs.Words.{InWord, IsReadWord};
 
 use crate::word::Word;
-use c_objects::{CEvent, CLOSED, CRecording, OK, recording};
+use c_objects::{CEvent, CLOSED, CRecording, OK, Object, recording};
 use std::alloc::Global;
 
 fn open(alloc: Global, word: &mut Word, bytes: &[u8], timing: Option<&[u8]>) -> i32
@@ -114,6 +116,53 @@ pub extern "C" fn jeihpal_recording_colors(
     match word.get_mut() {
         Some(object) => recording::colors(object, to, count),
         None => CLOSED,
+    }
+}
+
+fn screen_in(
+    alloc: Global,
+    word: &mut Word,
+    rows: u16,
+    cols: u16,
+    scrollback: usize,
+    time: u64,
+) -> Result<Box<Object>, i32>
+    ensures made { IfOk result (λ b. InWord (RecordingSays (IsScreenAt rows cols scrollback time b.value)) word.old.held
+        ok) }
+    ensures refused { IfErr result (λ code. InWord (RecordingSays (λ r c. IsNoObjectCode rows cols c)) word.old.held
+        code) }
+    ensures same { word.new.held ≡ word.old.held }
+{
+    match word.get_mut() {
+        Some(object) => recording::screen_at(alloc, object, rows, cols, scrollback, time),
+        None => Err(CLOSED),
+    }
+}
+
+/// Makes a screen of this size that keeps at most `scrollback` rows, does to it what the recording does up to a time, in
+/// microseconds, and puts it into `screen`. It has no mark and no requests. Refused for a size without cells, and if an
+/// allocation fails; `screen` is then as it was.
+///
+/// An object that `screen` held is closed, unless the call is refused.
+#[unsafe(no_mangle)]
+pub extern "C" fn jeihpal_recording_screen(
+    alloc: Global,
+    word: &mut Word,
+    screen: &mut Word,
+    rows: u16,
+    cols: u16,
+    scrollback: usize,
+    time: u64,
+) -> i32
+    ensures says { GetsScreenAt rows cols scrollback time word.old.held screen.old.held result screen.new.held }
+    ensures same { word.new.held ≡ word.old.held }
+{
+    match screen_in(alloc, word, rows, cols, scrollback, time) {
+        Ok(object) => {
+            screen.put(alloc, object);
+            OK
+        }
+        Err(code) => code,
     }
 }
 
