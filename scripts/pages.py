@@ -43,19 +43,19 @@ PROGRAMS = {
         "relay a program's output as frames, or show frames",
         [("relay|show", "What is done")] + SIZE,
         [],
-        "Reads standard input to its end. relay writes frames to standard output; show prints the rows that they leave.",
+        "Reads its input to its end. relay writes frames to standard output; show prints the rows that they leave.",
     ),
     "screenlive": (
         "relay a program's output as it comes, in whole frames",
         SIZE,
         [NO_LINE_DRAWING, HELP],
-        "Reads standard input, and writes a frame after each read.",
+        "Reads its input, and writes a frame after each read.",
     ),
     "screencat": (
         "print the screen that a program's output leaves",
         SIZE,
         [NO_LINE_DRAWING, HELP],
-        "Reads standard input to its end, and prints the rows of the screen.",
+        "Reads its input to its end, and prints the rows of the screen.",
     ),
     "screentext": (
         "print what a recorded terminal stream shows, at its end or at a moment",
@@ -85,16 +85,16 @@ PROGRAMS = {
             HELP,
             VERSION,
         ],
-        "Reads standard input to its end: an asciicast v2 or v3, a typescript, a ttyrec, or raw bytes. "
+        "Reads its input to its end: an asciicast v2 or v3, a typescript, a ttyrec, or raw bytes. "
         "A recording that was cut, or stops making sense, is shown up to there, and a line on standard error says where.",
     ),
 }
-# Scripts over the library for C, which take other words.
+# Scripts over the library for C, which take other words. Those of share are looked up where they are wanted.
 SCRIPTS = {
     "share": (
         "show a program's terminal to other terminals and browsers",
         [("COMMAND", "The command, with its words, after --")],
-        share_options(),
+        share_options,
         "Runs a command in a pseudo-terminal, and sends its screen in whole frames to those who watch.",
     ),
     "jeihpal-test": (
@@ -126,28 +126,36 @@ SCRIPTS = {
 }
 ALL = {**PROGRAMS, **SCRIPTS}
 
+
+def entry(name):
+    """What the tables say of a program: what it does, its words, its options, and notes."""
+    about, words, options, notes = ALL[name]
+    return about, words, options() if callable(options) else options, notes
+
+
 STATUS = "0 at success, 1 at a fault, 2 for words that aren't understood"
 IN_PART = STATUS + ", 3 for a recording of which only a part was read."
+OF_FILE = "Without FILE, and with -, standard input is read."
 STATUSES = {"screentext": IN_PART, "screenplay": IN_PART}
 SHORT = {"help": "h", "version": "V"}
 EXAMPLES = {
     "screenrelay": [
-        ("screenrelay relay 24 80 < session > frames", "Frames of a recorded session"),
-        ("screenrelay show 24 80 < frames", "The rows that they leave"),
+        ("screenrelay relay 24 80 session > frames", "Frames of a recorded session"),
+        ("screenrelay show 24 80 frames", "The rows that they leave"),
     ],
     "screenlive": [
         ("script -qfc top /dev/null | screenlive 24 80 > /dev/pts/3", "A program that runs, on another terminal"),
     ],
     "screencat": [
-        ("screencat 24 80 < session", "The last screen of a recorded session"),
+        ("screencat 24 80 session", "The last screen of a recorded session"),
     ],
     "screentext": [
-        ("screentext < demo.cast", "The last screen, as text"),
-        ("screentext --at 12.5 --svg < demo.cast > screen.svg", "A picture of the screen after 12.5 seconds"),
-        ("screentext --svg --animate --idle 2 < demo.cast > demo.svg", "A film for a README"),
-        ("screentext --player --idle 2 < demo.cast > demo.html", "A page that plays it"),
-        ("screentext --timing times 24 80 < typescript", "A session that script(1) recorded"),
-        ("screentext --list < game.ttyrec", "Its kind, length and markers"),
+        ("screentext demo.cast", "The last screen, as text"),
+        ("screentext --at 12.5 --svg demo.cast > screen.svg", "A picture of the screen after 12.5 seconds"),
+        ("screentext --svg --animate --idle 2 demo.cast > demo.svg", "A film for a README"),
+        ("screentext --player --idle 2 demo.cast > demo.html", "A page that plays it"),
+        ("screentext --timing times 24 80 typescript", "A session that script(1) recorded"),
+        ("screentext --list game.ttyrec", "Its kind, length and markers"),
     ],
     "screenplay": [
         ("screenplay --idle 2 demo.cast", "Plays it, without long pauses"),
@@ -159,17 +167,21 @@ EXAMPLES = {
 
 def usage(name):
     """How the program is called."""
-    _, words, options, _ = ALL[name]
+    return f"{name} {synopsis(name)}"
+
+
+def synopsis(name):
+    """The words that it takes."""
+    _, words, options, _ = entry(name)
     file = " [FILE]" if name in PROGRAMS else ""
-    return f"{name} " + " ".join(word for word, _ in words) + (" [OPTIONS]" if options else "") + file
+    return " ".join(word for word, _ in words) + (" [OPTIONS]" if options else "") + file
 
 
 def plain(name):
     """The help, as text."""
-    about, _, options, notes = ALL[name]
+    about, _, options, notes = entry(name)
     lines = [about[0].upper() + about[1:] + ".", "", f"Usage: {usage(name)}", ""]
-    if name in PROGRAMS:
-        lines += ["Without FILE, and with -, standard input is read.", ""]
+    lines += [OF_FILE, ""] * (name in PROGRAMS)
     lines += [notes, "", *["Options:"] * bool(options)]
     for option, value, completes, text in options:
         shown = f"--{option}" + (f" {value}" if value else "")
@@ -180,10 +192,10 @@ def plain(name):
 
 
 def man(name):
-    about, words, options, notes = ALL[name]
+    about, _, options, notes = entry(name)
     roff = [f'.TH {name.upper()} 1 "" "Jeihpal 0.1"', ".SH NAME", f"{name} \\- {about}", ".SH SYNOPSIS"]
-    roff.append(f".B {name}\n" + " ".join(word for word, _ in words) + (" [OPTIONS]" if options else ""))
-    roff += [".SH DESCRIPTION", notes, *[".SH OPTIONS"] * bool(options)]
+    roff.append(f".B {name}\n{synopsis(name)}")
+    roff += [".SH DESCRIPTION", notes, *[".PP", OF_FILE] * (name in PROGRAMS), *[".SH OPTIONS"] * bool(options)]
     for option, value, _, text in options:
         short = f"\\fB\\-{SHORT[option]}\\fR, " if option in SHORT else ""
         shown = f"{short}\\fB\\-\\-{option}\\fR" + (f" \\fI{value}\\fR" if value else "")
@@ -202,7 +214,7 @@ BASH_VALUE = """\
 
 
 def bash(name):
-    _, words, options, _ = ALL[name]
+    _, words, options, _ = entry(name)
     known = " ".join(f"--{option}" for option, *_ in options) or words[0][0].replace("|", " ")
     cases = []
     for option, value, completes, _ in options:
@@ -219,7 +231,7 @@ def quoted(text):
 
 
 def zsh(name):
-    _, words, options, _ = ALL[name]
+    _, words, options, _ = entry(name)
     lines = [f"#compdef {name}", "_arguments \\"]
     for option, value, completes, text in options:
         action = "_files" if completes == FILES else f"({completes})" if completes else " "
@@ -232,12 +244,13 @@ def zsh(name):
     for place, (word, text) in enumerate(words, 1):
         choices = f"({word.replace('|', ' ')})" if "|" in word else " "
         lines.append(f"    '{place}:{quoted(text)}:{choices}' \\")
+    lines.append("    '*:file:_files' \\")
     return "\n".join(lines)[:-2] + "\n"
 
 
 def fish(name):
-    _, words, options, _ = ALL[name]
-    lines = [f"complete -c {name}" + " -f" * (name in PROGRAMS)]
+    _, words, options, _ = entry(name)
+    lines = [f"complete -c {name}"]
     for option, value, completes, text in options:
         kind = "" if not value else " -r -F" if completes == FILES else f" -x -a '{completes or ''}'"
         short = f" -s {SHORT[option]}" if option in SHORT else ""
