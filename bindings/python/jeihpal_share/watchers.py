@@ -9,6 +9,7 @@ import re
 import socket
 import stat
 import time
+from typing import Callable
 
 from jeihpal import Answer
 
@@ -22,7 +23,7 @@ _MOST_LINE = 256  # bytes of the line in which it is said
 MOST_SENT = 16384  # bytes that a watcher may send in a second, as reports of the mouse; they are thrown away
 _LEAVES = (b"\x03", b"\x04")  # Ctrl-C and Ctrl-D
 _START = b"\x1b[?2026h"  # of a frame
-# A whole frame leads from a fresh terminal. It says nothing of these where they are off.
+# A redraw is for a fresh terminal. It says nothing of these where they are off.
 _OFF = b"\x1b[?9;1000;1002;1003;1005;1006l\x1b[0 q"
 # Mouse, paste, keypad and cursor keys as in a fresh terminal, a visible cursor, and no colours.
 _FAREWELL = b"\x1b[?9;1000;1002;1003;1005;1006;2004;1l\x1b>\x1b[?25h\x1b[m"
@@ -50,7 +51,10 @@ class Watcher(Connection):
 
 
 class Watchers(Crowd):
-    """All terminals, at one listening socket. The frames of one client of the hub go to each that is level."""
+    """All terminals, at one listening socket. The frames of one client of the hub go to each that is level.
+
+    Who comes, or has fallen behind, begins with this client's redraw: it leads to where the others are.
+    """
 
     def __init__(self, screen: SharedScreen, most: int, token: Token, notices: Notices) -> None:
         super().__init__()
@@ -58,7 +62,8 @@ class Watchers(Crowd):
         self._token = token
         self._tasks: set[asyncio.Task[None] | None] = set()  # of those that have still to say the token
         self._client: int | None = None
-        self._whole = b""  # what draws on a fresh terminal what the client has been sent, where that was wanted
+        self._redraw = b""  # the client's, where it was wanted since its last frame
+        self._is_current = False  # the client was asked for a frame when the screen was shown last
         self._door: Door | None = None
         screen.add(self)
 
@@ -98,36 +103,48 @@ class Watchers(Crowd):
         return re.split(rb"[\r\n]", data)[0]
 
     def show(self) -> None:
-        """Sends the next frame to each that is level. The others get a whole one as soon as they can take it."""
-        if not len(self):
+        """Sends the next frame to each that is level, and the redraw to each other that can take it."""
+        self._is_current = len(self) > 0
+        if not self._is_current:
             return
+        self._try(self._send_frame)
+        if self.is_lead_wanted:
+            self._try(self._make_redraw)
+        if self._redraw:
+            self.lift()
+
+    def _try(self, make: Callable[[], None]) -> None:
+        """Makes a frame or a redraw, or says why there is none."""
         try:
-            self._send_frame()
-            if self.is_lead_wanted and not self._whole:
-                self._make_whole()
+            make()
         except MemoryError:
             self.notices.say("out of memory: a frame was left out")
             self._begin_anew()
         except OverflowError:
             self.notices.say("a frame was left out: it would be longer than 2 MB")
-        if self._whole:
-            self.lift()
 
     def _send_frame(self) -> None:
-        """Sends the shared client's next frame, if there is one."""
+        """Sends the shared client's next frame, if there is one. Raises OverflowError for one that is too long."""
+        hub = self._screen.hub
         if self._client is None:
-            self._client = self._screen.hub.attach()
-        if frame := self._frame(self._client):
-            self._whole = b""
+            self._client = hub.attach()
+        answer = hub.frame(self._client)
+        if answer is Answer.TOO_LONG:
+            raise OverflowError
+        if answer.is_frame:
+            frame = hub.owed(self._client)
+            hub.sent(self._client, len(frame))
+            self._redraw = b""
             self.give(frame)
 
-    def _make_whole(self) -> None:
-        """Makes a whole frame: another client's, asked at the shared one's moment, so it leads to what that has."""
-        client = self._screen.hub.attach()
-        try:
-            self._whole = self._frame(client)
-        finally:
-            self._screen.hub.detach(client)
+    def _make_redraw(self) -> None:
+        """Makes what draws on a fresh terminal what the shared client has been sent. Raises OverflowError as above."""
+        if self._client is None or self._redraw:
+            return
+        redraw = self._screen.hub.redraw(self._client)
+        if redraw is None:
+            raise OverflowError
+        self._redraw = redraw
 
     def _begin_anew(self) -> None:
         """Takes another client in place of the shared one."""
@@ -135,30 +152,22 @@ class Watchers(Crowd):
             self._screen.hub.detach(self._client)
         self.detach()
 
-    def _frame(self, client: int) -> bytes:
-        """A client's next frame, or nothing where it has had the last one. Raises OverflowError for one too long."""
-        hub = self._screen.hub
-        answer = hub.frame(client)
-        if answer is Answer.TOO_LONG:
-            raise OverflowError
-        frame = hub.owed(client) if answer.is_frame else b""
-        hub.sent(client, len(frame))
-        return frame
-
     def lead(self, connection: Connection) -> bytes:
-        """A whole frame, if there is one for where the others are."""
+        """The redraw; nothing where the shared client is behind the screen that is shown, or where there is none."""
         assert isinstance(connection, Watcher)
-        is_fresh, whole = connection.is_fresh, self._whole
-        connection.is_fresh = is_fresh and not whole
-        return whole if is_fresh or not whole else _START + _OFF + whole[len(_START) :]
+        if self._is_current:
+            self._try(self._make_redraw)
+        is_fresh, redraw = connection.is_fresh, self._redraw
+        connection.is_fresh = is_fresh and not redraw
+        return redraw if is_fresh or not redraw else _START + _OFF + redraw[len(_START) :]
 
     def make_lead(self) -> None:
-        """A whole frame is made when the screen is shown next."""
+        """The shared client is asked for a frame when the screen is shown next, and there is a redraw of it."""
         self._screen.show_soon()
 
     def detach(self) -> None:
-        """The client ends: each watcher gets a whole frame next."""
-        self._client, self._whole = None, b""
+        """The client ends: each watcher gets a redraw next."""
+        self._client, self._redraw = None, b""
         self.fall_behind()
 
     def end(self) -> None:

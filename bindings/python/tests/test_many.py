@@ -2,6 +2,8 @@
 
 from __future__ import annotations
 
+import asyncio
+import contextlib
 import json
 import os
 import resource
@@ -12,9 +14,13 @@ import time
 import unittest
 from typing import Any
 
+from jeihpal import View
 from jeihpal_share.messages import MOST_KEPT, Messages
 from jeihpal_share.moments import Moment
-from jeihpal_share.tokens import kept_token
+from jeihpal_share.notices import Notices
+from jeihpal_share.screen import SharedScreen
+from jeihpal_share.tokens import Token, kept_token
+from jeihpal_share.watchers import Watcher, Watchers
 
 from .chromium import PROGRAM, Chromium
 from .scripted import Scripted
@@ -93,6 +99,36 @@ class Pages(unittest.TestCase):
             watcher.read_until("limits %d %d" % resource.getrlimit(resource.RLIMIT_NOFILE))
 
 
+class Terminal:
+    """A terminal at a socket of this process."""
+
+    def __init__(self, loop: asyncio.AbstractEventLoop, watchers: Watchers) -> None:
+        self._loop, self._watchers = loop, watchers
+        self._ours, self._theirs = socket.socketpair()
+        self._ours.setblocking(False)
+        self._theirs.setblocking(False)
+        self.view = View(2, 20)
+
+    def come(self) -> None:
+        """It watches from now on."""
+        self._watchers.add(Watcher(self._loop, self._theirs, self._watchers))
+
+    def shown(self) -> str:
+        """What it shows, once it has read what there is."""
+        with contextlib.suppress(BlockingIOError):
+            while data := self._ours.recv(65536):
+                self.view.advance(data)
+        return self.view.text().strip()
+
+    def __enter__(self) -> Terminal:
+        return self
+
+    def __exit__(self, *_: object) -> None:
+        self._ours.close()
+        self._theirs.close()
+        self.view.close()
+
+
 class Terminals(unittest.TestCase):
     def test_one_frame_for_all(self):
         program = "import time\nfor n in range(20): print('\\x1b[H', n); time.sleep(.05)"
@@ -105,6 +141,36 @@ class Terminals(unittest.TestCase):
             self.assertEqual(frames[0][-shortest:], frames[2][-shortest:])
             for watcher in watchers:
                 watcher.__exit__()
+
+    def test_one_that_comes_late_is_shown_all_at_once(self):
+        with Shared("print('ready'); input()", "--rate", "0.2") as shared, Watching(shared) as first:
+            first.read_until("ready")
+            begun = time.monotonic()
+            with Watching(shared) as second:
+                second.read_until("ready")
+                self.assertEqual(second.frames(), 1)
+            self.assertLess(time.monotonic() - begun, 3)
+
+    def test_one_that_comes_during_an_update(self):
+        """It is shown what the others are, and goes on with their frames."""
+        with contextlib.closing(asyncio.new_event_loop()) as loop:
+            notices = Notices(False)
+            screen = SharedScreen(loop, (2, 20), 30.0, notices)
+            watchers = Watchers(screen, 2, Token(None), notices)
+            with Terminal(loop, watchers) as first, Terminal(loop, watchers) as second:
+                first.come()
+                screen.feed(b"before\x1b[?1000h")
+                screen.show()
+                self.assertEqual(first.shown(), "before")
+                screen.feed(b"\x1b[?2026h and")
+                screen.show()
+                second.come()
+                self.assertEqual((first.shown(), second.shown()), ("before", "before"))
+                self.assertTrue(second.view.look().mouse)
+                screen.feed(b" after\x1b[?1000l\x1b[?2026l")
+                self.assertEqual((first.shown(), second.shown()), ("before and after", "before and after"))
+                self.assertFalse(second.view.look().mouse)
+                watchers.close()
 
     def test_modes_of_one_that_was_behind(self):
         """A slow one that skipped the end of a mode is told that it is off."""
