@@ -410,6 +410,29 @@ static void recordings(void) {
     CHECK(!recording.held);
 }
 
+/* Lines are drawn on the way to a screen, however the bytes are cut. */
+static void filters(void) {
+    jeihpal_filter filter = JEIHPAL_INIT;
+    jeihpal_screen screen = JEIHPAL_INIT;
+    uint8_t text[64];
+    size_t length = 77;
+    CHECK(jeihpal_filter_pass(&filter, BYTES("q")) == JEIHPAL_CLOSED);
+    CHECK(jeihpal_filter_new(&filter) == JEIHPAL_OK && jeihpal_screen_new(&screen, 1, 9, 0) == JEIHPAL_OK);
+    CHECK(jeihpal_filter_given((jeihpal_filter *)&screen, text, 9, &length) == JEIHPAL_OTHER_KIND && length == 77);
+    for (const char *at = "\x1b(0lqk\x1b(Bq"; *at; at++) {
+        CHECK(jeihpal_filter_pass(&filter, (const uint8_t *)at, 1) == JEIHPAL_OK);
+        CHECK(jeihpal_filter_given(&filter, text, sizeof text, &length) == JEIHPAL_OK && length <= 4);
+        CHECK(jeihpal_screen_process(&screen, text, length) == JEIHPAL_OK);
+    }
+    CHECK(jeihpal_screen_contents(&screen, text, sizeof text, &length) == JEIHPAL_OK);
+    CHECK(is_text(text, length, "\u250c\u2500\u2510q"));
+    CHECK(jeihpal_filter_pass(&filter, BYTES("")) == JEIHPAL_OK);
+    CHECK(jeihpal_filter_given(&filter, text, 0, &length) == JEIHPAL_OK && length == 0);
+    jeihpal_filter_close(&filter);
+    jeihpal_screen_close(&screen);
+    CHECK(!filter.held);
+}
+
 /* What a session of examples/ leaves, as a view shows it, is what stands beside it. */
 static void session(const char *folder, const char *name, uint16_t rows, uint16_t cols) {
     static uint8_t bytes[65536], wanted[65536], shown[65536];
@@ -458,6 +481,7 @@ int main(int count, char **words) {
     scrollback();
     requests();
     recordings();
+    filters();
     if (count > 1) {
         session(words[1], "build", 12, 40);
         session(words[1], "editor", 8, 40);

@@ -79,12 +79,19 @@ static void recordings() {
     }
 }
 
+static void filters() {
+    jeihpal::filter filter;
+    CHECK(filter.pass("\x1b(0lq") == "\x1b(0\u250c\u2500" && filter.pass("k") == "\u2510");
+    CHECK(filter.pass(std::string(5000, 'x')).size() == 15000 && filter.pass("").empty());
+}
+
 int main() {
     CHECK(jeihpal_runs_here());
     frames();
     late();
     screens();
     recordings();
+    filters();
     puts("cpp: well");
     return 0;
 }

@@ -128,12 +128,26 @@ static void use_recording(jeihpal_recording *recording, jeihpal_screen *screen) 
         CHECK(jeihpal_screen_look(screen, &(jeihpal_look){0}) == JEIHPAL_OK);
 }
 
+/* A piece that is refused hasn't passed. */
+static void use_filter(jeihpal_filter *filter) {
+    size_t length;
+    if (noted(jeihpal_filter_new(filter)) < 0) {
+        CHECK(!filter->held);
+        return;
+    }
+    if (noted(jeihpal_filter_pass(filter, BYTES("\x1b(0"))) < 0)
+        CHECK(jeihpal_filter_pass(filter, BYTES("\x1b(0")) == JEIHPAL_OK);
+    if (noted(jeihpal_filter_pass(filter, BYTES("q and much more than what was before it"))) < 0) return;
+    CHECK(jeihpal_filter_given(filter, to, sizeof to, &length) == JEIHPAL_OK && to[0] == 0xe2);
+}
+
 /* Uses an object of each kind, and closes them. */
 static void run(void) {
     jeihpal_hub hub = JEIHPAL_INIT;
     jeihpal_view view = JEIHPAL_INIT;
     jeihpal_screen screen = JEIHPAL_INIT;
     jeihpal_recording recording = JEIHPAL_INIT;
+    jeihpal_filter filter = JEIHPAL_INIT;
     size_t length;
     if (noted(jeihpal_view_new(&view, 5, 20)) < 0) CHECK(!view.held);
     if (noted(jeihpal_hub_new(&hub, 5, 20)) < 0) CHECK(!hub.held);
@@ -142,10 +156,12 @@ static void run(void) {
     if (noted(jeihpal_screen_new(&screen, 5, 20, 3)) < 0) CHECK(!screen.held);
     if (screen.held) use_screen(&screen);
     use_recording(&recording, &screen);
+    use_filter(&filter);
     jeihpal_hub_close(&hub);
     jeihpal_view_close(&view);
     jeihpal_screen_close(&screen);
     jeihpal_recording_close(&recording);
+    jeihpal_filter_close(&filter);
     CHECK(live == 0);
 }
 

@@ -5,6 +5,7 @@ import (
 	"errors"
 	"fmt"
 	"runtime"
+	"strings"
 	"sync"
 	"testing"
 	"time"
@@ -203,4 +204,23 @@ func TestGoroutines(t *testing.T) {
 	}
 	group.Wait()
 	runtime.GC()
+}
+
+func TestFilter(t *testing.T) {
+	filter, err := NewFilter()
+	if err != nil {
+		t.Fatal(err)
+	}
+	defer filter.Close()
+	for _, piece := range []struct{ bytes, given string }{
+		{"\x1b(0lq", "\x1b(0┌─"}, {"", ""}, {strings.Repeat("x", 5000), strings.Repeat("│", 5000)}, {"\x1b(Bq", "\x1b(Bq"},
+	} {
+		given, err := filter.Pass([]byte(piece.bytes))
+		if err != nil || string(given) != piece.given {
+			t.Errorf("%q gives %q, %v", piece.bytes, given, err)
+		}
+	}
+	if given, err := filter.Pass(nil); err != nil || len(given) != 0 {
+		t.Errorf("nothing gives %q, %v", given, err)
+	}
 }

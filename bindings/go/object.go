@@ -17,6 +17,7 @@ type word = C.jeihpal_hub
 func viewOf(w *word) *C.jeihpal_view           { return (*C.jeihpal_view)(unsafe.Pointer(w)) }
 func screenOf(w *word) *C.jeihpal_screen       { return (*C.jeihpal_screen)(unsafe.Pointer(w)) }
 func recordingOf(w *word) *C.jeihpal_recording { return (*C.jeihpal_recording)(unsafe.Pointer(w)) }
+func filterOf(w *word) *C.jeihpal_filter       { return (*C.jeihpal_filter)(unsafe.Pointer(w)) }
 
 // object is one of the library's objects, which one call at a time is on.
 type object struct {

@@ -2,12 +2,12 @@
  *
  *     program's bytes -> hub -> frames of it for each client ~ any line ~> view (or any terminal) -> the same screen
  *
- * Objects. A jeihpal_hub, a jeihpal_view, a jeihpal_screen and a jeihpal_recording are one word of the caller's each.
- * A word begins as JEIHPAL_INIT (all zero) and holds nothing then. A _new or _open call fills it, and first closes what
- * it held. A _close call frees the object, and the word holds nothing again: closing it twice is fine. The library
- * frees nothing else, and never before its word is closed. A word may be moved: copied, and the old one forgotten. Two
- * copies in use are an error of the caller's, and so is a word that is forgotten while it holds something: its memory is
- * never freed. Nothing but these calls may look into a word.
+ * Objects. A jeihpal_hub, a jeihpal_view, a jeihpal_screen, a jeihpal_recording and a jeihpal_filter are one word of the
+ * caller's each. A word begins as JEIHPAL_INIT (all zero) and holds nothing then. A _new or _open call fills it, and
+ * first closes what it held. A _close call frees the object, and the word holds nothing again: closing it twice is fine.
+ * The library frees nothing else, and never before its word is closed. A word may be moved: copied, and the old one
+ * forgotten. Two copies in use are an error of the caller's, and so is a word that is forgotten while it holds something:
+ * its memory is never freed. Nothing but these calls may look into a word.
  *
  * Threads. There is one call at a time on an object, and reading is a call too. An object of any kind may be handed to
  * another thread, by a lock, or by a thread's start or end. Objects share nothing, so each thread may have its own.
@@ -97,6 +97,10 @@ typedef struct jeihpal_screen {
 typedef struct jeihpal_recording {
     void *held;
 } jeihpal_recording;
+
+typedef struct jeihpal_filter {
+    void *held;
+} jeihpal_filter;
 
 /* A word that holds nothing. */
 #define JEIHPAL_INIT {NULL}
@@ -491,6 +495,26 @@ int32_t jeihpal_recording_screen(jeihpal_recording *recording, jeihpal_screen *s
 
 /* Closes the word: what it holds, of any kind, is freed. */
 void jeihpal_recording_close(jeihpal_recording *recording);
+
+/* ---- filters: a program's lines as Unicode, on the way to a hub or a screen
+ *
+ * Programs draw boxes with DEC's special graphics: after ESC ( 0 the letters lqqk mean the upper edge of a box. Hubs and
+ * screens show letters there, as vt100 does. A filter gives all bytes on as they are, but for such letters: these come
+ * as the characters that they stand for. It reads ECMA-35's designations and shifts, as xterm does. */
+
+/* Makes a filter that nothing has passed. What the word held is closed, also where the call is refused. MEMORY: the
+ * word holds nothing. */
+int32_t jeihpal_filter_new(jeihpal_filter *filter);
+
+/* Has the next bytes of the program's output pass. They may be cut anywhere. MEMORY, never for 0 bytes: they have not
+ * passed, and may be handed over again; what the last piece gave may be lost. */
+int32_t jeihpal_filter_pass(jeihpal_filter *filter, const uint8_t *bytes, size_t count);
+
+/* What the piece gives that passed last: at most four bytes for each that it had. */
+int32_t jeihpal_filter_given(jeihpal_filter *filter, uint8_t *to, size_t capacity, size_t *length);
+
+/* Closes the word: what it holds, of any kind, is freed. */
+void jeihpal_filter_close(jeihpal_filter *filter);
 
 #ifdef __cplusplus
 }

@@ -309,6 +309,20 @@ private:
     }
 };
 
+// Draws a program's lines, on the way to a hub or a screen.
+class filter : public detail::owned<jeihpal_filter, jeihpal_filter_close> {
+public:
+    filter() { checked(jeihpal_filter_new(word())); }
+
+    // Has the next bytes pass, and answers what they give. Where it throws they have not passed.
+    std::string pass(std::string_view bytes) {
+        checked(jeihpal_filter_pass(word(), detail::bytes_of(bytes), bytes.size()));
+        return detail::whole([&](uint8_t *to, size_t room, size_t *length) {
+            return jeihpal_filter_given(word(), to, room, length);
+        });
+    }
+};
+
 // What happens at a moment of a recording.
 struct event {
     jeihpal_event_kind kind;

@@ -1,8 +1,8 @@
-"""Terminal screens that arrive whole: hubs, views, screens and recordings, proved in Rattle.
+"""Terminal screens that arrive whole: hubs, views, screens, recordings and filters, proved in Rattle.
 
 A `Hub` keeps the screen of one program, and owes each of its clients at most one frame of it. A `View` is a small far
 terminal that reads frames. A `Screen` is a terminal's screen from bytes, with what redraws it. A `Recording` has the
-events of an asciicast, a typescript or a ttyrec.
+events of an asciicast, a typescript or a ttyrec. A `Filter` draws a program's lines, on the way to a hub or a screen.
 
 >>> with Hub(1, 20) as hub, View(1, 20) as view:
 ...     client = hub.attach()
@@ -20,6 +20,7 @@ from 0. A refused call raises an exception, and has changed nothing unless its d
 
 from ._cells import Attributes, Cell, Color, Cursor, Drawing, Encoding, Look, Modes, Mouse, Rgb, Row, Size
 from ._errors import Failed, JeihpalError, NoRecording, NotOwed, UnknownClient
+from ._filter import Filter
 from ._hub import Answer, Hub
 from ._recording import Event, EventKind, Fault, FaultKind, Recording, RecordingKind
 from ._screen import History, Request, RequestKind, Screen
@@ -38,6 +39,7 @@ __all__ = [
     "Failed",
     "Fault",
     "FaultKind",
+    "Filter",
     "History",
     "Hub",
     "JeihpalError",

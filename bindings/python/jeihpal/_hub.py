@@ -5,6 +5,7 @@ from __future__ import annotations
 import ctypes
 
 from ._cells import OpenEnum
+from ._filter import Filter
 from ._object import Shown, checked_count, checked_size
 
 
@@ -37,8 +38,12 @@ class Hub(Shown):
 
     _kind = "hub"
 
-    def __init__(self, rows: int, cols: int) -> None:
-        """A blank screen of this size, without clients."""
+    def __init__(self, rows: int, cols: int, *, draws_lines: bool = False) -> None:
+        """A blank screen of this size, without clients.
+
+        Where it draws lines, what the program writes passes a `Filter` first.
+        """
+        self._filter = Filter() if draws_lines else None
         super().__init__(checked_size(rows), checked_size(cols))
 
     def feed(self, data: bytes) -> None:
@@ -46,7 +51,8 @@ class Hub(Shown):
 
         After a MemoryError the hub has failed: no frame is made any more, but what is owed can be sent.
         """
-        self._give("feed", data)
+        with self._lock:
+            self._give("feed", self._filter.drawn(data) if self._filter else data)
 
     def resize(self, rows: int, cols: int) -> None:
         """Gives the screen another size, or the same, and ends the program's synchronized update. Every client ends."""

@@ -155,6 +155,9 @@ PARAMETERS: dict[str, list[Any]] = {
     "screen_input_mode_diff": [_WORD, *_TEXT],
     "screen_rows_diff": [_WORD, *_ROWS],
     "screen_request": [ctypes.c_void_p, _SIZE, ctypes.POINTER(RawRequest)],
+    "filter_new": [],
+    "filter_pass": _BYTES,
+    "filter_given": _TEXT,
     "recording_open": _BYTES,
     "recording_open_script": [*_BYTES, *_BYTES],
     "recording_look": [ctypes.POINTER(RawRecorded)],
@@ -163,7 +166,7 @@ PARAMETERS: dict[str, list[Any]] = {
     "recording_colors": [ctypes.c_void_p, _SIZE, _OUT_SIZE],
     "recording_screen": [_WORD, _U16, _U16, _SIZE, ctypes.c_uint64],
 }
-CLOSES = ("hub_close", "view_close", "screen_close", "recording_close")
+CLOSES = ("hub_close", "view_close", "screen_close", "recording_close", "filter_close")
 
 
 def _found() -> str:

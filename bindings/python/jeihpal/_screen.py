@@ -7,6 +7,7 @@ from collections import deque
 from typing import Any, Callable, Iterator, NamedTuple, TypeVar
 
 from ._cells import Drawing, OpenEnum, Row, drawing_of
+from ._filter import Filter
 from ._library import RawDrawing, RawRequest
 from ._object import Shown, checked_count, checked_place, checked_size, locked
 
@@ -47,12 +48,16 @@ class Screen(Shown):
     dropped_requests: int
     """How many requests had been dropped when `requests` last looked."""
 
-    def __init__(self, rows: int, cols: int, scrollback: int = 0) -> None:
-        """A blank screen of this size that keeps up to `scrollback` rows that scroll off."""
-        self._prepare()
+    def __init__(self, rows: int, cols: int, scrollback: int = 0, *, draws_lines: bool = False) -> None:
+        """A blank screen of this size that keeps up to `scrollback` rows that scroll off.
+
+        Where it draws lines, what the program writes passes a `Filter` first.
+        """
+        self._prepare(draws_lines)
         super().__init__(checked_size(rows), checked_size(cols), checked_count(scrollback))
 
-    def _prepare(self) -> None:
+    def _prepare(self, draws_lines: bool = False) -> None:
+        self._filter = Filter() if draws_lines else None
         self.dropped_requests = self._overfull = 0
         self._waiting: deque[Request] = deque()
         self._names = {RequestKind.TITLE: "", RequestKind.ICON_NAME: ""}
@@ -60,9 +65,12 @@ class Screen(Shown):
         self._scanner: Any = None
 
     def clone(self) -> Screen:
-        """A copy of the screen, without its mark, its requests, and what it has read of a character or a sequence."""
+        """A copy of the screen, without its mark, its requests, and what it has read of a character or a sequence.
+
+        Where it draws lines, so does the copy, from the usual character sets on.
+        """
         copy = type(self).__new__(type(self))
-        copy._prepare()
+        copy._prepare(self._filter is not None)
         copy._begin()
         with self._lock:
             copy._call("clone", self._word)
@@ -81,7 +89,8 @@ class Screen(Shown):
 
         After a MemoryError the screen has failed: it can still be read, but no bytes change it any more.
         """
-        self._give("process", data)
+        with self._lock:
+            self._give("process", self._filter.drawn(data) if self._filter else data)
 
     def answer(self, data: bytes) -> bytes:
         """Reads the program's next bytes, as `process` does, and answers what a terminal sends back for them.

@@ -6,9 +6,8 @@ import bisect
 import itertools
 from typing import Iterator, NamedTuple
 
-from jeihpal import Screen, Size
+from jeihpal import Filter, Screen, Size
 
-from .drawing_set import LineDrawing
 from .recording import Event, Marker, Recording
 
 
@@ -21,7 +20,7 @@ class Moment(NamedTuple):
 
 def _moments(events: list[Event], draws_lines: bool) -> list[Moment]:
     """The moments of a recording. The first is at its beginning, be it of nothing."""
-    drawing = LineDrawing()
+    lines = Filter() if draws_lines else None
     moments = [Moment(0, [])]
     for time, group in itertools.groupby(events, key=lambda event: event.time):
         if time:
@@ -29,7 +28,7 @@ def _moments(events: list[Event], draws_lines: bool) -> list[Moment]:
         for event in group:
             change = event.change
             if isinstance(change, bytes):
-                change = drawing.drawn(change) if draws_lines else change
+                change = lines.drawn(change) if lines else change
             if not isinstance(change, Marker):
                 moments[-1].changes.append(change)
     return moments

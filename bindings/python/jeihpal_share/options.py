@@ -7,7 +7,8 @@ import re
 from dataclasses import dataclass
 
 USAGE = """share [--listen ADDRESS:PORT | --unix PATH] [--terminals N] [--http ADDRESS:PORT] [--browsers N]
-             [--publish SOCKET --as NAME] [--token FILE] [--record FILE] [--size RxC] [--rate N] [--] COMMAND [WORD ..]"""
+             [--publish SOCKET --as NAME] [--token FILE] [--record FILE] [--size RxC] [--rate N]
+             [--no-line-drawing] [--] COMMAND [WORD ..]"""
 ABOUT = """Runs a command in a pseudo-terminal and shows its screen to whoever connects.
 
 Watch with a terminal of the same size:  socat -,raw,echo=0 tcp:ADDRESS:PORT   (or nc ADDRESS PORT)
@@ -35,6 +36,7 @@ class Options:
     name: str | None = None
     token: str | None = None
     record: str | None = None
+    draws_lines: bool = True
 
 
 def address(text: str) -> tuple[str, int]:
@@ -102,6 +104,8 @@ def _parser() -> argparse.ArgumentParser:
     parser.add_argument("--record", metavar="FILE", help="write what is shown as an asciicast of version 3")
     parser.add_argument("--size", type=size, metavar="RxC", help="rows and columns (as the terminal here, else 24x80)")
     parser.add_argument("--rate", type=rate, default=30.0, metavar="N", help="at most N frames a second (30)")
+    letters = "letters stay where a program draws lines with DEC's special graphics"
+    parser.add_argument("--no-line-drawing", action="store_false", dest="draws_lines", help=letters)
     parser.add_argument("command", nargs=argparse.REMAINDER, metavar="COMMAND")
     return parser
 

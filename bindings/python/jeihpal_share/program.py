@@ -212,7 +212,7 @@ async def _share(
 ) -> int:
     """Shares the command's screen until it ends. Answers its status."""
     loop, notices = asyncio.get_running_loop(), Notices(local is not None)
-    screen = SharedScreen(loop, size, options.rate, notices)
+    screen = SharedScreen(loop, size, options.rate, notices, options.draws_lines)
     audiences = Audiences(options, screen, sockets, notices)
     session = Session(loop, command, screen, local)
     try:

@@ -29,8 +29,16 @@ class Audience(Protocol):
 class SharedScreen:
     """A hub that is fed the command's bytes. After them, soon but not too often, it has the audiences show it."""
 
-    def __init__(self, loop: asyncio.AbstractEventLoop, size: tuple[int, int], rate: float, notices: Notices) -> None:
-        self.hub = Hub(*size)
+    def __init__(
+        self,
+        loop: asyncio.AbstractEventLoop,
+        size: tuple[int, int],
+        rate: float,
+        notices: Notices,
+        draws_lines: bool = True,
+    ) -> None:
+        self._draws_lines = draws_lines
+        self.hub = self._blank(*size)
         self.size = size
         self.loop, self._between, self._notices = loop, 1 / rate, notices
         self._audiences: list[Audience] = []
@@ -40,6 +48,9 @@ class SharedScreen:
         self._moment: Moment | None = None
         self._tick: asyncio.TimerHandle | None = None
         self._held: asyncio.TimerHandle | None = None
+
+    def _blank(self, rows: int, cols: int) -> Hub:
+        return Hub(rows, cols, draws_lines=self._draws_lines)
 
     def add(self, audience: Audience) -> None:
         """Has another audience from now on."""
@@ -68,7 +79,7 @@ class SharedScreen:
         for audience in self._audiences:
             audience.detach()
         self.hub.close()
-        self.hub = Hub(*self.size)
+        self.hub = self._blank(*self.size)
 
     def show_soon(self) -> None:
         """Plans to show it: after a pause of the command, at latest once the rate allows it."""
@@ -120,7 +131,7 @@ class SharedScreen:
             self.hub.resize(rows, cols)
         except MemoryError:
             self.hub.close()
-            self.hub = Hub(rows, cols)
+            self.hub = self._blank(rows, cols)
         self.show()
 
     def finish(self) -> None:

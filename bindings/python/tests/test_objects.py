@@ -11,8 +11,8 @@ import threading
 import unittest
 
 import jeihpal
-from jeihpal import Answer, Attributes, Encoding, Event, EventKind, Fault, FaultKind, Hub, Mouse, NoRecording, NotOwed
-from jeihpal import Recording, RecordingKind, RequestKind, Rgb, Screen, Size, UnknownClient, View
+from jeihpal import Answer, Attributes, Encoding, Event, EventKind, Fault, FaultKind, Filter, Hub, Mouse
+from jeihpal import NoRecording, NotOwed, Recording, RecordingKind, RequestKind, Rgb, Screen, Size, UnknownClient, View
 from jeihpal import _library
 
 EXAMPLES = pathlib.Path(__file__).resolve().parents[3] / "examples"
@@ -445,6 +445,26 @@ class Recordings(unittest.TestCase):
         on_another_thread(recording.close)
         self.assertEqual(seen, [b"x"])
         self.assertRaises(ValueError, lambda: recording[0])
+
+
+class Filters(unittest.TestCase):
+    def test_pieces(self):
+        with Filter() as lines:
+            given = [lines.drawn(it) for it in (b"\x1b(", b"0l", b"", b"x" * 5000, bytearray(b"k\x1b(Bq"))]
+        drawn = ["\x1b(", "0┌", "", "│" * 5000, "┐\x1b(Bq"]
+        self.assertEqual([it.decode() for it in given], drawn)
+        self.assertRaises(ValueError, lines.drawn, b"q")
+
+    def test_hubs_and_screens_that_draw_lines(self):
+        with Hub(1, 9, draws_lines=True) as hub, Screen(1, 9, draws_lines=True) as screen, Hub(1, 9) as letters:
+            for piece in (b"\x1b(", b"0lq", b"k"):
+                hub.feed(piece)
+                letters.feed(piece)
+                screen.process(piece)
+            self.assertEqual((hub.contents(), screen.contents(), letters.contents()), ("┌─┐", "┌─┐", "lqk"))
+            with screen.clone() as copy:
+                copy.process(b"q\x1b(0q")
+                self.assertEqual(copy.contents(), "┌─┐q─")
 
 
 class Declarations(unittest.TestCase):

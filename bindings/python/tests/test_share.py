@@ -64,6 +64,11 @@ class Watchers(unittest.TestCase):
                 watcher.read_until("first")
                 self.assertEqual(watcher.frames(), 1)
 
+    def test_lines_are_drawn(self):
+        for options, shown in (((), "┌─┐"), (("--no-line-drawing",), "lqk")):
+            with Shared(r"print('\x1b(0lqk\x1b(B'); input()", *options) as shared, Watching(shared) as watcher:
+                watcher.read_until(shown)
+
     def test_the_rate(self):
         with Shared("import time\nfor n in range(100): print(n); time.sleep(.02)", "--rate", "4") as shared:
             with Watching(shared) as watcher:

@@ -3,7 +3,7 @@
 //! A [`Hub`] keeps the screen of one program, and owes each of its clients at most one frame of it. A [`View`] is a
 //! small far terminal that reads frames. A [`Screen`] is a terminal's screen from bytes, with what redraws it; module
 //! [`vt100`] has one with the names of the crate `vt100` 0.18.1. A [`Recording`] has the events of an asciicast, a
-//! typescript or a ttyrec.
+//! typescript or a ttyrec. A [`Filter`] draws a program's lines, on the way to a hub or a screen.
 //!
 //! ```
 //! use std::num::NonZeroU16;
@@ -26,6 +26,7 @@
 
 mod cell;
 mod error;
+mod filter;
 mod hub;
 mod object;
 mod raw;
@@ -37,6 +38,7 @@ pub mod vt100;
 
 pub use cell::{Cell, Color, CursorStyle, Drawing, Look, MouseProtocolEncoding, MouseProtocolMode};
 pub use error::{Error, Result};
+pub use filter::Filter;
 pub use hub::{Answer, Client, Hub};
 pub use recording::{Change, Event, Fault, Kind, Recording};
 pub use screen::{Request, Screen};

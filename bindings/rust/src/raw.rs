@@ -1,6 +1,6 @@
 //! The library's structs and functions, as `jeihpal.h` declares them.
 
-/// `jeihpal_hub`, `jeihpal_view`, `jeihpal_screen` and `jeihpal_recording`.
+/// `jeihpal_hub`, `jeihpal_view`, `jeihpal_screen`, `jeihpal_recording` and `jeihpal_filter`.
 #[repr(C)]
 pub(crate) struct Word {
     pub(crate) held: *mut u8,
@@ -184,6 +184,16 @@ extern "C" {
         length: *mut usize,
     ) -> i32;
     pub(crate) fn jeihpal_view_close(view: *mut Word);
+
+    pub(crate) fn jeihpal_filter_new(filter: *mut Word) -> i32;
+    pub(crate) fn jeihpal_filter_pass(filter: *mut Word, bytes: *const u8, count: usize) -> i32;
+    pub(crate) fn jeihpal_filter_given(
+        filter: *mut Word,
+        to: *mut u8,
+        capacity: usize,
+        length: *mut usize,
+    ) -> i32;
+    pub(crate) fn jeihpal_filter_close(filter: *mut Word);
 
     pub(crate) fn jeihpal_screen_new(
         screen: *mut Word,

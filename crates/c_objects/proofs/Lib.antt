@@ -1,4 +1,5 @@
 mod Did
+mod Filters
 mod Prefixes
 mod RowTexts
 mod RunLemmas

@@ -28,7 +28,7 @@ use Rattle.c_objects.specs.Texts.{CopiesText, CopiesRows}
 use Rattle.c_objects.specs.declared.plain.CDrawing.{CDrawing}
 use Rattle.c_objects.specs.declared.object.Marked.{Marked}
 use Rattle.c_objects.specs.declared.object.Object.{Object}
-use Rattle.c_objects.specs.declared.object.Object.TheVariants.{Hub, View, Screen, Recording}
+use Rattle.c_objects.specs.declared.object.Object.TheVariants.{Hub, View, Screen, Recording, Filter}
 
 -- ---- copies
 
@@ -49,6 +49,7 @@ IsCopyOf (Hub h) m code = ⊥
 IsCopyOf (View v) m code = ⊥
 IsCopyOf (Screen n) m code = IsCopy m n
 IsCopyOf (Recording r) m code = ⊥
+IsCopyOf (Filter f) m code = ⊥
 
 -- ---- the kept rows
 
@@ -111,9 +112,11 @@ ScreensSay says (Screen m) (Screen e) code = says m e code
 ScreensSay says (Screen m) (Hub h) code = code ≡ other_kind
 ScreensSay says (Screen m) (View v) code = code ≡ other_kind
 ScreensSay says (Screen m) (Recording r) code = code ≡ other_kind
+ScreensSay says (Screen m) (Filter f) code = code ≡ other_kind
 ScreensSay says (Hub h) y code = code ≡ other_kind
 ScreensSay says (View v) y code = code ≡ other_kind
 ScreensSay says (Recording r) y code = code ≡ other_kind
+ScreensSay says (Filter f) y code = code ≡ other_kind
 
 abbrev pub HasContentsDiff : List ℕ → List ℕ → ℕ → Marked → Marked → ℤ → Type 0
 HasContentsDiff old new count m e code =

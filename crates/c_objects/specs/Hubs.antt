@@ -22,7 +22,7 @@ use Rattle.c_objects.specs.Looks.{cell_of, screen_look}
 use Rattle.c_objects.specs.declared.plain.CCell.{CCell}
 use Rattle.c_objects.specs.declared.plain.CLook.{CLook}
 use Rattle.c_objects.specs.declared.object.Object.{Object}
-use Rattle.c_objects.specs.declared.object.Object.TheVariants.{Hub, View, Screen, Recording}
+use Rattle.c_objects.specs.declared.object.Object.TheVariants.{Hub, View, Screen, Recording, Filter}
 
 -- ---- new
 
@@ -31,6 +31,7 @@ IsNewHubOf rows cols (Hub h) = IsNewHub rows cols h
 IsNewHubOf rows cols (View v) = ⊥
 IsNewHubOf rows cols (Screen m) = ⊥
 IsNewHubOf rows cols (Recording r) = ⊥
+IsNewHubOf rows cols (Filter f) = ⊥
 
 -- the number if there is no new object: the size has no cells, or it has some and an allocation failed
 abbrev pub IsNoObjectCode : ℕ → ℕ → ℤ → Type 0

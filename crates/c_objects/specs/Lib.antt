@@ -1,6 +1,7 @@
 pub mod Cells
 pub mod Codes
 pub mod Copied
+pub mod Filters
 pub mod Hubs
 pub mod Looks
 pub mod Objects

@@ -11,7 +11,7 @@ use Rattle.c_objects.specs.Objects.{RecordingSays}
 use Rattle.c_objects.specs.Words.{InWord}
 use Rattle.c_objects.specs.declared.object.Marked.{Marked}
 use Rattle.c_objects.specs.declared.object.Object.{Object}
-use Rattle.c_objects.specs.declared.object.Object.TheVariants.{Hub, View, Screen, Recording}
+use Rattle.c_objects.specs.declared.object.Object.TheVariants.{Hub, View, Screen, Recording, Filter}
 
 -- what the events up to this time make of a new screen of this size, which keeps so many rows
 abbrev pub IsPlayed : ℕ → ℕ → ℕ → ℕ → Reading → Marked → Type 0
@@ -24,6 +24,7 @@ IsScreenAt rows cols capacity time (Hub h) r code = ⊥
 IsScreenAt rows cols capacity time (View v) r code = ⊥
 IsScreenAt rows cols capacity time (Screen m) r code = IsPlayed rows cols capacity time r m
 IsScreenAt rows cols capacity time (Recording x) r code = ⊥
+IsScreenAt rows cols capacity time (Filter f) r code = ⊥
 
 -- that screen of the recording in a word goes into another one; where the call is refused, that one stays as it was
 abbrev pub GetsScreenAt : ℕ → ℕ → ℕ → ℕ → Option Object → Option Object → ℤ → Option Object → Type 0

@@ -16,7 +16,7 @@ use Rattle.c_objects.specs.Texts.{IsCopied}
 use Rattle.c_objects.specs.declared.plain.CEvent.{CEvent}
 use Rattle.c_objects.specs.declared.plain.CRecording.{CRecording}
 use Rattle.c_objects.specs.declared.object.Object.{Object}
-use Rattle.c_objects.specs.declared.object.Object.TheVariants.{Hub, View, Screen, Recording}
+use Rattle.c_objects.specs.declared.object.Object.TheVariants.{Hub, View, Screen, Recording, Filter}
 
 -- ---- new
 
@@ -30,6 +30,7 @@ IsReadingOf bytes timing (Hub h) = ⊥
 IsReadingOf bytes timing (View v) = ⊥
 IsReadingOf bytes timing (Screen m) = ⊥
 IsReadingOf bytes timing (Recording r) = IsReading bytes timing r
+IsReadingOf bytes timing (Filter f) = ⊥
 
 -- the number for why nothing is read; of the others there is none
 abbrev pub unread_code : RecordingError → ℤ

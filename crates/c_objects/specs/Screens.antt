@@ -29,7 +29,7 @@ use Rattle.c_objects.specs.declared.plain.CLook.{CLook}
 use Rattle.c_objects.specs.declared.plain.CRequest.{CRequest}
 use Rattle.c_objects.specs.declared.object.Marked.{Marked}
 use Rattle.c_objects.specs.declared.object.Object.{Object}
-use Rattle.c_objects.specs.declared.object.Object.TheVariants.{Hub, View, Screen, Recording}
+use Rattle.c_objects.specs.declared.object.Object.TheVariants.{Hub, View, Screen, Recording, Filter}
 
 -- ---- new
 
@@ -44,6 +44,7 @@ IsNewScreenOf rows cols capacity (Hub h) = ⊥
 IsNewScreenOf rows cols capacity (View v) = ⊥
 IsNewScreenOf rows cols capacity (Screen m) = IsNewScreen rows cols capacity m
 IsNewScreenOf rows cols capacity (Recording r) = ⊥
+IsNewScreenOf rows cols capacity (Filter f) = ⊥
 
 -- ---- calls that change it
 

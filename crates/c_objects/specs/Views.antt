@@ -13,7 +13,7 @@ use Rattle.c_objects.specs.Looks.{cell_of, view_look}
 use Rattle.c_objects.specs.declared.plain.CCell.{CCell}
 use Rattle.c_objects.specs.declared.plain.CLook.{CLook}
 use Rattle.c_objects.specs.declared.object.Object.{Object}
-use Rattle.c_objects.specs.declared.object.Object.TheVariants.{Hub, View, Screen, Recording}
+use Rattle.c_objects.specs.declared.object.Object.TheVariants.{Hub, View, Screen, Recording, Filter}
 
 abbrev pub ViewState : Type 0
 ViewState = declared.View UntilCleared
@@ -32,6 +32,7 @@ IsNewViewOf rows cols (Hub h) = ⊥
 IsNewViewOf rows cols (View v) = IsNewView rows cols v
 IsNewViewOf rows cols (Screen m) = ⊥
 IsNewViewOf rows cols (Recording r) = ⊥
+IsNewViewOf rows cols (Filter f) = ⊥
 
 -- ---- calls that change it
 

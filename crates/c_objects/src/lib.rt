@@ -1,4 +1,4 @@
-//! The objects that C calls (a hub, a view, a screen or a recording), and what each call from C does to them.
+//! The objects that C calls (a hub, a view, a screen, a recording or a filter), and what each call from C does to them.
 //!
 //! Each function calls one function of the libraries, and returns its result as a number. A number less than 0 is a
 //! refusal. After a refusal nothing has changed but what the function's contract says.
@@ -8,6 +8,7 @@ mod cells;
 mod code;
 pub mod copied;
 mod copy;
+pub mod filter;
 pub mod hub;
 pub mod laws;
 mod look;

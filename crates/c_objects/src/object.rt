@@ -1,6 +1,7 @@
 //! What a word may hold.
 
 use crate::requests::Requests;
+use charset_filter::PieceFilter;
 use recordings::Reading;
 use termrelay::Hub;
 use termview::{UntilCleared, View};
@@ -24,4 +25,6 @@ pub enum Object {
     Screen(Marked),
     /// A recording, up to its first fault.
     Recording(Reading),
+    /// A filter that draws lines.
+    Filter(PieceFilter),
 }

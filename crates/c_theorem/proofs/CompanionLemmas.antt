@@ -24,7 +24,7 @@ use Rattle.relay_theorem.specs.Logged.{IsLogged, HasStory, WholeLoggedFramesAreS
 use Rattle.c_objects.specs.Runs.{FromC, AreCallsOf, EachRunFromCIsLogged}
 use Rattle.c_objects.specs.Views.{ViewState, IsNewViewOf}
 use Rattle.c_objects.specs.declared.object.Object.{Object}
-use Rattle.c_objects.specs.declared.object.Object.TheVariants.{Hub, View, Screen, Recording}
+use Rattle.c_objects.specs.declared.object.Object.TheVariants.{Hub, View, Screen, Recording, Filter}
 use Rattle.c_theorem.specs.Shown.{ViewReads}
 use Rattle.c_theorem.specs.Companions.{HandsTo, StoryFromC, ViewMoves, ShowsWhole, ShowTheSame, clients_of}
 use Rattle.c_theorem.specs.Companions.{WholeFramesFromCAreShown, NoFrameFromCIsTorn, SessionsFromCAreIsolated}
@@ -63,6 +63,7 @@ run-from e logged rows cols (Hub h) y made n s hands =
 run-from e logged rows cols (View v) y made n s hands = absurd hands.new
 run-from e logged rows cols (Screen m) y made n s hands = absurd hands.new
 run-from e logged rows cols (Recording r) y made n s hands = absurd hands.new
+run-from e logged rows cols (Filter f) y made n s hands = absurd hands.new
 
 story-from : (rows cols : ℕ) (made : List (FromC × ℤ)) (y : Object) (n : ℕ) (s : SessionView)
     (r : RunOf rows cols made y n s) (t : Story) → HasStory rows cols r.calls r.log n s t → StoryFromC rows cols made n s
@@ -164,6 +165,7 @@ whole-view exact rows cols s t shows prefix back moves (View v) w parts fresh mo
 whole-view exact rows cols s t shows prefix back moves (Hub h) w parts fresh moved all = absurd fresh
 whole-view exact rows cols s t shows prefix back moves (Screen m) w parts fresh moved all = absurd fresh
 whole-view exact rows cols s t shows prefix back moves (Recording r) w parts fresh moved all = absurd fresh
+whole-view exact rows cols s t shows prefix back moves (Filter f) w parts fresh moved all = absurd fresh
 
 pub whole-shown : Error → EachRunFromCIsLogged → WholeLoggedFramesAreShown → IsExact until_cleared
     → WholeFramesFromCAreShown
@@ -220,6 +222,8 @@ still-shown exact torn rows cols made n s h (Hub g) w u pieces more beyond fresh
 still-shown exact torn rows cols made n s h (Screen m) w u pieces more beyond fresh read later joined whole =
     absurd fresh
 still-shown exact torn rows cols made n s h (Recording r) w u pieces more beyond fresh read later joined whole =
+    absurd fresh
+still-shown exact torn rows cols made n s h (Filter f) w u pieces more beyond fresh read later joined whole =
     absurd fresh
 
 pub none-torn : Error → EachRunFromCIsLogged → WholeLoggedFramesAreShown → NoSessionIsTorn → IsExact until_cleared

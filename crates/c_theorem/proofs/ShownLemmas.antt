@@ -19,7 +19,7 @@ use Rattle.relay_theorem.specs.Logged.{IsLogged, LoggedFramesAreShown}
 use Rattle.c_objects.specs.Runs.{FromC, sessions_after, RunsFromC, AreCallsOf, EachRunFromCIsLogged}
 use Rattle.c_objects.specs.Views.{ViewState}
 use Rattle.c_objects.specs.declared.object.Object.{Object}
-use Rattle.c_objects.specs.declared.object.Object.TheVariants.{Hub, View, Screen, Recording}
+use Rattle.c_objects.specs.declared.object.Object.TheVariants.{Hub, View, Screen, Recording, Filter}
 use Rattle.c_theorem.specs.Shown.{HubRuns, ViewReads, ViewsFromCAreShown}
 
 -- ---- the hub
@@ -140,6 +140,9 @@ views-shown e logged judged exact rows cols (Screen m) y made ss n s v w pieces 
 views-shown e logged judged exact rows cols (Recording r) y made ss n s v w pieces beyond height width new ran is fresh
     read joined =
     absurd new
+views-shown e logged judged exact rows cols (Filter f) y made ss n s v w pieces beyond height width new ran is fresh
+    read joined =
+    absurd new
 views-shown e logged judged exact rows cols (Hub h) y made ss n s (Hub g) w pieces beyond height width new ran is fresh
     read joined =
     absurd fresh
@@ -147,5 +150,8 @@ views-shown e logged judged exact rows cols (Hub h) y made ss n s (Screen m) w p
     is fresh read joined =
     absurd fresh
 views-shown e logged judged exact rows cols (Hub h) y made ss n s (Recording r) w pieces beyond height width new ran
+    is fresh read joined =
+    absurd fresh
+views-shown e logged judged exact rows cols (Hub h) y made ss n s (Filter f) w pieces beyond height width new ran
     is fresh read joined =
     absurd fresh

@@ -23,7 +23,7 @@ use Rattle.c_objects.specs.Runs.{FromC, AreCallsOf}
 use Rattle.c_objects.specs.Views as view
 use Rattle.c_objects.specs.Views.{ViewState, IsNewViewOf, Advances}
 use Rattle.c_objects.specs.declared.object.Object.{Object}
-use Rattle.c_objects.specs.declared.object.Object.TheVariants.{Hub, View, Screen, Recording}
+use Rattle.c_objects.specs.declared.object.Object.TheVariants.{Hub, View, Screen, Recording, Filter}
 use Rattle.c_theorem.specs.Shown.{HubRuns, ViewReads}
 
 -- A new hub x was taken to y by calls from C, and s is its n-th session.
@@ -100,6 +100,7 @@ clients_of (Hub h) = clients_in h
 clients_of (View v) = λ key. None
 clients_of (Screen m) = λ key. None
 clients_of (Recording r) = λ key. None
+clients_of (Filter f) = λ key. None
 
 -- Two sessions of two hubs that C makes, with the same own calls: they are handed the same bytes, and are alike in all
 -- else, whatever the other calls and the keys were, if no call of the two failed for want of memory.

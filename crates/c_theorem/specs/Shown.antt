@@ -16,7 +16,7 @@ use Rattle.c_objects.specs.Objects.{HubDoes, ViewDoes}
 use Rattle.c_objects.specs.Runs.{FromC, IsFromC, Does, sessions_after, AreCallsOf}
 use Rattle.c_objects.specs.Views.{ViewState, IsNewViewOf, Advances}
 use Rattle.c_objects.specs.declared.object.Object.{Object}
-use Rattle.c_objects.specs.declared.object.Object.TheVariants.{Hub, View, Screen, Recording}
+use Rattle.c_objects.specs.declared.object.Object.TheVariants.{Hub, View, Screen, Recording, Filter}
 
 -- the sessions of a word's object after a call from C that returns this number; only a hub has sessions
 abbrev pub handed : Object → FromC → ℤ → List SessionView → List SessionView
@@ -24,6 +24,7 @@ handed (Hub h) call code ss = sessions_after h call code ss
 handed (View v) call code ss = ss
 handed (Screen m) call code ss = ss
 handed (Recording r) call code ss = ss
+handed (Filter f) call code ss = ss
 
 -- Calls from C on a word, one after another, with the numbers that they return. They take its object from x to y. The
 -- bytes that each client was handed are in the sessions, which go from ss to ts.

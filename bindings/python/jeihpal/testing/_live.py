@@ -21,7 +21,7 @@ class LiveScreen:
     """
 
     def __init__(self, rows: int, cols: int) -> None:
-        self._screen = jeihpal.Screen(rows, cols)
+        self._screen = jeihpal.Screen(rows, cols, draws_lines=True)
         self._scanner = Scanner()
         self._before: Optional[Picture] = None  # of an update
         self._shown: Optional[Picture] = None  # the picture of now, where it was made already

@@ -1,0 +1,38 @@
+package jeihpal
+
+/*
+#include <jeihpal.h>
+*/
+import "C"
+
+// Filter draws a program's lines, on the way to a Hub or a Screen: after ESC ( 0 the letters lqqk come as the edge of a
+// box. All other bytes are given on as they are.
+type Filter struct{ object }
+
+// NewFilter makes a filter that nothing has passed.
+func NewFilter() (*Filter, error) {
+	filter := &Filter{}
+	err := filter.made(func(w *word) { C.jeihpal_filter_close(filterOf(w)) }, func(w *word) C.int32_t {
+		return C.jeihpal_filter_new(filterOf(w))
+	})
+	if err != nil {
+		return nil, err
+	}
+	return filter, nil
+}
+
+// Pass has the next bytes of a program's output pass, and answers what they give. They may be cut anywhere. At an error
+// they have not passed, and may be handed over again.
+func (f *Filter) Pass(bytes []byte) ([]byte, error) {
+	passed := false // the text may be asked for again, with more room
+	given, _, err := f.text(func(w *word, to *C.uint8_t, capacity C.size_t, length *C.size_t) C.int32_t {
+		if !passed {
+			if answer := C.jeihpal_filter_pass(filterOf(w), front(bytes), C.size_t(len(bytes))); answer < 0 {
+				return answer
+			}
+			passed = true
+		}
+		return C.jeihpal_filter_given(filterOf(w), to, capacity, length)
+	})
+	return given, err
+}

@@ -1,0 +1,24 @@
+"""Filters."""
+
+from __future__ import annotations
+
+from ._object import Object
+
+
+class Filter(Object):
+    """Draws a program's lines, on the way to a hub or a screen.
+
+    Programs draw boxes with DEC's special graphics: after `ESC ( 0` the letters `lqqk` mean `┌──┐`. A filter gives
+    all bytes on as they are, but for such letters: these come as the characters that they stand for.
+    """
+
+    _kind = "filter"
+
+    def drawn(self, data: bytes) -> bytes:
+        """What the next bytes of a program's output give. They may be cut anywhere.
+
+        After a MemoryError they have not passed, and may be handed over again.
+        """
+        with self._lock:
+            self._give("pass", data)
+            return self._text("given")
