@@ -1,4 +1,4 @@
-/* Reads a stream into a screen of libtsm again and again: libtsm screen ROWS COLS TIMES < STREAM. */
+/* Reads a stream into a screen of libtsm again and again: libtsm screen|kept ROWS COLS TIMES < STREAM. */
 #include "peer.h"
 #include <libtsm.h>
 
@@ -7,13 +7,13 @@ static void answer(struct tsm_vte *vte, const char *text, size_t length, void *d
     (void)vte, (void)text, (void)length, (void)data;
 }
 
-static int reads(int rows, int cols, const char *stream, size_t length)
+static int reads(int rows, int cols, int kept, const char *stream, size_t length)
 {
     struct tsm_screen *screen;
     struct tsm_vte *vte;
     if (tsm_screen_new(&screen, NULL, NULL) || tsm_screen_resize(screen, cols, rows))
         return -1;
-    tsm_screen_set_max_sb(screen, 0);
+    tsm_screen_set_max_sb(screen, kept);
     if (tsm_vte_new(&vte, screen, answer, NULL, NULL, NULL))
         return -1;
     for (size_t at = 0; at < length; at += PIECE_LEN)
@@ -26,5 +26,5 @@ static int reads(int rows, int cols, const char *stream, size_t length)
 
 int main(int count, char **words)
 {
-    return peer(count, words, reads);
+    return peer(count, words, 1, reads);
 }

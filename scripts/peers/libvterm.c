@@ -2,8 +2,9 @@
 #include "peer.h"
 #include <vterm.h>
 
-static int reads(int rows, int cols, const char *stream, size_t length)
+static int reads(int rows, int cols, int kept, const char *stream, size_t length)
 {
+    (void)kept;
     VTerm *terminal = vterm_new(rows, cols);
     vterm_set_utf8(terminal, 1);
     vterm_screen_enable_altscreen(vterm_obtain_screen(terminal), 1);
@@ -18,5 +19,6 @@ static int reads(int rows, int cols, const char *stream, size_t length)
 
 int main(int count, char **words)
 {
-    return peer(count, words, reads);
+    /* It hands rows that leave to its user. */
+    return peer(count, words, 0, reads);
 }

@@ -11,11 +11,17 @@ static size_t piece_len(size_t at, size_t length)
     return length - at < PIECE_LEN ? length - at : PIECE_LEN;
 }
 
-/* Does what the words say: screen ROWS COLS TIMES. reads has a new terminal read the stream, and answers a count that
-   depends on it, or a negative number at a fault. */
-static int peer(int count, char **words, int (*reads)(int rows, int cols, const char *stream, size_t length))
+/* How many rows a terminal keeps that keeps some. */
+#define KEPT_ROWS 10000
+
+/* Has a new terminal read the stream. Answers a count that depends on it, or a negative number at a fault. */
+typedef int (*reading)(int rows, int cols, int kept, const char *stream, size_t length);
+
+/* Does what the words say: screen ROWS COLS TIMES; kept in place of screen where the library keeps rows. */
+static int peer(int count, char **words, int keeps, reading reads)
 {
-    if (count != 5 || strcmp(words[1], "screen") != 0)
+    int kept = count == 5 && strcmp(words[1], "kept") == 0 ? KEPT_ROWS : 0;
+    if (count != 5 || (kept ? !keeps : strcmp(words[1], "screen") != 0))
         return 2;
     size_t length = 0, room = 1 << 16;
     char *stream = malloc(room);
@@ -26,8 +32,8 @@ static int peer(int count, char **words, int (*reads)(int rows, int cols, const 
     }
     int found = 0;
     for (long left = atol(words[4]); stream && left > 0; left--)
-        if ((found = reads(atoi(words[2]), atoi(words[3]), stream, length)) < 0)
+        if ((found = reads(atoi(words[2]), atoi(words[3]), kept, stream, length)) < 0)
             return 1;
     free(stream);
-    return printf("screen %d\n", found) < 0;
+    return printf("%s %d\n", words[1], found) < 0;
 }

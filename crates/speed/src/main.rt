@@ -4,6 +4,7 @@
 //! - `events`: `vte_core` cuts the stream into events, which are counted, a text by its length.
 //! - `calls`: `vte` makes the calls of a handler of it, which are counted.
 //! - `screen`: a terminal's screen reads it, from the blank screen on.
+//! - `kept`: the same, of a terminal that keeps 10,000 rows that have left at the top.
 //! - `view`: a far terminal reads it.
 //! - `hub`: a hub reads it, and makes and sends a client's frame behind each piece.
 //! - `redraw`: the screen that it leaves is written whole.
@@ -14,7 +15,7 @@
 //! - `frame`: a row is written over, and the client's frame, a difference, is made and sent.
 //! - `client`: a new client is sent its first frame.
 //!
-//! The first five read the whole stream each time; the others read it once. `all` is one after another.
+//! The first six read the whole stream each time; the others read it once. `all` is one after another.
 #![tactic(auto)]
 
 mod counting;

@@ -29,9 +29,9 @@ impl<'a> Workload<'a> {
         Some(counting.count)
     }
 
-    /// A terminal that has read these bytes.
-    pub(crate) fn filled(&self, bytes: &[u8]) -> Option<Parser<()>> {
-        let mut parser = Parser::new(self.alloc, self.rows, self.cols, 0).ok()?;
+    /// A terminal that has read these bytes, and keeps so many rows.
+    pub(crate) fn filled(&self, bytes: &[u8], kept: usize) -> Option<Parser<()>> {
+        let mut parser = Parser::new(self.alloc, self.rows, self.cols, kept).ok()?;
         if process(&mut parser, bytes) {
             Some(parser)
         } else {
@@ -39,10 +39,10 @@ impl<'a> Workload<'a> {
         }
     }
 
-    pub(crate) fn screen(&self) -> Option<usize> {
+    pub(crate) fn screen(&self, kept: usize) -> Option<usize> {
         let mut count = 0;
         for _ in 0..self.times {
-            count = end_of(&self.filled(self.stream)?);
+            count = end_of(&self.filled(self.stream, kept)?);
         }
         Some(count)
     }

@@ -9,6 +9,7 @@ pub(crate) enum Work {
     Events,
     Calls,
     Screen,
+    Kept,
     View,
     Hub,
     Redraw,
@@ -25,6 +26,7 @@ pub(crate) const WORKS: &[(&str, Work)] = &[
     ("events", Work::Events),
     ("calls", Work::Calls),
     ("screen", Work::Screen),
+    ("kept", Work::Kept),
     ("view", Work::View),
     ("hub", Work::Hub),
     ("redraw", Work::Redraw),
@@ -35,6 +37,9 @@ pub(crate) const WORKS: &[(&str, Work)] = &[
     ("frame", Work::Frame),
     ("client", Work::Client),
 ];
+
+/// How many rows a screen keeps that keeps some.
+const KEPT_ROWS: usize = 10_000;
 
 /// How many bytes are read at once.
 pub(crate) const PIECE_LEN: usize = 4096;
@@ -77,7 +82,8 @@ impl<'a> Workload<'a> {
         match work {
             Work::Events => Some(self.events()),
             Work::Calls => self.calls(),
-            Work::Screen => self.screen(),
+            Work::Screen => self.screen(0),
+            Work::Kept => self.screen(KEPT_ROWS),
             Work::View => self.view(),
             Work::Redraw | Work::Same | Work::Row => self.written(work),
             Work::Difference => self.difference(),

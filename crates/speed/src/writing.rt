@@ -10,7 +10,7 @@ const LAST_LEN: usize = 2000;
 impl<'a> Workload<'a> {
     /// Writes the screen that the stream leaves.
     pub(crate) fn written(&self, work: Work) -> Option<usize> {
-        let mut parser = self.filled(self.stream)?;
+        let mut parser = self.filled(self.stream, 0)?;
         match work {
             Work::Redraw => redrawn(parser.screen(), self.times),
             Work::Row => rows_changed(&mut parser, self.times),
@@ -22,7 +22,7 @@ impl<'a> Workload<'a> {
     pub(crate) fn difference(&self) -> Option<usize> {
         let len = self.stream.len().saturating_sub(LAST_LEN);
         let (prefix, last) = self.stream.split_at(len);
-        let mut parser = self.filled(prefix)?;
+        let mut parser = self.filled(prefix, 0)?;
         changed(&mut parser, last, self.times)
     }
 }
