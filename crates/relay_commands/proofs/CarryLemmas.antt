@@ -7,6 +7,7 @@ use Rattle.std.specs.Io.KnownBytes.{Appends, Keeps}
 use Rattle.std.specs.declared.io.Error.{Error}
 use Rattle.terminal_model.specs.Term.{Shown}
 use Rattle.screen_model.specs.Holds.{IsSide}
+use Rattle.vte.specs.Marks.{end_mark}
 use Rattle.termview.specs.declared.view.View.{View}
 use Rattle.termview.specs.declared.until_cleared.UntilCleared.{UntilCleared}
 use Rattle.termrelay.specs.Hub.{HubState, as_kept}
@@ -18,23 +19,24 @@ use Rattle.charset_filter.specs.declared.lines.LineDrawing.{LineDrawing}
 use Rattle.charset_filter.specs.declared.lines.LineDrawing.TheVariants.{Kept, Drawn}
 use Rattle.byte_streams.specs.Source.{IsReadBy}
 use Rattle.relay_streams.specs.Frames.{asked, is_overlong}
-use Rattle.charset_filter.specs.Lines.{HasPassed, all_passed, drawn_after, passed}
+use Rattle.charset_filter.specs.Lines.{HasPassed, all_passed, passed}
 use Rattle.relay_streams.specs.Each as each
 use Rattle.relay_streams.specs.Each.{GivesEach, TakesAll}
-use Rattle.relay_streams.specs.Pieces.{Begun, Drained, piece_len, pieces_of}
+use Rattle.relay_streams.specs.Pieces.{Drained, piece_len, pieces_of}
 use Rattle.relay_streams.specs.Sessions.{AreRelayed, EndsOverlong, IsRelayed}
-use Rattle.relay_streams.specs.Live.{WantsRoom}
+use Rattle.relay_streams.specs.Live.{ended}
 use Rattle.relay_streams.specs.Turns.{Relaying}
 use Rattle.relay_streams.proofs.FrameLists.{frames_of, answers_of, base_of, frames-more, base-push, fits-push}
 use Rattle.charset_filter.proofs.LineLemmas.{none-passed, passed-push}
+use Rattle.relay_streams.proofs.LiveLemmas.{may-want}
 use Rattle.relay_streams.proofs.OutputLemmas.{prints-text}
 use Rattle.relay_streams.proofs.PieceLemmas.{concat-push, drained-pieces}
-use Rattle.relay_streams.proofs.SessionLemmas.{ends-overlong, wants-memory, frames-are-relayed, frames-of, relayed-as}
+use Rattle.relay_streams.proofs.SessionLemmas.{ends-overlong, frames-are-relayed, frames-of}
 use Rattle.relay_streams.proofs.SessionLemmas.{relayed-by}
 use Rattle.relay_streams.proofs.ViewLemmas.{not_led, led_more}
 use Rattle.relay_commands.specs.Carried as far
 use Rattle.relay_commands.specs.Carried.{Carried, Carries, CarriesPiece, Follows, IsFarText, IsRelayedThrough}
-use Rattle.relay_commands.specs.Carried.{MayWantRoom, PrintsFar, followed, overlong, unmade, unread}
+use Rattle.relay_commands.specs.Carried.{Comes, PrintsFar, followed, overlong, unmade, unread}
 use Rattle.relay_commands.specs.Ends.{from, onto}
 use Rattle.relay_commands.specs.declared.far_screen.FilteredHub.{FilteredHub}
 
@@ -68,22 +70,21 @@ ends-well : {lines : LineDrawing} {S : Type 0} {gives : S → ℕ → Result (Li
     {s t : S} {frames : List (List ℕ)} {answer : Result (Unit {0}) RelayError}
     → Follows lines gives rows cols s frames answer t → answer ≡ Ok tt
     → (pieces : List (List ℕ)) × Drained gives piece_len s pieces (Ok tt) t
-    × AreRelayed rows cols (all_passed lines pieces) frames
+    × AreRelayed rows cols (all_passed lines (ended pieces)) frames
 ends-well (followed pieces d relayed) is = (pieces, d, relayed)
 ends-well _ is = absurd (cc)
 
 -- what is relayed of pieces that have passed, joined
 relayed-through : (lines : LineDrawing) (rows cols : ℕ) (input : List ℕ) (pieces frames : List (List ℕ)) (text : List ℕ)
-    → AreRelayed rows cols (all_passed lines pieces) frames → pieces ≡ pieces_of input → text ≡ concat frames
+    → AreRelayed rows cols (all_passed lines (ended pieces)) frames → pieces ≡ pieces_of input → text ≡ concat frames
     → IsRelayedThrough lines rows cols input text
-relayed-through Kept rows cols input pieces frames text are cut joined =
-    relayed-as rows cols input pieces frames text are cut joined
-relayed-through Drawn rows cols input pieces frames text are cut joined =
-    let fed = drawn_after [] pieces in
+relayed-through lines rows cols input pieces frames text are cut joined =
+    let fed = all_passed lines (ended pieces) in
     record {
       key = are.key;
       story = are.story;
-      is = subst (λ (ps : List (List ℕ)). IsRelayed rows cols are.key (drawn_after [] ps) are.story) cut are.is;
+      is = subst (λ (ps : List (List ℕ)). IsRelayed rows cols are.key (all_passed lines (ended ps)) are.story) cut
+          are.is;
       fits = are.fits;
       pumped = (relayed-by rows cols are.key fed are.story are.is).pumped
           ∙ ap concat (sym (frames-of rows cols fed frames are)) ∙ sym joined;
@@ -129,19 +130,6 @@ holds-all W contents w v owed held n pumps empty full =
     (subst (λ o. Appends (contents w) o (take n owed)) full reported.0) in
     is ∙ whole
 
--- what a piece that passed may want, it may want as it was read
-room-wanted : (rows cols : ℕ) (lines : LineDrawing) (past : List (List ℕ)) (piece : List ℕ) → IsSide rows → IsSide cols
-    → MayWantRoom lines rows cols (all_passed lines past) (passed lines (concat past) piece)
-    (base_of rows cols (all_passed lines past)) → WantsRoom lines rows cols past piece
-room-wanted rows cols Kept past piece height width wants = wants-memory rows cols past piece height width wants
-room-wanted rows cols Drawn past piece height width wants = tt
-
--- where a piece couldn't pass, lines are drawn
-pub room-unpassed : (rows cols : ℕ) (lines : LineDrawing) (past : List (List ℕ)) (piece : List ℕ) (base : Option Shown)
-    → (lines ≡ Kept → ⊥) → MayWantRoom lines rows cols past piece base
-room-unpassed rows cols Kept past piece base drawn = absurd (drawn refl)
-room-unpassed rows cols Drawn past piece base drawn = tt
-
 -- a turn with a piece that passed
 pub carried-through : (lines : LineDrawing) (rows cols : ℕ) (past : List (List ℕ)) (piece : List ℕ)
     (base : Option Shown) (key : ℕ) (a b : View UntilCleared) (answer : Result (Unit {0}) RelayError)
@@ -186,11 +174,11 @@ module _ (rows cols : ℕ) (lines : LineDrawing) (past : List (List ℕ)) (piece
   -- a turn at which a fault came
   pub carry-faults : (S : Type 0) (gives : S → ℕ → Result (List ℕ) Error → S → Type 0) (key : ℕ)
       (g : HubState as_kept) (s t : S) (a b : View UntilCleared) (e : RelayError) → IsSide rows → IsSide cols
-      → Begun gives piece_len s pieces t → Fit before → Carried lines rows cols before here base key a (Err e) b g
+      → Comes gives s pieces t → Fit before → Carried lines rows cols before here base key a (Err e) b g
       → Follows lines gives rows cols s (frames_of rows cols before) (Err e) t
   carry-faults S gives key g s t a b Memory height width begun fit turned =
       unmade past piece begun (frames-are-relayed rows cols before height width fit)
-      (room-wanted rows cols lines past piece height width turned)
+      (may-want rows cols lines past piece height width turned)
   carry-faults S gives key g s t a b FrameTooLong height width begun fit turned =
       overlong past piece begun (frames-are-relayed rows cols before height width fit)
       (subst (λ (ps : List (List ℕ)). EndsOverlong rows cols ps) (sym fed-is)
@@ -215,7 +203,31 @@ module _ (rows cols : ℕ) (lines : LineDrawing) (past : List (List ℕ)) (piece
         subst (λ (o : Option Shown). Relaying rows cols fed o g key) (sym (base-push rows cols before here)) turned.2,
       )
 
+-- the second answer, where the first call went well
+abbrev pub then : Result (Unit {0}) RelayError → Result (Unit {0}) RelayError → Result (Unit {0}) RelayError
+then (Ok u) last = last
+then (Err e) last = Err e
+
 module _ (S : Type 0) (gives : S → ℕ → Result (List ℕ) Error → S → Type 0) (rows cols : ℕ) (lines : LineDrawing) where
+  -- all pieces were carried, and then the end of an update, which may have been refused
+  follows-ended : (pieces : List (List ℕ)) (key : ℕ) (g : HubState as_kept) (s t : S) (a b c : View UntilCleared)
+      (last : Result (Unit {0}) RelayError) → IsSide rows → IsSide cols → Drained gives piece_len s pieces (Ok tt) t
+      → list_any is_overlong (answers_of rows cols (all_passed lines pieces)) ≡ false
+      → Carries a (concat (frames_of rows cols (all_passed lines pieces))) b
+      → Carried lines rows cols (all_passed lines pieces) (passed lines (concat pieces) end_mark)
+      (base_of rows cols (all_passed lines pieces)) key b last c g
+      → (frames : List (List ℕ)) × Follows lines gives rows cols s frames last t
+      × OnOk last (Carries a (concat frames) c)
+  follows-ended pieces key g s t a b c (Ok u) height width d fit first turned =
+      let fed = all_passed lines (ended pieces) in
+      let goes = carry-goes rows cols lines pieces end_mark key g a b c fit first turned in
+      (frames_of rows cols fed, followed pieces d (frames-are-relayed rows cols fed height width goes.0), goes.1)
+  follows-ended pieces key g s t a b c (Err e) height width d fit first turned = (
+    frames_of rows cols (all_passed lines pieces),
+    carry-faults rows cols lines pieces end_mark S gives key g s t b c e height width (far.at_end d) fit turned,
+    tt,
+  )
+
   -- pieces that were all carried
   carried-all : (h : FilteredHub) (a : View UntilCleared) (read : List (List ℕ)) (g : FilteredHub)
       (b : View UntilCleared) → Relaying rows cols [] None h.hub h.client → HasPassed h.filter lines []
@@ -233,30 +245,30 @@ module _ (S : Type 0) (gives : S → ℕ → Result (List ℕ) Error → S → T
         subst (λ (key : ℕ). Goes rows cols key k.hub a c (all_passed lines (past ++ piece ∷ []))) (sym step.0) goes,
       )
 
-  -- pieces that were carried, the last of which may have been refused
-  pub follows-of : (s t : S) (h g : FilteredHub) (a b : View UntilCleared) (answer : Result (Unit {0}) RelayError)
-      → Relaying rows cols [] None h.hub h.client → HasPassed h.filter lines []
-      → GivesEach gives CarriesPiece s h a answer t g b → (frames : List (List ℕ))
-      × Follows lines gives rows cols s frames answer t × OnOk answer (Carries a (concat frames) b)
-  follows-of s t h g a b answer at passes (each.unread pieces rest e d all) =
+  -- pieces that were carried, the last of which may have been refused, and then the end of an update
+  pub follows-of : (s t : S) (h g k : FilteredHub) (a b c : View UntilCleared)
+      (answer last : Result (Unit {0}) RelayError) → Relaying rows cols [] None h.hub h.client
+      → HasPassed h.filter lines [] → GivesEach gives CarriesPiece s h a answer t g b
+      → OnOk answer (CarriesPiece g b end_mark last k c) → (frames : List (List ℕ))
+      × Follows lines gives rows cols s frames (then answer last) t
+      × OnOk (then answer last) (Carries a (concat frames) c)
+  follows-of s t h g k a b c answer last at passes (each.unread pieces rest e d all) more =
       let so_far = carried-all h a pieces g b at passes all in
       let fed = all_passed lines pieces in (
         frames_of rows cols fed,
         unread pieces rest e d (frames-are-relayed rows cols fed at.height at.width so_far.1.0),
         tt,
       )
-  follows-of s t h k a c answer at passes (each.refused g b pieces piece e begun all step) =
+  follows-of s t h r k a v c answer last at passes (each.refused g b pieces piece e begun all step) more =
       let so_far = carried-all h a pieces g b at passes all in
       let fed = all_passed lines pieces in (
         frames_of rows cols fed,
-        carry-faults rows cols lines pieces piece S gives g.client k.hub s t b c e at.height at.width begun so_far.1.0
-            (step.2 rows cols lines (concat pieces) fed (base_of rows cols fed) so_far.1.2 so_far.0),
+        carry-faults rows cols lines pieces piece S gives g.client r.hub s t b v e at.height at.width (far.read begun)
+            so_far.1.0 (step.2 rows cols lines (concat pieces) fed (base_of rows cols fed) so_far.1.2 so_far.0),
         tt,
       )
-  follows-of s t h g a b answer at passes (each.taken pieces d all) =
+  follows-of s t h g k a b c answer last at passes (each.taken pieces d all) step =
       let so_far = carried-all h a pieces g b at passes all in
-      let fed = all_passed lines pieces in (
-        frames_of rows cols fed,
-        followed pieces d (frames-are-relayed rows cols fed at.height at.width so_far.1.0),
-        so_far.1.1,
-      )
+      let fed = all_passed lines pieces in
+      follows-ended pieces g.client k.hub s t a b c last at.height at.width d so_far.1.0 so_far.1.1
+      (step.2 rows cols lines (concat pieces) fed (base_of rows cols fed) so_far.1.2 so_far.0)

@@ -1,1 +1,2 @@
 pub mod CarryLemmas
+mod EndLemmas

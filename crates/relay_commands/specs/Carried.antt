@@ -1,24 +1,26 @@
 -- A program's screen that is carried to a view and printed.
-use Rattle.std.specs.Prelude.{◌≡◌, ℕ, false, true, List, [], ◌∷◌, ◌++◌, Option, Ok, Err, Result, OnOk, ⊤}
+use Rattle.std.specs.Prelude.{◌≡◌, ℕ, false, true, List, [], ◌∷◌, ◌++◌, Option, Ok, Err, Result, OnOk}
 use Rattle.std.specs.List.{concat}
+use Rattle.std.specs.Io.KnownBytes.{Appends}
 use Rattle.std.specs.declared.io.Error.{Error}
 use Rattle.terminal_model.specs.Term.{Shown}
+use Rattle.screen_model.specs.Shown.{shown_state}
 use Rattle.termview.specs.declared.view.View.{View}
 use Rattle.termview.specs.declared.until_cleared.UntilCleared.{UntilCleared}
+use Rattle.termrelay.specs.Frame.{is_unsure}
 use Rattle.termrelay.specs.Hub.{HubState, as_kept}
 use Rattle.relay_theorem.specs.History.{Story}
 use Rattle.relay_streams.specs.declared.error.RelayError.{RelayError}
 use Rattle.relay_streams.specs.declared.error.RelayError.TheVariants.{Read, Write, Memory, TooManyReads, FrameTooLong}
 use Rattle.charset_filter.specs.declared.lines.LineDrawing.{LineDrawing}
-use Rattle.charset_filter.specs.declared.lines.LineDrawing.TheVariants.{Kept, Drawn}
 use Rattle.relay_streams.specs.Frames.{answered, asked, is_overlong}
 use Rattle.relay_streams.specs.Led.{Led}
-use Rattle.charset_filter.specs.Lines.{HasPassed, all_passed, drawn_after, passed}
+use Rattle.charset_filter.specs.Lines.{HasPassed, all_passed, passed}
 use Rattle.relay_streams.specs.Pieces.{Begun, Drained, piece_len, pieces_of}
-use Rattle.relay_streams.specs.Sessions.{AreRelayed, EndsOverlong, IsRelayed, IsRelayText, has_overlong}
-use Rattle.relay_streams.specs.Shown.{IsTextShown, Prints, sized}
-use Rattle.relay_streams.specs.Live.{WantsRoom}
-use Rattle.relay_streams.specs.Turns.{Relaying, MayWantMemory}
+use Rattle.relay_streams.specs.Sessions.{AreRelayed, EndsOverlong, IsRelayed, has_overlong}
+use Rattle.relay_streams.specs.Shown.{IsTextShown, Prints, screen_text, sized}
+use Rattle.relay_streams.specs.Live.{MayWantRoom, WantsRoom, ended, screen_at_end}
+use Rattle.relay_streams.specs.Turns.{Relaying}
 use Rattle.relay_commands.specs.Ends.{Sink, Source}
 use Rattle.relay_commands.specs.declared.far_screen.FilteredHub.{FilteredHub}
 
@@ -36,24 +38,24 @@ pub record IsPumped (rows cols : ℕ) (pieces : List (List ℕ)) (text : List �
   pub fits : has_overlong story ≡ false
   pub pumped : story.session.pumped ≡ text
 
--- This is what is relayed of a program's output: a frame after each 4,096 bytes, and one at the end. Either the bytes
--- are fed as they are, or what the filter gives of each piece.
+-- This is what is relayed of a program's output, and of the end of an update: a frame after each 4,096 bytes, and one
+-- at the end. Either the bytes are fed as they are, or what the filter gives of each piece.
 abbrev pub IsRelayedThrough : LineDrawing → ℕ → ℕ → List ℕ → List ℕ → Type 0
-IsRelayedThrough Kept rows cols input text = IsRelayText rows cols input text
-IsRelayedThrough Drawn rows cols input text = IsPumped rows cols (drawn_after [] (pieces_of input)) text
+IsRelayedThrough lines rows cols input text = IsPumped rows cols (all_passed lines (ended (pieces_of input))) text
 
--- A fresh view of this size was given, in some pieces, what is relayed of a program's output. This is the text of what
--- it shows.
+-- A fresh view of this size was given, in some pieces, what is relayed of a program's output, and of the end of an
+-- update. This is the text of what it shows.
 pub record IsFarText (lines : LineDrawing) (rows cols : ℕ) (input text : List ℕ) : Type 0 where
   pub pieces : List (List ℕ)
   pub relayed : IsRelayedThrough lines rows cols input (concat pieces)
   pub shown : IsTextShown (sized rows cols) pieces text
 
--- A turn with a piece that passed may want memory: one of its events may take some, or a frame is made after it. Where
--- lines are drawn, there must also be room for what the filter gives.
-abbrev pub MayWantRoom : LineDrawing → ℕ → ℕ → List (List ℕ) → List ℕ → Option Shown → Type 0
-MayWantRoom Kept rows cols past piece base = MayWantMemory rows cols past piece base
-MayWantRoom Drawn rows cols past piece base = ⊤
+-- What is appended to a writer is the text of the screen that a program's output makes, where an update that it left
+-- open is ended: unless that screen shows U+FE0F.
+abbrev pub AppendsScreen : LineDrawing → ℕ → ℕ → List ℕ → Option (List ℕ) → Option (List ℕ) → Type 0
+AppendsScreen lines rows cols input old new =
+    is_unsure (sized rows cols) (shown_state (screen_at_end lines rows cols input)) ≡ false
+    → Appends old new (screen_text (sized rows cols) (shown_state (screen_at_end lines rows cols input)).cell)
 
 -- After other pieces this one was fed by a turn, and the client had this base: so the turn is answered. The frame
 -- reached the view, or there was no memory for what may want some, or it would be too long.
@@ -81,8 +83,13 @@ CarriesPiece h old piece answer g new = (g.client ≡ h.client)
     → Relaying rows cols fed base h.hub h.client → HasPassed h.filter lines past
     → Carried lines rows cols fed (passed lines past piece) base h.client old answer new g.hub)
 
--- From a source pieces are read and pass, and these frames are made of them: so it is answered, and so the source is
--- left.
+-- From a source these pieces come: they were read; or the input ended, and the last one ends an update.
+pub data Comes {S : Type 0} (gives : S → ℕ → Result (List ℕ) Error → S → Type 0) (s : S) : List (List ℕ) → S
+    → Type 0 where
+  read : {t : S} {pieces : List (List ℕ)} → Begun gives piece_len s pieces t → Comes gives s pieces t
+  at_end : {t : S} {pieces : List (List ℕ)} → Drained gives piece_len s pieces (Ok tt) t → Comes gives s (ended pieces) t
+
+-- From a source pieces come and pass, and these frames are made of them: so it is answered, and so the source is left.
 pub data Follows (lines : LineDrawing) {S : Type 0} (gives : S → ℕ → Result (List ℕ) Error → S → Type 0)
     (rows cols : ℕ) (s : S) : List (List ℕ) → Result (Unit {0}) RelayError → S → Type 0 where
   -- a read failed, or as many were made as may be
@@ -91,16 +98,16 @@ pub data Follows (lines : LineDrawing) {S : Type 0} (gives : S → ℕ → Resul
       → AreRelayed rows cols (all_passed lines pieces) frames → Follows lines gives rows cols s frames (Err e) t
   -- there was no memory for the last piece or its frame, which may want some
   unmade : {t : S} {frames : List (List ℕ)} (pieces : List (List ℕ)) (piece : List ℕ)
-      → Begun gives piece_len s (pieces ++ piece ∷ []) t → AreRelayed rows cols (all_passed lines pieces) frames
+      → Comes gives s (pieces ++ piece ∷ []) t → AreRelayed rows cols (all_passed lines pieces) frames
       → WantsRoom lines rows cols pieces piece → Follows lines gives rows cols s frames (Err Memory) t
   -- the frame of the last piece would be too long
   overlong : {t : S} {frames : List (List ℕ)} (pieces : List (List ℕ)) (piece : List ℕ)
-      → Begun gives piece_len s (pieces ++ piece ∷ []) t → AreRelayed rows cols (all_passed lines pieces) frames
+      → Comes gives s (pieces ++ piece ∷ []) t → AreRelayed rows cols (all_passed lines pieces) frames
       → EndsOverlong rows cols (all_passed lines (pieces ++ piece ∷ []))
       → Follows lines gives rows cols s frames (Err FrameTooLong) t
-  -- the input was read to its end
+  -- the input was read to its end, and an update was ended
   followed : {t : S} {frames : List (List ℕ)} (pieces : List (List ℕ)) → Drained gives piece_len s pieces (Ok tt) t
-      → AreRelayed rows cols (all_passed lines pieces) frames → Follows lines gives rows cols s frames (Ok tt) t
+      → AreRelayed rows cols (all_passed lines (ended pieces)) frames → Follows lines gives rows cols s frames (Ok tt) t
 
 -- From a source and a writer it answers so, and leaves both so. Nothing is written before the input has ended.
 pub data PrintsFar (lines : LineDrawing) {S W : Type 0} (i : Source S) (o : Sink W)

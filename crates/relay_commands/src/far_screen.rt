@@ -7,12 +7,12 @@ ghost use Rattle.terminal_model.specs.Term.{Shown};
 ghost use Rattle.charset_filter.specs.Lines.{HasPassed};
 ghost use Rattle.charset_filter.specs.declared.lines.LineDrawing.TheVariants.{Kept};
 ghost use Rattle.relay_streams.specs.Turns.{Relaying};
-ghost use Rattle.relay_commands.specs.Carried.{Carried, Carries, Follows, IsFarText, PrintsFar};
+ghost use Rattle.relay_commands.specs.Carried.{AppendsScreen, Carried, Carries, Follows, IsFarText, PrintsFar};
 ghost use Rattle.relay_commands.specs.Ends.{from, onto};
 
 use relay_streams::{
     FlushSink, LineDrawing, PieceFilter, RelayError, Source, TakesPieces, each_piece, is_overlong,
-    print_view,
+    print_view, update_end,
 };
 use std::alloc::Global;
 use std::num::NonZeroU16;
@@ -26,7 +26,11 @@ const STEP: usize = 7;
 /// Reads a program's output to its end, and writes the rows of the screen that it makes, as a far terminal of this size
 /// shows them, with a newline each. Then the output is flushed.
 ///
-/// Each piece first passes a [`PieceFilter`], which draws the line drawing set's characters or keeps the letters.
+/// Each piece first passes a [`PieceFilter`], which draws the line drawing set's characters or keeps the letters. At the
+/// end of the input the program is gone, so a synchronized update that it left open is ended.
+///
+/// What is written are the rows of the screen that the output makes, with its lines drawn or not (`shows`): unless that
+/// screen shows U+FE0F.
 ///
 /// Full pieces of 4,096 bytes are read, by at most 2^40 reads; an interrupted read is tried again and counted. A frame
 /// that would be longer than 2,097,150 bytes is a fault. Nothing is written before the input has ended. What was
@@ -44,6 +48,8 @@ pub fn print_far_screen<S: Source, W: FlushSink>(
     ensures text { OnOk result (IfSome (S.left input.old) (λ bytes. (text : List ℕ)
         × IsFarText lines rows.value cols.value bytes text
         × Appends (W.contents output.old) (W.contents output.new) text)) }
+    ensures shows { OnOk result (IfSome (S.left input.old) (λ bytes.
+        AppendsScreen lines rows.value cols.value bytes (W.contents output.old) (W.contents output.new))) }
 {
     let mut hub = Hub::new(alloc, rows, cols)?;
     let client = hub.attach()?;
@@ -71,7 +77,8 @@ struct FilteredHub {
     client: Client,
 }
 
-// Reads the whole input in full pieces, and brings the view the frame that is due after each.
+// Reads the whole input in full pieces, and brings the view the frame that is due after each. At its end an update is
+// ended, and the view gets the frame that is then due.
 fn carry_frames<S: Source>(
     mut relay: FilteredHub,
     input: &mut S,
@@ -82,7 +89,8 @@ fn carry_frames<S: Source>(
         × Follows lines S.gives rows cols input.old frames result input.new
         × OnOk result (Carries view.old (concat frames) view.new) }
 {
-    each_piece(input, &mut relay, view)
+    each_piece(input, &mut relay, view)?;
+    relay.take_piece(update_end(), view)
 }
 
 impl TakesPieces<View<UntilCleared>> for FilteredHub {

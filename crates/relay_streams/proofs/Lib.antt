@@ -1,4 +1,5 @@
 pub mod EachLemmas
+pub mod EndLemmas
 pub mod FarLemmas
 pub mod FillLemmas
 pub mod FrameLists

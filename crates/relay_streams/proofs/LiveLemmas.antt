@@ -1,7 +1,7 @@
 -- A live input, piece by piece, and what its frames leave.
 use Rattle.std.proofs.Common.{◌≡◌, ◌≢◌, ◌∙◌, ℕ, ◌+◌, ◌<◌, ◌≤◌, false, List, [], ◌∷◌, ◌++◌, Option, Some, Ok, Err}
 use Rattle.std.proofs.Common.{Result, IfSome, IfOk, OnOk, refl, sym, ap, subst, take, length, arith, append_assoc}
-use Rattle.std.proofs.Common.{append-nil}
+use Rattle.std.proofs.Common.{append-nil, inl, inr}
 use Rattle.std.proofs.Common.{add_assoc, zero-add}
 use Rattle.std.proofs.Math.Seq.{take-length}
 use Rattle.std.proofs.lemmas.List.{length-take-le}
@@ -11,6 +11,7 @@ use Rattle.std.specs.Io.KnownBytes.{Appends, Consumes, IsAtEnd, Keeps}
 use Rattle.std.specs.IoError.{error_kind}
 use Rattle.std.specs.declared.io.Error.{Error}
 use Rattle.std.specs.declared.io.ErrorKind.TheVariants.{Interrupted}
+use Rattle.vte.specs.Marks.{end_mark}
 use Rattle.terminal_model.specs.Term.{Shown}
 use Rattle.screen_model.specs.Holds.{IsSide}
 use Rattle.byte_streams.specs.Output.{TakesPrefix}
@@ -28,8 +29,9 @@ use Rattle.relay_streams.specs.Frames.{asked, is_overlong}
 use Rattle.relay_streams.specs.Live as live
 use Rattle.charset_filter.specs.Lines.{all_passed, passed}
 use Rattle.relay_streams.specs.Live.{live_len, Tries, Listens, SendsFlushed, StreamsThrough, RelaysThrough, IsLiveText}
-use Rattle.relay_streams.specs.Live.{TakesLive, TriesOnce, CountsReads, WantsRoom, read_as}
-use Rattle.relay_streams.specs.Sessions.{AreRelayed, EndsOverlong, WantsMemory}
+use Rattle.relay_streams.specs.Live.{Hears, MayWantRoom, PassedOn, TakesLive, TriesOnce, CountsReads, WantsRoom}
+use Rattle.relay_streams.specs.Live.{ended, read_as}
+use Rattle.relay_streams.specs.Sessions.{AreRelayed, EndsOverlong}
 use Rattle.relay_streams.specs.Turns.{Relaying, Turned}
 use Rattle.relay_streams.proofs.FrameLists.{frames_of, answers_of, base_of, frames-more, fits-push, base-push}
 use Rattle.charset_filter.proofs.LineLemmas.{concat-passed, none-passed, passed-cut, passed-push}
@@ -139,18 +141,31 @@ module _ {S : Type 0} {step : S → ℕ → Result (List ℕ) Error → S → Ty
 
 -- ---- turns
 
--- what the piece wants that was fed, the one that was read wants
-pub wants-room : (rows cols : ℕ) (lines : LineDrawing) (past : List (List ℕ)) (piece : List ℕ)
-    → WantsMemory rows cols (all_passed lines past) (passed lines (concat past) piece)
-    → WantsRoom lines rows cols past piece
-wants-room rows cols Kept past piece wants = wants
-wants-room rows cols Drawn past piece wants = tt
+-- what the piece may want that was fed, the one that was read wants
+pub may-want : (rows cols : ℕ) (lines : LineDrawing) (past : List (List ℕ)) (piece : List ℕ) → IsSide rows
+    → IsSide cols → MayWantRoom lines rows cols (all_passed lines past) (passed lines (concat past) piece)
+    (base_of rows cols (all_passed lines past)) → WantsRoom lines rows cols past piece
+may-want rows cols Kept past piece height width wants = wants-memory rows cols past piece height width wants
+may-want rows cols Drawn past piece height width wants = tt
 
 -- where a piece couldn't pass, lines are drawn
-pub unpassed : (rows cols : ℕ) (lines : LineDrawing) (past : List (List ℕ)) (piece : List ℕ)
-    → (lines ≡ Kept → ⊥) → WantsRoom lines rows cols past piece
-unpassed rows cols Kept past piece drawn = absurd (drawn refl)
-unpassed rows cols Drawn past piece drawn = tt
+pub unpassed : (rows cols : ℕ) (lines : LineDrawing) (fed : List (List ℕ)) (piece : List ℕ) (base : Option Shown)
+    → (lines ≡ Kept → ⊥) → MayWantRoom lines rows cols fed piece base
+unpassed rows cols Kept fed piece base drawn = absurd (drawn refl)
+unpassed rows cols Drawn fed piece base drawn = tt
+
+-- a turn with a piece that passed, at which a fault came
+pub turned-fault : {W : Type 0} (takes : W → List ℕ → Result ℕ Error → W → Type 0)
+    (flushes : W → Result (Unit {0}) Error → W → Type 0) (lines : LineDrawing) (rows cols : ℕ) (fed : List (List ℕ))
+    (piece : List ℕ) (base : Option Shown) (key : ℕ) (w v : W) (e : RelayError) (g : HubState as_kept)
+    → Turned takes rows cols fed piece base key w (Err e) v g
+    → PassedOn lines takes flushes rows cols fed piece base key w (Err e) v g
+turned-fault takes flushes Kept rows cols fed piece base key w v Memory g turned = turned
+turned-fault takes flushes Drawn rows cols fed piece base key w v Memory g turned = (tt, turned.1)
+turned-fault takes flushes lines rows cols fed piece base key w v FrameTooLong g turned = turned
+turned-fault takes flushes lines rows cols fed piece base key w v Write g turned = inl turned
+turned-fault takes flushes lines rows cols fed piece base key w v Read g turned = absurd turned
+turned-fault takes flushes lines rows cols fed piece base key w v TooManyReads g turned = absurd turned
 
 module _ (S W : Type 0) (gives : S → ℕ → Result (List ℕ) Error → S → Type 0)
     (takes : W → List ℕ → Result ℕ Error → W → Type 0) (flushes : W → Result (Unit {0}) Error → W → Type 0)
@@ -181,38 +196,6 @@ module _ (S W : Type 0) (gives : S → ℕ → Result (List ℕ) Error → S →
   abbrev Fit : List (List ℕ) → Type 0
   Fit ps = list_any is_overlong (answers_of rows cols ps) ≡ false
 
-  -- the piece couldn't pass
-  pub live-refused : (s t : S) (w v : W) (n : ℕ) → IsSide rows → IsSide cols → Listens gives live_len s n pieces t
-      → Fit before → SendsFlushed takes flushes w (frames_of rows cols before) over v → n ≤ max_reads
-      → WantsRoom lines rows cols past piece → StreamsThrough lines gives takes flushes rows cols s w (Err Memory) t v
-  live-refused s t w v n height width b fit sends most wants =
-      live.unmade past (frames_of rows cols before) piece b (frames-are-relayed rows cols before height width fit) wants
-      sends most
-
-  -- a turn at which a fault came
-  pub live-faults : (key : ℕ) (g : HubState as_kept) (s t : S) (w m v : W) (n : ℕ) (e : RelayError) → IsSide rows
-      → IsSide cols → Listens gives live_len s n pieces t → Fit before
-      → SendsFlushed takes flushes w (frames_of rows cols before) over m
-      → Turned takes rows cols before here base key m (Err e) v g → n ≤ max_reads
-      → StreamsThrough lines gives takes flushes rows cols s w (Err e) t v
-  live-faults key g s t w m v n Read height width b fit sends turned most = absurd turned
-  live-faults key g s t w m v n Write height width b fit sends (last, x, k, pumps) most =
-      live.stopped pieces (frames_of rows cols fed) x b
-      (subst (λ (ps : List (List ℕ)). AreRelayed rows cols ps (frames_of rows cols fed)) (sym fed-is)
-      (frames-are-relayed rows cols fed height width (fits-push rows cols before here fit last)))
-      (subst (λ (texts : List (List ℕ)). SendsFlushed takes flushes w texts (Err x) v) (sym frames-are)
-      (live.broken m sends pumps)) most
-  live-faults key g s t w m v n Memory height width b fit sends (wants, stays) most =
-      live.unmade past (frames_of rows cols before) piece b (frames-are-relayed rows cols before height width fit)
-      (wants-room rows cols lines past piece (wants-memory rows cols before here height width wants))
-      (subst (λ (u : W). SendsFlushed takes flushes w (frames_of rows cols before) over u) (sym stays) sends) most
-  live-faults key g s t w m v n FrameTooLong height width b fit sends (long, stays) most =
-      live.overlong past (frames_of rows cols before) piece b (frames-are-relayed rows cols before height width fit)
-      (subst (λ (ps : List (List ℕ)). EndsOverlong rows cols ps) (sym fed-is)
-      (ends-overlong rows cols before here height width long))
-      (subst (λ (u : W). SendsFlushed takes flushes w (frames_of rows cols before) over u) (sym stays) sends) most
-  live-faults key g s t w m v n TooManyReads height width b fit sends turned most = absurd turned
-
   -- one that went well, and the flush after it
   abbrev Goes : ℕ → HubState as_kept → W → Result (Unit {0}) Error → W → List (List ℕ) → Type 0
   Goes key g w answer v ps = Fit ps × SendsFlushed takes flushes w (frames_of rows cols ps) answer v
@@ -228,6 +211,52 @@ module _ (S W : Type 0) (gives : S → ℕ → Result (List ℕ) Error → S →
         (live.sent m k sends turned.1.1 flush),
     subst (λ (b : Option Shown). Relaying rows cols fed b g key) (sym (base-push rows cols before here)) turned.2,
   )
+
+  -- a turn at which a fault came
+  pub live-faults : (key : ℕ) (g : HubState as_kept) (s t : S) (w m v : W) (n : ℕ) (e : RelayError) → IsSide rows
+      → IsSide cols → Hears gives live_len s n pieces t → Fit before
+      → SendsFlushed takes flushes w (frames_of rows cols before) over m
+      → PassedOn lines takes flushes rows cols before here base key m (Err e) v g → n ≤ max_reads
+      → StreamsThrough lines gives takes flushes rows cols s w (Err e) t v
+  live-faults key g s t w m v n Read height width b fit sends turned most = absurd turned
+  live-faults key g s t w m v n Write height width b fit sends (inr (k, x, turned, flush)) most =
+      let goes = live-goes key g w m k v (Err x) fit sends turned flush in
+      live.stopped pieces (frames_of rows cols (all_passed lines pieces)) x b
+      (frames-are-relayed rows cols (all_passed lines pieces) height width goes.0) goes.1 most
+  live-faults key g s t w m v n Write height width b fit sends (inl (last, x, k, pumps)) most =
+      live.stopped pieces (frames_of rows cols fed) x b
+      (subst (λ (ps : List (List ℕ)). AreRelayed rows cols ps (frames_of rows cols fed)) (sym fed-is)
+      (frames-are-relayed rows cols fed height width (fits-push rows cols before here fit last)))
+      (subst (λ (texts : List (List ℕ)). SendsFlushed takes flushes w texts (Err x) v) (sym frames-are)
+      (live.broken m sends pumps)) most
+  live-faults key g s t w m v n Memory height width b fit sends (wants, stays) most =
+      live.unmade past (frames_of rows cols before) piece b (frames-are-relayed rows cols before height width fit)
+      (may-want rows cols lines past piece height width wants)
+      (subst (λ (u : W). SendsFlushed takes flushes w (frames_of rows cols before) over u) (sym stays) sends) most
+  live-faults key g s t w m v n FrameTooLong height width b fit sends (long, stays) most =
+      live.overlong past (frames_of rows cols before) piece b (frames-are-relayed rows cols before height width fit)
+      (subst (λ (ps : List (List ℕ)). EndsOverlong rows cols ps) (sym fed-is)
+      (ends-overlong rows cols before here height width long))
+      (subst (λ (u : W). SendsFlushed takes flushes w (frames_of rows cols before) over u) (sym stays) sends) most
+  live-faults key g s t w m v n TooManyReads height width b fit sends turned most = absurd turned
+
+  -- the end of the input, where the piece is what ends an update
+  pub live-ends : (key : ℕ) (g : HubState as_kept) (s p t : S) (w m v : W) (n k : ℕ)
+      (answer : Result (Unit {0}) RelayError) → IsSide rows → IsSide cols → piece ≡ end_mark
+      → Listens gives live_len s n past p → Tries gives live_len p k (Ok []) t → Fit before
+      → SendsFlushed takes flushes w (frames_of rows cols before) over m
+      → PassedOn lines takes flushes rows cols before here base key m answer v g → n + k ≤ max_reads
+      → StreamsThrough lines gives takes flushes rows cols s w answer t v
+  live-ends key g s p t w m v n k (Ok u) height width is listens tries fit sends (i, turned, flush) most =
+      let goes = live-goes key g w m i v over fit sends turned flush in
+      live.finished p past (frames_of rows cols (all_passed lines pieces)) listens tries
+      (subst (λ (last : List ℕ). AreRelayed rows cols (all_passed lines (past ++ last ∷ []))
+      (frames_of rows cols (all_passed lines pieces))) is
+      (frames-are-relayed rows cols (all_passed lines pieces) height width goes.0)) goes.1 most
+  live-ends key g s p t w m v n k (Err e) height width is listens tries fit sends turned most =
+      live-faults key g s t w m v (n + k) e height width
+      (subst (λ (last : List ℕ). Hears gives live_len s (n + k) (past ++ last ∷ []) t) (sym is)
+      (live.at_end p listens tries)) fit sends turned most
 
 -- ---- what is left, where the bytes of the source and the writer are known
 
@@ -330,61 +359,89 @@ module _ (S W : Type 0) (gives : S → ℕ → Result (List ℕ) Error → S →
         listens) in
         (known.0, known.2)
 
+    -- all pieces, where the input ended
+    listened-all : (s m : S) (n k : ℕ) (pieces : List (List ℕ)) (t : S) (bytes : List ℕ)
+        → Listens gives live_len s n pieces m → Tries gives live_len m k (Ok []) t → left s ≡ Some bytes
+        → concat pieces ≡ bytes
+    listened-all s m n k pieces t bytes listens tries is =
+        all-taken (left s) (left t) bytes (concat pieces) is
+        (subst (Consumes (left s) (left t)) (append-nil (concat pieces))
+        (Consumes-more (left s) (left m) (left t) (concat pieces) []
+        (listens-taken s live_len n pieces m listens) (tries-taken live_len m k (Ok []) t [] tries refl)))
+        (tries-ended live_len m k (Ok []) t tries refl (omega arith))
+
+    -- behind the pieces that come, more may be left, and then what ends an update
+    heard-with : (s : S) (n : ℕ) (pieces : List (List ℕ)) (t : S) (bytes : List ℕ)
+        → Listens gives live_len s n pieces t → left s ≡ Some bytes
+        → (rest : List ℕ) × (bytes ++ end_mark ≡ concat pieces ++ rest)
+    heard-with s n pieces t bytes listens is =
+        let cut = listened s n pieces t bytes listens is in (
+          cut.0 ++ end_mark,
+          ap (λ zs. zs ++ end_mark) cut.1 ∙ append_assoc (concat pieces) cut.0 end_mark,
+        )
+
+    heard-cut : (s : S) (n : ℕ) (pieces : List (List ℕ)) (t : S) (bytes : List ℕ)
+        → Hears gives live_len s n pieces t → left s ≡ Some bytes
+        → (rest : List ℕ) × (bytes ++ end_mark ≡ concat pieces ++ rest)
+    heard-cut s n pieces t bytes (live.heard listens) is = heard-with s n pieces t bytes listens is
+    heard-cut s _ _ t bytes (live.at_end {n = n} {k = k} {pieces = pieces} m listens tries) is = (
+      [],
+      sym (append-nil (concat (ended pieces)) ∙ concat-one pieces end_mark
+          ∙ ap (λ zs. zs ++ end_mark) (listened-all s m n k pieces t bytes listens tries is)),
+    )
+
     -- the same of all pieces but the last one
-    listened-past : (s : S) (n : ℕ) (pieces : List (List ℕ)) (piece : List ℕ) (t : S) (bytes : List ℕ)
-        → Listens gives live_len s n (pieces ++ piece ∷ []) t → left s ≡ Some bytes
-        → (rest : List ℕ) × (bytes ≡ concat pieces ++ rest)
-    listened-past s n pieces piece t bytes listens is =
-        let all = listened s n (pieces ++ piece ∷ []) t bytes listens is in (
+    heard-past : (s : S) (n : ℕ) (pieces : List (List ℕ)) (piece : List ℕ) (t : S) (bytes : List ℕ)
+        → Hears gives live_len s n (pieces ++ piece ∷ []) t → left s ≡ Some bytes
+        → (rest : List ℕ) × (bytes ++ end_mark ≡ concat pieces ++ rest)
+    heard-past s n pieces piece t bytes hears is =
+        let all = heard-cut s n (pieces ++ piece ∷ []) t bytes hears is in (
           piece ++ all.0,
           all.1 ∙ ap (λ zs. zs ++ all.0) (concat-one pieces piece) ∙ append_assoc (concat pieces) piece all.0,
         )
 
     pub streams-prefix : (rows cols : ℕ) (lines : LineDrawing) (s : S) (w : W) (answer : Result (Unit {0}) RelayError)
         (t : S) (v : W) (bytes : List ℕ) → StreamsThrough lines gives takes flushes rows cols s w answer t v
-        → left s ≡ Some bytes → TakesLive rows cols (passed lines [] bytes) (contents w) (contents v)
+        → left s ≡ Some bytes → TakesLive rows cols (passed lines [] (bytes ++ end_mark)) (contents w) (contents v)
     streams-prefix rows cols lines s w answer t v bytes
         (live.unread {n = n} m pieces frames e listens tries are sends counts) is =
-        let cut = listened s n pieces m bytes listens is in
-        takes-live rows cols lines w v pieces frames over bytes cut.0 are sends cut.1
-    streams-prefix rows cols lines s w answer t v bytes (live.unmade {n = n} pieces frames piece listens are wants sends most)
+        let cut = heard-with s n pieces m bytes listens is in
+        takes-live rows cols lines w v pieces frames over (bytes ++ end_mark) cut.0 are sends cut.1
+    streams-prefix rows cols lines s w answer t v bytes (live.unmade {n = n} pieces frames piece hears are wants sends most)
         is =
-        let cut = listened-past s n pieces piece t bytes listens is in
-        takes-live rows cols lines w v pieces frames over bytes cut.0 are sends cut.1
+        let cut = heard-past s n pieces piece t bytes hears is in
+        takes-live rows cols lines w v pieces frames over (bytes ++ end_mark) cut.0 are sends cut.1
     streams-prefix rows cols lines s w answer t v bytes
-        (live.overlong {n = n} pieces frames piece listens are ends sends most) is =
-        let cut = listened-past s n pieces piece t bytes listens is in
-        takes-live rows cols lines w v pieces frames over bytes cut.0 are sends cut.1
-    streams-prefix rows cols lines s w answer t v bytes (live.stopped {n = n} pieces frames e listens are sends most)
-        is =
-        let cut = listened s n pieces t bytes listens is in
-        takes-live rows cols lines w v pieces frames (Err e) bytes cut.0 are sends cut.1
+        (live.overlong {n = n} pieces frames piece hears are ends sends most) is =
+        let cut = heard-past s n pieces piece t bytes hears is in
+        takes-live rows cols lines w v pieces frames over (bytes ++ end_mark) cut.0 are sends cut.1
+    streams-prefix rows cols lines s w answer t v bytes (live.stopped {n = n} pieces frames e hears are sends most) is =
+        let cut = heard-cut s n pieces t bytes hears is in
+        takes-live rows cols lines w v pieces frames (Err e) (bytes ++ end_mark) cut.0 are sends cut.1
     streams-prefix rows cols lines s w answer t v bytes
-        (live.ended {n = n} m pieces frames listens tries are sends most) is =
-        let cut = listened s n pieces m bytes listens is in
-        takes-live rows cols lines w v pieces frames over bytes cut.0 are sends cut.1
+        (live.finished {n = n} {k = k} m pieces frames listens tries are sends most) is =
+        let cut = heard-cut s (n + k) (ended pieces) t bytes (live.at_end m listens tries) is in
+        takes-live rows cols lines w v (ended pieces) frames over (bytes ++ end_mark) cut.0 are sends cut.1
 
     streams-whole : (rows cols : ℕ) (lines : LineDrawing) (s : S) (w : W) (answer : Result (Unit {0}) RelayError)
         (t : S)
         (v : W) (bytes : List ℕ) → StreamsThrough lines gives takes flushes rows cols s w answer t v → answer ≡ well
         → left s ≡ Some bytes
-        → (text : List ℕ) × IsLiveText rows cols (passed lines [] bytes) text × Appends (contents w) (contents v) text
+        → (text : List ℕ) × IsLiveText rows cols (passed lines [] (bytes ++ end_mark)) text
+        × Appends (contents w) (contents v) text
     streams-whole rows cols lines s w answer t v bytes
-        (live.ended {n = n} {k = k} m pieces frames listens tries are sends most) ok is = (
+        (live.finished {n = n} {k = k} m pieces frames listens tries are sends most) ok is = (
           concat frames,
           record {
-            pieces = all_passed lines pieces;
-            whole = concat-passed lines pieces
-                ∙ ap (passed lines []) (all-taken (left s) (left t) bytes (concat pieces) is
-                (subst (Consumes (left s) (left t)) (append-nil (concat pieces))
-                (Consumes-more (left s) (left m) (left t) (concat pieces) []
-                (listens-taken s live_len n pieces m listens) (tries-taken live_len m k (Ok []) t [] tries refl)))
-                (tries-ended live_len m k (Ok []) t tries refl (omega arith)));
+            pieces = all_passed lines (ended pieces);
+            whole = concat-passed lines (ended pieces)
+                ∙ ap (passed lines []) (concat-one pieces end_mark
+                ∙ ap (λ zs. zs ++ end_mark) (listened-all s m n k pieces t bytes listens tries is));
             key = are.key;
             story = are.story;
             is = are.is;
             fits = are.fits;
-            pumped = pumped-is rows cols (all_passed lines pieces) frames are;
+            pumped = pumped-is rows cols (all_passed lines (ended pieces)) frames are;
           },
           flushed-appends w v frames over sends refl,
         )
@@ -394,13 +451,15 @@ module _ (S W : Type 0) (gives : S → ℕ → Result (List ℕ) Error → S →
     pub live-reported : (rows cols : ℕ) (lines : LineDrawing) (s : S) (w : W) (answer : Result (Unit {0}) RelayError)
         (t : S) (v : W) → IsSide rows → IsSide cols
         → RelaysThrough lines gives takes flushes rows cols s w answer t v
-        → OnOk answer (IfSome (left s) (λ bytes. (text : List ℕ) × IsLiveText rows cols (passed lines [] bytes) text
+        → OnOk answer (IfSome (left s) (λ bytes. (text : List ℕ)
+        × IsLiveText rows cols (passed lines [] (bytes ++ end_mark)) text
         × Appends (contents w) (contents v) text))
-        × IfSome (left s) (λ bytes. TakesLive rows cols (passed lines [] bytes) (contents w) (contents v))
+        × IfSome (left s) (λ bytes. TakesLive rows cols (passed lines [] (bytes ++ end_mark)) (contents w)
+        (contents v))
     live-reported rows cols lines s w answer t v height width live.refused = (
       tt,
       if_known (left s) _ (λ bytes is.
-          takes-live rows cols lines w w [] (frames_of rows cols []) over bytes bytes
+          takes-live rows cols lines w w [] (frames_of rows cols []) over (bytes ++ end_mark) (bytes ++ end_mark)
           (none-passed lines (λ ps. AreRelayed rows cols ps (frames_of rows cols []))
           (frames-are-relayed rows cols [] height width refl)) live.none refl),
     )

@@ -1,5 +1,5 @@
 -- What `relay_live` answers, reads and writes.
-use Rattle.std.specs.Prelude.{◌≡◌, ◌≢◌, ℕ, ◌+◌, false, List, [], ◌∷◌, ◌++◌, Option, Ok, Err, Result}
+use Rattle.std.specs.Prelude.{◌≡◌, ◌≢◌, ◌⊎◌, ℕ, ◌+◌, false, List, [], ◌∷◌, ◌++◌, Option, Ok, Err, Result}
 use Rattle.std.specs.Prelude.{◌<◌, ◌≤◌, ⊤, take, IfOk}
 use Rattle.std.specs.List.{concat}
 use Rattle.std.specs.IoError.{error_kind}
@@ -7,14 +7,20 @@ use Rattle.std.specs.declared.io.Error.{Error}
 use Rattle.std.specs.declared.io.ErrorKind.TheVariants.{Interrupted}
 use Rattle.byte_streams.specs.Output.{TakesPrefix}
 use Rattle.byte_streams.specs.Pump.{Pumps}
+use Rattle.vte.specs.Marks.{end_mark}
+use Rattle.terminal_model.specs.Term.{Shown}
+use Rattle.screen_model.specs.State.{State}
+use Rattle.termrelay.specs.Hub.{HubState, as_kept}
 use Rattle.relay_theorem.specs.History.{Story}
 use Rattle.relay_streams.specs.declared.error.RelayError.{RelayError}
 use Rattle.relay_streams.specs.declared.error.RelayError.TheVariants.{Read, Write, Memory, TooManyReads, FrameTooLong}
 use Rattle.charset_filter.specs.declared.lines.LineDrawing.{LineDrawing}
 use Rattle.charset_filter.specs.declared.lines.LineDrawing.TheVariants.{Kept, Drawn}
 use Rattle.relay_streams.specs.Fill.{max_reads}
-use Rattle.charset_filter.specs.Lines.{all_passed}
+use Rattle.relay_streams.specs.Frames.{state_after}
+use Rattle.charset_filter.specs.Lines.{all_passed, passed}
 use Rattle.relay_streams.specs.Sessions.{IsRelayed, has_overlong, AreRelayed, EndsOverlong, WantsMemory}
+use Rattle.relay_streams.specs.Turns.{MayWantMemory, Turned}
 
 -- bytes of the room that a live read is given
 abbrev pub live_len : ℕ
@@ -60,6 +66,18 @@ pub data Listens {S : Type 0} (step : S → ℕ → Result (List ℕ) Error → 
   more : {t : S} {n k : ℕ} {pieces : List (List ℕ)} {bytes : List ℕ} (m : S) → Listens step room s n pieces m
       → Tries step room m k (Ok bytes) t → bytes ≢ [] → Listens step room s (n + k) (pieces ++ bytes ∷ []) t
 
+-- these pieces of an output are fed: what was read, and at its end what ends an update that the program left open
+abbrev pub ended : List (List ℕ) → List (List ℕ)
+ended pieces = pieces ++ end_mark ∷ []
+
+-- From a source, so many reads give these pieces, and leave the source so; at the input's end another one comes, which
+-- ends an update.
+pub data Hears {S : Type 0} (step : S → ℕ → Result (List ℕ) Error → S → Type 0) (room : ℕ) (s : S)
+    : ℕ → List (List ℕ) → S → Type 0 where
+  heard : {t : S} {n : ℕ} {pieces : List (List ℕ)} → Listens step room s n pieces t → Hears step room s n pieces t
+  at_end : {t : S} {n k : ℕ} {pieces : List (List ℕ)} (m : S) → Listens step room s n pieces m
+      → Tries step room m k (Ok []) t → Hears step room s (n + k) (ended pieces) t
+
 -- ---- writing
 
 -- From a writer, each of these texts is pumped, and the writer is flushed after each: so the last of these calls is
@@ -83,8 +101,31 @@ abbrev pub WantsRoom : LineDrawing → ℕ → ℕ → List (List ℕ) → List 
 WantsRoom Kept rows cols pieces piece = WantsMemory rows cols pieces piece
 WantsRoom Drawn rows cols pieces piece = ⊤
 
+-- A turn with a piece that passed may want memory: one of its events may take some, or a frame is made after it. Where
+-- lines are drawn, there must also be room for what the filter gives.
+abbrev pub MayWantRoom : LineDrawing → ℕ → ℕ → List (List ℕ) → List ℕ → Option Shown → Type 0
+MayWantRoom Kept rows cols fed piece base = MayWantMemory rows cols fed piece base
+MayWantRoom Drawn rows cols fed piece base = ⊤
+
+-- After other pieces this one was fed by a turn, and the client had this base and a writer w, which was then flushed: so
+-- it is answered, the writer is then v, and the hub g.
+abbrev pub PassedOn : LineDrawing → {W : Type 0} → (W → List ℕ → Result ℕ Error → W → Type 0)
+    → (W → Result (Unit {0}) Error → W → Type 0) → ℕ → ℕ → List (List ℕ) → List ℕ → Option Shown → ℕ → W
+    → Result (Unit {0}) RelayError → W → HubState as_kept → Type 0
+PassedOn lines {W} takes flushes rows cols fed piece base key w (Ok u) v g =
+    (k : W) × Turned takes rows cols fed piece base key w (Ok u) k g × flushes k (Ok tt) v
+PassedOn lines takes flushes rows cols fed piece base key w (Err Memory) v g =
+    MayWantRoom lines rows cols fed piece base × (v ≡ w)
+PassedOn lines takes flushes rows cols fed piece base key w (Err FrameTooLong) v g =
+    Turned takes rows cols fed piece base key w (Err FrameTooLong) v g
+PassedOn lines {W} takes flushes rows cols fed piece base key w (Err Write) v g =
+    Turned takes rows cols fed piece base key w (Err Write) v g
+    ⊎ ((k : W) × (e : Error) × Turned takes rows cols fed piece base key w (Ok tt) k g × flushes k (Err e) v)
+PassedOn lines takes flushes rows cols fed piece base key w (Err Read) v g = ⊥
+PassedOn lines takes flushes rows cols fed piece base key w (Err TooManyReads) v g = ⊥
+
 -- From a source and a writer, pieces are read and pass, and the frame that is due after each is sent and flushed before
--- the next one is read: so it is answered, and so both are left.
+-- the next one is read. At the end an update is ended. So it is answered, and so both are left.
 pub data StreamsThrough (lines : LineDrawing) {S W : Type 0} (gives : S → ℕ → Result (List ℕ) Error → S → Type 0)
     (takes : W → List ℕ → Result ℕ Error → W → Type 0) (flushes : W → Result (Unit {0}) Error → W → Type 0)
     (rows cols : ℕ) (s : S) (w : W) : Result (Unit {0}) RelayError → S → W → Type 0 where
@@ -95,22 +136,22 @@ pub data StreamsThrough (lines : LineDrawing) {S W : Type 0} (gives : S → ℕ 
       → CountsReads {A = Unit {0}} (Err e) (n + k) → StreamsThrough lines gives takes flushes rows cols s w (Err e) t v
   -- there was no memory for the last piece or its frame, which may want some: the frames before it were sent
   unmade : {t : S} {v : W} {n : ℕ} (pieces frames : List (List ℕ)) (piece : List ℕ)
-      → Listens gives live_len s n (pieces ++ piece ∷ []) t → AreRelayed rows cols (all_passed lines pieces) frames
+      → Hears gives live_len s n (pieces ++ piece ∷ []) t → AreRelayed rows cols (all_passed lines pieces) frames
       → WantsRoom lines rows cols pieces piece → SendsFlushed takes flushes w frames (Ok tt) v → n ≤ max_reads
       → StreamsThrough lines gives takes flushes rows cols s w (Err Memory) t v
   -- the frame of the last piece would be too long: the frames before it were sent
   overlong : {t : S} {v : W} {n : ℕ} (pieces frames : List (List ℕ)) (piece : List ℕ)
-      → Listens gives live_len s n (pieces ++ piece ∷ []) t → AreRelayed rows cols (all_passed lines pieces) frames
+      → Hears gives live_len s n (pieces ++ piece ∷ []) t → AreRelayed rows cols (all_passed lines pieces) frames
       → EndsOverlong rows cols (all_passed lines (pieces ++ piece ∷ [])) → SendsFlushed takes flushes w frames (Ok tt) v
       → n ≤ max_reads → StreamsThrough lines gives takes flushes rows cols s w (Err FrameTooLong) t v
   -- a write of the last piece's frame failed or took nothing, or the flush after it failed
   stopped : {t : S} {v : W} {n : ℕ} (pieces frames : List (List ℕ)) (e : Error)
-      → Listens gives live_len s n pieces t → AreRelayed rows cols (all_passed lines pieces) frames
+      → Hears gives live_len s n pieces t → AreRelayed rows cols (all_passed lines pieces) frames
       → SendsFlushed takes flushes w frames (Err e) v → n ≤ max_reads
       → StreamsThrough lines gives takes flushes rows cols s w (Err Write) t v
-  -- the input was read to its end, and all frames were sent
-  ended : {t : S} {v : W} {n k : ℕ} (m : S) (pieces frames : List (List ℕ)) → Listens gives live_len s n pieces m
-      → Tries gives live_len m k (Ok []) t → AreRelayed rows cols (all_passed lines pieces) frames
+  -- the input was read to its end, an update was ended, and all frames were sent
+  finished : {t : S} {v : W} {n k : ℕ} (m : S) (pieces frames : List (List ℕ)) → Listens gives live_len s n pieces m
+      → Tries gives live_len m k (Ok []) t → AreRelayed rows cols (all_passed lines (ended pieces)) frames
       → SendsFlushed takes flushes w frames (Ok tt) v → n + k ≤ max_reads
       → StreamsThrough lines gives takes flushes rows cols s w (Ok tt) t v
 
@@ -132,6 +173,10 @@ RelaysLive gives takes flushes rows cols s w answer t v =
     RelaysThrough Kept gives takes flushes rows cols s w answer t v
 
 -- ---- what comes out
+
+-- the screen that a program's output makes, its lines drawn or kept, where an update that it left open is ended
+abbrev pub screen_at_end : LineDrawing → ℕ → ℕ → List ℕ → State
+screen_at_end lines rows cols input = state_after rows cols (passed lines [] (input ++ end_mark))
 
 -- This is what is pumped to a client to whom the whole input is relayed, in some pieces, a frame for each that is due.
 pub record IsLiveText (rows cols : ℕ) (input text : List ℕ) : Type 0 where

@@ -1,7 +1,7 @@
 //! Laws of what is shown, each as the contract of a function that does nothing.
 ghost use Rattle.relay_streams.specs.Far.{FarViewsShow};
-ghost use Rattle.relay_streams.specs.Laws.{LiveIsShown, RelayedPrefixesAreShown, RelayedIsShown, TextsAreOne};
-ghost use Rattle.relay_streams.specs.Laws.{WholeFramesArePrinted};
+ghost use Rattle.relay_streams.specs.Laws.{LiveEndIsShown, LiveIsShown, RelayedPrefixesAreShown, RelayedIsShown};
+ghost use Rattle.relay_streams.specs.Laws.{TextsAreOne, WholeFramesArePrinted};
 ghost use Rattle.relay_streams.specs.Sessions.{EachRelayIsASession, EachRelayIsPumped, RelayedAreOne, RelayTextsAreOne};
 
 /// What `show` writes is a function of the size and of what it reads.
@@ -27,6 +27,13 @@ pub fn relayed_is_shown()
 /// own.
 pub fn live_is_shown()
     ensures { LiveIsShown }
+{}
+
+/// Of what `relay_live` or `relay_live_with` has written at its end a view, in whatever pieces it comes, shows the screen
+/// that the whole input makes, where an update that it left open is ended: with its lines drawn, where they are. It
+/// holds nothing back. Left out is a screen that shows U+FE0F.
+pub fn live_end_is_shown()
+    ensures { LiveEndIsShown }
 {}
 
 /// Of any prefix of what `relay` or `relay_live` writes, in whatever pieces it comes, a view shows what the input's

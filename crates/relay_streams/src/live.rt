@@ -1,10 +1,13 @@
 //! A live program's output as frames of its screen, each as soon as it is due.
 
-ghost use Rattle.std.specs.Prelude.{◌≡◌, ◌≤◌, ℕ, List, [], None, Option, OnOk, IfSome, length};
+ghost use Rattle.std.specs.Prelude.{◌≡◌, ◌≤◌, ◌++◌, ℕ, List, [], None, Option, OnOk, IfSome, length};
 ghost use Rattle.std.specs.Io.KnownBytes.{Appends};
 ghost use Rattle.relay_streams.specs.Fill.{max_reads};
 ghost use Rattle.charset_filter.specs.Lines.{HasPassed, passed};
-ghost use Rattle.relay_streams.specs.Live.{IsLiveText, RelaysLive, RelaysThrough, StreamsThrough, TakesLive, TriesOnce};
+ghost use Rattle.terminal_model.specs.Term.{Shown};
+ghost use Rattle.vte.specs.Marks.{end_mark};
+ghost use Rattle.relay_streams.specs.Live.{IsLiveText, PassedOn, RelaysLive, RelaysThrough, StreamsThrough, TakesLive};
+ghost use Rattle.relay_streams.specs.Live.{TriesOnce};
 ghost use Rattle.relay_streams.specs.Turns.{Relaying};
 
 use crate::error::RelayError;
@@ -25,8 +28,9 @@ pub const LIVE_LEN: usize = 65_536;
 /// read and asks for a frame after each.
 ///
 /// A read is given room for 65,536 bytes, so the output of a fast program is gathered while a write waits. No frame is
-/// due while the program is in a synchronized update of its own. A frame that would be longer than 2,097,150 bytes is a
-/// fault, [`RelayError::FrameTooLong`], and nothing of it is written.
+/// due while the program is in a synchronized update of its own. At the end of the input the program is gone, so an
+/// update that it left open is ended, and the frame that is then due is written. A frame that would be longer than
+/// 2,097,150 bytes is a fault, [`RelayError::FrameTooLong`], and nothing of it is written.
 ///
 /// At most 2^40 reads are made; an interrupted one is tried again and counted. A fault ends it. What was written by
 /// then stays written.
@@ -40,9 +44,10 @@ pub fn relay_live<S: Source, W: FlushSink>(
     ensures relays { RelaysLive S.gives W.takes W.flushes rows.value cols.value input.old output.old result input.new
         output.new }
     ensures text { OnOk result (IfSome (S.left input.old) (λ bytes. (text : List ℕ)
-        × IsLiveText rows.value cols.value bytes text × Appends (W.contents output.old) (W.contents output.new) text)) }
+        × IsLiveText rows.value cols.value (bytes ++ end_mark) text
+        × Appends (W.contents output.old) (W.contents output.new) text)) }
     ensures prefix { IfSome (S.left input.old) (λ bytes.
-        TakesLive rows.value cols.value bytes (W.contents output.old) (W.contents output.new)) }
+        TakesLive rows.value cols.value (bytes ++ end_mark) (W.contents output.old) (W.contents output.new)) }
 {
     relay_live_with(alloc, rows, cols, LineDrawing::Kept, input, output)
 }
@@ -63,10 +68,11 @@ pub fn relay_live_with<S: Source, W: FlushSink>(
     ensures relays { RelaysThrough lines S.gives W.takes W.flushes rows.value cols.value input.old output.old result
         input.new output.new }
     ensures text { OnOk result (IfSome (S.left input.old) (λ bytes. (text : List ℕ)
-        × IsLiveText rows.value cols.value (passed lines [] bytes) text
+        × IsLiveText rows.value cols.value (passed lines [] (bytes ++ end_mark)) text
         × Appends (W.contents output.old) (W.contents output.new) text)) }
     ensures prefix { IfSome (S.left input.old) (λ bytes.
-        TakesLive rows.value cols.value (passed lines [] bytes) (W.contents output.old) (W.contents output.new)) }
+        TakesLive rows.value cols.value (passed lines [] (bytes ++ end_mark)) (W.contents output.old)
+        (W.contents output.new)) }
 {
     let mut hub = Hub::new(alloc, rows, cols)?;
     let client = hub.attach()?;
@@ -74,7 +80,7 @@ pub fn relay_live_with<S: Source, W: FlushSink>(
     relay_reads(&mut hub, client, &mut filter, input, output)
 }
 
-// Reads the whole input, and has a turn with what each read gives.
+// Reads the whole input, and has a turn with what each read gives, and one with what ends an update.
 fn relay_reads<S: Source, W: FlushSink>(
     hub: &mut Hub,
     client: Client,
@@ -92,14 +98,39 @@ fn relay_reads<S: Source, W: FlushSink>(
     'reads: loop {
         let n = read_some(input, &mut piece, &mut reads)?;
         if n == 0 {
-            return Ok(());
+            return pass_on(hub, client, filter, update_end(), output);
         }
-        filter.pass(&piece[..n])?;
-        turn(hub, client, filter.given(&piece[..n]), output)?;
-        match output.finish() {
-            Ok(()) => {}
-            Err(_) => return Err(RelayError::Write),
-        }
+        pass_on(hub, client, filter, &piece[..n], output)?;
+    }
+}
+
+/// What ends a synchronized update: private mode 2026 is reset.
+pub fn update_end() -> &'static [u8]
+    ensures { result.now ≡ end_mark }
+{
+    b"\x1b[?2026l"
+}
+
+// Has a piece pass, feeds what it gives, sends the frame that is then due, and flushes the writer.
+fn pass_on<W: FlushSink>(
+    hub: &mut Hub,
+    client: Client,
+    filter: &mut PieceFilter,
+    piece: &[u8],
+    output: &mut W,
+) -> Result<(), RelayError>
+    ensures sent { (rows cols : ℕ) (lines : LineDrawing) (past : List ℕ) (fed : List (List ℕ)) (base : Option Shown)
+        → Relaying rows cols fed base hub.old client → HasPassed filter.old lines past
+        → PassedOn lines W.takes W.flushes rows cols fed (passed lines past piece.now) base client output.old result
+        output.new hub.new }
+    ensures passed { OnOk result ((lines : LineDrawing) (past : List ℕ) → HasPassed filter.old lines past
+        → HasPassed filter.new lines (past ++ piece.now)) }
+{
+    filter.pass(piece)?;
+    turn(hub, client, filter.given(piece), output)?;
+    match output.finish() {
+        Ok(()) => Ok(()),
+        Err(_) => Err(RelayError::Write),
     }
 }
 

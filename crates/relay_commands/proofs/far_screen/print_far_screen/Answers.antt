@@ -8,6 +8,7 @@ use Rattle.relay_streams.proofs.ViewLemmas.{shown_so, size_is}
 use Rattle.relay_commands.specs.Carried.{PrintsFar, broken, printed, refused}
 use Rattle.relay_commands.specs.Ends.{from, onto}
 use Rattle.relay_commands.proofs.CarryLemmas.{far-text}
+use Rattle.relay_commands.proofs.EndLemmas.{appends-screen}
 use Rattle.relay_commands.proofs.far_screen.print_far_screen.Goals as goal
 
 pub returns-in_err-hub-clause-prints : goal.returns-in_err-hub-clause-prints
@@ -57,9 +58,11 @@ returns g c =
     c.print_view.result =
     printed read.0 carried.pieces _ read.1 carried.joined (shown_so _ _ _ carried.pieces fresh size carried.led)
     c.print_view.ensures in
+    let text = far-text g.row.S.Denot g.row.W.Denot g.S.Source.gives g.W.ByteSink.takes g.W.FlushSink.flushes
+    g.W.FlushSink.contents g.S.Source.left g.met.S.Source.tells g.met.W.FlushSink.tells g.met.W.FlushSink.keeps
+    c.args.lines rows cols _ _ _ _ _ r in
     record {
       prints = r;
-      text = far-text g.row.S.Denot g.row.W.Denot g.S.Source.gives g.W.ByteSink.takes g.W.FlushSink.flushes
-          g.W.FlushSink.contents g.S.Source.left g.met.S.Source.tells g.met.W.FlushSink.tells g.met.W.FlushSink.keeps
-          c.args.lines rows cols _ _ _ _ _ r;
+      text = text;
+      shows = appends-screen c.args.lines rows cols _ _ _ _ text;
     }

@@ -1,18 +1,17 @@
-use Rattle.std.proofs.Common.{◌≡◌, ◌∙◌, ℕ, List, [], ◌∷◌, ◌++◌, take, length, arith, ap, sym, subst, Ok, Err, IsOk}
+use Rattle.std.proofs.Common.{◌≡◌, ℕ, List, [], ◌∷◌, ◌++◌, take, length, arith, ap, sym, subst, Ok, Err}
 use Rattle.std.proofs.Common.{None}
-use Rattle.std.proofs.Common.{refl, false, true}
+use Rattle.std.proofs.Common.{refl, false}
 use Rattle.std.proofs.Common.{rules}
 use Rattle.std.specs.List.{concat, list_any}
 use Rattle.charset_filter.specs.declared.lines.LineDrawing.{LineDrawing}
 use Rattle.relay_streams.specs.Frames.{is_overlong}
-use Rattle.charset_filter.specs.Lines.{HasPassed, all_passed, passed}
-use Rattle.relay_streams.specs.declared.error.RelayError.TheVariants.{Memory}
-use Rattle.relay_streams.specs.Live.{live_len, Tries, begun, none, unread, stopped, ended, SendsFlushed}
-use Rattle.relay_streams.specs.Turns.{Relaying, Turned}
+use Rattle.charset_filter.specs.Lines.{HasPassed, all_passed}
+use Rattle.relay_streams.specs.Live.{live_len, Tries, begun, heard, none, unread, SendsFlushed}
+use Rattle.relay_streams.specs.Turns.{Relaying}
 use Rattle.relay_streams.proofs.FrameLists.{frames_of, answers_of, base_of}
 use Rattle.charset_filter.proofs.LineLemmas.{none-passed}
 use Rattle.relay_streams.proofs.LiveLemmas.{tried-fault, tried-gave, tried-made, listens-on, live-faults, live-goes}
-use Rattle.relay_streams.proofs.LiveLemmas.{live-refused, tried-counts, tried-most, unpassed}
+use Rattle.relay_streams.proofs.LiveLemmas.{live-ends, tried-counts, tried-most}
 use Rattle.relay_streams.proofs.PieceLemmas.{concat-push}
 use Rattle.relay_streams.proofs.SessionLemmas.{frames-are-relayed}
 use Rattle.relay_streams.proofs.live.relay_reads.Goals as goal
@@ -49,78 +48,37 @@ returns-then-n-eq0 g c = λ rows cols lines at passes.
     let so_far = c.reads.invariant in
     let whole : length c.reads.piece ≡ live_len = omega (arith, c.read_some.auto.room) in
     let n = c.in_ok-n.n in
-    let fed = all_passed lines so_far.past in
+    let past = so_far.past in
     let zero : n ≡ 0 = omega arith in
     let nothing : take n c.read_some.new.room ≡ [] = ap (λ k. take k c.read_some.new.room) zero in
     let last = subst (λ (bytes : List ℕ). Tries g.S.Source.gives live_len c.reads.input c.read_some.ensures.made
     (Ok bytes) c.read_some.new.input) nothing (tried-gave c.read_some.ensures whole n c.in_ok-n.was) in
-    ended c.reads.input so_far.past (frames_of rows cols fed) so_far.read last
-    (frames-are-relayed rows cols fed at.height at.width (so_far.fits rows cols lines at passes))
-    (so_far.sent rows cols lines at passes)
+    let passed_on = (c.pass_on.ensures.sent rows cols lines (concat past) (all_passed lines past)
+    (base_of rows cols (all_passed lines past)) (so_far.at rows cols lines at passes) (so_far.passes lines passes)) in
+    live-ends g.row.S.Denot g.row.W.Denot g.S.Source.gives g.W.ByteSink.takes g.W.FlushSink.flushes rows cols lines
+    past c.update_end.result.now c.args.client c.pass_on.new.hub c.args.input.now c.reads.input c.read_some.new.input
+    c.args.output.now c.reads.output c.pass_on.new.output c.reads.reads c.read_some.ensures.made c.pass_on.result
+    at.height at.width c.update_end.ensures so_far.read last (so_far.fits rows cols lines at passes)
+    (so_far.sent rows cols lines at passes) passed_on
     (omega (arith, c.read_some.ensures.counted, tried-most c.read_some.ensures whole n c.in_ok-n.was))
 
-pub returns-in_err-pass : goal.returns-in_err-pass
-returns-in_err-pass g c = λ rows cols lines at passes.
-    let so_far = c.reads.invariant in
-    let whole : length c.reads.piece ≡ live_len = omega (arith, c.read_some.auto.room) in
-    let n = c.in_ok-n.n in
-    let piece : List ℕ = take n c.read_some.new.room in
-    let is : c.from_residual-in_err-pass.result ≡ Err Memory = search rules in
-    let read = listens-on c.read_some.ensures whole n c.in_ok-n.was (omega arith) c.read_some.auto.room so_far.read in
-    rw is (live-refused g.row.S.Denot g.row.W.Denot g.S.Source.gives g.W.ByteSink.takes g.W.FlushSink.flushes rows cols
-    lines so_far.past piece c.args.input.now c.read_some.new.input c.args.output.now c.reads.output
-    c.read_some.new.reads at.height at.width read (so_far.fits rows cols lines at passes)
-    (so_far.sent rows cols lines at passes) (tried-most c.read_some.ensures whole n c.in_ok-n.was)
-    (unpassed rows cols lines so_far.past piece (λ kept. absurd (let no : false ≡ true = subst IsOk c.in_err-pass.was
-    (c.pass.ensures.kept (concat so_far.past)
-    (subst (λ (l : LineDrawing). HasPassed c.reads.filter l (concat so_far.past)) kept
-    (so_far.passes lines passes))) in cc))))
-
-pub returns-in_err-turn : goal.returns-in_err-turn
-returns-in_err-turn g c = λ rows cols lines at passes.
+pub returns-in_err-pass_on : goal.returns-in_err-pass_on
+returns-in_err-pass_on g c = λ rows cols lines at passes.
     let so_far = c.reads.invariant in
     let whole : length c.reads.piece ≡ live_len = omega (arith, c.read_some.auto.room) in
     let n = c.in_ok-n.n in
     let piece : List ℕ = take n c.read_some.new.room in
     let past = so_far.past in
-    let fault = c.in_err-turn.field-0.0 in
-    let is : c.from_residual-in_err-turn.result ≡ Err fault = search rules in
+    let fault = c.in_err-pass_on.field-0.0 in
+    let is : c.from_residual-in_err-pass_on.result ≡ Err fault = search rules in
     let read = listens-on c.read_some.ensures whole n c.in_ok-n.was (omega arith) c.read_some.auto.room so_far.read in
-    let given : c.given.result.now ≡ passed lines (concat past) piece =
-    c.given.ensures ∙ (c.in_ok-pass.ensures.passed lines (concat past) (so_far.passes lines passes)).1 in
-    let base = base_of rows cols (all_passed lines past) in
-    let turned = subst (λ (xs : List ℕ). Turned g.W.ByteSink.takes rows cols (all_passed lines past) xs base
-    c.args.client c.reads.output (Err fault) c.turn.new.output c.turn.new.hub) given
-    (c.in_err-turn.ensures rows cols (all_passed lines past) base (so_far.at rows cols lines at passes)) in
+    let passed_on = (c.in_err-pass_on.ensures.sent rows cols lines (concat past) (all_passed lines past)
+    (base_of rows cols (all_passed lines past)) (so_far.at rows cols lines at passes) (so_far.passes lines passes)) in
     rw is (live-faults g.row.S.Denot g.row.W.Denot g.S.Source.gives g.W.ByteSink.takes g.W.FlushSink.flushes rows cols
-    lines past piece c.args.client c.turn.new.hub c.args.input.now c.read_some.new.input c.args.output.now
-    c.reads.output c.turn.new.output c.read_some.new.reads fault at.height at.width read
-    (so_far.fits rows cols lines at passes) (so_far.sent rows cols lines at passes) turned
+    lines past piece c.args.client c.pass_on-in-reads.new.hub c.args.input.now c.read_some.new.input c.args.output.now
+    c.reads.output c.pass_on-in-reads.new.output c.read_some.new.reads fault at.height at.width (heard read)
+    (so_far.fits rows cols lines at passes) (so_far.sent rows cols lines at passes) passed_on
     (tried-most c.read_some.ensures whole n c.in_ok-n.was))
-
-pub returns-in-Err : goal.returns-in-Err
-returns-in-Err g c = λ rows cols lines at passes.
-    let so_far = c.reads.invariant in
-    let whole : length c.reads.piece ≡ live_len = omega (arith, c.read_some.auto.room) in
-    let n = c.in_ok-n.n in
-    let piece : List ℕ = take n c.read_some.new.room in
-    let past = so_far.past in
-    let pieces : List (List ℕ) = past ++ piece ∷ [] in
-    let fed = all_passed lines pieces in
-    let read = listens-on c.read_some.ensures whole n c.in_ok-n.was (omega arith) c.read_some.auto.room so_far.read in
-    let given : c.given.result.now ≡ passed lines (concat past) piece =
-    c.given.ensures ∙ (c.in_ok-pass.ensures.passed lines (concat past) (so_far.passes lines passes)).1 in
-    let base = base_of rows cols (all_passed lines past) in
-    let turned = subst (λ (xs : List ℕ). Turned g.W.ByteSink.takes rows cols (all_passed lines past) xs base
-    c.args.client c.reads.output (Ok tt) c.turn.new.output c.turn.new.hub) given
-    (c.in_ok-turn.ensures rows cols (all_passed lines past) base (so_far.at rows cols lines at passes)) in
-    let goes = live-goes g.row.S.Denot g.row.W.Denot g.S.Source.gives g.W.ByteSink.takes g.W.FlushSink.flushes rows cols
-    lines past piece c.args.client c.turn.new.hub c.args.output.now c.reads.output c.turn.new.output
-    c.finish.new.self (Err c.in-Err.field-0) (so_far.fits rows cols lines at passes)
-    (so_far.sent rows cols lines at passes) turned c.in-Err.ensures.flushes in
-    stopped pieces (frames_of rows cols fed) c.in-Err.field-0 read
-    (frames-are-relayed rows cols fed at.height at.width goes.0) goes.1
-    (tried-most c.read_some.ensures whole n c.in_ok-n.was)
 
 pub reads-preserved : goal.reads-preserved
 reads-preserved g c =
@@ -131,23 +89,19 @@ reads-preserved g c =
     let past = so_far.past in
     let goes = λ (rows cols : ℕ) (lines : LineDrawing) (at : Relaying rows cols [] None c.args.hub.now c.args.client)
     (passes : HasPassed c.args.filter.now lines []).
-    let base = base_of rows cols (all_passed lines past) in
-    let given : c.given.result.now ≡ passed lines (concat past) piece =
-    c.given.ensures ∙ (c.in_ok-pass.ensures.passed lines (concat past) (so_far.passes lines passes)).1 in
+    let passed_on = (c.in_ok-pass_on.ensures.sent rows cols lines (concat past) (all_passed lines past)
+    (base_of rows cols (all_passed lines past)) (so_far.at rows cols lines at passes) (so_far.passes lines passes)) in
     live-goes g.row.S.Denot g.row.W.Denot g.S.Source.gives g.W.ByteSink.takes g.W.FlushSink.flushes rows cols
-    lines past piece c.args.client c.turn.new.hub c.args.output.now c.reads.output c.turn.new.output
-    c.finish.new.self (Ok tt) (so_far.fits rows cols lines at passes) (so_far.sent rows cols lines at passes)
-    (subst (λ (xs : List ℕ). Turned g.W.ByteSink.takes rows cols (all_passed lines past) xs base
-    c.args.client c.reads.output (Ok tt) c.turn.new.output c.turn.new.hub) given
-    (c.in_ok-turn.ensures rows cols (all_passed lines past) base (so_far.at rows cols lines at passes)))
-    c.in-Ok.ensures.flushes in
+    lines past piece c.args.client c.pass_on-in-reads.new.hub c.args.output.now c.reads.output passed_on.0
+    c.pass_on-in-reads.new.output (Ok tt) (so_far.fits rows cols lines at passes)
+    (so_far.sent rows cols lines at passes) passed_on.1 passed_on.2 in
     record {
       most = tried-most c.read_some.ensures whole n c.in_ok-n.was;
       past = past ++ piece ∷ [];
       read = listens-on c.read_some.ensures whole n c.in_ok-n.was (omega arith) c.read_some.auto.room so_far.read;
-      passes = λ lines passes. subst (λ (xs : List ℕ). HasPassed c.pass.new.self lines xs)
+      passes = λ lines passes. subst (λ (xs : List ℕ). HasPassed c.pass_on-in-reads.new.filter lines xs)
           (sym (concat-push past piece))
-          (c.in_ok-pass.ensures.passed lines (concat past) (so_far.passes lines passes)).0;
+          (c.in_ok-pass_on.ensures.passed lines (concat past) (so_far.passes lines passes));
       at = λ rows cols lines at passes. (goes rows cols lines at passes).2;
       fits = λ rows cols lines at passes. (goes rows cols lines at passes).0;
       sent = λ rows cols lines at passes. (goes rows cols lines at passes).1;

@@ -3,7 +3,8 @@ use Rattle.charset_filter.specs.Lines.{HasPassed}
 use Rattle.charset_filter.specs.declared.lines.LineDrawing.{LineDrawing}
 use Rattle.relay_streams.specs.declared.error.RelayError.TheVariants.{Memory}
 use Rattle.relay_commands.specs.Carried.{Carried}
-use Rattle.relay_commands.proofs.CarryLemmas.{carried-through, on-any, room-unpassed}
+use Rattle.relay_streams.proofs.LiveLemmas.{unpassed}
+use Rattle.relay_commands.proofs.CarryLemmas.{carried-through, on-any}
 use Rattle.relay_commands.proofs.far_screen.FilteredHubTakesPiecesViewUntilCleared.take_piece.Goals as goal
 
 pub returns-in_err-pass : goal.returns-in_err-pass
@@ -14,7 +15,7 @@ returns-in_err-pass c =
         refl,
         tt,
         λ rows cols lines past fed base at passes.
-            room-unpassed rows cols lines fed _ base (λ kept. absurd (let no : false ≡ true =
+            unpassed rows cols lines fed _ base (λ kept. absurd (let no : false ≡ true =
             subst IsOk c.in_err-pass.was (c.pass.ensures.kept past
             (subst (λ (l : LineDrawing). HasPassed c.args.self.now.filter l past) kept passes)) in cc)),
       );
