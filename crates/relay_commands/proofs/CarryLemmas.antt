@@ -7,7 +7,6 @@ use Rattle.std.specs.Io.KnownBytes.{Appends, Keeps}
 use Rattle.std.specs.declared.io.Error.{Error}
 use Rattle.terminal_model.specs.Term.{Shown}
 use Rattle.screen_model.specs.Holds.{IsSide}
-use Rattle.vte.specs.Marks.{end_mark}
 use Rattle.termview.specs.declared.view.View.{View}
 use Rattle.termview.specs.declared.until_cleared.UntilCleared.{UntilCleared}
 use Rattle.termrelay.specs.Hub.{HubState, as_kept}
@@ -24,7 +23,7 @@ use Rattle.relay_streams.specs.Each as each
 use Rattle.relay_streams.specs.Each.{GivesEach, TakesAll}
 use Rattle.relay_streams.specs.Pieces.{Drained, piece_len, pieces_of}
 use Rattle.relay_streams.specs.Sessions.{AreRelayed, EndsOverlong, IsRelayed}
-use Rattle.relay_streams.specs.Live.{ended}
+use Rattle.relay_streams.specs.Live.{ended, farewell}
 use Rattle.relay_streams.specs.Turns.{Relaying}
 use Rattle.relay_streams.proofs.FrameLists.{frames_of, answers_of, base_of, frames-more, base-push, fits-push}
 use Rattle.charset_filter.proofs.LineLemmas.{none-passed, passed-push}
@@ -209,22 +208,22 @@ then (Ok u) last = last
 then (Err e) last = Err e
 
 module _ (S : Type 0) (gives : S → ℕ → Result (List ℕ) Error → S → Type 0) (rows cols : ℕ) (lines : LineDrawing) where
-  -- all pieces were carried, and then the end of an update, which may have been refused
+  -- all pieces were carried, and then the farewell, which may have been refused
   follows-ended : (pieces : List (List ℕ)) (key : ℕ) (g : HubState as_kept) (s t : S) (a b c : View UntilCleared)
       (last : Result (Unit {0}) RelayError) → IsSide rows → IsSide cols → Drained gives piece_len s pieces (Ok tt) t
       → list_any is_overlong (answers_of rows cols (all_passed lines pieces)) ≡ false
       → Carries a (concat (frames_of rows cols (all_passed lines pieces))) b
-      → Carried lines rows cols (all_passed lines pieces) (passed lines (concat pieces) end_mark)
+      → Carried lines rows cols (all_passed lines pieces) (passed lines (concat pieces) farewell)
       (base_of rows cols (all_passed lines pieces)) key b last c g
       → (frames : List (List ℕ)) × Follows lines gives rows cols s frames last t
       × OnOk last (Carries a (concat frames) c)
   follows-ended pieces key g s t a b c (Ok u) height width d fit first turned =
       let fed = all_passed lines (ended pieces) in
-      let goes = carry-goes rows cols lines pieces end_mark key g a b c fit first turned in
+      let goes = carry-goes rows cols lines pieces farewell key g a b c fit first turned in
       (frames_of rows cols fed, followed pieces d (frames-are-relayed rows cols fed height width goes.0), goes.1)
   follows-ended pieces key g s t a b c (Err e) height width d fit first turned = (
     frames_of rows cols (all_passed lines pieces),
-    carry-faults rows cols lines pieces end_mark S gives key g s t b c e height width (far.at_end d) fit turned,
+    carry-faults rows cols lines pieces farewell S gives key g s t b c e height width (far.at_end d) fit turned,
     tt,
   )
 
@@ -245,11 +244,11 @@ module _ (S : Type 0) (gives : S → ℕ → Result (List ℕ) Error → S → T
         subst (λ (key : ℕ). Goes rows cols key k.hub a c (all_passed lines (past ++ piece ∷ []))) (sym step.0) goes,
       )
 
-  -- pieces that were carried, the last of which may have been refused, and then the end of an update
+  -- pieces that were carried, the last of which may have been refused, and then the farewell
   pub follows-of : (s t : S) (h g k : FilteredHub) (a b c : View UntilCleared)
       (answer last : Result (Unit {0}) RelayError) → Relaying rows cols [] None h.hub h.client
       → HasPassed h.filter lines [] → GivesEach gives CarriesPiece s h a answer t g b
-      → OnOk answer (CarriesPiece g b end_mark last k c) → (frames : List (List ℕ))
+      → OnOk answer (CarriesPiece g b farewell last k c) → (frames : List (List ℕ))
       × Follows lines gives rows cols s frames (then answer last) t
       × OnOk (then answer last) (Carries a (concat frames) c)
   follows-of s t h g k a b c answer last at passes (each.unread pieces rest e d all) more =

@@ -3,7 +3,6 @@ use Rattle.std.proofs.Common.{◌≡◌, ◌∙◌, ℕ, false, List, [], ◌++�
 use Rattle.std.proofs.Common.{subst, Ok, Err, OnOk, IfSome, Result}
 use Rattle.std.specs.List.{concat}
 use Rattle.std.specs.Io.KnownBytes.{Appends}
-use Rattle.vte.specs.Marks.{end_mark}
 use Rattle.terminal_model.specs.Term.{Shown}
 use Rattle.screen_model.specs.Shown.{shown_state}
 use Rattle.termrelay.specs.Frame.{is_unsure}
@@ -11,7 +10,7 @@ use Rattle.charset_filter.specs.declared.lines.LineDrawing.{LineDrawing}
 use Rattle.charset_filter.specs.Lines.{all_passed, passed}
 use Rattle.relay_streams.specs.Frames.{state_after}
 use Rattle.relay_streams.specs.Laws.{HasReadAll}
-use Rattle.relay_streams.specs.Live.{ended, screen_at_end}
+use Rattle.relay_streams.specs.Live.{ended, farewell, screen_at_end}
 use Rattle.relay_streams.specs.Pieces.{pieces_of}
 use Rattle.relay_streams.specs.Sessions.{AreRelayed, texts_of}
 use Rattle.relay_streams.specs.Shown.{screen_text, sized}
@@ -21,8 +20,8 @@ use Rattle.relay_streams.proofs.RelayedLemmas.{live-shown}
 use Rattle.relay_streams.proofs.SessionLemmas.{frames-of, relayed-by}
 use Rattle.relay_commands.specs.Carried.{AppendsScreen, IsFarText}
 
-whole : (input : List ℕ) → concat (ended (pieces_of input)) ≡ input ++ end_mark
-whole input = concat-push (pieces_of input) end_mark ∙ ap (λ (bytes : List ℕ). bytes ++ end_mark) (concat-pieces input)
+whole : (input : List ℕ) → concat (ended (pieces_of input)) ≡ input ++ farewell
+whole input = concat-push (pieces_of input) farewell ∙ ap (λ (bytes : List ℕ). bytes ++ farewell) (concat-pieces input)
 
 -- what a far terminal has read
 read-all : (lines : LineDrawing) (rows cols : ℕ) (input text : List ℕ) (far : IsFarText lines rows cols input text)
@@ -47,7 +46,7 @@ pub far-screen : (lines : LineDrawing) (rows cols : ℕ) (input text : List ℕ)
 far-screen lines rows cols input text far sure =
     let z = sized rows cols in
     let made = λ (bytes : List ℕ). state_after rows cols (passed lines [] bytes) in
-    let shown = live-shown lines rows cols (pieces_of input) end_mark far.shown.parsed far.shown.hold
+    let shown = live-shown lines rows cols (pieces_of input) farewell far.shown.parsed far.shown.hold
     (read-all lines rows cols input text far)
     (ap (λ (bytes : List ℕ). is_unsure z (shown_state (made bytes))) (whole input) ∙ sure)
     (ap (λ (bytes : List ℕ). (made bytes).updating) (whole input) ∙ at-end lines rows cols input) in

@@ -38,20 +38,20 @@ pub record IsPumped (rows cols : ℕ) (pieces : List (List ℕ)) (text : List �
   pub fits : has_overlong story ≡ false
   pub pumped : story.session.pumped ≡ text
 
--- This is what is relayed of a program's output, and of the end of an update: a frame after each 4,096 bytes, and one
--- at the end. Either the bytes are fed as they are, or what the filter gives of each piece.
+-- This is what is relayed of a program's output, and of the farewell: a frame after each 4,096 bytes, and one at the
+-- end. Either the bytes are fed as they are, or what the filter gives of each piece.
 abbrev pub IsRelayedThrough : LineDrawing → ℕ → ℕ → List ℕ → List ℕ → Type 0
 IsRelayedThrough lines rows cols input text = IsPumped rows cols (all_passed lines (ended (pieces_of input))) text
 
--- A fresh view of this size was given, in some pieces, what is relayed of a program's output, and of the end of an
--- update. This is the text of what it shows.
+-- A fresh view of this size was given, in some pieces, what is relayed of a program's output, and of the farewell. This
+-- is the text of what it shows.
 pub record IsFarText (lines : LineDrawing) (rows cols : ℕ) (input text : List ℕ) : Type 0 where
   pub pieces : List (List ℕ)
   pub relayed : IsRelayedThrough lines rows cols input (concat pieces)
   pub shown : IsTextShown (sized rows cols) pieces text
 
--- What is appended to a writer is the text of the screen that a program's output makes, where an update that it left
--- open is ended: unless that screen shows U+FE0F.
+-- What is appended to a writer is the text of the screen that a program's output makes, where the modes and the update
+-- are ended that it left on: unless that screen shows U+FE0F.
 abbrev pub AppendsScreen : LineDrawing → ℕ → ℕ → List ℕ → Option (List ℕ) → Option (List ℕ) → Type 0
 AppendsScreen lines rows cols input old new =
     is_unsure (sized rows cols) (shown_state (screen_at_end lines rows cols input)) ≡ false
@@ -83,7 +83,7 @@ CarriesPiece h old piece answer g new = (g.client ≡ h.client)
     → Relaying rows cols fed base h.hub h.client → HasPassed h.filter lines past
     → Carried lines rows cols fed (passed lines past piece) base h.client old answer new g.hub)
 
--- From a source these pieces come: they were read; or the input ended, and the last one ends an update.
+-- From a source these pieces come: they were read; or the input ended, and the last one is the farewell.
 pub data Comes {S : Type 0} (gives : S → ℕ → Result (List ℕ) Error → S → Type 0) (s : S) : List (List ℕ) → S
     → Type 0 where
   read : {t : S} {pieces : List (List ℕ)} → Begun gives piece_len s pieces t → Comes gives s pieces t
@@ -105,7 +105,7 @@ pub data Follows (lines : LineDrawing) {S : Type 0} (gives : S → ℕ → Resul
       → Comes gives s (pieces ++ piece ∷ []) t → AreRelayed rows cols (all_passed lines pieces) frames
       → EndsOverlong rows cols (all_passed lines (pieces ++ piece ∷ []))
       → Follows lines gives rows cols s frames (Err FrameTooLong) t
-  -- the input was read to its end, and an update was ended
+  -- the input was read to its end, and the farewell was fed
   followed : {t : S} {frames : List (List ℕ)} (pieces : List (List ℕ)) → Drained gives piece_len s pieces (Ok tt) t
       → AreRelayed rows cols (all_passed lines (ended pieces)) frames → Follows lines gives rows cols s frames (Ok tt) t
 

@@ -3,10 +3,9 @@ use Rattle.std.specs.Prelude.{◌≡◌, ℕ, List, [], ◌++◌, Option, Ok, Er
 use Rattle.std.specs.Io.KnownBytes.{Appends}
 use Rattle.std.specs.declared.io.Error.{Error}
 use Rattle.byte_streams.specs.Pump.{Tells}
-use Rattle.vte.specs.Marks.{end_mark}
 use Rattle.charset_filter.specs.Lines.{passed}
 use Rattle.relay_streams.specs.declared.error.RelayError.{RelayError}
-use Rattle.relay_streams.specs.Live.{IsLiveText, RelaysThrough}
+use Rattle.relay_streams.specs.Live.{IsLiveText, RelaysThrough, farewell}
 use Rattle.relay_streams.specs.Pieces.{pieces_of}
 use Rattle.relay_streams.specs.Relayed.{Relays}
 use Rattle.relay_streams.specs.Sessions.{IsRelayText}
@@ -23,7 +22,7 @@ use Rattle.relay_commands.specs.declared.words.Job.TheVariants.{Relay, Show, Rel
 abbrev pub IsTextOf : Job → ℕ → ℕ → List ℕ → List ℕ → Type 0
 IsTextOf Relay rows cols bytes text = IsRelayText rows cols bytes text
 IsTextOf Show rows cols bytes text = IsTextShown (sized rows cols) (pieces_of bytes) text
-IsTextOf (RelayLive lines) rows cols bytes text = IsLiveText rows cols (passed lines [] (bytes ++ end_mark)) text
+IsTextOf (RelayLive lines) rows cols bytes text = IsLiveText rows cols (passed lines [] (bytes ++ farewell)) text
 IsTextOf (PrintFar lines) rows cols bytes text = IsFarText lines rows cols bytes text
 
 -- what an output has before and after, where these bytes were left in the input and all went well

@@ -11,8 +11,8 @@ ghost use Rattle.relay_commands.specs.Carried.{AppendsScreen, Carried, Carries, 
 ghost use Rattle.relay_commands.specs.Ends.{from, onto};
 
 use relay_streams::{
-    FlushSink, LineDrawing, PieceFilter, RelayError, Source, TakesPieces, each_piece, is_overlong,
-    print_view, update_end,
+    FlushSink, LineDrawing, PieceFilter, RelayError, Source, TakesPieces, each_piece, farewell,
+    is_overlong, print_view,
 };
 use std::alloc::Global;
 use std::num::NonZeroU16;
@@ -27,7 +27,7 @@ const STEP: usize = 7;
 /// shows them, with a newline each. Then the output is flushed.
 ///
 /// Each piece first passes a [`PieceFilter`], which draws the line drawing set's characters or keeps the letters. At the
-/// end of the input the program is gone, so a synchronized update that it left open is ended.
+/// end of the input the program is gone, so what it left on is ended ([`farewell`]), a synchronized update too.
 ///
 /// What is written are the rows of the screen that the output makes, with its lines drawn or not (`shows`): unless that
 /// screen shows U+FE0F.
@@ -77,8 +77,8 @@ struct FilteredHub {
     client: Client,
 }
 
-// Reads the whole input in full pieces, and brings the view the frame that is due after each. At its end an update is
-// ended, and the view gets the frame that is then due.
+// Reads the whole input in full pieces, and brings the view the frame that is due after each. At its end the farewell is
+// fed, and the view gets the frame that is then due.
 fn carry_frames<S: Source>(
     mut relay: FilteredHub,
     input: &mut S,
@@ -90,7 +90,7 @@ fn carry_frames<S: Source>(
         × OnOk result (Carries view.old (concat frames) view.new) }
 {
     each_piece(input, &mut relay, view)?;
-    relay.take_piece(update_end(), view)
+    relay.take_piece(farewell(), view)
 }
 
 impl TakesPieces<View<UntilCleared>> for FilteredHub {

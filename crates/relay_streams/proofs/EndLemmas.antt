@@ -1,6 +1,6 @@
 -- The screen at the end of an output.
 use Rattle.std.proofs.Common.{◌≡◌, ◌∙◌, ℕ, false, List, [], ◌∷◌, ◌++◌, refl, sym, ap, arith}
-use Rattle.std.proofs.Common.{length, length-append, subst}
+use Rattle.std.proofs.Common.{append_assoc, length, length-append, subst}
 use Rattle.std.specs.List.{concat}
 use Rattle.vte_core.specs.Event.{Event, Csi}
 use Rattle.vte_core.specs.Shapes.{events}
@@ -19,7 +19,7 @@ use Rattle.charset_filter.proofs.EventLemmas.{drawn_events-append}
 use Rattle.charset_filter.proofs.LawLemmas.{draws-events}
 use Rattle.relay_streams.specs.Frames.{state_after}
 use Rattle.relay_streams.specs.Laws.{HasReadAll, LiveEndIsShown}
-use Rattle.relay_streams.specs.Live.{screen_at_end}
+use Rattle.relay_streams.specs.Live.{farewell, modes_end, screen_at_end}
 use Rattle.relay_streams.specs.Sessions.{AreRelayed, texts_of}
 use Rattle.relay_streams.specs.Shown.{sized}
 use Rattle.relay_streams.proofs.RelayedLemmas.{live-shown}
@@ -35,18 +35,24 @@ played-push : (es : List Event) (e : Event) (s : State) → played (es ++ e ∷ 
 played-push [] e s = refl
 played-push (x ∷ es) e s = played-push es e (effect x s).state
 
+-- what stands before the end of an update, and its first byte
+abbrev before_end : List ℕ → List ℕ
+before_end input = (input ++ modes_end) ++ 27 ∷ []
+
 -- it is the last one, whatever was read before
-ends : (input : List ℕ) → events 1024 (input ++ end_mark) ≡ events 1024 (input ++ 27 ∷ []) ++ closing ∷ []
-ends input = esc-cut 1024 input (91 ∷ 63 ∷ 50 ∷ 48 ∷ 50 ∷ 54 ∷ 108 ∷ [])
+ends : (input : List ℕ) → events 1024 (input ++ farewell) ≡ events 1024 (before_end input) ++ closing ∷ []
+ends input =
+    ap (events 1024) (sym (append_assoc input modes_end end_mark))
+    ∙ esc-cut 1024 (input ++ modes_end) (91 ∷ 63 ∷ 50 ∷ 48 ∷ 50 ∷ 54 ∷ 108 ∷ [])
 
 -- with lines drawn too
 last-event : (lines : LineDrawing) (input : List ℕ) → (before : List Event)
-    × (events 1024 (passed lines [] (input ++ end_mark)) ≡ before ++ closing ∷ [])
-last-event Kept input = (events 1024 (input ++ 27 ∷ []), ends input)
+    × (events 1024 (passed lines [] (input ++ farewell)) ≡ before ++ closing ∷ [])
+last-event Kept input = (events 1024 (before_end input), ends input)
 last-event Drawn input =
-    let before = events 1024 (input ++ 27 ∷ []) in (
+    let before = events 1024 (before_end input) in (
       drawn_events first_sets before,
-      draws-events 1024 (input ++ end_mark) ∙ ap (drawn_events first_sets) (ends input)
+      draws-events 1024 (input ++ farewell) ∙ ap (drawn_events first_sets) (ends input)
           ∙ drawn_events-append first_sets before (closing ∷ []),
     )
 
@@ -62,7 +68,7 @@ at-end lines rows cols input =
 -- ---- so a view shows the screen
 
 -- something passes
-some-passed : (lines : LineDrawing) (input : List ℕ) → passed lines [] (input ++ end_mark) ≡ [] → ⊥
+some-passed : (lines : LineDrawing) (input : List ℕ) → passed lines [] (input ++ farewell) ≡ [] → ⊥
 some-passed lines input none =
     let last = last-event lines input in
     let empty : [] ≡ last.0 ++ closing ∷ [] = ap (events 1024) (sym none) ∙ last.1 in
@@ -95,7 +101,7 @@ live-end-shown lines rows cols input text parsed hold cuts live joined leads sur
           ∙ ap concat (sym (frames-of rows cols live.pieces (texts_of live.story) are));
       leads = leads;
     } in
-    let is : concat (cut.0 ++ cut.1 ∷ []) ≡ passed lines [] (input ++ end_mark) = ap concat (sym cut.2) ∙ whole in
+    let is : concat (cut.0 ++ cut.1 ∷ []) ≡ passed lines [] (input ++ farewell) = ap concat (sym cut.2) ∙ whole in
     let shown = live-shown Kept rows cols cut.0 cut.1 parsed hold
     (subst (λ (ps : List (List ℕ)). HasReadAll Kept rows cols ps parsed hold) cut.2 read)
     (ap (λ (bytes : List ℕ). is_unsure (sized rows cols) (shown_state (made bytes))) is ∙ sure)

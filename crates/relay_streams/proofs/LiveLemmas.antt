@@ -11,7 +11,6 @@ use Rattle.std.specs.Io.KnownBytes.{Appends, Consumes, IsAtEnd, Keeps}
 use Rattle.std.specs.IoError.{error_kind}
 use Rattle.std.specs.declared.io.Error.{Error}
 use Rattle.std.specs.declared.io.ErrorKind.TheVariants.{Interrupted}
-use Rattle.vte.specs.Marks.{end_mark}
 use Rattle.terminal_model.specs.Term.{Shown}
 use Rattle.screen_model.specs.Holds.{IsSide}
 use Rattle.byte_streams.specs.Output.{TakesPrefix}
@@ -30,7 +29,7 @@ use Rattle.relay_streams.specs.Live as live
 use Rattle.charset_filter.specs.Lines.{all_passed, passed}
 use Rattle.relay_streams.specs.Live.{live_len, Tries, Listens, SendsFlushed, StreamsThrough, RelaysThrough, IsLiveText}
 use Rattle.relay_streams.specs.Live.{Hears, MayWantRoom, PassedOn, TakesLive, TriesOnce, CountsReads, WantsRoom}
-use Rattle.relay_streams.specs.Live.{ended, read_as}
+use Rattle.relay_streams.specs.Live.{ended, farewell, read_as}
 use Rattle.relay_streams.specs.Sessions.{AreRelayed, EndsOverlong}
 use Rattle.relay_streams.specs.Turns.{Relaying, Turned}
 use Rattle.relay_streams.proofs.FrameLists.{frames_of, answers_of, base_of, frames-more, fits-push, base-push}
@@ -240,9 +239,9 @@ module _ (S W : Type 0) (gives : S → ℕ → Result (List ℕ) Error → S →
       (subst (λ (u : W). SendsFlushed takes flushes w (frames_of rows cols before) over u) (sym stays) sends) most
   live-faults key g s t w m v n TooManyReads height width b fit sends turned most = absurd turned
 
-  -- the end of the input, where the piece is what ends an update
+  -- the end of the input, where the piece is the farewell
   pub live-ends : (key : ℕ) (g : HubState as_kept) (s p t : S) (w m v : W) (n k : ℕ)
-      (answer : Result (Unit {0}) RelayError) → IsSide rows → IsSide cols → piece ≡ end_mark
+      (answer : Result (Unit {0}) RelayError) → IsSide rows → IsSide cols → piece ≡ farewell
       → Listens gives live_len s n past p → Tries gives live_len p k (Ok []) t → Fit before
       → SendsFlushed takes flushes w (frames_of rows cols before) over m
       → PassedOn lines takes flushes rows cols before here base key m answer v g → n + k ≤ max_reads
@@ -370,30 +369,30 @@ module _ (S W : Type 0) (gives : S → ℕ → Result (List ℕ) Error → S →
         (listens-taken s live_len n pieces m listens) (tries-taken live_len m k (Ok []) t [] tries refl)))
         (tries-ended live_len m k (Ok []) t tries refl (omega arith))
 
-    -- behind the pieces that come, more may be left, and then what ends an update
+    -- behind the pieces that come, more may be left, and then the farewell
     heard-with : (s : S) (n : ℕ) (pieces : List (List ℕ)) (t : S) (bytes : List ℕ)
         → Listens gives live_len s n pieces t → left s ≡ Some bytes
-        → (rest : List ℕ) × (bytes ++ end_mark ≡ concat pieces ++ rest)
+        → (rest : List ℕ) × (bytes ++ farewell ≡ concat pieces ++ rest)
     heard-with s n pieces t bytes listens is =
         let cut = listened s n pieces t bytes listens is in (
-          cut.0 ++ end_mark,
-          ap (λ zs. zs ++ end_mark) cut.1 ∙ append_assoc (concat pieces) cut.0 end_mark,
+          cut.0 ++ farewell,
+          ap (λ zs. zs ++ farewell) cut.1 ∙ append_assoc (concat pieces) cut.0 farewell,
         )
 
     heard-cut : (s : S) (n : ℕ) (pieces : List (List ℕ)) (t : S) (bytes : List ℕ)
         → Hears gives live_len s n pieces t → left s ≡ Some bytes
-        → (rest : List ℕ) × (bytes ++ end_mark ≡ concat pieces ++ rest)
+        → (rest : List ℕ) × (bytes ++ farewell ≡ concat pieces ++ rest)
     heard-cut s n pieces t bytes (live.heard listens) is = heard-with s n pieces t bytes listens is
     heard-cut s _ _ t bytes (live.at_end {n = n} {k = k} {pieces = pieces} m listens tries) is = (
       [],
-      sym (append-nil (concat (ended pieces)) ∙ concat-one pieces end_mark
-          ∙ ap (λ zs. zs ++ end_mark) (listened-all s m n k pieces t bytes listens tries is)),
+      sym (append-nil (concat (ended pieces)) ∙ concat-one pieces farewell
+          ∙ ap (λ zs. zs ++ farewell) (listened-all s m n k pieces t bytes listens tries is)),
     )
 
     -- the same of all pieces but the last one
     heard-past : (s : S) (n : ℕ) (pieces : List (List ℕ)) (piece : List ℕ) (t : S) (bytes : List ℕ)
         → Hears gives live_len s n (pieces ++ piece ∷ []) t → left s ≡ Some bytes
-        → (rest : List ℕ) × (bytes ++ end_mark ≡ concat pieces ++ rest)
+        → (rest : List ℕ) × (bytes ++ farewell ≡ concat pieces ++ rest)
     heard-past s n pieces piece t bytes hears is =
         let all = heard-cut s n (pieces ++ piece ∷ []) t bytes hears is in (
           piece ++ all.0,
@@ -402,32 +401,32 @@ module _ (S W : Type 0) (gives : S → ℕ → Result (List ℕ) Error → S →
 
     pub streams-prefix : (rows cols : ℕ) (lines : LineDrawing) (s : S) (w : W) (answer : Result (Unit {0}) RelayError)
         (t : S) (v : W) (bytes : List ℕ) → StreamsThrough lines gives takes flushes rows cols s w answer t v
-        → left s ≡ Some bytes → TakesLive rows cols (passed lines [] (bytes ++ end_mark)) (contents w) (contents v)
+        → left s ≡ Some bytes → TakesLive rows cols (passed lines [] (bytes ++ farewell)) (contents w) (contents v)
     streams-prefix rows cols lines s w answer t v bytes
         (live.unread {n = n} m pieces frames e listens tries are sends counts) is =
         let cut = heard-with s n pieces m bytes listens is in
-        takes-live rows cols lines w v pieces frames over (bytes ++ end_mark) cut.0 are sends cut.1
+        takes-live rows cols lines w v pieces frames over (bytes ++ farewell) cut.0 are sends cut.1
     streams-prefix rows cols lines s w answer t v bytes (live.unmade {n = n} pieces frames piece hears are wants sends most)
         is =
         let cut = heard-past s n pieces piece t bytes hears is in
-        takes-live rows cols lines w v pieces frames over (bytes ++ end_mark) cut.0 are sends cut.1
+        takes-live rows cols lines w v pieces frames over (bytes ++ farewell) cut.0 are sends cut.1
     streams-prefix rows cols lines s w answer t v bytes
         (live.overlong {n = n} pieces frames piece hears are ends sends most) is =
         let cut = heard-past s n pieces piece t bytes hears is in
-        takes-live rows cols lines w v pieces frames over (bytes ++ end_mark) cut.0 are sends cut.1
+        takes-live rows cols lines w v pieces frames over (bytes ++ farewell) cut.0 are sends cut.1
     streams-prefix rows cols lines s w answer t v bytes (live.stopped {n = n} pieces frames e hears are sends most) is =
         let cut = heard-cut s n pieces t bytes hears is in
-        takes-live rows cols lines w v pieces frames (Err e) (bytes ++ end_mark) cut.0 are sends cut.1
+        takes-live rows cols lines w v pieces frames (Err e) (bytes ++ farewell) cut.0 are sends cut.1
     streams-prefix rows cols lines s w answer t v bytes
         (live.finished {n = n} {k = k} m pieces frames listens tries are sends most) is =
         let cut = heard-cut s (n + k) (ended pieces) t bytes (live.at_end m listens tries) is in
-        takes-live rows cols lines w v (ended pieces) frames over (bytes ++ end_mark) cut.0 are sends cut.1
+        takes-live rows cols lines w v (ended pieces) frames over (bytes ++ farewell) cut.0 are sends cut.1
 
     streams-whole : (rows cols : ℕ) (lines : LineDrawing) (s : S) (w : W) (answer : Result (Unit {0}) RelayError)
         (t : S)
         (v : W) (bytes : List ℕ) → StreamsThrough lines gives takes flushes rows cols s w answer t v → answer ≡ well
         → left s ≡ Some bytes
-        → (text : List ℕ) × IsLiveText rows cols (passed lines [] (bytes ++ end_mark)) text
+        → (text : List ℕ) × IsLiveText rows cols (passed lines [] (bytes ++ farewell)) text
         × Appends (contents w) (contents v) text
     streams-whole rows cols lines s w answer t v bytes
         (live.finished {n = n} {k = k} m pieces frames listens tries are sends most) ok is = (
@@ -435,8 +434,8 @@ module _ (S W : Type 0) (gives : S → ℕ → Result (List ℕ) Error → S →
           record {
             pieces = all_passed lines (ended pieces);
             whole = concat-passed lines (ended pieces)
-                ∙ ap (passed lines []) (concat-one pieces end_mark
-                ∙ ap (λ zs. zs ++ end_mark) (listened-all s m n k pieces t bytes listens tries is));
+                ∙ ap (passed lines []) (concat-one pieces farewell
+                ∙ ap (λ zs. zs ++ farewell) (listened-all s m n k pieces t bytes listens tries is));
             key = are.key;
             story = are.story;
             is = are.is;
@@ -452,14 +451,14 @@ module _ (S W : Type 0) (gives : S → ℕ → Result (List ℕ) Error → S →
         (t : S) (v : W) → IsSide rows → IsSide cols
         → RelaysThrough lines gives takes flushes rows cols s w answer t v
         → OnOk answer (IfSome (left s) (λ bytes. (text : List ℕ)
-        × IsLiveText rows cols (passed lines [] (bytes ++ end_mark)) text
+        × IsLiveText rows cols (passed lines [] (bytes ++ farewell)) text
         × Appends (contents w) (contents v) text))
-        × IfSome (left s) (λ bytes. TakesLive rows cols (passed lines [] (bytes ++ end_mark)) (contents w)
+        × IfSome (left s) (λ bytes. TakesLive rows cols (passed lines [] (bytes ++ farewell)) (contents w)
         (contents v))
     live-reported rows cols lines s w answer t v height width live.refused = (
       tt,
       if_known (left s) _ (λ bytes is.
-          takes-live rows cols lines w w [] (frames_of rows cols []) over (bytes ++ end_mark) (bytes ++ end_mark)
+          takes-live rows cols lines w w [] (frames_of rows cols []) over (bytes ++ farewell) (bytes ++ farewell)
           (none-passed lines (λ ps. AreRelayed rows cols ps (frames_of rows cols []))
           (frames-are-relayed rows cols [] height width refl)) live.none refl),
     )

@@ -1,7 +1,6 @@
 -- Laws of what is shown.
 use Rattle.std.specs.Prelude.{◌≡◌, ℕ, false, List, [], ◌∷◌, ◌++◌, Option, None, map}
 use Rattle.std.specs.List.{All, concat}
-use Rattle.vte.specs.Marks.{end_mark}
 use Rattle.vte.specs.Moves.{Gives}
 use Rattle.vte.specs.Frames.{Drives, IsFrame}
 use Rattle.terminal_model.specs.Term.{Size, shown_of}
@@ -14,7 +13,7 @@ use Rattle.relay_theorem.specs.Headline.{ReadsPrefix, last_read}
 use Rattle.charset_filter.specs.declared.lines.LineDrawing.{LineDrawing}
 use Rattle.charset_filter.specs.Lines.{all_passed, passed}
 use Rattle.relay_streams.specs.Frames.{state_after}
-use Rattle.relay_streams.specs.Live.{IsLiveText, screen_at_end}
+use Rattle.relay_streams.specs.Live.{IsLiveText, farewell, screen_at_end}
 use Rattle.relay_streams.specs.Pieces.{pieces_of}
 use Rattle.relay_streams.specs.Sessions.{AreRelayed, IsRelayed, IsRelayText}
 use Rattle.relay_streams.specs.Shown.{IsTextShown, screen_text, sized}
@@ -69,11 +68,11 @@ LiveIsShown = (lines : LineDrawing) (rows cols : ℕ) (past : List (List ℕ)) (
     ≡ shown_state (state_after rows cols (passed lines [] (concat (past ++ piece ∷ [])))))
 
 -- A new view of the size that has read all that is written of a live output, in whatever pieces it comes, shows the
--- screen that the output makes, with its lines drawn or not, where an update that it left open is ended. It holds
--- nothing back. Left out is a screen that shows U+FE0F.
+-- screen that the output makes, with its lines drawn or not, where the modes and the update are ended that it left on.
+-- It holds nothing back. Left out is a screen that shows U+FE0F.
 abbrev pub LiveEndIsShown : Type 0
 LiveEndIsShown = (lines : LineDrawing) (rows cols : ℕ) (input text parsed : List ℕ) (hold : Option (List ℕ))
-    (cuts : List (List ℕ)) → IsLiveText rows cols (passed lines [] (input ++ end_mark)) text → concat cuts ≡ text
+    (cuts : List (List ℕ)) → IsLiveText rows cols (passed lines [] (input ++ farewell)) text → concat cuts ≡ text
     → Drives (map Gives cuts) [] None parsed hold
     → is_unsure (sized rows cols) (shown_state (screen_at_end lines rows cols input)) ≡ false
     → (hold ≡ None) × (shown_of (seen (sized rows cols) parsed) ≡ shown_state (screen_at_end lines rows cols input))

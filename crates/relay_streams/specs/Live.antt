@@ -66,12 +66,25 @@ pub data Listens {S : Type 0} (step : S → ℕ → Result (List ℕ) Error → 
   more : {t : S} {n k : ℕ} {pieces : List (List ℕ)} {bytes : List ℕ} (m : S) → Listens step room s n pieces m
       → Tries step room m k (Ok bytes) t → bytes ≢ [] → Listens step room s (n + k) (pieces ++ bytes ∷ []) t
 
--- these pieces of an output are fed: what was read, and at its end what ends an update that the program left open
-abbrev pub ended : List (List ℕ) → List (List ℕ)
-ended pieces = pieces ++ end_mark ∷ []
+-- ---- the end
 
--- From a source, so many reads give these pieces, and leave the source so; at the input's end another one comes, which
--- ends an update.
+-- what ends mouse reports, bracketed paste, application keys and keypad, and a cursor that is hidden or has another
+-- style: ESC [ ? 9 ; 1000 ; 1002 ; 1003 ; 1005 ; 1006 ; 2004 ; 1 l   ESC >   ESC [ ? 25 h   ESC [ 0 SP q
+abbrev pub modes_end : List ℕ
+modes_end =
+    27 ∷ 91 ∷ 63 ∷ 57 ∷ 59 ∷ 49 ∷ 48 ∷ 48 ∷ 48 ∷ 59 ∷ 49 ∷ 48 ∷ 48 ∷ 50 ∷ 59 ∷ 49 ∷ 48 ∷ 48 ∷ 51 ∷ 59 ∷ 49 ∷ 48 ∷
+    48 ∷ 53 ∷ 59 ∷ 49 ∷ 48 ∷ 48 ∷ 54 ∷ 59 ∷ 50 ∷ 48 ∷ 48 ∷ 52 ∷ 59 ∷ 49 ∷ 108 ∷ 27 ∷ 62 ∷ 27 ∷ 91 ∷ 63 ∷ 50 ∷ 53 ∷
+    104 ∷ 27 ∷ 91 ∷ 48 ∷ 32 ∷ 113 ∷ []
+
+-- what ends all that a program may have left on: these, and an update
+abbrev pub farewell : List ℕ
+farewell = modes_end ++ end_mark
+
+-- these pieces of an output are fed: what was read, and at its end the farewell
+abbrev pub ended : List (List ℕ) → List (List ℕ)
+ended pieces = pieces ++ farewell ∷ []
+
+-- From a source, so many reads give these pieces, and leave the source so; at the input's end the farewell comes.
 pub data Hears {S : Type 0} (step : S → ℕ → Result (List ℕ) Error → S → Type 0) (room : ℕ) (s : S)
     : ℕ → List (List ℕ) → S → Type 0 where
   heard : {t : S} {n : ℕ} {pieces : List (List ℕ)} → Listens step room s n pieces t → Hears step room s n pieces t
@@ -125,7 +138,7 @@ PassedOn lines takes flushes rows cols fed piece base key w (Err Read) v g = ⊥
 PassedOn lines takes flushes rows cols fed piece base key w (Err TooManyReads) v g = ⊥
 
 -- From a source and a writer, pieces are read and pass, and the frame that is due after each is sent and flushed before
--- the next one is read. At the end an update is ended. So it is answered, and so both are left.
+-- the next one is read. At the end the farewell is fed. So it is answered, and so both are left.
 pub data StreamsThrough (lines : LineDrawing) {S W : Type 0} (gives : S → ℕ → Result (List ℕ) Error → S → Type 0)
     (takes : W → List ℕ → Result ℕ Error → W → Type 0) (flushes : W → Result (Unit {0}) Error → W → Type 0)
     (rows cols : ℕ) (s : S) (w : W) : Result (Unit {0}) RelayError → S → W → Type 0 where
@@ -149,7 +162,7 @@ pub data StreamsThrough (lines : LineDrawing) {S W : Type 0} (gives : S → ℕ 
       → Hears gives live_len s n pieces t → AreRelayed rows cols (all_passed lines pieces) frames
       → SendsFlushed takes flushes w frames (Err e) v → n ≤ max_reads
       → StreamsThrough lines gives takes flushes rows cols s w (Err Write) t v
-  -- the input was read to its end, an update was ended, and all frames were sent
+  -- the input was read to its end, the farewell was fed, and all frames were sent
   finished : {t : S} {v : W} {n k : ℕ} (m : S) (pieces frames : List (List ℕ)) → Listens gives live_len s n pieces m
       → Tries gives live_len m k (Ok []) t → AreRelayed rows cols (all_passed lines (ended pieces)) frames
       → SendsFlushed takes flushes w frames (Ok tt) v → n + k ≤ max_reads
@@ -174,9 +187,10 @@ RelaysLive gives takes flushes rows cols s w answer t v =
 
 -- ---- what comes out
 
--- the screen that a program's output makes, its lines drawn or kept, where an update that it left open is ended
+-- the screen that a program's output makes, its lines drawn or kept, where the modes and the update are ended that it
+-- left on
 abbrev pub screen_at_end : LineDrawing → ℕ → ℕ → List ℕ → State
-screen_at_end lines rows cols input = state_after rows cols (passed lines [] (input ++ end_mark))
+screen_at_end lines rows cols input = state_after rows cols (passed lines [] (input ++ farewell))
 
 -- This is what is pumped to a client to whom the whole input is relayed, in some pieces, a frame for each that is due.
 pub record IsLiveText (rows cols : ℕ) (input text : List ℕ) : Type 0 where

@@ -30,8 +30,8 @@ pub fn live_is_shown()
 {}
 
 /// Of what `relay_live` or `relay_live_with` has written at its end a view, in whatever pieces it comes, shows the screen
-/// that the whole input makes, where an update that it left open is ended: with its lines drawn, where they are. It
-/// holds nothing back. Left out is a screen that shows U+FE0F.
+/// that the whole input makes, where the modes and the update are ended that it left on: with its lines drawn, where
+/// they are. It holds nothing back. Left out is a screen that shows U+FE0F.
 pub fn live_end_is_shown()
     ensures { LiveEndIsShown }
 {}

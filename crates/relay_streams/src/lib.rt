@@ -21,7 +21,7 @@ pub use charset_filter::{LineDrawing, PieceFilter};
 pub use error::RelayError;
 pub use far::{far_view, view_of};
 pub use filling::{PIECE_LEN, fill};
-pub use live::{LIVE_LEN, relay_live, relay_live_with, update_end};
+pub use live::{LIVE_LEN, farewell, relay_live, relay_live_with};
 pub use pieces::{TakesPieces, each_piece};
 pub use printing::print_text;
 pub use relaying::{is_overlong, relay};

@@ -5,9 +5,8 @@ ghost use Rattle.std.specs.Io.KnownBytes.{Appends};
 ghost use Rattle.relay_streams.specs.Fill.{max_reads};
 ghost use Rattle.charset_filter.specs.Lines.{HasPassed, passed};
 ghost use Rattle.terminal_model.specs.Term.{Shown};
-ghost use Rattle.vte.specs.Marks.{end_mark};
 ghost use Rattle.relay_streams.specs.Live.{IsLiveText, PassedOn, RelaysLive, RelaysThrough, StreamsThrough, TakesLive};
-ghost use Rattle.relay_streams.specs.Live.{TriesOnce};
+ghost use Rattle.relay_streams.specs.Live.{TriesOnce, farewell};
 ghost use Rattle.relay_streams.specs.Turns.{Relaying};
 
 use crate::error::RelayError;
@@ -28,8 +27,8 @@ pub const LIVE_LEN: usize = 65_536;
 /// read and asks for a frame after each.
 ///
 /// A read is given room for 65,536 bytes, so the output of a fast program is gathered while a write waits. No frame is
-/// due while the program is in a synchronized update of its own. At the end of the input the program is gone, so an
-/// update that it left open is ended, and the frame that is then due is written. A frame that would be longer than
+/// due while the program is in a synchronized update of its own. At the end of the input the program is gone, so what it
+/// left on is ended ([`farewell`]), and the frame that is then due is written. A frame that would be longer than
 /// 2,097,150 bytes is a fault, [`RelayError::FrameTooLong`], and nothing of it is written.
 ///
 /// At most 2^40 reads are made; an interrupted one is tried again and counted. A fault ends it. What was written by
@@ -44,10 +43,10 @@ pub fn relay_live<S: Source, W: FlushSink>(
     ensures relays { RelaysLive S.gives W.takes W.flushes rows.value cols.value input.old output.old result input.new
         output.new }
     ensures text { OnOk result (IfSome (S.left input.old) (λ bytes. (text : List ℕ)
-        × IsLiveText rows.value cols.value (bytes ++ end_mark) text
+        × IsLiveText rows.value cols.value (bytes ++ farewell) text
         × Appends (W.contents output.old) (W.contents output.new) text)) }
     ensures prefix { IfSome (S.left input.old) (λ bytes.
-        TakesLive rows.value cols.value (bytes ++ end_mark) (W.contents output.old) (W.contents output.new)) }
+        TakesLive rows.value cols.value (bytes ++ farewell) (W.contents output.old) (W.contents output.new)) }
 {
     relay_live_with(alloc, rows, cols, LineDrawing::Kept, input, output)
 }
@@ -68,10 +67,10 @@ pub fn relay_live_with<S: Source, W: FlushSink>(
     ensures relays { RelaysThrough lines S.gives W.takes W.flushes rows.value cols.value input.old output.old result
         input.new output.new }
     ensures text { OnOk result (IfSome (S.left input.old) (λ bytes. (text : List ℕ)
-        × IsLiveText rows.value cols.value (passed lines [] (bytes ++ end_mark)) text
+        × IsLiveText rows.value cols.value (passed lines [] (bytes ++ farewell)) text
         × Appends (W.contents output.old) (W.contents output.new) text)) }
     ensures prefix { IfSome (S.left input.old) (λ bytes.
-        TakesLive rows.value cols.value (passed lines [] (bytes ++ end_mark)) (W.contents output.old)
+        TakesLive rows.value cols.value (passed lines [] (bytes ++ farewell)) (W.contents output.old)
         (W.contents output.new)) }
 {
     let mut hub = Hub::new(alloc, rows, cols)?;
@@ -80,7 +79,7 @@ pub fn relay_live_with<S: Source, W: FlushSink>(
     relay_reads(&mut hub, client, &mut filter, input, output)
 }
 
-// Reads the whole input, and has a turn with what each read gives, and one with what ends an update.
+// Reads the whole input, and has a turn with what each read gives, and one with the farewell.
 fn relay_reads<S: Source, W: FlushSink>(
     hub: &mut Hub,
     client: Client,
@@ -98,17 +97,18 @@ fn relay_reads<S: Source, W: FlushSink>(
     'reads: loop {
         let n = read_some(input, &mut piece, &mut reads)?;
         if n == 0 {
-            return pass_on(hub, client, filter, update_end(), output);
+            return pass_on(hub, client, filter, farewell(), output);
         }
         pass_on(hub, client, filter, &piece[..n], output)?;
     }
 }
 
-/// What ends a synchronized update: private mode 2026 is reset.
-pub fn update_end() -> &'static [u8]
-    ensures { result.now ≡ end_mark }
+/// What ends all that a program may have left on: mouse reports, bracketed paste, application keys and keypad, a hidden
+/// cursor and its style, and a synchronized update.
+pub fn farewell() -> &'static [u8]
+    ensures { result.now ≡ farewell }
 {
-    b"\x1b[?2026l"
+    b"\x1b[?9;1000;1002;1003;1005;1006;2004;1l\x1b>\x1b[?25h\x1b[0 q\x1b[?2026l"
 }
 
 // Has a piece pass, feeds what it gives, sends the frame that is then due, and flushes the writer.

@@ -17,4 +17,4 @@ pub returns : goal.returns
 returns g c = λ rows cols lines at passes.
     follows-of g.row.S.Denot g.S.Source.gives rows cols lines _ _ _ _ _ _ _ _ _ _ at passes c.in_ok-each_piece.ensures
     (subst (λ (bytes : List ℕ). CarriesPiece c.each_piece.new.consumer c.each_piece.new.to bytes c.take_piece.result
-    c.take_piece.new.self c.take_piece.new.view) c.update_end.ensures c.take_piece.ensures.step)
+    c.take_piece.new.self c.take_piece.new.view) c.farewell.ensures c.take_piece.ensures.step)

@@ -56,9 +56,9 @@ returns-then-n-eq0 g c = λ rows cols lines at passes.
     let passed_on = (c.pass_on.ensures.sent rows cols lines (concat past) (all_passed lines past)
     (base_of rows cols (all_passed lines past)) (so_far.at rows cols lines at passes) (so_far.passes lines passes)) in
     live-ends g.row.S.Denot g.row.W.Denot g.S.Source.gives g.W.ByteSink.takes g.W.FlushSink.flushes rows cols lines
-    past c.update_end.result.now c.args.client c.pass_on.new.hub c.args.input.now c.reads.input c.read_some.new.input
+    past c.farewell.result.now c.args.client c.pass_on.new.hub c.args.input.now c.reads.input c.read_some.new.input
     c.args.output.now c.reads.output c.pass_on.new.output c.reads.reads c.read_some.ensures.made c.pass_on.result
-    at.height at.width c.update_end.ensures so_far.read last (so_far.fits rows cols lines at passes)
+    at.height at.width c.farewell.ensures so_far.read last (so_far.fits rows cols lines at passes)
     (so_far.sent rows cols lines at passes) passed_on
     (omega (arith, c.read_some.ensures.counted, tried-most c.read_some.ensures whole n c.in_ok-n.was))
 
