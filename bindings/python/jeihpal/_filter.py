@@ -21,4 +21,4 @@ class Filter(Object):
         """
         with self._lock:
             self._give("pass", data)
-            return self._text("given")
+            return self._text("given", first=len(data) + 1)  # as long as it is where no lines are drawn

@@ -80,16 +80,28 @@ class Object:
         data = data if isinstance(data, bytes) else bytes(memoryview(data))
         self._call(name, data, len(data))
 
-    def _text(self, name: str, *arguments: Any, most: int | None = None, after: tuple[Any, ...] = ()) -> bytes:
+    def _text(
+        self,
+        name: str,
+        *arguments: Any,
+        most: int | None = None,
+        after: tuple[Any, ...] = (),
+        first: int = _FIRST_ROOM,
+    ) -> bytes:
         """What a function copies out: all of it, or at most so many bytes of its front. The room for it belongs to
-        this call alone."""
-        return self._answered(name, *arguments, most=most, after=after)[1]
+        this call alone. At first it is for so many bytes."""
+        return self._answered(name, *arguments, most=most, after=after, first=first)[1]
 
     def _answered(
-        self, name: str, *arguments: Any, most: int | None = None, after: tuple[Any, ...] = ()
+        self,
+        name: str,
+        *arguments: Any,
+        most: int | None = None,
+        after: tuple[Any, ...] = (),
+        first: int = _FIRST_ROOM,
     ) -> tuple[int, bytes]:
         """The same, behind the function's answer."""
-        room, count = ctypes.create_string_buffer(_FIRST_ROOM), ctypes.c_size_t()
+        room, count = ctypes.create_string_buffer(first), ctypes.c_size_t()
         while True:
             answer = self._call(name, *arguments, room, len(room), count, *after)
             wanted = count.value if most is None else min(most, count.value)
