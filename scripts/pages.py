@@ -11,7 +11,7 @@ import sys
 sys.path.insert(0, os.path.dirname(os.path.dirname(os.path.realpath(__file__))))
 from scripts import asked  # noqa: E402
 
-SIZE = [("ROWS", "The rows of the screen"), ("COLS", "Its columns")]
+SIZE = [("[ROWS", "The rows of the screen, as those of the terminal"), ("COLS]", "Its columns")]
 FILES = "files"
 NO_LINE_DRAWING = (
     "no-line-drawing", None, None, "Letters stay where a program draws lines with DEC's special graphics",
@@ -136,6 +136,7 @@ def entry(name):
 STATUS = "0 at success, 1 at a fault, 2 for words that aren't understood"
 IN_PART = STATUS + ", 3 for a recording of which only a part was read."
 OF_FILE = "Without FILE, and with -, standard input is read."
+OF_SIZE = "Without ROWS and COLS the size is that of the terminal."
 STATUSES = {"screentext": IN_PART, "screenplay": IN_PART}
 SHORT = {"help": "h", "version": "V"}
 EXAMPLES = {
@@ -179,9 +180,9 @@ def synopsis(name):
 
 def plain(name):
     """The help, as text."""
-    about, _, options, notes = entry(name)
+    about, words, options, notes = entry(name)
     lines = [about[0].upper() + about[1:] + ".", "", f"Usage: {usage(name)}", ""]
-    lines += [OF_FILE, ""] * (name in PROGRAMS)
+    lines += [OF_FILE, *[OF_SIZE] * (words[-2:] == SIZE), ""] * (name in PROGRAMS)
     lines += [notes, "", *["Options:"] * bool(options)]
     for option, value, completes, text in options:
         shown = f"--{option}" + (f" {value}" if value else "")
@@ -192,10 +193,10 @@ def plain(name):
 
 
 def man(name):
-    about, _, options, notes = entry(name)
+    about, words, options, notes = entry(name)
     roff = [f'.TH {name.upper()} 1 "" "Jeihpal 0.1"', ".SH NAME", f"{name} \\- {about}", ".SH SYNOPSIS"]
     roff.append(f".B {name}\n{synopsis(name)}")
-    roff += [".SH DESCRIPTION", notes, *[".PP", OF_FILE] * (name in PROGRAMS), *[".SH OPTIONS"] * bool(options)]
+    roff += [".SH DESCRIPTION", notes, *[".PP", OF_FILE] * (name in PROGRAMS), *[OF_SIZE] * (words[-2:] == SIZE), *[".SH OPTIONS"] * bool(options)]
     for option, value, _, text in options:
         short = f"\\fB\\-{SHORT[option]}\\fR, " if option in SHORT else ""
         shown = f"{short}\\fB\\-\\-{option}\\fR" + (f" \\fI{value}\\fR" if value else "")
