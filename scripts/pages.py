@@ -11,7 +11,7 @@ import sys
 sys.path.insert(0, os.path.dirname(os.path.dirname(os.path.realpath(__file__))))
 from scripts import asked  # noqa: E402
 
-SIZE = [("[ROWS", "The rows of the screen, as those of the terminal"), ("COLS]", "Its columns")]
+SIZE = [("[ROWS", "The rows of the screen, by default those of the terminal"), ("COLS]", "Its columns")]
 FILES = "files"
 NO_LINE_DRAWING = (
     "no-line-drawing", None, None, "Letters stay where a program draws lines with DEC's special graphics",
@@ -196,7 +196,9 @@ def man(name):
     about, words, options, notes = entry(name)
     roff = [f'.TH {name.upper()} 1 "" "Jeihpal 0.1"', ".SH NAME", f"{name} \\- {about}", ".SH SYNOPSIS"]
     roff.append(f".B {name}\n{synopsis(name)}")
-    roff += [".SH DESCRIPTION", notes, *[".PP", OF_FILE] * (name in PROGRAMS), *[OF_SIZE] * (words[-2:] == SIZE), *[".SH OPTIONS"] * bool(options)]
+    roff += [".SH DESCRIPTION", notes]
+    roff += [*[".PP", OF_FILE] * (name in PROGRAMS), *[OF_SIZE] * (words[-2:] == SIZE)]
+    roff += [".SH OPTIONS"] * bool(options)
     for option, value, _, text in options:
         short = f"\\fB\\-{SHORT[option]}\\fR, " if option in SHORT else ""
         shown = f"{short}\\fB\\-\\-{option}\\fR" + (f" \\fI{value}\\fR" if value else "")
