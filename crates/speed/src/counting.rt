@@ -2,7 +2,9 @@
 
 ghost use Rattle.std.specs.Prelude.{⊤, false};
 
+use std::io;
 use std::marker::Model;
+use termrelay::ByteSink;
 use vte::ansi::{Call, Handler};
 use vte::{Event, Perform};
 
@@ -58,5 +60,15 @@ impl Handler for Counting {
 
     fn input_str(&mut self, text: &str) {
         self.add(text.len());
+    }
+}
+
+/// Takes all bytes, and counts them.
+impl ByteSink for Counting {
+    ghost takes = { λ _ _ _ _. ⊤ };
+
+    fn offer(&mut self, bytes: &[u8]) -> io::Result<usize> {
+        self.add(bytes.len());
+        Ok(bytes.len())
     }
 }

@@ -14,13 +14,22 @@
 //! - `unchanged`: a hub that has sent its screen is asked for a frame.
 //! - `frame`: a row is written over, and the client's frame, a difference, is made and sent.
 //! - `client`: a new client is sent its first frame.
+//! - `in_step_N`: a hub of 1, 10, 100 or 1,000 clients is fed a half of the stream, the first one and the second one in
+//!   turn. Then each client's frame is made, looked at and sent.
+//! - `apart_N`: the same, and a row is written over before each client's frame, so that no two are of one moment.
+//! - `scrollback`: a terminal that keeps 100,000 rows scrolls back, each time to another place.
+//! - `contents`: it does so, and its text is taken.
+//! - `resize`: it gets 20 columns more, and then its own number again.
 //!
-//! The first six read the whole stream each time; the others read it once. `all` is one after another.
+//! The first six read the whole stream each time; the others read it before, the last three often enough to have all the
+//! rows. `all` is one after another.
 #![tactic(auto)]
 
 mod counting;
+mod kept;
 mod reading;
 mod relaying;
+mod rounds;
 mod work;
 mod writing;
 

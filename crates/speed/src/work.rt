@@ -19,6 +19,13 @@ pub(crate) enum Work {
     Unchanged,
     Frame,
     Client,
+    /// Of so many clients, which are sent frames of the same moments.
+    InStep(usize),
+    /// Of so many clients, each of which is sent frames of moments of its own.
+    Apart(usize),
+    Scrollback,
+    Contents,
+    Resize,
 }
 
 /// The kinds of work, by name.
@@ -36,6 +43,17 @@ pub(crate) const WORKS: &[(&str, Work)] = &[
     ("unchanged", Work::Unchanged),
     ("frame", Work::Frame),
     ("client", Work::Client),
+    ("in_step_1", Work::InStep(1)),
+    ("in_step_10", Work::InStep(10)),
+    ("in_step_100", Work::InStep(100)),
+    ("in_step_1000", Work::InStep(1000)),
+    ("apart_1", Work::Apart(1)),
+    ("apart_10", Work::Apart(10)),
+    ("apart_100", Work::Apart(100)),
+    ("apart_1000", Work::Apart(1000)),
+    ("scrollback", Work::Scrollback),
+    ("contents", Work::Contents),
+    ("resize", Work::Resize),
 ];
 
 /// How many rows a screen keeps that keeps some.
@@ -88,6 +106,9 @@ impl<'a> Workload<'a> {
             Work::Redraw | Work::Same | Work::Row => self.written(work),
             Work::Difference => self.difference(),
             Work::Hub | Work::Unchanged | Work::Frame | Work::Client => self.relayed(work),
+            Work::InStep(count) => self.rounds(count, true),
+            Work::Apart(count) => self.rounds(count, false),
+            Work::Scrollback | Work::Contents | Work::Resize => self.scrolled_back(work),
         }
     }
 }

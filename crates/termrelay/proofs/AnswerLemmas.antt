@@ -52,7 +52,7 @@ answer-capped now base [] =
     (due (grid_size now.shown) (shown_state now) base)
 answer-capped now base (b ∷ bs) = refl
 
-may-take : (long : Bool) (wanted : Answer) → is_frame wanted ≡ true
+pub may-take : (long : Bool) (wanted : Answer) → is_frame wanted ≡ true
     → may_allocate (if is_frame wanted && long then TooLong else wanted) ≡ true
 may-take long wanted frame = grind arith
 
@@ -74,6 +74,21 @@ module _ (now : State) (c : ClientState) (answer : Answer) (is : answer ≡ want
 
   pub answer-short : is_too_long (grid_size now.shown) (shown_state now) c.base ≡ false → answer ≡ answer_for now c
   answer-short short = rw (capped, short) (grind arith)
+
+-- nothing is owed, and the program is in no synchronized update
+pub answer-ready : (now : State) (base : Option Shown) (owed : List ℕ) → owed ≡ [] → now.updating ≡ false
+    → answer_to now base owed ≡ unless_too_long (grid_size now.shown) (shown_state now) base
+    (due (grid_size now.shown) (shown_state now) base)
+answer-ready now base owed none ready = rw (none, ready) refl
+
+-- what is due isn't that a frame is too long
+pub never-due : (z : Size) (now : Shown) (base : Option Shown) → due z now base ≡ TooLong → ⊥
+never-due z now None e = grind arith
+never-due z now (Some base) e = grind arith
+
+pub capped-short : (z : Size) (now : Shown) (base : Option Shown) (answer : Answer) → is_too_long z now base ≡ false
+    → unless_too_long z now base answer ≡ answer
+capped-short z now base answer short = rw short (grind arith)
 
 -- whether it is too long, by a text of it
 pub text-long : (z : Size) (base : Option Shown) (now : Shown) (text given : List ℕ) (long : Bool)

@@ -7,6 +7,8 @@ pub mod BelowLemmas
 pub mod ShownLemmas
 pub mod MadeLemmas
 pub mod HubLemmas
+pub mod NumberLemmas
+pub mod SharedFrames
 pub mod DueLemmas
 pub mod SureBases
 pub mod FeedLaws

@@ -12,9 +12,10 @@ use Rattle.vt100.proofs.ShownLemmas.{shown-is, screen-drawable}
 use Rattle.vt100.proofs.FormLists.{small-screen}
 use Rattle.termrelay.specs.Frame.{is_unsure, frame_text, HasByteBase, IsShortFrame, IsLocalFrame}
 use Rattle.termrelay.specs.Answers.{due}
-use Rattle.termrelay.specs.ClientRecord.{RecordView, client_of, IsBaseOf, IsRecordOf}
+use Rattle.termrelay.specs.ClientRecord.{RecordView, base_of, client_of, IsBaseOf, IsRecordOf}
 use Rattle.termrelay.specs.declared.answer.Answer.TheVariants.{Difference}
 use Rattle.termrelay.proofs.DueLemmas.{difference-body}
+use Rattle.termrelay.proofs.HubLemmas.{served-base}
 use Rattle.termrelay.proofs.SureLemmas.{sure-plain}
 use Rattle.termrelay.proofs.FrameLengths.{frame-short}
 
@@ -30,7 +31,7 @@ pub due-short : (now : ScreenView) (r : RecordView) (text : List ℕ) → IsUnsc
     → text ≡ frame_text (grid_size now.state.shown) (client_of r).base (shown_state now.state)
     → IsShortFrame (grid_size now.state.shown) text
 due-short now r text u h is =
-    let bytes = byte-base now r.base h.base in
+    let bytes = byte-base now (base_of r.last) (served-base now r.last h.last) in
     rw is (frame-short (grid_size now.state.shown) _ (shown_state now.state) bytes (small-screen now.state u))
 
 -- ---- which cells

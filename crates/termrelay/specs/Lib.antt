@@ -2,6 +2,8 @@ pub mod Frame
 pub mod Answers
 pub mod Hub
 pub mod ClientRecord
+pub mod Frames
+pub mod Due
 pub mod HubFields
 pub mod Laws
 pub mod Calls

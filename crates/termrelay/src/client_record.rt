@@ -1,6 +1,6 @@
 //! What a hub keeps of a client.
-ghost use Rattle.std.specs.Prelude.{◌≡◌, ℕ, ◌++◌, [], true, drop, length, nat_lt, Some, None, IfOk, OnOk, OnErr, Err};
-ghost use Rattle.std.specs.Prelude.{if◌then◌else◌, string_bytes, IfSome, IsSome};
+ghost use Rattle.std.specs.Prelude.{◌≡◌, ℕ, ◌-◌, ◌≤◌, ◌++◌, [], true, false, drop, length, nat_lt, Some, None, IfOk, OnOk, OnErr};
+ghost use Rattle.std.specs.Prelude.{Err, if◌then◌else◌, string_bytes, IfSome, IsSome, IsSomeAnd, MatchOption};
 ghost use Rattle.std.specs.Option.{option_copied, option_map};
 ghost use Rattle.vt100_forms.specs.Form.{bytes_of};
 ghost use Rattle.vt100_core.specs.Picture.{grid_size};
@@ -9,7 +9,7 @@ ghost use Rattle.vt100.specs.WriterLaws.{IsUnscrolled};
 ghost use Rattle.termrelay.specs.Frame.{frame_text as text_of_frame, body_forms};
 ghost use Rattle.termrelay.specs.Answers.{wanted_of, due, is_frame, longest_frame};
 ghost use Rattle.byte_streams.specs.Pump.{Pumps};
-ghost use Rattle.termrelay.specs.ClientRecord.{RecordView, client_of, IsRecordOf, is_unsure_screen, sure_base};
+ghost use Rattle.termrelay.specs.ClientRecord.{base_of, moment_of, client_of, IsRecordOf, is_unsure_screen, sure_base};
 ghost use Rattle.termrelay.specs.Redraw.{redraw_kept};
 ghost use Rattle.termrelay.specs.declared.answer.Answer.TheVariants.{Unsure};
 ghost use Rattle.termrelay.specs.declared.error.HubError.TheVariants.{Memory};
@@ -17,6 +17,7 @@ ghost use Rattle.termrelay.specs.declared.error.HubError.TheVariants.{Memory};
 use crate::answer::Answer;
 use crate::body::{push_difference, push_redraw, push_state};
 use crate::error::HubError;
+use crate::frame::Frame;
 use crate::shown::{is_unsure, is_unsure_since, same_shown};
 use byte_streams::{ByteSink, pump};
 use std::alloc::Global;
@@ -62,125 +63,64 @@ fn unsure_or(unsure: bool, answer: Answer) -> Answer
     if unsure { Answer::Unsure } else { answer }
 }
 
-/// What the screen showed when a frame was made.
-#[derive(Drop)]
-pub(crate) struct Base {
-    /// A copy of the screen.
-    screen: Arc<Screen>,
-    /// Whether it shows U+FE0F, about whose width terminals disagree.
-    unsure: bool,
-}
-
-impl Model for Base {
-    ghost use Rattle.std.specs.Prelude.{◌≡◌};
-    ghost use Rattle.screen_model.specs.Call.{ScreenView};
-    ghost use Rattle.termrelay.specs.ClientRecord.{is_unsure_screen};
-
-    ghost Value = { ScreenView };
-
-    ghost view = { λ b. b.screen.value };
-
-    ghost invariant = { λ b. b.unsure ≡ is_unsure_screen b.screen.value };
-}
-
-impl Base {
-    /// `unsure` says whether the screen shows U+FE0F.
-    pub(crate) fn new(screen: Arc<Screen>, unsure: bool) -> Self
-        requires { unsure ≡ is_unsure_screen screen.value }
-        ensures { result ≡ screen.value }
-    {
-        Base { screen, unsure }
-    }
-
-    fn screen(&self) -> &Screen
-        ensures { result.now ≡ self.now }
-    {
-        &self.screen
-    }
-
-    /// The same base, whose screen the two share. Fails only if an allocation fails.
-    fn share(&self) -> Result<Self, HubError>
-        ensures same { IfOk result (λ base. base ≡ self.now) }
-        ensures memory { OnErr result (result ≡ Err Memory) }
-    {
-        Ok(Base {
-            screen: self.screen.clone()?,
-            unsure: self.unsure,
-        })
-    }
-
-    /// The screen, unless somebody else has it too.
-    pub(crate) fn into_screen(self) -> Option<Screen> {
-        Arc::into_inner(self.screen)
-    }
-}
-
 /// What a hub keeps of a client.
 #[derive(Drop)]
 pub(crate) struct ClientRecord {
-    /// The last frame's text.
-    text: Vec<u8>,
-    /// How many bytes of the text are no longer owed.
-    taken: usize,
-    /// The screen at the last frame.
-    base: Option<Base>,
+    /// The last frame, which other clients may have too.
+    last: Option<Arc<Frame>>,
+    /// How many bytes at its end are still owed.
+    left: usize,
 }
 
 impl Model for ClientRecord {
-    ghost use Rattle.std.specs.Prelude.{drop, ◌≤◌, vec_len};
-    ghost use Rattle.termrelay.specs.ClientRecord.{RecordView};
+    ghost use Rattle.std.specs.Prelude.{◌≤◌, length, IfSome};
+    ghost use Rattle.std.specs.Option.{option_map};
+    ghost use Rattle.termrelay.specs.ClientRecord.{RecordView, left_of};
 
     ghost Value = { RecordView };
 
-    ghost view = { λ r. record { owed = drop r.taken r.text.items; base = r.base } };
+    ghost view = { λ r. record {
+      owed = left_of (option_map (λ f. f.value) r.last) r.left;
+      last = option_map (λ f. f.value) r.last;
+    } };
 
-    ghost invariant = { λ r. r.taken ≤ vec_len r.text };
+    ghost invariant = { λ r. IfSome r.last (λ f. r.left ≤ length f.value.text) };
 }
 
 impl ClientRecord {
     /// The record of a client that has had no frame.
-    pub(crate) fn new(alloc: Global) -> Self
-        ensures { result ≡ record { owed = []; base = None } }
+    pub(crate) fn new() -> Self
+        ensures { result ≡ record { owed = []; last = None } }
     {
         ClientRecord {
-            text: Vec::new(alloc),
-            taken: 0,
-            base: None,
+            last: None,
+            left: 0,
         }
     }
 
-    /// The record of a client that has had what this one has had and is owed nothing. The two share the screen at the
-    /// last frame. Fails only if an allocation fails.
-    pub(crate) fn fork(&self, alloc: Global) -> Result<Self, HubError>
-        ensures fork { IfOk result (λ fork. fork ≡ record { owed = []; base = self.now.base }) }
+    /// The record of a client that has had what this one has had and is owed nothing. The two share the last frame.
+    /// Fails only if an allocation fails.
+    pub(crate) fn fork(&self) -> Result<Self, HubError>
+        ensures fork { IfOk result (λ fork. fork ≡ record { owed = []; last = self.now.last }) }
         ensures memory { OnErr result (result ≡ Err Memory) }
     {
-        let base = self.shared_base()?;
-        Ok(ClientRecord {
-            text: Vec::new(alloc),
-            taken: 0,
-            base,
-        })
-    }
-
-    /// The screen at the last frame, which the result shares. Fails only if an allocation fails.
-    fn shared_base(&self) -> Result<Option<Base>, HubError>
-        ensures same { IfOk result (λ base. base ≡ self.now.base) }
-        ensures memory { OnErr result (result ≡ Err Memory) }
-    {
-        match &self.base {
-            Some(base) => Ok(Some(base.share()?)),
-            None => Ok(None),
+        match &self.last {
+            Some(last) => Ok(ClientRecord {
+                last: Some(last.clone()?),
+                left: 0,
+            }),
+            None => Ok(ClientRecord::new()),
         }
     }
 
     /// The text of a first frame of the screen at the last frame: nothing, if there was no frame. `None` if it is too
     /// long. Fails only if an allocation fails; nothing is allocated if there was no frame.
     pub(crate) fn redraw(&self, alloc: Global) -> Result<Option<Vec<u8>>, HubError>
-        requires { IfSome self.now.base (λ base. IsUnscrolled base.state) }
-        ensures text { IfOk result (λ redraw. option_map (λ text. text.items) redraw ≡ redraw_kept self.now.base) }
+        requires { IfSome (base_of self.now.last) (λ base. IsUnscrolled base.state) }
+        ensures text { IfOk result (λ redraw. option_map (λ text. text.items) redraw
+            ≡ redraw_kept (base_of self.now.last)) }
         ensures memory { OnErr result (result ≡ Err Memory) }
-        ensures needed { OnErr result (IsSome self.now.base) }
+        ensures needed { OnErr result (IsSome self.now.last) }
     {
         let Some(base) = self.base() else {
             return Ok(Some(Vec::new(alloc)));
@@ -196,32 +136,66 @@ impl ClientRecord {
     pub(crate) fn owed(&self) -> &[u8]
         ensures { result.now ≡ self.now.owed }
     {
-        &self.text[self.taken..]
+        match &self.last {
+            Some(last) => last_bytes(last.text(), self.left),
+            None => &[],
+        }
+    }
+
+    /// The last frame.
+    pub(crate) fn last(&self) -> Option<&Arc<Frame>>
+        ensures { option_map (λ last. last.now.value) result ≡ self.now.last }
+    {
+        match &self.last {
+            Some(last) => Some(last),
+            None => None,
+        }
+    }
+
+    /// The moment of the last frame.
+    pub(crate) fn moment(&self) -> Option<u64>
+        ensures { result ≡ moment_of self.now.last }
+    {
+        match &self.last {
+            Some(last) => Some(last.base().moment()),
+            None => None,
+        }
     }
 
     /// The screen at the last frame.
     fn base(&self) -> Option<&Screen>
-        ensures { option_copied result ≡ self.now.base }
+        ensures { option_copied result ≡ base_of self.now.last }
     {
-        match &self.base {
-            Some(base) => Some(base.screen()),
+        match &self.last {
+            Some(last) => Some(last.base().screen()),
             None => None,
         }
     }
 
     /// The screen at the last frame, unless it shows U+FE0F.
     fn sure_base(&self) -> Option<&Screen>
-        ensures { option_copied result ≡ sure_base self.now.base }
+        ensures { option_copied result ≡ sure_base (base_of self.now.last) }
     {
-        match &self.base {
-            Some(base) if !base.unsure => Some(base.screen()),
+        match &self.last {
+            Some(last) if !last.base().is_unsure() => Some(last.base().screen()),
             _ => None,
+        }
+    }
+
+    /// Whether the screen at the last frame is that of this moment, and doesn't show U+FE0F.
+    pub(crate) fn is_sure_at(&self, moment: u64) -> bool
+        ensures { result ≡ true → IsSomeAnd self.now.last
+            (λ last. (last.base.moment ≡ moment) × (is_unsure_screen last.base.screen ≡ false)) }
+    {
+        match &self.last {
+            Some(last) => !last.base().is_unsure() && last.base().moment() == moment,
+            None => false,
         }
     }
 
     /// The answer if nothing is owed and the program isn't in a synchronized update. A screen that shows the same as a
     /// sure base is itself sure.
-    fn due(&self, now: &Screen) -> Answer
+    pub(crate) fn due(&self, now: &Screen) -> Answer
         requires unscrolled { IsUnscrolled now.now.state }
         requires served { IsRecordOf now.now self.now }
         ensures { result ≡ due (grid_size now.now.state.shown) (shown_state now.now.state) (client_of self.now).base }
@@ -235,19 +209,20 @@ impl ClientRecord {
         unsure_or(is_unsure_since(base, now), Answer::Difference)
     }
 
-    /// The answer to a request for a frame, unless the frame is too long.
-    pub(crate) fn answer(&self, now: &Screen) -> Answer
-        requires unscrolled { IsUnscrolled now.now.state }
-        requires served { IsRecordOf now.now self.now }
-        ensures { result ≡ wanted_of now.now.state (client_of self.now) }
+    /// The answer to a request for a frame, if it needs no look at what is shown: bytes are owed, or the program is in a
+    /// synchronized update.
+    pub(crate) fn waits(&self, now: &Screen) -> Option<Answer>
+        ensures { MatchOption result
+            ((self.now.owed ≡ []) × (now.now.state.updating ≡ false))
+            (λ answer. (answer ≡ wanted_of now.now.state (client_of self.now)) × (is_frame answer ≡ false)) }
     {
         if !self.owed().is_empty() {
-            return Answer::Behind;
+            return Some(Answer::Behind);
         }
         if now.synchronized_update() {
-            return Answer::Held;
+            return Some(Answer::Held);
         }
-        self.due(now)
+        None
     }
 
     /// The text of the frame that is due: a difference if that is the answer, else a redraw. Fails only if an
@@ -292,14 +267,12 @@ impl ClientRecord {
         }
     }
 
-    /// The client is owed a frame's text from now on. `base` is what the screen shows at that frame. Returns what it
-    /// showed at the frame before.
-    pub(crate) fn owe(&mut self, text: Vec<u8>, base: Base) -> Option<Base>
-        ensures { self.new ≡ record { owed = text.items; base = Some base } }
+    /// The client is owed a frame from now on. Returns the frame before it.
+    pub(crate) fn owe(&mut self, frame: Arc<Frame>) -> Option<Arc<Frame>>
+        ensures { self.new ≡ record { owed = frame.value.text; last = Some frame.value } }
     {
-        self.text = text;
-        self.taken = 0;
-        self.base.replace(base)
+        self.left = frame.text().len();
+        self.last.replace(frame)
     }
 
     /// Writes the bytes that are owed to a writer. The bytes it took are no longer owed.
@@ -308,7 +281,15 @@ impl ClientRecord {
             × (self.new ≡ record self.old { owed = drop n self.old.owed }) }
     {
         let (taken, end) = pump(self.owed(), to);
-        self.taken += taken;
+        self.left -= taken;
         end
     }
+}
+
+/// The last so many bytes of a text.
+fn last_bytes(text: &[u8], count: usize) -> &[u8]
+    requires { count ≤ length text.now }
+    ensures { result.now ≡ drop (length text.now - count) text.now }
+{
+    &text[text.len() - count..]
 }

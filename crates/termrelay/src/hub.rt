@@ -1,19 +1,19 @@
 //! The hub.
 ghost use Rattle.std.specs.Prelude.{◌≡◌, ◌≢◌, ◌*◌, ◌≤◌, false, IfOk, IsOkAnd, OnOk, OnErr, Err, Some, None};
-ghost use Rattle.std.specs.Prelude.{MatchOption};
-ghost use Rattle.std.specs.Prelude.{IsSome, IfSome, slice_index_or};
+ghost use Rattle.std.specs.Prelude.{MatchOption, IsSome};
 ghost use Rattle.std.specs.Option.{option_map};
 ghost use Rattle.std.specs.Result.{result_map_both};
-ghost use Rattle.vt100.specs.Copies.{copy_of};
-ghost use Rattle.vt100.specs.WriterLaws.{IsUnscrolled};
+ghost use Rattle.slab.specs.Slab.{get, with_value};
 ghost use Rattle.termrelay.specs.Frame.{IsShortFrame};
 ghost use Rattle.termrelay.specs.declared.answer.Answer.TheVariants.{Difference, TooLong};
 ghost use Rattle.termrelay.specs.declared.error.HubError.TheVariants.{Memory, UnknownClient};
 
 use crate::answer::Answer;
 use crate::client::Client;
-use crate::client_record::{Base, ClientRecord, is_too_long};
+use crate::client_record::ClientRecord;
 use crate::error::HubError;
+use crate::frame::Frame;
+use crate::frames::{Due, SharedFrames};
 use byte_streams::ByteSink;
 use slab::Slab;
 use std::alloc::Global;
@@ -25,7 +25,8 @@ use vt100::{Parser, Screen};
 /// One program's screen, and clients that are sent frames of it.
 ///
 /// A client's frames, read one after another, make a terminal of the screen's size show what the screen shows. Each
-/// frame starts from what the one before it showed, so the hub keeps each client's screen at its last frame.
+/// frame starts from what the one before it showed, so the hub keeps each client's screen at its last frame. Clients
+/// whose last frames showed the same moment share the next one.
 ///
 /// If a call can be refused for several reasons, an unknown client comes first, then a failed hub, then a failed
 /// allocation.
@@ -33,10 +34,8 @@ use vt100::{Parser, Screen};
 pub struct Hub {
     parser: Parser<()>,
     clients: Slab<ClientRecord>,
-    /// A copy of what the present screen shows, if one was made since the last change.
-    present: Option<Arc<Screen>>,
-    /// A copy that no client needs any more. The next one is made in its memory.
-    spare: Option<Screen>,
+    /// The frames that the clients share.
+    frames: SharedFrames,
     alloc: Global,
 }
 
@@ -66,8 +65,7 @@ impl Hub {
         Ok(Hub {
             parser: Parser::new(alloc, rows, cols, 0)?,
             clients: Slab::new(alloc),
-            present: None,
-            spare: None,
+            frames: SharedFrames::new(alloc),
             alloc,
         })
     }
@@ -100,7 +98,7 @@ impl Hub {
         if bytes.is_empty() {
             return Ok(());
         }
-        self.present = None;
+        self.frames.change();
         self.parser.process(bytes)?;
         Ok(())
     }
@@ -115,8 +113,7 @@ impl Hub {
         }
         let mut screen = self.parser.screen().clone()?;
         screen.set_size(rows, cols)?;
-        self.present = None;
-        self.spare = None;
+        self.frames = SharedFrames::new(self.alloc);
         self.clients.clear();
         *self.parser.screen_mut() = screen;
         Ok(())
@@ -130,7 +127,7 @@ impl Hub {
         if self.has_failed() {
             return Err(HubError::Failed);
         }
-        match self.clients.insert(ClientRecord::new(self.alloc)) {
+        match self.clients.insert(ClientRecord::new()) {
             Ok(key) => Ok(Client::from_key(key)),
             Err(_) => Err(HubError::Memory),
         }
@@ -147,7 +144,7 @@ impl Hub {
     {
         let fork = match self.clients.get(client.key()) {
             Some(_) if self.has_failed() => return Err(HubError::Failed),
-            Some(record) => record.fork(self.alloc)?,
+            Some(record) => record.fork()?,
             None => return Err(HubError::UnknownClient),
         };
         match self.clients.insert(fork) {
@@ -249,71 +246,27 @@ impl Hub {
         if screen.failed() {
             return Err(HubError::Failed);
         }
-        let answer = record.answer(screen);
-        if !answer.is_frame() {
+        if let Some(answer) = record.waits(screen) {
             return Ok(answer);
         }
-        let text = record.frame_text(self.alloc, screen, answer)?;
-        if is_too_long(&text) {
-            return Ok(Answer::TooLong);
-        }
-        let base = base_of(
-            self.parser.screen(),
-            &self.present,
-            &mut self.spare,
-            self.alloc,
-        )?;
-        self.present = Some(base.clone()?);
-        self.owe(client, text, Base::new(base, answer == Answer::Unsure));
-        Ok(answer)
-    }
-
-    /// The client is owed a frame's text from now on. `base` is what the screen shows at that frame. If no other client
-    /// needs the copy at the client's last frame, its memory is kept for the next copy.
-    fn owe(&mut self, client: Client, text: Vec<u8>, base: Base)
-        requires known { IsSome (slice_index_or self.old.clients client None) }
-        requires unscrolled { IsUnscrolled self.old.parser.screen.state }
-        requires present { base ≡ copy_of self.old.parser.screen }
-        requires short { IsShortFrame (size_in self.old) text.items }
-        ensures { Puts self.old client (Some (record { owed = text.items; base = Some (shown_in self.old) })) self.new }
-    {
-        if let Some(record) = self.clients.get_mut(client.key()) {
-            keep(record.owe(text, base), &mut self.spare);
+        match self.frames.due(record, screen)? {
+            Due::Frame(frame) => {
+                let answer = frame.answer();
+                self.frames.reuse(owe(&mut self.clients, client, frame));
+                Ok(answer)
+            }
+            Due::Without(answer) => Ok(answer),
         }
     }
 }
 
-/// A copy of what the screen shows. It is shared with `present`, if there is one; else it is made in the memory of
-/// `spare`, if there is any.
-fn base_of(
-    screen: &Screen,
-    present: &Option<Arc<Screen>>,
-    spare: &mut Option<Screen>,
-    alloc: Global,
-) -> Result<Arc<Screen>, HubError>
-    requires { IfSome present.now (λ base. base.value ≡ copy_of screen.now) }
-    ensures base { IfOk result (λ base. base.value ≡ copy_of screen.now) }
-    ensures memory { OnErr result (result ≡ Err Memory) }
+/// The client is owed a frame from now on. Returns the frame before it.
+fn owe(clients: &mut Slab<ClientRecord>, client: Client, frame: Arc<Frame>) -> Option<Arc<Frame>>
+    requires { IsSome (get clients.old client) }
+    ensures { clients.new ≡ with_value clients.old client (record { owed = frame.value.text; last = Some frame.value }) }
 {
-    if let Some(base) = present {
-        return Ok(base.clone()?);
-    }
-    let copy = match spare.take() {
-        Some(mut copy) => {
-            copy.copy_shown(screen)?;
-            copy
-        }
-        None => screen.clone_shown()?,
-    };
-    match Arc::new(alloc, copy) {
-        Ok(base) => Ok(base),
-        Err(_) => Err(HubError::Memory),
-    }
-}
-
-/// Keeps the memory of a base that a client has let go, unless another client still has it.
-fn keep(base: Option<Base>, spare: &mut Option<Screen>) {
-    if let Some(screen) = base.and_then(Base::into_screen) {
-        *spare = Some(screen);
+    match clients.get_mut(client.key()) {
+        Some(record) => record.owe(frame),
+        None => None,
     }
 }

@@ -6,6 +6,8 @@ mod body;
 pub mod client;
 mod client_record;
 pub mod error;
+mod frame;
+mod frames;
 pub mod hub;
 pub mod laws;
 pub mod runs;

@@ -6,6 +6,7 @@ use Rattle.vt100_core.specs.Picture.{grid_size}
 use Rattle.terminal_model.specs.Term.{Shown}
 use Rattle.screen_model.specs.Call.{ScreenView}
 use Rattle.screen_model.specs.Shown.{shown_state}
+use Rattle.termrelay.specs.ClientRecord.{base_of}
 use Rattle.termrelay.specs.contracts.answer.Answer.{the_type}
 use Rattle.termrelay.specs.declared.answer.Answer.{Answer}
 use Rattle.termrelay.specs.declared.answer.Answer.TheVariants.{Difference}
@@ -25,14 +26,14 @@ pub returns-in-None-clause-text : goal.returns-in-None-clause-text
 unfolding shown-of
 returns-in-None-clause-text c =
     let z = grid_size c.args.now.now.state.shown in
-    let is : shown-of c.args.self.now.base ≡ None = ap shown-of (sym c.base.ensures ∙ ap option_copied c.in-None.is) in
+    let is : shown-of (base_of c.args.self.now.last) ≡ None = ap shown-of (sym c.base.ensures ∙ ap option_copied c.in-None.is) in
     rw (full-text z (shown_state c.args.now.now.state) is) c.push_state.ensures.text
 
 pub returns-in-Some-clause-text : goal.returns-in-Some-clause-text
 unfolding shown-of
 returns-in-Some-clause-text c =
     let z = grid_size c.args.now.now.state.shown in
-    let is : shown-of c.args.self.now.base ≡ Some (shown_state c.in-Some.base.now.state) =
+    let is : shown-of (base_of c.args.self.now.last) ≡ Some (shown_state c.in-Some.base.now.state) =
     ap shown-of (sym c.base.ensures ∙ ap option_copied c.in-Some.is) in
     let answered = is-difference c.args.answer (sym c.eq.ensures ∙ c.if-eq.true) in
     rw (difference-text z (shown_state c.args.now.now.state) is c.requires.due answered) c.push_difference.ensures.text
@@ -41,7 +42,7 @@ pub returns-in-Some-2-clause-text : goal.returns-in-Some-2-clause-text
 unfolding shown-of
 returns-in-Some-2-clause-text c =
     let z = grid_size c.args.now.now.state.shown in
-    let is : shown-of c.args.self.now.base ≡ Some (shown_state c.in-Some.base.now.state) =
+    let is : shown-of (base_of c.args.self.now.last) ≡ Some (shown_state c.in-Some.base.now.state) =
     ap shown-of (sym c.base.ensures ∙ ap option_copied c.in-Some.is) in
     let other = not-difference c.args.answer (sym c.eq.ensures ∙ c.if-eq.false) in
     rw (redraw-text z (shown_state c.args.now.now.state) is c.requires.due c.requires.frame other)

@@ -4,7 +4,7 @@ use Rattle.vt100.specs.Parsing.{ParserView}
 use Rattle.termrelay.specs.declared.error.HubError.TheVariants.{UnknownClient}
 use Rattle.termrelay.specs.ClientRecord.{RecordView}
 use Rattle.termrelay.specs.Hub.{Detaches}
-use Rattle.termrelay.proofs.HubLemmas.{holding, updated-client}
+use Rattle.termrelay.proofs.HubLemmas.{holding, updated-client, hub-updated}
 use Rattle.termrelay.proofs.hub.Hub.detach.Goals as goal
 use Rattle.termrelay.proofs.hub.Hub.detach.Goals.{in-Some, in-None}
 
@@ -32,3 +32,8 @@ returns c =
           rw (w.result-is, ← c.self.view_is, ← c.key.ensures)
           (no-client p s t c.key.result (sym removed.value ∙ w.in-None.is) (rw w.in-None.is at removed.absent))
     ]
+
+pub invariant_of-self : goal.invariant_of-self
+invariant_of-self c =
+    hub-updated c.self.inside c.try_remove.new.self c.key.result None c.self.invariant c.try_remove.ensures.updates
+    (λ live. tt) (λ P each. tt)

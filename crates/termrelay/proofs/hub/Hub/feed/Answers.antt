@@ -4,7 +4,9 @@ use Rattle.slab.specs.Slab.{get}
 use Rattle.screen_model.specs.Made.{Fed}
 use Rattle.termrelay.specs.Hub.{HubState, as_kept, GoesOn}
 use Rattle.termrelay.proofs.MadeLemmas.{fed-made, fed-size, nothing-fed}
-use Rattle.termrelay.proofs.HubLemmas.{served-still}
+use Rattle.vt100_core.specs.Picture.{grid_size}
+use Rattle.termrelay.specs.Frames.{FramesView}
+use Rattle.termrelay.proofs.HubLemmas.{served-still, changed-numbered}
 use Rattle.termrelay.proofs.hub.Hub.feed.Goals as goal
 
 no-bytes : (xs : List ℕ) → length xs ≡ 0 → xs ≡ []
@@ -32,5 +34,9 @@ invariant_of-self-2 c =
       made = λ alive. fed-made p q c.args.bytes.now made step;
       served = λ alive key. served-still p.screen q.screen (get c.self.inside.clients key)
           (fed-size p q c.args.bytes.now made step) (c.self.invariant.served live key);
-      present = tt;
+      latest = rw c.change.ensures tt;
+      numbered = λ alive few.
+          changed-numbered (grid_size p.screen.state.shown) (grid_size q.screen.state.shown) c.self.inside.clients
+          c.self.inside.frames c.change.new.self (fed-size p q c.args.bytes.now made step) c.change.ensures
+          (c.self.invariant.numbered live (rw (ap (λ (v : FramesView). v.moments) c.change.ensures) at few));
     }

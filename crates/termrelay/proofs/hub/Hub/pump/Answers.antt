@@ -57,11 +57,13 @@ invariant_of-self g c =
           let old = w.in-Some.record.now in
           subst IsHub (sym w.self-inside-is)
           (hub-put h key old w.pump.new.self i (sym c.get_mut.ensures.value ∙ ap option_copied_mut w.in-Some.is)
-          (λ live of. rw w.pump.ensures.2 (left-served h.parser.screen old w.pump.ensures.0 of)))
+          (λ live of. rw w.pump.ensures.2 (left-served h.parser.screen old w.pump.ensures.0 of))
+          (ap (λ (r : RecordView). r.last) w.pump.ensures.2))
       | in-Some+in-Err w ↦
           let old = w.in-Some.record.now in
           subst IsHub (sym w.self-inside-is)
           (hub-put h key old w.pump.new.self i (sym c.get_mut.ensures.value ∙ ap option_copied_mut w.in-Some.is)
-          (λ live of. rw w.pump.ensures.2 (left-served h.parser.screen old w.pump.ensures.0 of)))
+          (λ live of. rw w.pump.ensures.2 (left-served h.parser.screen old w.pump.ensures.0 of))
+          (ap (λ (r : RecordView). r.last) w.pump.ensures.2))
       | in-None w ↦ subst IsHub (sym w.self-inside-is) i
     ]

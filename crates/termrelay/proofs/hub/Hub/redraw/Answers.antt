@@ -3,9 +3,9 @@ use Rattle.std.specs.Option.{option_copied, IfSome}
 use Rattle.slab.specs.Slab.{get}
 use Rattle.screen_model.specs.Call.{ScreenView}
 use Rattle.vt100.specs.WriterLaws.{IsUnscrolled}
-use Rattle.termrelay.specs.ClientRecord.{IsBaseOf}
+use Rattle.termrelay.specs.ClientRecord.{base_of, IsBaseOf}
 use Rattle.termrelay.specs.Hub.{HubState, as_kept}
-use Rattle.termrelay.proofs.HubLemmas.{found-served}
+use Rattle.termrelay.proofs.HubLemmas.{found-served, served-base}
 use Rattle.termrelay.proofs.hub.Hub.redraw.Goals as goal
 
 base-unscrolled : (now : ScreenView) (base : Option ScreenView) → IfSome base (IsBaseOf now)
@@ -22,4 +22,5 @@ redraw-requires c =
     ap (λ (v : HubState as_kept). v.parser.screen.failed) c.self.view_is ∙ sym c.has_failed.ensures
     ∙ c.if-has_failed.false in
     let found : get s c.key.result ≡ Some r = sym c.get.ensures ∙ ap option_copied c.in-Some.is in
-    base-unscrolled p.screen r.base (found-served s c.key.result r p.screen found (c.self.invariant.served live)).base
+    base-unscrolled p.screen (base_of r.last) (served-base p.screen r.last
+    (found-served s c.key.result r p.screen found (c.self.invariant.served live)).last)

@@ -7,7 +7,9 @@ use Rattle.vt100.specs.Tries.{alive}
 use Rattle.vt100.proofs.PlayLemmas.{put_in}
 use Rattle.termrelay.specs.Hub.{HubState, as_kept, GoesOn}
 use Rattle.termrelay.proofs.MadeLemmas.{resized-made}
-use Rattle.termrelay.proofs.HubLemmas.{none-served, no-clients}
+use Rattle.vt100_core.specs.Picture.{grid_size}
+use Rattle.termrelay.specs.Frames.{FramesView}
+use Rattle.termrelay.proofs.HubLemmas.{none-served, none-numbered, no-clients}
 use Rattle.termrelay.proofs.hub.Hub.resize.Goals as goal
 
 put-in-step : (p : ParserView (Unit {0})) (w : ScreenView) (rows cols : ℕ)
@@ -31,7 +33,9 @@ invariant_of-self c =
           (c.args.cols.ok, omega arith) (c.self.invariant.made live)
           (put-in-step p w rows cols is);
       served = λ alive key. none-served c.clear.new.self w key c.clear.ensures.empty;
-      present = tt;
+      latest = rw c.new.ensures tt;
+      numbered = λ alive few. none-numbered (grid_size w.state.shown) c.clear.new.self c.new.result
+          c.clear.ensures.empty (ap (λ (v : FramesView). v.latest) c.new.ensures);
     }
 
 pub returns : goal.returns
