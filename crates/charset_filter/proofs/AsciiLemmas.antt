@@ -1,6 +1,6 @@
 -- Streams that name no set of lines are given as they are.
 use Rattle.std.proofs.Common.{◌≡◌, ℕ, ◌<◌, Bool, true, false, not, ◌&&◌, List, [], ◌∷◌, ◌++◌, ◌==◌, if◌then◌else◌}
-use Rattle.std.proofs.Common.{Option, Some, None, refl, ◌∙◌, ap, subst, inl, inr, arith}
+use Rattle.std.proofs.Common.{Option, Some, None, refl, sym, ◌∙◌, ap, subst, inl, inr, arith, length}
 use Rattle.std.proofs.lemmas.Bool.Decides.{nat_tests}
 use Rattle.std.proofs.lemmas.Str.{encode_ascii}
 use Rattle.std.specs.Char.{encode_utf8}
@@ -17,11 +17,14 @@ use Rattle.vte_types.specs.declared.charset.CharsetIndex.{CharsetIndex}
 use Rattle.vte_types.specs.declared.charset.CharsetIndex.TheVariants.{G0, G1, G2, G3}
 use Rattle.charset_filter.specs.Sets.{ascii, set_at, set_for, set_of, first_sets, locking, designating, drawing_set}
 use Rattle.charset_filter.specs.Sets.{after_event, after_events, after_escape, after_unmarked_escape}
-use Rattle.charset_filter.specs.Given.{is_drawable, given_for, given_from}
+use Rattle.charset_filter.specs.Behind.{all_behind, behind}
+use Rattle.charset_filter.specs.Given.{is_drawable, given_for, given_from, last_behind}
 use Rattle.charset_filter.specs.Laws.{names_lines, names_none, KeepsAscii}
 use Rattle.charset_filter.specs.declared.sets.Designations.{Designations}
 use Rattle.charset_filter.specs.declared.sets.CharacterSets.{CharacterSets}
-use Rattle.charset_filter.proofs.ByteLemmas.{set_behind, given-drawn, silent-given, sets-alike}
+use Rattle.charset_filter.proofs.EventLemmas.{all_behind-append}
+use Rattle.charset_filter.proofs.ByteLemmas.{set_behind, given-drawn, last-alike, silent-given, sets-alike}
+use Rattle.charset_filter.proofs.ByteLemmas.{undrawn-given}
 use Rattle.charset_filter.proofs.SavedLemmas.{Holds, holds-csi, holds-restored, holds-saved}
 
 -- ASCII in all four
@@ -156,28 +159,48 @@ text-given u s b a =
           let set : drawing_set t ≡ Ascii = ascii-for t.current t.single behind.current in
           let small : b < 0x80 = grind (arith, nat_tests) in
           given-drawn u s b e ∙ (ap (λ (x : StandardCharset). encode_utf8 (mapped x b)) set ∙ encode_ascii b small)
-      | inr e ↦ rw e refl
+      | inr e ↦ undrawn-given u s b e
     ]
 
-byte-given : (q : Pending) (s : CharacterSets) (b : ℕ) → AreAscii s → given_for q s b ≡ b ∷ []
-byte-given (InText u) s b a = text-given u s b a
-byte-given (InEscape is) s b a = silent-given (InEscape is) s b refl
-byte-given (InCsi x) s b a = silent-given (InCsi x) s b refl
-byte-given (InOsc d) s b a = silent-given (InOsc d) s b refl
-byte-given (InHook x) s b a = silent-given (InHook x) s b refl
-byte-given InDevice s b a = silent-given InDevice s b refl
-byte-given InSwallowed s b a = silent-given InSwallowed s b refl
+-- where nothing stands behind its events
+byte-given : (q : Pending) (s : CharacterSets) (b : ℕ) → AreAscii s → last_behind s [] (events_of_byte 0 q b) ≡ []
+    → given_for q s b ≡ b ∷ []
+byte-given (InText u) s b a none = text-given u s b a
+byte-given (InEscape is) s b a none = silent-given (InEscape is) s b [] refl none
+byte-given (InCsi x) s b a none = silent-given (InCsi x) s b [] refl none
+byte-given (InOsc d) s b a none = silent-given (InOsc d) s b [] refl none
+byte-given (InHook x) s b a none = silent-given (InHook x) s b [] refl none
+byte-given InDevice s b a none = silent-given InDevice s b [] refl none
+byte-given InSwallowed s b a none = silent-given InSwallowed s b [] refl none
+
+nothing : (xs ys : List ℕ) → xs ++ ys ≡ [] → (xs ≡ []) × (ys ≡ [])
+nothing [] ys h = (refl, h)
+nothing (x ∷ xs) ys h = absurd (omega (arith, ap length h))
+
+last-nothing : (s : CharacterSets) (es : List Event) → all_behind s es ≡ [] → last_behind s [] es ≡ []
+last-nothing s [] h = refl
+last-nothing s (e ∷ es) h =
+    let p = nothing (behind s e) (all_behind (after_event s e) es) h in
+    ap (λ (bs : List ℕ). last_behind (after_event s e) bs es) p.0 ∙ last-nothing (after_event s e) es p.1
 
 all-given : (n : ℕ) (q : Pending) (s : CharacterSets) (bs : List ℕ) → AreAscii s
-    → names_none (events_from n q bs) ≡ true → given_from q s bs ≡ bs
-all-given n q s [] a h = refl
-all-given n q s (b ∷ bs) a h =
-    let p = none-append (events_of_byte n q b) (events_from n (after_byte q b) bs) h in
+    → names_none (events_from n q bs) ≡ true → all_behind s (events_from n q bs) ≡ [] → given_from q s bs ≡ bs
+all-given n q s [] a h k = refl
+all-given n q s (b ∷ bs) a h k =
+    let es = events_of_byte n q b in
+    let rest = events_from n (after_byte q b) bs in
+    let p = none-append es rest h in
     let t = after_events s (events_of_byte 0 q b) in
-    let next : AreAscii t = subst AreAscii (sets-alike n 0 q s b) (ascii-events s (events_of_byte n q b) p.0 a) in
-    ap (λ (xs : List ℕ). xs ++ given_from (after_byte q b) t bs) (byte-given q s b a)
-    ∙ ap (λ (xs : List ℕ). b ∷ xs) (all-given n (after_byte q b) t bs next p.1)
+    let next : AreAscii t = subst AreAscii (sets-alike n 0 q s b) (ascii-events s es p.0 a) in
+    let parts = nothing (all_behind s es) (all_behind (after_events s es) rest)
+    (sym (all_behind-append s es rest) ∙ k) in
+    let none : last_behind s [] (events_of_byte 0 q b) ≡ [] = last-alike 0 n q s b ∙ last-nothing s es parts.0 in
+    let later : all_behind t rest ≡ [] =
+    ap (λ (x : CharacterSets). all_behind x rest) (sets-alike 0 n q s b) ∙ parts.1 in
+    ap (λ (xs : List ℕ). xs ++ given_from (after_byte q b) t bs) (byte-given q s b a none)
+    ∙ ap (λ (xs : List ℕ). b ∷ xs) (all-given n (after_byte q b) t bs next p.1 later)
 
 pub keeps-ascii : KeepsAscii
-keeps-ascii n bs h = all-given n (InText []) first_sets bs ascii-first
+keeps-ascii n bs h k = all-given n (InText []) first_sets bs ascii-first
     (subst (λ (es : List Event). names_none es ≡ true) (events-reported n bs) h)
+    (ap (all_behind first_sets) (sym (events-reported n bs)) ∙ k)

@@ -1,10 +1,10 @@
 -- What is given for one byte.
 use Rattle.std.proofs.Common.{◌≡◌, ℕ, ◌+◌, ◌≤◌, Bool, true, false, ◌&&◌, ◌||◌, List, [], ◌∷◌, ◌++◌, length, ◌==◌}
-use Rattle.std.proofs.Common.{nat_lt, Some, None, refl, sym, ◌∙◌, ap, inl, inr, arith, append-nil}
+use Rattle.std.proofs.Common.{nat_lt, take, Some, None, refl, sym, ◌∙◌, ap, inl, inr, arith, append-nil}
 use Rattle.std.proofs.lemmas.Bool.Decides.{nat_tests}
 use Rattle.std.specs.Char.{encode_utf8}
 use Rattle.std.specs.Int.{is_in_range}
-use Rattle.vte_core.specs.Event.{Event, Print, Execute}
+use Rattle.vte_core.specs.Event.{Event, Print, Execute, Csi, Esc}
 use Rattle.vte_core.specs.Bytes.{is_esc, is_abort, is_control, is_put, ends_header, ends_escape, ends_osc, ends_device}
 use Rattle.vte_core.specs.Text.{char_len, first_bits, joined, char_event, malformed_event}
 use Rattle.vte_core.specs.Header.{is_well_formed}
@@ -14,11 +14,18 @@ use Rattle.vte_core.specs.Pending.{after_byte, events_from, after_bytes}
 use Rattle.vte_core.specs.Stopping.{is_text}
 use Rattle.vte_core.proofs.Characters.{bool_cases, if_holds}
 use Rattle.vte_types.specs.Charset.{mapped}
-use Rattle.charset_filter.specs.Sets.{after_event, after_events, drawing_set, shown, drawn_events}
-use Rattle.charset_filter.specs.Given.{is_drawable, last_drawn, given_for}
+use Rattle.vte_core.specs.Shapes.{events}
+use Rattle.vte_core.specs.Header.{kept_groups, kept_intermediates, overflows}
+use Rattle.charset_filter.specs.Sets.{after_event, after_events, drawing_set, shown}
+use Rattle.charset_filter.specs.Behind.{behind, drawn_events}
+use Rattle.charset_filter.specs.Given.{is_drawable, last_behind, last_drawn, given_byte, given_for}
+use Rattle.charset_filter.specs.Filter.{is_sequence}
 use Rattle.charset_filter.specs.declared.sets.CharacterSets.{CharacterSets}
 use Rattle.charset_filter.proofs.Codes.{high-joined}
-use Rattle.charset_filter.proofs.EventLemmas.{prints_nothing, silent-events, silent-last}
+use Rattle.charset_filter.proofs.EventLemmas.{prints_nothing, silent-events, silent-last, unmarked-last}
+use Rattle.charset_filter.proofs.MarkLemmas.{Ends, NoMark, escape-ends, csi-ends, outside-unmarked}
+use Rattle.charset_filter.proofs.NumberLemmas.{kept-small}
+use Rattle.charset_filter.proofs.GroundLemmas.{Grounded, csi-grounded, escape-grounded}
 use Rattle.charset_filter.proofs.Drawings.{begun-one, drawable-printed, mapped-same, off-drawable, printed-mapped}
 
 -- only text prints
@@ -56,30 +63,33 @@ silent-byte n InSwallowed b h = if_holds Silent (is_esc b) _ _ refl (silent-repo
 -- text that no set draws otherwise
 
 abbrev Steady : Event → Type 0
-Steady e = (s : CharacterSets) → shown s e ≡ e
+Steady e = (s : CharacterSets) → (shown s e ≡ e) × (behind s e ≡ [])
 
 abbrev Fixed : List Event → Type 0
 Fixed es = (s : CharacterSets) → drawn_events s es ≡ es
 
 fixed-one : (e : Event) → Steady e → Fixed (e ∷ [])
-fixed-one e h s = ap (λ (x : Event). x ∷ []) (h s)
+fixed-one e h s = ap (λ (x : Event). x ∷ (events 0 (behind s e) ++ [])) (h s).0
+    ∙ ap (λ (bs : List ℕ). e ∷ (events 0 bs ++ [])) (h s).1
 
 fixed-cons : (e : Event) (es : List Event) → Steady e → Fixed es → Fixed (e ∷ es)
-fixed-cons e es h k s = ap (λ (x : Event). x ∷ drawn_events (after_event s e) es) (h s)
-    ∙ ap (λ (xs : List Event). e ∷ xs) (k (after_event s e))
+fixed-cons e es h k s =
+    ap (λ (x : Event). x ∷ (events 0 (behind s e) ++ drawn_events (after_event s e) es)) (h s).0
+    ∙ (ap (λ (bs : List ℕ). e ∷ (events 0 bs ++ drawn_events (after_event s e) es)) (h s).1
+    ∙ ap (λ (xs : List Event). e ∷ xs) (k (after_event s e)))
 
 fixed-none : Fixed []
 fixed-none s = refl
 
 steady-print : (c : ℕ) → is_drawable c ≡ false → Steady (Print c)
-steady-print c h s = ap Print (mapped-same (drawing_set s) c h)
+steady-print c h s = (ap Print (mapped-same (drawing_set s) c h), refl)
 
 steady-char : (c : ℕ) → is_drawable c ≡ false → Steady (char_event c)
-steady-char c h = if_holds Steady (nat_lt c 0x20 || is_in_range 0x80 0x9F c) (Execute c) (Print c) (λ s. refl)
+steady-char c h = if_holds Steady (nat_lt c 0x20 || is_in_range 0x80 0x9F c) (Execute c) (Print c) (λ s. (refl, refl))
     (steady-print c h)
 
 steady-malformed : (b : ℕ) → Steady (malformed_event 1 b)
-steady-malformed b = if_holds Steady (1 == 1 && is_in_range 0x80 0x9F b) (Execute b) (Print 0xFFFD) (λ s. refl)
+steady-malformed b = if_holds Steady (1 == 1 && is_in_range 0x80 0x9F b) (Execute b) (Print 0xFFFD) (λ s. (refl, refl))
     (steady-print 0xFFFD refl)
 
 pub first-same : (b : ℕ) → (char_len b == 1) ≡ true → first_bits b ≡ b
@@ -143,16 +153,30 @@ last-drawn : (s : CharacterSets) (u : List ℕ) (b : ℕ)
 last-drawn s [] b = refl
 last-drawn s (a ∷ t) b = refl
 
+last-none : (s : CharacterSets) (u : List ℕ) (b : ℕ) → last_behind s [] (closed 0 (InText u) ++ Print b ∷ []) ≡ []
+last-none s [] b = refl
+last-none s (a ∷ t) b = refl
+
 pub given-drawn : (u : List ℕ) (s : CharacterSets) (b : ℕ) → is_drawable b ≡ true
     → given_for (InText u) s b ≡ encode_utf8 (mapped (drawing_set (set_behind s u)) b)
-given-drawn u s b h = rw (h, drawn-text 0 u b h, last-drawn s u b) refl
+given-drawn u s b h =
+    let c = mapped (drawing_set (set_behind s u)) b in
+    rw (h, drawn-text 0 u b h, last-drawn s u b, last-none s u b) (append-nil (encode_utf8 c))
+
+-- another is given as it is
+pub undrawn-given : (u : List ℕ) (s : CharacterSets) (b : ℕ) → is_drawable b ≡ false
+    → given_for (InText u) s b ≡ b ∷ []
+undrawn-given u s b h =
+    let es = events_of_byte 0 (InText u) b in
+    ap (λ (bs : List ℕ). given_byte b (last_drawn s None es) ++ bs)
+    (unmarked-last s es (outside-unmarked 0 (InText u) b refl)) ∙ rw h refl
 
 shown-drawn : (n : ℕ) (s : CharacterSets) (u : List ℕ) (b : ℕ)
     → drawn_events s (closed n (InText u) ++ Print b ∷ [])
     ≡ closed n (InText u) ++ Print (mapped (drawing_set (set_behind s u)) b) ∷ []
 shown-drawn n s [] b = refl
 shown-drawn n s (a ∷ t) b = ap (λ (x : Event). x ∷ Print (mapped (drawing_set (set_behind s (a ∷ t))) b) ∷ [])
-    (steady-print 0xFFFD refl s)
+    (steady-print 0xFFFD refl s).0
 
 -- what is given has the byte's events, as it is drawn, and leaves what the byte leaves
 abbrev pub Represents : Pending → CharacterSets → ℕ → Type 0
@@ -164,15 +188,42 @@ as-it-is : (q : Pending) (s : CharacterSets) (b : ℕ) → given_for q s b ≡ b
 as-it-is q s b given same n =
     rw given (append-nil (events_of_byte n q b) ∙ sym (same n), refl)
 
-pub silent-given : (q : Pending) (s : CharacterSets) (b : ℕ) → is_text q ≡ false → given_for q s b ≡ b ∷ []
-silent-given q s b h =
+pub silent-bytes : (q : Pending) (s : CharacterSets) (b : ℕ) → is_text q ≡ false
+    → given_byte b (last_drawn s None (events_of_byte 0 q b)) ≡ b ∷ []
+silent-bytes q s b h =
     let none : last_drawn s None (events_of_byte 0 q b) ≡ None =
     silent-last s None (events_of_byte 0 q b) (silent-byte 0 q b h) in
     rw none (if_holds (λ (x : List ℕ). x ≡ b ∷ []) (is_drawable b) (b ∷ []) (b ∷ []) refl refl)
 
-state_after-silent : (q : Pending) (s : CharacterSets) (b : ℕ) → is_text q ≡ false → Represents q s b
-state_after-silent q s b h = as-it-is q s b (silent-given q s b h)
-    (λ n. silent-events s (events_of_byte n q b) (silent-byte n q b h))
+-- with these bytes behind it
+pub silent-given : (q : Pending) (s : CharacterSets) (b : ℕ) (bytes : List ℕ) → is_text q ≡ false
+    → last_behind s [] (events_of_byte 0 q b) ≡ bytes → given_for q s b ≡ b ∷ bytes
+silent-given q s b bytes h is =
+    ap (λ (xs : List ℕ). xs ++ last_behind s [] (events_of_byte 0 q b)) (silent-bytes q s b h)
+    ∙ ap (λ (xs : List ℕ). b ∷ xs) is
+
+state_after-silent : (q : Pending) (s : CharacterSets) (b : ℕ) → is_text q ≡ false → NoMark q b → Represents q s b
+state_after-silent q s b h none = as-it-is q s b
+    (silent-given q s b [] h (unmarked-last s (events_of_byte 0 q b) (none 0)))
+    (λ n. silent-events s (events_of_byte n q b) (silent-byte n q b h) (none n))
+
+-- the byte ends a sequence, and something may stand behind its event
+state_after-ends : (q : Pending) (s : CharacterSets) (b : ℕ) (e : Event) → is_text q ≡ false → shown s e ≡ e
+    → Grounded (behind s e) → Ends q b e → Represents q s b
+state_after-ends q s b e h same grounded ends n =
+    let bytes = behind s e in
+    let given : given_for q s b ≡ b ∷ bytes = silent-given q s b bytes h (ap (last_behind s []) (ends.events 0)) in
+    let read : events_from n q (b ∷ bytes) ≡ e ∷ events 0 bytes =
+    ap (λ (es : List Event). es ++ events_from n (after_byte q b) bytes) (ends.events n)
+    ∙ (ap (λ (x : Pending). e ∷ events_from n x bytes) ends.rest
+    ∙ ap (λ (es : List Event). e ∷ es) (grounded n).0) in
+    let wanted : drawn_events s (events_of_byte n q b) ≡ e ∷ events 0 bytes =
+    ap (drawn_events s) (ends.events n)
+    ∙ (ap (λ (x : Event). x ∷ (events 0 bytes ++ [])) same
+    ∙ ap (λ (es : List Event). e ∷ es) (append-nil (events 0 bytes))) in
+    let left : after_bytes q (b ∷ bytes) ≡ after_byte q b =
+    ap (λ (x : Pending). after_bytes x bytes) ends.rest ∙ ((grounded n).1 ∙ sym ends.rest) in
+    (ap (events_from n q) given ∙ (read ∙ sym wanted), ap (after_bytes q) given ∙ left)
 
 fixed-byte : (n : ℕ) (u : List ℕ) (b : ℕ) → IsSound (InText u) → is_drawable b ≡ false
     → Fixed (events_of_byte n (InText u) b)
@@ -188,17 +239,31 @@ state_after-text u s b k =
             p.0 ∙ (sym (shown-drawn n s u b) ∙ ap (drawn_events s) (sym (drawn-text n u b e))),
             p.1 ∙ sym (drawn-rest u b e),
           )
-      | inr e ↦ as-it-is (InText u) s b (rw e refl) (λ n. fixed-byte n u b k e s)
+      | inr e ↦ as-it-is (InText u) s b (undrawn-given u s b e) (λ n. fixed-byte n u b k e s)
     ]
+
+state_after-outside : (q : Pending) (s : CharacterSets) (b : ℕ) → is_text q ≡ false → is_sequence q ≡ false
+    → Represents q s b
+state_after-outside q s b h out = state_after-silent q s b h (λ n. outside-unmarked n q b out)
 
 pub represents : (q : Pending) (s : CharacterSets) (b : ℕ) → IsSound q → Represents q s b
 represents (InText u) s b k = state_after-text u s b k
-represents (InEscape is) s b k = state_after-silent (InEscape is) s b refl
-represents (InCsi x) s b k = state_after-silent (InCsi x) s b refl
-represents (InOsc d) s b k = state_after-silent (InOsc d) s b refl
-represents (InHook x) s b k = state_after-silent (InHook x) s b refl
-represents InDevice s b k = state_after-silent InDevice s b refl
-represents InSwallowed s b k = state_after-silent InSwallowed s b refl
+represents (InEscape is) s b k = elim (escape-ends is b) [
+  | inl none ↦ state_after-silent (InEscape is) s b refl none
+  | inr ends ↦
+      state_after-ends (InEscape is) s b (Esc (take 2 is) (nat_lt 2 (length is)) b) refl refl
+      (escape-grounded (take 2 is) b) ends
+]
+represents (InCsi x) s b k = elim (csi-ends x b) [
+  | inl none ↦ state_after-silent (InCsi x) s b refl none
+  | inr ends ↦
+      state_after-ends (InCsi x) s b (Csi (kept_groups x) (kept_intermediates x) (overflows x) b) refl refl
+      (csi-grounded s (kept_groups x) (kept_intermediates x) (overflows x) b (kept-small x)) ends
+]
+represents (InOsc d) s b k = state_after-outside (InOsc d) s b refl refl
+represents (InHook x) s b k = state_after-outside (InHook x) s b refl refl
+represents InDevice s b k = state_after-outside InDevice s b refl refl
+represents InSwallowed s b k = state_after-outside InSwallowed s b refl refl
 
 -- how much of an operating system command is kept makes no difference to the sets
 
@@ -216,3 +281,17 @@ sets-alike n m (InOsc d) s b =
 sets-alike n m (InHook x) s b = refl
 sets-alike n m InDevice s b = refl
 sets-alike n m InSwallowed s b = refl
+
+-- nor to what stands behind the last event
+pub last-alike : (n m : ℕ) (q : Pending) (s : CharacterSets) (b : ℕ)
+    → last_behind s [] (events_of_byte n q b) ≡ last_behind s [] (events_of_byte m q b)
+last-alike n m (InText []) s b = refl
+last-alike n m (InText (a ∷ t)) s b = refl
+last-alike n m (InEscape is) s b = refl
+last-alike n m (InCsi x) s b = refl
+last-alike n m (InOsc d) s b =
+    unmarked-last s (events_of_byte n (InOsc d) b) (outside-unmarked n (InOsc d) b refl)
+    ∙ sym (unmarked-last s (events_of_byte m (InOsc d) b) (outside-unmarked m (InOsc d) b refl))
+last-alike n m (InHook x) s b = refl
+last-alike n m InDevice s b = refl
+last-alike n m InSwallowed s b = refl

@@ -4,7 +4,8 @@ use Rattle.vte_core.specs.Event.{Event}
 use Rattle.vte_core.specs.Pending.{Pending, InText, IsSound, events_of_byte, after_byte, events_from, after_bytes}
 use Rattle.vte_core.specs.Pending.{pending}
 use Rattle.vte_core.proofs.Machine.{IsSound-byte, events-reported, events_from-append, after_bytes-append}
-use Rattle.charset_filter.specs.Sets.{after_events, drawn_events, first_sets}
+use Rattle.charset_filter.specs.Behind.{drawn_events}
+use Rattle.charset_filter.specs.Sets.{after_events, first_sets}
 use Rattle.charset_filter.specs.Given.{given_for, given_from, given_after, filtered, sets_of}
 use Rattle.charset_filter.specs.Laws.{DrawsEvents, GivesInOrder}
 use Rattle.charset_filter.specs.declared.sets.CharacterSets.{CharacterSets}

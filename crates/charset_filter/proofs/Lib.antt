@@ -1,8 +1,15 @@
 pub mod Codes
 pub mod EventLemmas
+pub mod MarkLemmas
+pub mod NumberLemmas
+pub mod GroundLemmas
+pub mod LengthLemmas
+pub mod BehindLemmas
 pub mod SavedLemmas
 pub mod Drawings
 pub mod ByteLemmas
+pub mod SequenceLemmas
+pub mod GivenLengths
 pub mod LawLemmas
 pub mod SteadyLemmas
 pub mod Telling

@@ -3,7 +3,7 @@ use Rattle.std.proofs.Common.{ℕ, Bool, true, false, List, [], ◌∷◌, ◌==
 use Rattle.vte_core.proofs.Characters.{if_holds}
 use Rattle.vte_types.specs.declared.charset.CharsetIndex.{CharsetIndex}
 use Rattle.charset_filter.specs.Sets.{ascii, saved, restored, showing, reset_softly, after_mode, after_modes}
-use Rattle.charset_filter.specs.Sets.{after_csi}
+use Rattle.charset_filter.specs.Sets.{after_csi, is_bare}
 use Rattle.charset_filter.specs.declared.sets.Designations.{Designations}
 use Rattle.charset_filter.specs.declared.sets.CharacterSets.{CharacterSets}
 
@@ -62,7 +62,8 @@ holds-reset P Q s p q h = holds-saved P Q (record s { current = ascii; single = 
 pub holds-csi : (P : Designations → Type 0) (Q : Option CharsetIndex → Type 0) (s : CharacterSets)
     (groups : List (List ℕ)) (is : List ℕ) (f : ℕ) → P ascii → Q None → Holds P Q s
     → Holds P Q (after_csi s groups is f)
-holds-csi P Q s groups [] f p q h = h
+holds-csi P Q s groups [] f p q h = holds-either P Q (is_bare groups && f == 0x73) _ _ (holds-saved P Q s h)
+    (holds-either P Q (is_bare groups && f == 0x75) _ _ (holds-restored P Q s h) h)
 holds-csi P Q s groups (i ∷ []) f p q h = holds-either P Q (i == 0x21 && f == 0x70) _ _ (holds-reset P Q s p q h)
     (holds-either P Q (i == 0x3F && f == 0x68) _ _ (holds-modes P Q true s groups h)
     (holds-either P Q (i == 0x3F && f == 0x6C) _ _ (holds-modes P Q false s groups h) h))

@@ -1,18 +1,20 @@
 -- Runs in which no set can change are given as they are.
-use Rattle.std.proofs.Common.{◌≡◌, ◌≢◌, ℕ, suc, ◌+◌, ◌≤◌, ◌<◌, Bool, true, false, not, ◌&&◌, ◌||◌, List, [], ◌∷◌, ◌++◌}
-use Rattle.std.proofs.Common.{length, take, ◌==◌, nat_lt, if◌then◌else◌, ◌⊎◌, Option, None, refl, sym, ◌∙◌, ap, subst}
-use Rattle.std.proofs.Common.{inl, inr, arith, get_or, drop-cons, add-one}
+use Rattle.std.proofs.Common.{◌≡◌, ℕ, ◌+◌, ◌≤◌, ◌<◌, Bool, true, false, not, ◌&&◌, ◌||◌, List, [], ◌∷◌, ◌++◌}
+use Rattle.std.proofs.Common.{length, take, ◌==◌, nat_lt, Option, None, refl, sym, ◌∙◌, ap, subst}
+use Rattle.std.proofs.Common.{inl, inr, arith, get_or, drop-cons, true≢false}
 use Rattle.std.proofs.Math.Seq.{take-add}
 use Rattle.std.proofs.lemmas.Bool.Decides.{nat_tests}
 use Rattle.std.proofs.lemmas.Str.{encode_ascii}
 use Rattle.std.specs.Char.{encode_utf8}
 use Rattle.std.specs.Int.{is_in_range}
 use Rattle.vte_core.specs.Event.{Event, Print, Execute, Hook, Put, Unhook, Osc, Csi, Esc}
-use Rattle.vte_core.specs.Bytes.{is_esc, is_abort, is_control, is_put, ends_header, ends_escape, ends_osc, ends_device}
+use Rattle.std.specs.List.{AllByRecursion, list_all}
+use Rattle.vte_core.specs.Bytes.{is_esc, is_abort, is_control, is_header, is_put, ends_header, ends_osc, ends_device}
 use Rattle.vte_core.specs.Text.{char_len, first_bits, joined, char_event, malformed_event}
-use Rattle.vte_core.specs.Header.{is_well_formed}
+use Rattle.vte_core.specs.Header.{is_well_formed, kept_groups, kept_intermediates, overflows}
+use Rattle.vte_core.specs.Stopping.{is_text}
 use Rattle.vte_core.specs.Pending.{Pending, InText, InEscape, InCsi, InOsc, InHook, InDevice, InSwallowed, IsSound}
-use Rattle.vte_core.specs.Pending.{reported, goes_on, begun, text_reported, closed, byte_rest, final_rest}
+use Rattle.vte_core.specs.Pending.{reported, goes_on, begun, text_reported, closed}
 use Rattle.vte_core.specs.Pending.{events_of_byte, after_byte, after_bytes}
 use Rattle.vte_core.proofs.Characters.{bool_cases, if_holds}
 use Rattle.vte_core.proofs.Machine.{IsSound-byte}
@@ -20,71 +22,41 @@ use Rattle.vte_types.specs.Charset.{mapped}
 use Rattle.vte_types.specs.declared.charset.StandardCharset.{StandardCharset}
 use Rattle.vte_types.specs.declared.charset.StandardCharset.TheVariants.{Ascii}
 use Rattle.vte_types.specs.declared.charset.CharsetIndex.{CharsetIndex}
-use Rattle.charset_filter.specs.Sets.{set_for, locked_set, after_csi, after_event, after_events, drawing_set}
-use Rattle.charset_filter.specs.Given.{is_drawable, given_for, given_from}
-use Rattle.charset_filter.specs.Filter.{is_escape}
-use Rattle.charset_filter.specs.Steady.{IsSteady, is_steady_run}
+use Rattle.charset_filter.specs.Sets.{set_for, locked_set, after_csi, after_event, after_events, drawing_set, is_bare}
+use Rattle.charset_filter.specs.Given.{is_drawable, given_for, given_from, last_behind}
+use Rattle.charset_filter.specs.Behind.{csi_behind, is_known}
+use Rattle.charset_filter.specs.Filter.{is_sequence}
+use Rattle.charset_filter.specs.Steady.{IsSteady, is_quiet_final, place_after, place_at}
+use Rattle.charset_filter.specs.declared.steady.Place.{Place}
+use Rattle.charset_filter.specs.declared.steady.Place.TheVariants.{Outside, BehindEsc, InHeader, Broken}
 use Rattle.charset_filter.specs.declared.sets.Designations.{Designations}
 use Rattle.charset_filter.specs.declared.sets.CharacterSets.{CharacterSets}
 use Rattle.charset_filter.proofs.Codes.{high-joined}
-use Rattle.charset_filter.proofs.ByteLemmas.{set_behind, given-drawn, silent-given, first-same, is-len}
+use Rattle.charset_filter.proofs.ByteLemmas.{set_behind, given-drawn, silent-given, undrawn-given, first-same, is-len}
+use Rattle.charset_filter.proofs.EventLemmas.{unmarked-last}
+use Rattle.charset_filter.proofs.GroundLemmas.{header-byte}
+use Rattle.charset_filter.proofs.MarkLemmas.{csi-ends, outside-unmarked}
+use Rattle.charset_filter.proofs.NumberLemmas.{lone-kept}
+use Rattle.charset_filter.proofs.SequenceLemmas.{rest-outside}
 use Rattle.charset_filter.proofs.SavedLemmas.{holds-csi}
 
--- where an escape is pending
+abbrev is_escape : Pending → Bool
+is_escape (InEscape is) = true
+is_escape (InText u) = false
+is_escape (InCsi h) = false
+is_escape (InOsc s) = false
+is_escape (InHook h) = false
+is_escape InDevice = false
+is_escape InSwallowed = false
 
-if-escape : (v : Bool) (x y : Pending) → is_escape x ≡ false → is_escape y ≡ false
-    → is_escape (if v then x else y) ≡ false
-if-escape v x y h k = if_holds (λ (q : Pending). is_escape q ≡ false) v x y h k
-
-final-escape : (is : List ℕ) (b : ℕ) → is_escape (final_rest is b) ≡ false
-final-escape is b =
-    if-escape (length is == 0 && b == 0x5B) _ _ refl (if-escape (length is == 0 && b == 0x5D) _ _ refl
-    (if-escape (length is == 0 && b == 0x50) _ _ refl
-    (if-escape (length is == 0 && (b == 0x58 || (b == 0x5E || b == 0x5F))) _ _ refl refl)))
-
--- a byte other than ESC begins no escape
-pub rest-escape : (q : Pending) (b : ℕ) → is_escape q ≡ false → is_escape (byte_rest q b) ≡ false
-rest-escape (InText u) b h = refl
-rest-escape (InEscape is) b h = absurd (let no : true ≡ false = h in cc)
-rest-escape (InCsi x) b h = if-escape (ends_header b) _ _ refl refl
-rest-escape (InOsc d) b h = if-escape (ends_osc b) _ _ refl refl
-rest-escape (InHook x) b h = if-escape (ends_header b) _ _
-    (if-escape (is_abort b) _ _ refl (if-escape (is_well_formed x) _ _ refl refl)) refl
-rest-escape InDevice b h = if-escape (ends_device b) _ _ refl refl
-rest-escape InSwallowed b h = if-escape (is_abort b) _ _ refl refl
-
-ended-escape : (is : List ℕ) (b : ℕ) → ends_escape b ≡ true → is_escape (byte_rest (InEscape is) b) ≡ false
-ended-escape is b h = rw h (if-escape (is_abort b) _ _ refl (final-escape is b))
-
-other-escape : (is : List ℕ) (b : ℕ) → ends_escape b ≡ false → is_escape (byte_rest (InEscape is) b) ≡ true
-other-escape is b h = rw h refl
-
-escape-of : (q : Pending) (b : ℕ) → is_escape q ≡ true
-    → is_escape (byte_rest q b) ≡ (if ends_escape b then false else true)
-escape-of (InText u) b h = absurd (let no : false ≡ true = h in cc)
-escape-of (InEscape is) b h =
-    elim (bool_cases (ends_escape b)) [
-      | inl e ↦ ended-escape is b e ∙ rw e refl
-      | inr e ↦ other-escape is b e ∙ rw e refl
-    ]
-escape-of (InCsi x) b h = absurd (let no : false ≡ true = h in cc)
-escape-of (InOsc d) b h = absurd (let no : false ≡ true = h in cc)
-escape-of (InHook x) b h = absurd (let no : false ≡ true = h in cc)
-escape-of InDevice b h = absurd (let no : false ≡ true = h in cc)
-escape-of InSwallowed b h = absurd (let no : false ≡ true = h in cc)
-
--- after each byte
-pub escape-after : (q : Pending) (b : ℕ)
-    → is_escape (after_byte q b) ≡ (if is_esc b then true else (if ends_escape b then false else is_escape q))
-escape-after q b =
-    elim (bool_cases (is_esc b)) [
-      | inl e ↦ rw e refl
-      | inr e ↦ rw e (elim (bool_cases (is_escape q)) [
-        | inl f ↦ rw f (escape-of q b f)
-        | inr f ↦ rw f (rest-escape q b f ∙ sym (if_holds (λ (v : Bool). v ≡ false) (ends_escape b) false false refl
-            refl))
-      ])
-    ]
+outside-escape : (q : Pending) → is_sequence q ≡ false → is_escape q ≡ false
+outside-escape (InText u) h = refl
+outside-escape (InEscape is) h = h
+outside-escape (InCsi x) h = refl
+outside-escape (InOsc d) h = refl
+outside-escape (InHook x) h = refl
+outside-escape InDevice h = refl
+outside-escape InSwallowed h = refl
 
 -- events that keep ASCII in use
 
@@ -217,106 +189,186 @@ steady-text u s b k =
           let t = set_behind s u in
           let set = steady-set t (steady-events s (closed 0 (InText u)) (quiet-closed u) k) in
           given-drawn u s b e ∙ (ap (λ (x : StandardCharset). encode_utf8 (mapped x b)) set ∙ ascii-bytes b e)
-      | inr e ↦ rw e refl
+      | inr e ↦ undrawn-given u s b e
     ]
 
-steady-given : (q : Pending) (s : CharacterSets) (b : ℕ) → IsSteady s → given_for q s b ≡ b ∷ []
-steady-given (InText u) s b k = steady-text u s b k
-steady-given (InEscape is) s b k = silent-given (InEscape is) s b refl
-steady-given (InCsi x) s b k = silent-given (InCsi x) s b refl
-steady-given (InOsc d) s b k = silent-given (InOsc d) s b refl
-steady-given (InHook x) s b k = silent-given (InHook x) s b refl
-steady-given InDevice s b k = silent-given InDevice s b refl
-steady-given InSwallowed s b k = silent-given InSwallowed s b refl
+other-given : (q : Pending) (s : CharacterSets) (b : ℕ) → is_text q ≡ false → is_sequence q ≡ false
+    → given_for q s b ≡ b ∷ []
+other-given q s b h o =
+    silent-given q s b [] h (unmarked-last s (events_of_byte 0 q b) (outside-unmarked 0 q b o))
 
--- runs
+steady-given : (q : Pending) (s : CharacterSets) (b : ℕ) → IsSteady s → is_sequence q ≡ false
+    → given_for q s b ≡ b ∷ []
+steady-given (InText u) s b k o = steady-text u s b k
+steady-given (InEscape is) s b k o = absurd (let no : true ≡ false = o in cc)
+steady-given (InCsi x) s b k o = absurd (let no : true ≡ false = o in cc)
+steady-given (InOsc d) s b k o = other-given (InOsc d) s b refl refl
+steady-given (InHook x) s b k o = other-given (InHook x) s b refl refl
+steady-given InDevice s b k o = other-given InDevice s b refl refl
+steady-given InSwallowed s b k o = other-given InSwallowed s b refl refl
 
--- ESC stands before the bytes, or no escape is pending
-abbrev Before : Bool → Pending → Type 0
-Before true q = q ≡ InEscape []
-Before false q = is_escape q ≡ false
+-- ---- the end of a control sequence behind which nothing stands
 
-introduced : (b : ℕ) → (b == 0x5B || b == 0x5D) ≡ true → (b ≡ 0x5B) ⊎ (b ≡ 0x5D)
-introduced b h = elim (bool_cases (b == 0x5B)) [
-  | inl e ↦ inl (is-len b 0x5B e)
-  | inr e ↦ inr (is-len b 0x5D (rw e at h))
+abbrev IsEmpty : List ℕ → Type 0
+IsEmpty bs = bs ≡ []
+
+and-false : (x y : Bool) → y ≡ false → (x && y) ≡ false
+and-false true y h = h
+and-false false y h = refl
+
+quiet-isnt : (f k : ℕ) → is_quiet_final f ≡ true
+    → (k == 0x68 || (k == 0x6C || (k == 0x70 || (k == 0x72 || (k == 0x73 || k == 0x75))))) ≡ true → (f == k) ≡ false
+quiet-isnt f k h l = grind (arith, nat_tests)
+
+quiet-csi : (s : CharacterSets) (gs : List (List ℕ)) (is : List ℕ) (many : Bool) (f : ℕ) → is_quiet_final f ≡ true
+    → list_all is_known gs ≡ true → csi_behind s gs is many f ≡ []
+quiet-csi s gs [] many f q known =
+    let r : (f == 0x72) ≡ false = quiet-isnt f 0x72 q refl in
+    let save : (is_bare gs && f == 0x73) ≡ false = and-false (is_bare gs) (f == 0x73) (quiet-isnt f 0x73 q refl) in
+    let restore : (is_bare gs && f == 0x75) ≡ false = and-false (is_bare gs) (f == 0x75) (quiet-isnt f 0x75 q refl) in
+    if_holds IsEmpty (f == 0x6D) _ _ (if_holds IsEmpty many _ _ refl (rw known refl)) (rw (r, save, restore) refl)
+quiet-csi s gs (i ∷ []) many f q known =
+    let reset : (i == 0x21 && f == 0x70) ≡ false = and-false (i == 0x21) (f == 0x70) (quiet-isnt f 0x70 q refl) in
+    let set : (i == 0x3F && f == 0x68) ≡ false = and-false (i == 0x3F) (f == 0x68) (quiet-isnt f 0x68 q refl) in
+    let unset : (i == 0x3F && f == 0x6C) ≡ false = and-false (i == 0x3F) (f == 0x6C) (quiet-isnt f 0x6C q refl) in
+    rw (reset, set, unset) refl
+quiet-csi s gs (i ∷ j ∷ is) many f q known = refl
+
+-- no byte of the header is `:`
+abbrev IsLone : List ℕ → Type 0
+IsLone h = AllByRecursion (λ b. (b == 0x3A) ≡ false) h
+
+lone-append : (h : List ℕ) (b : ℕ) → IsLone h → (b == 0x3A) ≡ false → IsLone (h ++ b ∷ [])
+lone-append [] b k l = (l, tt)
+lone-append (x ∷ h) b k l = (k.0, lone-append h b k.1 l)
+
+quiet-last : (s : CharacterSets) (x : List ℕ) (b : ℕ) → IsLone x → is_quiet_final b ≡ true
+    → last_behind s [] (events_of_byte 0 (InCsi x) b) ≡ []
+quiet-last s x b l q = elim (csi-ends x b) [
+  | inl none ↦ unmarked-last s (events_of_byte 0 (InCsi x) b) (none 0)
+  | inr ends ↦ ap (last_behind s []) (ends.events 0)
+      ∙ quiet-csi s (kept_groups x) (kept_intermediates x) (overflows x) b q (lone-kept x l)
 ]
 
-before-next : (q : Pending) (b : ℕ) → is_escape q ≡ false → Before (is_esc b) (after_byte q b)
-before-next q b h = elim (bool_cases (is_esc b)) [ inl e ↦ rw e refl | inr e ↦ rw e (rest-escape q b h) ]
+quiet-end : (x : List ℕ) (b : ℕ) → is_quiet_final b ≡ true → after_byte (InCsi x) b ≡ InText []
+quiet-end x b q =
+    let esc : is_esc b ≡ false = grind (arith, nat_tests) in
+    let ends : ends_header b ≡ true = grind (arith, nat_tests) in
+    rw (ends, esc) refl
 
--- a run is given as it is, and keeps ASCII in use
+final-other : (b : ℕ) → is_quiet_final b ≡ true → IsOther b
+final-other b q = grind (arith, nat_tests)
+
+-- ---- runs
+
+-- what is pending at a place
+abbrev Before : Place → Pending → Type 0
+Before Outside q = is_sequence q ≡ false
+Before BehindEsc q = q ≡ InEscape []
+Before InHeader q = (h : List ℕ) × (q ≡ InCsi h) × IsLone h
+Before Broken q = Unit {0}
+
+abbrev is_outside : Place → Bool
+is_outside Outside = true
+is_outside BehindEsc = false
+is_outside InHeader = false
+is_outside Broken = false
+
+broken-stays : (bs : List ℕ) → place_at Broken bs ≡ Outside → ⊥
+broken-stays [] h = true≢false (sym (ap is_outside h))
+broken-stays (b ∷ bs) h = broken-stays bs h
+
+-- a run is given as it is, and ends outside of sequences
 pub record Unchanged (q : Pending) (s : CharacterSets) (bs : List ℕ) : Type 0 where
   pub given : given_from q s bs ≡ bs
-  pub escape : is_escape (after_bytes q bs) ≡ false
+  pub outside : is_sequence (after_bytes q bs) ≡ false
 
 unchanged-cons : (q : Pending) (s : CharacterSets) (b : ℕ) (bs : List ℕ) → given_for q s b ≡ b ∷ []
     → Unchanged (after_byte q b) (after_events s (events_of_byte 0 q b)) bs → Unchanged q s (b ∷ bs)
 unchanged-cons q s b bs given more = record {
   given = ap (λ (xs : List ℕ). xs ++ given_from (after_byte q b) (after_events s (events_of_byte 0 q b)) bs) given
       ∙ ap (λ (xs : List ℕ). b ∷ xs) more.given;
-  escape = more.escape;
+  outside = more.outside;
 }
 
-pub run-unchanged : (after_esc : Bool) (q : Pending) (s : CharacterSets) (bs : List ℕ) → IsSound q → IsSteady s
-    → Before after_esc q → is_steady_run after_esc bs ≡ true → Unchanged q s bs
-run-unchanged true q s [] k p e h = absurd (let no : false ≡ true = h in cc)
-run-unchanged false q s [] k p e h = record { given = refl; escape = e }
-run-unchanged true q s (b ∷ bs) k p e h =
-    let parts = both (b == 0x5B || b == 0x5D) (is_steady_run false bs) h in
-    subst (λ (x : Pending). Unchanged x s (b ∷ bs)) (sym e) (elim (introduced b parts.0) [
-      | inl is ↦ subst (λ (x : ℕ). Unchanged (InEscape []) s (x ∷ bs)) (sym is)
-          (unchanged-cons (InEscape []) s 0x5B bs refl (run-unchanged false (InCsi []) s bs tt p refl parts.1))
-      | inr is ↦ subst (λ (x : ℕ). Unchanged (InEscape []) s (x ∷ bs)) (sym is)
-          (unchanged-cons (InEscape []) s 0x5D bs refl (run-unchanged false (InOsc []) s bs tt p refl parts.1))
+esc-other : (b : ℕ) → is_esc b ≡ true → IsOther b
+esc-other b h = grind (arith, nat_tests)
+
+pub run-unchanged : (p : Place) (q : Pending) (s : CharacterSets) (bs : List ℕ) → IsSound q → IsSteady s → Before p q
+    → place_at p bs ≡ Outside → Unchanged q s bs
+run-unchanged Outside q s [] k t e h = record { given = refl; outside = e }
+run-unchanged BehindEsc q s [] k t e h = absurd (true≢false (sym (ap is_outside h)))
+run-unchanged InHeader q s [] k t e h = absurd (true≢false (sym (ap is_outside h)))
+run-unchanged Broken q s bs k t e h = absurd (broken-stays bs h)
+run-unchanged Outside q s (b ∷ bs) k t e h = elim (bool_cases (is_esc b)) [
+  | inl esc ↦
+      let on : place_at BehindEsc bs ≡ Outside = rw esc at h in
+      let quiet = quiet-byte q b k (outside-escape q e) (esc-other b esc) in
+      unchanged-cons q s b bs (steady-given q s b t e)
+      (run-unchanged BehindEsc (after_byte q b) (after_events s (events_of_byte 0 q b)) bs (IsSound-byte q b k)
+      (steady-events s (events_of_byte 0 q b) quiet t) (rw esc refl) on)
+  | inr esc ↦ elim (bool_cases (b == 0x0E || b == 0x0F)) [
+    | inl shift ↦ absurd (broken-stays bs (rw (esc, shift) at h))
+    | inr shift ↦
+        let on : place_at Outside bs ≡ Outside = rw (esc, shift) at h in
+        let other : IsOther b = ap not shift in
+        let quiet = quiet-byte q b k (outside-escape q e) other in
+        unchanged-cons q s b bs (steady-given q s b t e)
+        (run-unchanged Outside (after_byte q b) (after_events s (events_of_byte 0 q b)) bs (IsSound-byte q b k)
+        (steady-events s (events_of_byte 0 q b) quiet t) (rw esc (rest-outside q b e)) on)
+  ]
+]
+run-unchanged BehindEsc q s (b ∷ bs) k t e h =
+    subst (λ (x : Pending). Unchanged x s (b ∷ bs)) (sym e) (elim (bool_cases (b == 0x5B)) [
+      | inl is ↦
+          let on : place_at InHeader bs ≡ Outside = rw is at h in
+          subst (λ (x : ℕ). Unchanged (InEscape []) s (x ∷ bs)) (sym (is-len b 0x5B is))
+          (unchanged-cons (InEscape []) s 0x5B bs refl
+          (run-unchanged InHeader (InCsi []) s bs tt t ([], refl, tt) on))
+      | inr isnt_first ↦ elim (bool_cases (b == 0x5D)) [
+        | inl is ↦
+            let on : place_at Outside bs ≡ Outside = rw (isnt_first, is) at h in
+            subst (λ (x : ℕ). Unchanged (InEscape []) s (x ∷ bs)) (sym (is-len b 0x5D is))
+            (unchanged-cons (InEscape []) s 0x5D bs refl (run-unchanged Outside (InOsc []) s bs tt t refl on))
+        | inr isnt ↦ absurd (broken-stays bs (rw (isnt_first, isnt) at h))
+      ]
     ])
-run-unchanged false q s (b ∷ bs) k p e h =
-    let parts = both (not (b == 0x0E || b == 0x0F)) (is_steady_run (is_esc b) bs) h in
-    let quiet = quiet-byte q b k e parts.0 in
-    unchanged-cons q s b bs (steady-given q s b p)
-    (run-unchanged (is_esc b) (after_byte q b) (after_events s (events_of_byte 0 q b)) bs (IsSound-byte q b k)
-    (steady-events s (events_of_byte 0 q b) quiet p) (before-next q b e) parts.1)
+run-unchanged InHeader q s (b ∷ bs) k t e h =
+    let x = e.0 in
+    subst (λ (y : Pending). Unchanged y s (b ∷ bs)) (sym e.1) (elim (bool_cases (is_header b)) [
+      | inl inside ↦ elim (bool_cases (b == 0x3A)) [
+        | inl colon ↦ absurd (broken-stays bs (rw (inside, colon) at h))
+        | inr colon ↦
+            let on : place_at InHeader bs ≡ Outside = rw (inside, colon) at h in
+            let byte = header-byte 0 x b inside in
+            unchanged-cons (InCsi x) s b bs (silent-given (InCsi x) s b [] refl (ap (last_behind s []) byte.0))
+            (subst (λ (es : List Event). Unchanged (after_byte (InCsi x) b) (after_events s es) bs) (sym byte.0)
+            (subst (λ (y : Pending). Unchanged y s bs) (sym byte.1)
+            (run-unchanged InHeader (InCsi (x ++ b ∷ [])) s bs tt t (x ++ b ∷ [], refl, lone-append x b e.2 colon) on)))
+      ]
+      | inr inside ↦ elim (bool_cases (is_quiet_final b)) [
+        | inl final ↦
+            let on : place_at Outside bs ≡ Outside = rw (inside, final) at h in
+            let end = quiet-end x b final in
+            let quiet = quiet-byte (InCsi x) b tt refl (final-other b final) in
+            unchanged-cons (InCsi x) s b bs (silent-given (InCsi x) s b [] refl (quiet-last s x b e.2 final))
+            (subst (λ (y : Pending). Unchanged y (after_events s (events_of_byte 0 (InCsi x) b)) bs) (sym end)
+            (run-unchanged Outside (InText []) (after_events s (events_of_byte 0 (InCsi x) b)) bs tt
+            (steady-events s (events_of_byte 0 (InCsi x) b) quiet t) refl on))
+        | inr final ↦ absurd (broken-stays bs (rw (inside, final) at h))
+      ]
+    ])
 
--- more bytes behind a run
-
-pub run-append : (after_esc : Bool) (xs ys : List ℕ) → is_steady_run after_esc xs ≡ true → is_steady_run false ys ≡ true
-    → is_steady_run after_esc (xs ++ ys) ≡ true
-run-append true [] ys h k = absurd (let no : false ≡ true = h in cc)
-run-append false [] ys h k = k
-run-append true (x ∷ xs) ys h k =
-    let p = both (x == 0x5B || x == 0x5D) (is_steady_run false xs) h in
-    rw p.0 (run-append false xs ys p.1 k)
-run-append false (x ∷ xs) ys h k =
-    let p = both (not (x == 0x0E || x == 0x0F)) (is_steady_run (is_esc x) xs) h in
-    rw p.0 (run-append (is_esc x) xs ys p.1 k)
-
--- one byte more, and two
+-- ---- one byte more
 
 one-more : (bs : List ℕ) (k : ℕ) → k < length bs → take (k + 1) bs ≡ take k bs ++ get_or bs k 0 ∷ []
 one-more bs k l = take-add k 1 bs ∙ ap (λ (xs : List ℕ). take k bs ++ take 1 xs) (drop-cons bs k 0 l)
 
-two-more : (bs : List ℕ) (k : ℕ) → suc k < length bs
-    → take (k + 2) bs ≡ take k bs ++ get_or bs k 0 ∷ get_or bs (suc k) 0 ∷ []
-two-more bs k l = take-add k 2 bs ∙ (ap (λ (xs : List ℕ). take k bs ++ take 2 xs) (drop-cons bs k 0 (omega (arith, l)))
-    ∙ ap (λ (xs : List ℕ). take k bs ++ get_or bs k 0 ∷ take 1 xs) (drop-cons bs (suc k) 0 l))
+place-append : (p : Place) (xs : List ℕ) (b : ℕ) → place_at p (xs ++ b ∷ []) ≡ place_after (place_at p xs) b
+place-append p [] b = refl
+place-append p (x ∷ xs) b = place-append (place_after p x) xs b
 
-pub run_byte_is : (bs : List ℕ) (k b : ℕ) → k < length bs → is_steady_run false (take k bs) ≡ true → get_or bs k 0 ≡ b
-    → is_esc b ≡ false → not (b == 0x0E || b == 0x0F) ≡ true → is_steady_run false (take (k + 1) bs) ≡ true
-run_byte_is bs k b l h is e o = rw (one-more bs k l, is) (run-append false (take k bs) (b ∷ []) h (rw (o, e) refl))
-
-pub run_introducer : (bs : List ℕ) (k a b : ℕ) → k + 1 < length bs → is_steady_run false (take k bs) ≡ true
-    → get_or bs k 0 ≡ a → a ≡ 0x1B → get_or bs (k + 1) 0 ≡ b → (b == 0x5B || b == 0x5D) ≡ true
-    → is_steady_run false (take (k + 2) bs) ≡ true
-run_introducer bs k a b l h is esc next o =
-    let at : get_or bs (suc k) 0 ≡ b = ap (λ (m : ℕ). get_or bs m 0) (sym (add-one k)) ∙ next in
-    rw (two-more bs k (omega (arith, l)), is, esc, at) (run-append false (take k bs) (0x1B ∷ b ∷ []) h (rw o refl))
-
-pub run_byte : (bs : List ℕ) (k : ℕ) → k < length bs → is_steady_run false (take k bs) ≡ true → get_or bs k 0 ≢ 0x1B
-    → get_or bs k 0 ≢ 0x0E → get_or bs k 0 ≢ 0x0F → is_steady_run false (take (k + 1) bs) ≡ true
-run_byte bs k l h e o i =
-    run_byte_is bs k (get_or bs k 0) l h refl (grind (arith, nat_tests)) (grind (arith, nat_tests))
-
-pub run_sequence : (bs : List ℕ) (k : ℕ) → k + 1 < length bs → is_steady_run false (take k bs) ≡ true
-    → get_or bs k 0 ≡ 0x1B → (get_or bs (k + 1) 0 == 0x5B || get_or bs (k + 1) 0 == 0x5D) ≡ true
-    → is_steady_run false (take (k + 2) bs) ≡ true
-run_sequence bs k l h e o = run_introducer bs k 0x1B (get_or bs (k + 1) 0) l h e refl refl o
+pub run_byte : (bs : List ℕ) (k : ℕ) (p : Place) → k < length bs → place_at Outside (take k bs) ≡ p
+    → place_at Outside (take (k + 1) bs) ≡ place_after p (get_or bs k 0)
+run_byte bs k p l is = ap (place_at Outside) (one-more bs k l)
+    ∙ (place-append Outside (take k bs) (get_or bs k 0) ∙ ap (λ (x : Place). place_after x (get_or bs k 0)) is)

@@ -7,6 +7,7 @@ use Rattle.vte_core.specs.Pending.{Pending, after_byte, events_of_byte, pending}
 use Rattle.vte_core.specs.Shapes.{events}
 use Rattle.vte_types.specs.Charset.{mapped}
 use Rattle.charset_filter.specs.Sets.{after_event, after_events, drawing_set, first_sets}
+use Rattle.charset_filter.specs.Behind.{behind}
 use Rattle.charset_filter.specs.declared.sets.CharacterSets.{CharacterSets}
 
 -- `_` to `~`, which have other characters in the line drawing set
@@ -30,8 +31,15 @@ drawn_or b (Some c) = encode_utf8 c
 abbrev pub given_byte : ℕ → Option ℕ → List ℕ
 given_byte b drawn = if is_drawable b then drawn_or b drawn else b ∷ []
 
+-- what stands behind the last of the events; where there are none, as before
+abbrev pub last_behind : CharacterSets → List ℕ → List Event → List ℕ
+last_behind s bytes [] = bytes
+last_behind s bytes (e ∷ es) = last_behind (after_event s e) (behind s e) es
+
+-- Only the last event of a byte can have something behind it.
 abbrev pub given_for : Pending → CharacterSets → ℕ → List ℕ
-given_for q s b = given_byte b (last_drawn s None (events_of_byte 0 q b))
+given_for q s b =
+    let es = events_of_byte 0 q b in given_byte b (last_drawn s None es) ++ last_behind s [] es
 
 abbrev pub given_from : Pending → CharacterSets → List ℕ → List ℕ
 given_from q s [] = []

@@ -1,4 +1,7 @@
 pub mod Sets
+pub mod Behind
+pub mod Room
+pub mod Groups
 pub mod Given
 pub mod Filter
 pub mod Steady

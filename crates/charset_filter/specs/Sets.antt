@@ -113,7 +113,18 @@ after_control_sequence s groups i f =
     else (if i == 0x3F && f == 0x68 then after_modes true s groups
     else (if i == 0x3F && f == 0x6C then after_modes false s groups else s))
 
+-- no parameter is given, or 0 alone
+abbrev pub is_bare : List (List ℕ) → Bool
+is_bare ((n ∷ []) ∷ []) = n == 0
+is_bare groups = false
+
+-- one without intermediates: SCOSC and SCORC, where it has no parameter
+abbrev pub after_plain_sequence : CharacterSets → Bool → ℕ → CharacterSets
+after_plain_sequence s bare f =
+    if bare && f == 0x73 then saved s else (if bare && f == 0x75 then restored s else s)
+
 abbrev pub after_csi : CharacterSets → List (List ℕ) → List ℕ → ℕ → CharacterSets
+after_csi s groups [] f = after_plain_sequence s (is_bare groups) f
 after_csi s groups (i ∷ []) f = after_control_sequence s groups i f
 after_csi s groups is f = s
 
@@ -137,8 +148,3 @@ after_events s (e ∷ es) = after_events (after_event s e) es
 abbrev pub shown : CharacterSets → Event → Event
 shown s (Print c) = Print (mapped (drawing_set s) c)
 shown s e = e
-
--- the events, each printed character as the events before it have it drawn
-abbrev pub drawn_events : CharacterSets → List Event → List Event
-drawn_events s [] = []
-drawn_events s (e ∷ es) = shown s e ∷ drawn_events (after_event s e) es

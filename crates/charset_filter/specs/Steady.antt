@@ -1,9 +1,12 @@
--- Runs in which no set can change.
-use Rattle.std.specs.Prelude.{◌≡◌, ℕ, Bool, true, false, not, ◌&&◌, ◌||◌, ◌==◌, List, [], ◌∷◌, None}
-use Rattle.vte_core.specs.Bytes.{is_esc}
+-- Runs in which no set can change, and behind which nothing stands.
+use Rattle.std.specs.Prelude.{◌≡◌, ℕ, Bool, not, ◌&&◌, ◌||◌, ◌==◌, List, [], ◌∷◌, None, if◌then◌else◌}
+use Rattle.std.specs.Int.{is_in_range}
+use Rattle.vte_core.specs.Bytes.{is_esc, is_header}
 use Rattle.vte_types.specs.declared.charset.StandardCharset.TheVariants.{Ascii}
 use Rattle.charset_filter.specs.Sets.{locked_set}
 use Rattle.charset_filter.specs.declared.sets.CharacterSets.{CharacterSets}
+use Rattle.charset_filter.specs.declared.steady.Place.{Place}
+use Rattle.charset_filter.specs.declared.steady.Place.TheVariants.{Outside, BehindEsc, InHeader, Broken}
 
 -- ASCII is drawn, and no single shift is pending; and so it is where saved sets are brought back
 pub record IsSteady (s : CharacterSets) : Type 0 where
@@ -12,8 +15,23 @@ pub record IsSteady (s : CharacterSets) : Type 0 where
   pub main : locked_set s.main_saved ≡ Ascii
   pub alternate : locked_set s.alternate_saved ≡ Ascii
 
--- neither SO nor SI, and directly behind each ESC stands `[` or `]`; after_esc says that ESC stood before the bytes
-abbrev pub is_steady_run : Bool → List ℕ → Bool
-is_steady_run after_esc [] = not after_esc
-is_steady_run true (b ∷ bs) = (b == 0x5B || b == 0x5D) && is_steady_run false bs
-is_steady_run false (b ∷ bs) = not (b == 0x0E || b == 0x0F) && is_steady_run (is_esc b) bs
+-- the final byte of a control sequence behind which nothing stands, if it has no `:`; the others are h, l, p, r, s and u
+abbrev pub is_quiet_final : ℕ → Bool
+is_quiet_final b = is_in_range 0x40 0x7E b
+    && not (b == 0x68 || (b == 0x6C || (b == 0x70 || (b == 0x72 || (b == 0x73 || b == 0x75)))))
+
+-- Where a run is after a byte. SO, SI, other escape sequences, `:` in a header and other final bytes break it off.
+abbrev pub place_after : Place → ℕ → Place
+place_after Outside b = if is_esc b then BehindEsc else (if b == 0x0E || b == 0x0F then Broken else Outside)
+place_after BehindEsc b = if b == 0x5B then InHeader else (if b == 0x5D then Outside else Broken)
+place_after InHeader b = if is_header b then (if b == 0x3A then Broken else InHeader)
+    else (if is_quiet_final b then Outside else Broken)
+place_after Broken b = Broken
+
+abbrev pub place_at : Place → List ℕ → Place
+place_at p [] = p
+place_at p (b ∷ bs) = place_at (place_after p b) bs
+
+-- it begins and ends outside of sequences
+abbrev pub IsSteadyRun : List ℕ → Type 0
+IsSteadyRun bs = place_at Outside bs ≡ Outside

@@ -4,28 +4,33 @@ ghost use Rattle.std.specs.Prelude.{◌≡◌, ◌<◌, ℕ, List, [], ◌∷◌
 ghost use Rattle.std.specs.Prelude.{if◌then◌else◌, take, ◌+◌, ◌*◌, ◌≤◌, vec_capacity, vec_len};
 ghost use Rattle.std.specs.Result.{OnOk, OnErr, IfOk, IfErr};
 ghost use Rattle.charset_filter.specs.Filter.{Gives, HasRead};
-ghost use Rattle.charset_filter.specs.Given.{given_byte, is_drawable, last_drawn};
-ghost use Rattle.charset_filter.specs.Steady.{IsSteady, is_steady_run};
-ghost use Rattle.vte_core.specs.Bytes.{ends_escape, is_esc};
+ghost use Rattle.charset_filter.specs.Given.{given_byte, is_drawable, last_behind, last_drawn};
+ghost use Rattle.charset_filter.specs.Steady.{IsSteady, IsSteadyRun};
+ghost use Rattle.charset_filter.specs.Filter.{ends_both};
+ghost use Rattle.vte_core.specs.Bytes.{is_esc};
 ghost use Rattle.vte_core.specs.Pending.{events_of_byte, pending};
 
+use crate::behind::MOST_BEHIND;
 use crate::error::AdvanceError;
 use crate::listener::Listener;
-use crate::sets::CharacterSets;
 use crate::steady::steady_len;
 use std::alloc::AllocError;
-use vte_core::{Parser, Perform};
+use vte_core::Parser;
 
-/// Reads a program's bytes in pieces, and gives them on with each printed character as its set draws it.
+/// How many bytes are given for one at most: a character, and what stands behind its event.
+const MOST_GIVEN: usize = 4 + MOST_BEHIND;
+
+/// Reads a program's bytes in pieces, and gives them on with each printed character as its set draws it. Behind a
+/// sequence that `vt100` doesn't know it gives others that do the same.
 ///
 /// The contract of `advance` speaks of every past that the filter has read: the bytes since it was made. A new filter
 /// has read nothing. It holds no bytes back and allocates nothing but the output.
 #[derive(Drop)]
 pub struct CharsetFilter {
     parser: Parser<0>,
-    sets: CharacterSets,
-    /// Whether an escape sequence is unfinished.
-    in_escape: bool,
+    listener: Listener,
+    /// Whether an escape sequence or a control sequence may be unfinished.
+    in_sequence: bool,
 }
 
 impl CharsetFilter {
@@ -35,24 +40,26 @@ impl CharsetFilter {
     {
         CharsetFilter {
             parser: Parser::new_with_size(),
-            sets: CharacterSets::new(),
-            in_escape: false,
+            listener: Listener::new(),
+            in_sequence: false,
         }
     }
 
-    /// Reads the next bytes, and appends to the output what they give, at most four bytes for each.
+    /// Reads the next bytes, and appends to the output what they give: at most eight bytes for each, and 512 more for a
+    /// sequence that began before them.
     ///
-    /// Memory is refused only where the output has no room for four times as many bytes. Then the error tells how many
-    /// bytes at the start have been read, and what these give is appended. The others, at least one, have not been
-    /// read.
+    /// Memory is refused only where the output has no room for so many bytes. Then the error tells how many bytes at the
+    /// start have been read, and what these give is appended. The others, at least one, have not been read.
     pub fn advance(&mut self, bytes: &[u8], output: &mut Vec<u8>) -> Result<(), AdvanceError>
         ensures given { OnOk result (Gives self.old bytes.now (length bytes.now) self.new output.old.items
             output.new.items) }
         ensures prefix { IfErr result (λ e. Gives self.old bytes.now e.read self.new output.old.items
             output.new.items) }
         ensures unread { IfErr result (λ e. e.read < length bytes.now) }
-        ensures full { OnErr result (vec_capacity output.old < vec_len output.old + 4 * length bytes.now) }
-        ensures short { vec_len output.new ≤ vec_len output.old + 4 * length bytes.now }
+        ensures full { (past : List ℕ) → HasRead self.old past → OnErr result
+            (vec_capacity output.old < vec_len output.old + (8 * length bytes.now + 512)) }
+        ensures short { (past : List ℕ) → HasRead self.old past
+            → vec_len output.new ≤ vec_len output.old + (8 * length bytes.now + 512) }
     {
         let mut read = 0;
         while read < bytes.len() {
@@ -64,18 +71,19 @@ impl CharsetFilter {
         Ok(())
     }
 
-    /// Reads a run in which no set can change, or one byte. Returns how many bytes it read.
+    /// Reads a steady run, or one byte. Returns how many bytes it read.
     fn read_some(&mut self, bytes: &[u8], output: &mut Vec<u8>) -> Result<usize, AllocError>
         requires { 0 < length bytes.now }
         ensures some { IfOk result (λ k. 0 < k) }
         ensures given { IfOk result (λ k. Gives self.old bytes.now k self.new output.old.items output.new.items) }
-        ensures grows { IfOk result (λ k. vec_len output.new ≤ vec_len output.old + 4 * k) }
+        ensures len { OnOk result
+            (vec_len output.new + length output.old.items ≡ vec_len output.old + length output.new.items) }
         ensures capacity { vec_capacity output.old ≤ vec_capacity output.new }
         ensures same { OnErr result ((self.new ≡ self.old) × (output.new.items ≡ output.old.items)
             × (vec_len output.new ≡ vec_len output.old)) }
-        ensures full { OnErr result (vec_capacity output.old < vec_len output.old + 4 * length bytes.now) }
+        ensures full { OnErr result (vec_capacity output.old < vec_len output.old + (length bytes.now + 255)) }
     {
-        if !self.in_escape && self.sets.is_steady() {
+        if !self.in_sequence && self.listener.sets.is_steady() {
             let len = steady_len(bytes);
             if len > 0 {
                 self.read_steady(bytes, len, output)?;
@@ -86,7 +94,7 @@ impl CharsetFilter {
         Ok(1)
     }
 
-    /// Reads a run in which no set can change, as many bytes at the start, and gives it as it is.
+    /// Reads a steady run, as many bytes at the start, and gives it as it is.
     fn read_steady(
         &mut self,
         bytes: &[u8],
@@ -94,11 +102,12 @@ impl CharsetFilter {
         output: &mut Vec<u8>,
     ) -> Result<(), AllocError>
         requires within { len ≤ length bytes.now }
-        requires steady { IsSteady self.old.sets }
-        requires escape { self.old.in_escape ≡ false }
-        requires run { is_steady_run false (take len bytes.now) ≡ true }
+        requires steady { IsSteady self.old.listener.sets }
+        requires outside { self.old.in_sequence ≡ false }
+        requires run { IsSteadyRun (take len bytes.now) }
         ensures given { OnOk result (Gives self.old bytes.now len self.new output.old.items output.new.items) }
-        ensures grows { OnOk result (vec_len output.new ≤ vec_len output.old + len) }
+        ensures len { OnOk result
+            (vec_len output.new + length output.old.items ≡ vec_len output.old + length output.new.items) }
         ensures capacity { vec_capacity output.old ≤ vec_capacity output.new }
         ensures same { OnErr result ((self.new ≡ self.old) × (output.new.items ≡ output.old.items)
             × (vec_len output.new ≡ vec_len output.old)) }
@@ -106,7 +115,7 @@ impl CharsetFilter {
     {
         let run = &bytes[..len];
         output.extend_from_slice(run)?;
-        self.parser.advance(&mut self.sets, run);
+        self.parser.advance(&mut self.listener.sets, run);
         Ok(())
     }
 
@@ -114,51 +123,51 @@ impl CharsetFilter {
     fn read_byte(&mut self, bytes: &[u8], output: &mut Vec<u8>) -> Result<(), AllocError>
         requires { 0 < length bytes.now }
         ensures given { OnOk result (Gives self.old bytes.now 1 self.new output.old.items output.new.items) }
-        ensures grows { OnOk result (vec_len output.new ≤ vec_len output.old + 4) }
+        ensures len { OnOk result
+            (vec_len output.new + length output.old.items ≡ vec_len output.old + length output.new.items) }
         ensures capacity { vec_capacity output.old ≤ vec_capacity output.new }
         ensures same { OnErr result ((self.new ≡ self.old) × (output.new.items ≡ output.old.items)
             × (vec_len output.new ≡ vec_len output.old)) }
-        ensures full { OnErr result (vec_capacity output.old < vec_len output.old + 4) }
+        ensures full { OnErr result (vec_capacity output.old < vec_len output.old + 256) }
     {
-        output.reserve(4)?;
-        let drawn = self.listen(bytes[0]);
-        push_given(output, bytes[0], drawn);
+        output.reserve(MOST_GIVEN)?;
+        self.listen(bytes[0]);
+        push_given(output, bytes[0], self.listener.drawn);
+        push_bytes(output, self.listener.behind.as_slice());
         Ok(())
     }
 
-    /// Gives the parser a byte, and returns what is drawn of the last character that it printed.
-    fn listen(&mut self, byte: u8) -> Option<char>
+    /// Gives the parser a byte. Then the listener has what it drew of the last character that was printed, and what
+    /// stands behind the last event.
+    fn listen(&mut self, byte: u8)
         ensures reads { (past : List ℕ) → HasRead self.old past → HasRead self.new (past ++ byte ∷ []) }
-        ensures drawn { (past : List ℕ) → HasRead self.old past → result ≡ last_drawn self.old.sets None
-            (events_of_byte 0 (pending past) byte) }
+        ensures drawn { (past : List ℕ) → HasRead self.old past → self.new.listener.drawn
+            ≡ last_drawn self.old.listener.sets None (events_of_byte 0 (pending past) byte) }
+        ensures behind { (past : List ℕ) → HasRead self.old past → self.new.listener.behind.items
+            ≡ last_behind self.old.listener.sets [] (events_of_byte 0 (pending past) byte) }
     {
-        let mut listener = Listener {
-            sets: self.sets,
-            drawn: None,
-        };
-        self.parser.advance(&mut listener, &[byte]);
-        self.sets = listener.sets;
-        self.in_escape = is_in_escape(self.in_escape, byte);
-        listener.drawn
+        self.listener.forget();
+        self.parser.advance(&mut self.listener, &[byte]);
+        self.in_sequence = may_be_in_sequence(self.in_sequence, byte);
     }
 }
 
-/// Whether an escape sequence is unfinished after a byte, where it was so before it or not.
-fn is_in_escape(before: bool, byte: u8) -> bool
-    ensures { result ≡ (if is_esc byte then true else (if ends_escape byte then false else before)) }
+/// Whether an escape sequence or a control sequence may be unfinished after a byte, where it may be so before it or not.
+fn may_be_in_sequence(before: bool, byte: u8) -> bool
+    ensures { result ≡ (if is_esc byte then true else (if ends_both byte then false else before)) }
 {
     match byte {
         0x1B => true,
-        0x18 | 0x1A | 0x30..=0x7E => false,
+        0x18 | 0x1A | 0x40..=0x5A | 0x5C..=0x7E => false,
         _ => before,
     }
 }
 
-/// Appends what is given for a byte, where there is room for it: the byte, or what is drawn of the character that it
-/// prints.
+/// Appends the byte, or what is drawn of the character that it prints, where there is room for it.
 fn push_given(output: &mut Vec<u8>, byte: u8, drawn: Option<char>)
     requires { vec_len output.old + 4 ≤ vec_capacity output.old }
     ensures items { output.new.items ≡ output.old.items ++ given_byte byte drawn }
+    ensures len { vec_len output.new + length output.old.items ≡ vec_len output.old + length output.new.items }
     ensures grows { vec_len output.new ≤ vec_len output.old + 4 }
     ensures capacity { vec_capacity output.old ≤ vec_capacity output.new }
 {

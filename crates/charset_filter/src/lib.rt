@@ -31,6 +31,7 @@
 //! too. After `ESC c` xterm keeps what was saved while the alternate screen was shown; here nothing is kept.
 #![tactic(auto)]
 
+mod behind;
 mod error;
 mod filter;
 pub mod laws;

@@ -1,7 +1,8 @@
 //! A program's output on its way to a screen that knows no character sets.
 
-ghost use Rattle.std.specs.Prelude.{◌≡◌, ◌≤◌, ◌*◌, ◌++◌, [], ℕ, List, length, IsOk, OnErr, OnOk};
-ghost use Rattle.charset_filter.specs.Filter.{Gives};
+ghost use Rattle.std.specs.Prelude.{◌≡◌, ◌≤◌, ◌*◌, ◌++◌, [], ℕ, List, ◌<◌, length, IsOk, OnErr, OnOk, ◌+◌};
+ghost use Rattle.std.specs.Prelude.{vec_capacity, vec_len};
+ghost use Rattle.charset_filter.specs.Filter.{Gives, HasRead};
 ghost use Rattle.charset_filter.specs.Lines.{HasPassed, passed, piece_of};
 ghost use Rattle.charset_filter.specs.declared.lines.LineDrawing.TheVariants.{Kept};
 
@@ -42,14 +43,15 @@ impl PieceFilter {
 
     /// Reads the next piece. Then [`given`](PieceFilter::given) answers what it gives.
     ///
-    /// Where lines are drawn, it takes room for four times as many bytes as the piece has, and fails only if there is
-    /// no memory for that. Then the piece has not passed, and may be handed over again. Where they are kept it doesn't
-    /// fail.
+    /// Where lines are drawn, it takes room for eight times as many bytes as the piece has, and 512 more, and fails only
+    /// if there is no memory for that. Then the piece has not passed, and may be handed over again. Where they are kept
+    /// it doesn't fail.
     pub fn pass(&mut self, piece: &[u8]) -> Result<(), AllocError>
         ensures passed { OnOk result ((lines : LineDrawing) (past : List ℕ) → HasPassed self.old lines past
             → HasPassed self.new lines (past ++ piece.now)
             × (piece_of self.new piece.now ≡ passed lines past piece.now)) }
-        ensures short { OnOk result (length (piece_of self.new piece.now) ≤ 4 * length piece.now) }
+        ensures short { OnOk result ((lines : LineDrawing) (past : List ℕ) → HasPassed self.old lines past
+            → length (piece_of self.new piece.now) ≤ 8 * length piece.now + 512) }
         ensures kept { (past : List ℕ) → HasPassed self.old Kept past → IsOk result }
         ensures none { piece.now ≡ [] → IsOk result }
         ensures same { OnErr result ((lines : LineDrawing) (past : List ℕ) → HasPassed self.old lines past
@@ -63,18 +65,16 @@ impl PieceFilter {
 
     /// Reads the next piece, and keeps what it gives. What the piece before it gave is dropped.
     fn draw(&mut self, piece: &[u8]) -> Result<(), AllocError>
-        ensures short { OnOk result (length self.new.drawn.items ≤ 4 * length piece.now) }
+        ensures short { OnOk result ((past : List ℕ) → HasRead self.old.filter past
+            → length self.new.drawn.items ≤ 8 * length piece.now + 512) }
         ensures kind { self.new.lines ≡ self.old.lines }
         ensures drawn { OnOk result (Gives self.old.filter piece.now (length piece.now) self.new.filter []
             self.new.drawn.items) }
         ensures none { piece.now ≡ [] → IsOk result }
-        ensures same { OnErr result (self.new.filter ≡ self.old.filter) }
+        ensures same { OnErr result ((past : List ℕ) → HasRead self.old.filter past → HasRead self.new.filter past) }
     {
-        let Some(room) = piece.len().checked_mul(4) else {
-            return Err(AllocError);
-        };
         self.drawn.clear();
-        self.drawn.reserve(room)?;
+        make_room(&mut self.drawn, piece.len())?;
         self.filter.advance(piece, &mut self.drawn)?;
         Ok(())
     }
@@ -88,4 +88,24 @@ impl PieceFilter {
             LineDrawing::Drawn => &self.drawn,
         }
     }
+}
+
+/// Makes room in an empty output for all that so many bytes can give; for no bytes it makes none.
+fn make_room(output: &mut Vec<u8>, len: usize) -> Result<(), AllocError>
+    requires { vec_len output.old ≡ 0 }
+    ensures empty { output.new.items ≡ output.old.items }
+    ensures len { vec_len output.new ≡ 0 }
+    ensures room { OnOk result (0 < len → 8 * len + 512 ≤ vec_capacity output.new) }
+    ensures none { len ≡ 0 → IsOk result }
+{
+    if len == 0 {
+        return Ok(());
+    }
+    let Some(most) = len.checked_mul(8) else {
+        return Err(AllocError);
+    };
+    let Some(room) = most.checked_add(512) else {
+        return Err(AllocError);
+    };
+    output.reserve(room)
 }

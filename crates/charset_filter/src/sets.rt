@@ -7,6 +7,7 @@ ghost use Rattle.charset_filter.specs.Sets.{after_control, after_csi, after_esca
 ghost use Rattle.charset_filter.specs.Sets.{after_unmarked_escape, ascii, designated, drawing_set, first_sets};
 ghost use Rattle.charset_filter.specs.Sets.{locked_set, reset_softly, restored, saved, set_at};
 
+use crate::behind::is_bare;
 use vte_core::{Event, Params, Perform};
 use vte_types::charset::{CharsetIndex, StandardCharset};
 
@@ -114,6 +115,13 @@ impl CharacterSets {
             && self.alternate_saved.locked_set() == StandardCharset::Ascii
     }
 
+    /// Whether the alternate screen is shown.
+    pub fn is_alternate(&self) -> bool
+        ensures { result ≡ self.now.alternate }
+    {
+        self.alternate
+    }
+
     /// Saves the sets for the screen that is shown.
     fn save(&mut self)
         ensures { self.new ≡ saved self.old }
@@ -156,7 +164,7 @@ impl CharacterSets {
     }
 
     /// Sets or resets the private mode that a group names.
-    fn change_mode(&mut self, group: &[u16], set: bool)
+    pub fn change_mode(&mut self, group: &[u16], set: bool)
         ensures { self.new ≡ after_mode set self.old group.now }
     {
         match group {
@@ -180,6 +188,8 @@ impl CharacterSets {
         ensures { self.new ≡ after_csi self.old params.now intermediates.now last }
     {
         match (intermediates, last) {
+            ([], 's') if is_bare(params) => self.save(),
+            ([], 'u') if is_bare(params) => self.restore(),
             ([b'!'], 'p') => self.reset_softly(),
             ([b'?'], 'h') => self.change_modes(params, true),
             ([b'?'], 'l') => self.change_modes(params, false),

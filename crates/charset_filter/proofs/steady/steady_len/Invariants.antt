@@ -1,9 +1,15 @@
-use Rattle.std.proofs.Common.{length, ◌-◌, ◌≡◌, ◌≤◌, take, true, false}
-use Rattle.charset_filter.specs.Steady.{is_steady_run}
+use Rattle.std.proofs.Common.{length, ◌-◌, ◌≡◌, ◌≤◌, take}
+use Rattle.charset_filter.specs.Steady.{IsSteadyRun, place_at}
+use Rattle.charset_filter.specs.declared.steady.Place.TheVariants.{Outside}
 use Rattle.charset_filter.proofs.steady.steady_len.Given as goal
 
-abbrev pub invariant-loop-len : goal.invariant-loop-len
-invariant-loop-len l = (l.len ≤ length l.bytes) × (is_steady_run false (take l.len l.bytes) ≡ true)
+abbrev pub invariant-loop-at : goal.invariant-loop-at
+invariant-loop-at l = record {
+  within : l.len ≤ length l.bytes;
+  scanned : l.at ≤ length l.bytes;
+  place : place_at Outside (take l.at l.bytes) ≡ l.place;
+  steady : IsSteadyRun (take l.len l.bytes);
+}
 
-abbrev pub decreases-loop-len : goal.decreases-loop-len
-decreases-loop-len l = length l.bytes - l.len
+abbrev pub decreases-loop-at : goal.decreases-loop-at
+decreases-loop-at l = length l.bytes - l.at
