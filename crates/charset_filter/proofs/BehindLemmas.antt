@@ -6,7 +6,7 @@ use Rattle.std.specs.Int.{is_in_range}
 use Rattle.std.specs.List.{flat_map}
 use Rattle.vte_core.specs.ParamsText.{group_text}
 use Rattle.vte_core.proofs.Characters.{if_holds}
-use Rattle.charset_filter.specs.Behind.{as_known, is_color, is_known, replaced, sgr}
+use Rattle.charset_filter.specs.Behind.{are_parts, as_known, is_color, is_known, replaced, sgr}
 use Rattle.charset_filter.specs.Groups.{first_text, has_some}
 use Rattle.charset_filter.specs.Room.{Appends}
 
@@ -45,7 +45,7 @@ replaced-one (n ∷ k ∷ []) = if_holds AtMostOne (n == 4 && k == 0) _ _ (inr (
 replaced-one (n ∷ k ∷ a ∷ []) = inl refl
 replaced-one (n ∷ k ∷ a ∷ b ∷ []) = inl refl
 replaced-one (n ∷ k ∷ a ∷ b ∷ c ∷ []) = inl refl
-replaced-one (n ∷ k ∷ s ∷ r ∷ g ∷ b ∷ []) = if_holds AtMostOne (is_color n && k == 2) _ _
+replaced-one (n ∷ k ∷ s ∷ r ∷ g ∷ b ∷ []) = if_holds AtMostOne (is_color n && (k == 2 && are_parts r g b)) _ _
     (inr (n ∷ k ∷ r ∷ g ∷ b ∷ [], refl)) (inl refl)
 replaced-one (n ∷ k ∷ a ∷ b ∷ c ∷ d ∷ e ∷ gs) = inl refl
 

@@ -10,7 +10,7 @@ use Rattle.vte_core.specs.ParamsText.{group_text}
 use Rattle.vte_core.specs.Store.{total}
 use Rattle.vte_core.proofs.Characters.{bool_cases, if_holds}
 use Rattle.charset_filter.specs.Sets.{after_mode, is_bare}
-use Rattle.charset_filter.specs.Behind.{as_known, csi_behind, escape_behind, is_color, is_known, mode_behind}
+use Rattle.charset_filter.specs.Behind.{are_parts, as_known, csi_behind, escape_behind, is_color, is_known, mode_behind}
 use Rattle.charset_filter.specs.Behind.{marked_behind, modes_behind, plain_behind, replaced, sgr}
 use Rattle.charset_filter.specs.declared.sets.CharacterSets.{CharacterSets}
 use Rattle.charset_filter.proofs.NumberLemmas.{AreSmall, IsSmall, kept-few, kept-small}
@@ -78,7 +78,7 @@ replaced-few (n ∷ k ∷ []) h = if_holds (Few 2) (n == 4 && k == 0) _ _
 replaced-few (n ∷ k ∷ a ∷ []) h = omega arith
 replaced-few (n ∷ k ∷ a ∷ b ∷ []) h = omega arith
 replaced-few (n ∷ k ∷ a ∷ b ∷ c ∷ []) h = omega arith
-replaced-few (n ∷ k ∷ a ∷ r ∷ g ∷ b ∷ []) h = if_holds (Few 6) (is_color n && k == 2) _ _
+replaced-few (n ∷ k ∷ a ∷ r ∷ g ∷ b ∷ []) h = if_holds (Few 6) (is_color n && (k == 2 && are_parts r g b)) _ _
     (fewer 5 6 ((n ∷ k ∷ r ∷ g ∷ b ∷ []) ∷ []) (omega arith)
     (one-few n (k ∷ r ∷ g ∷ b ∷ []) (h.0, (h.1.0, h.1.1.1)))) (omega arith)
 replaced-few (n ∷ k ∷ a ∷ b ∷ c ∷ d ∷ e ∷ gs) h = omega arith

@@ -11,7 +11,7 @@ use Rattle.vte_core.specs.Header.{number, groups, first_numbers, kept_groups}
 use Rattle.vte_core.specs.Store.{total}
 use Rattle.vte_core.proofs.Characters.{bool_cases, if_holds}
 use Rattle.vte_core.proofs.Headers.{total-first}
-use Rattle.charset_filter.specs.Behind.{as_known, is_color, is_known, replaced}
+use Rattle.charset_filter.specs.Behind.{are_parts, as_known, is_color, is_known, replaced}
 
 -- ---- each is below 2 ^ 16
 
@@ -177,7 +177,7 @@ replaced-small (n ∷ k ∷ []) h = either-small (n == 4 && k == 0) _ _ ((omega 
 replaced-small (n ∷ k ∷ a ∷ []) h = tt
 replaced-small (n ∷ k ∷ a ∷ b ∷ []) h = tt
 replaced-small (n ∷ k ∷ a ∷ b ∷ c ∷ []) h = tt
-replaced-small (n ∷ k ∷ s ∷ r ∷ g ∷ b ∷ []) h = either-small (is_color n && k == 2) _ _
+replaced-small (n ∷ k ∷ s ∷ r ∷ g ∷ b ∷ []) h = either-small (is_color n && (k == 2 && are_parts r g b)) _ _
     ((h.0, (h.1.0, h.1.1.1)), tt) tt
 replaced-small (n ∷ k ∷ a ∷ b ∷ c ∷ d ∷ e ∷ gs) h = tt
 

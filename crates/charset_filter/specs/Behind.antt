@@ -1,5 +1,5 @@
 -- What stands behind an event: bytes that have a screen do what a terminal does at it, where `vt100` doesn't know it.
-use Rattle.std.specs.Prelude.{ℕ, Bool, true, false, List, [], ◌∷◌, ◌++◌, ◌==◌, ◌&&◌, ◌||◌, if◌then◌else◌, codes}
+use Rattle.std.specs.Prelude.{ℕ, Bool, true, false, List, [], ◌∷◌, ◌++◌, ◌==◌, ◌&&◌, ◌||◌, if◌then◌else◌, codes, nat_lt}
 use Rattle.std.specs.Int.{is_in_range}
 use Rattle.std.specs.List.{flat_map, list_all}
 use Rattle.vte_core.specs.Event.{Event, Csi, Esc}
@@ -35,13 +35,17 @@ is_known (n ∷ k ∷ index ∷ []) = is_color n && k == 5
 is_known (n ∷ k ∷ red ∷ green ∷ blue ∷ []) = is_color n && k == 2
 is_known group = false
 
+-- each part of a colour is below 256
+abbrev pub are_parts : ℕ → ℕ → ℕ → Bool
+are_parts red green blue = nat_lt red 256 && (nat_lt green 256 && nat_lt blue 256)
+
 -- A group in place of one that it doesn't read: a kind of underline is an underline, kind 0 is none, and a colour loses
 -- the name of its colour space. For any other there is none.
 abbrev pub replaced : List ℕ → List (List ℕ)
 replaced (n ∷ k ∷ []) =
     if n == 4 && k == 0 then (24 ∷ []) ∷ [] else (if n == 4 && is_in_range 1 5 k then (4 ∷ []) ∷ [] else [])
 replaced (n ∷ k ∷ space ∷ red ∷ green ∷ blue ∷ []) =
-    if is_color n && k == 2 then (n ∷ k ∷ red ∷ green ∷ blue ∷ []) ∷ [] else []
+    if is_color n && (k == 2 && are_parts red green blue) then (n ∷ k ∷ red ∷ green ∷ blue ∷ []) ∷ [] else []
 replaced group = []
 
 abbrev pub as_known : List ℕ → List (List ℕ)

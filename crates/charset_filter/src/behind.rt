@@ -158,7 +158,14 @@ fn push_group(behind: &mut Behind, group: &[u16], some: bool) -> bool
     match group {
         [4, 0] => push_numbers(behind, some, &[24]),
         [4, 1..=5] => push_numbers(behind, some, &[4]),
-        [color @ (38 | 48), 2, _, red, green, blue] => {
+        [
+            color @ (38 | 48),
+            2,
+            _,
+            red @ 0..=255,
+            green @ 0..=255,
+            blue @ 0..=255,
+        ] => {
             push_numbers(behind, some, &[*color, 2, *red, *green, *blue]);
         }
         _ => return some,
