@@ -6,7 +6,8 @@ package jeihpal
 import "C"
 
 // Filter draws a program's lines, on the way to a Hub or a Screen: after ESC ( 0 the letters lqqk come as the edge of a
-// box. All other bytes are given on as they are.
+// box. All other bytes are given on as they are. Directly behind a sequence that vt100 doesn't know stand others that
+// do the same, such as CSI 4 m behind the curly underline CSI 4:3 m.
 type Filter struct{ object }
 
 // NewFilter makes a filter that nothing has passed.

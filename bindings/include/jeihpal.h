@@ -496,21 +496,26 @@ int32_t jeihpal_recording_screen(jeihpal_recording *recording, jeihpal_screen *s
 /* Closes the word: what it holds, of any kind, is freed. */
 void jeihpal_recording_close(jeihpal_recording *recording);
 
-/* ---- filters: a program's lines as Unicode, on the way to a hub or a screen
+/* ---- filters: a program's output on the way to a hub or a screen
  *
  * Programs draw boxes with DEC's special graphics: after ESC ( 0 the letters lqqk mean the upper edge of a box. Hubs and
  * screens show letters there, as vt100 does. A filter gives all bytes on as they are, but for such letters: these come
- * as the characters that they stand for. It reads ECMA-35's designations and shifts, as xterm does. */
+ * as the characters that they stand for. It reads ECMA-35's designations and shifts, as xterm does.
+ *
+ * Directly behind a sequence that vt100 doesn't know it gives others that vt100 knows, and that do the same: behind
+ * colours with the name of a colour space (38:2::R:G:B) and kinds of underlines (4:3, 4:0), CSI s and CSI u, ESC D and
+ * ESC E, CSI r (the cursor goes home), the private modes 1047 and 1048, and CSI ! p. */
 
 /* Makes a filter that nothing has passed. What the word held is closed, also where the call is refused. MEMORY: the
  * word holds nothing. */
 int32_t jeihpal_filter_new(jeihpal_filter *filter);
 
 /* Has the next bytes of the program's output pass. They may be cut anywhere. MEMORY, never for 0 bytes: they have not
- * passed, and may be handed over again; what the last piece gave may be lost. */
+ * passed, and may be handed over again; what the last piece gave may be lost. It takes room for eight times as many
+ * bytes, and 512 more. */
 int32_t jeihpal_filter_pass(jeihpal_filter *filter, const uint8_t *bytes, size_t count);
 
-/* What the piece gives that passed last: at most four bytes for each that it had. */
+/* What the piece gives that passed last: at most eight bytes for each that it had, and 512 more. */
 int32_t jeihpal_filter_given(jeihpal_filter *filter, uint8_t *to, size_t capacity, size_t *length);
 
 /* Closes the word: what it holds, of any kind, is freed. */

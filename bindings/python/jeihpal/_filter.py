@@ -10,6 +10,9 @@ class Filter(Object):
 
     Programs draw boxes with DEC's special graphics: after `ESC ( 0` the letters `lqqk` mean `┌──┐`. A filter gives
     all bytes on as they are, but for such letters: these come as the characters that they stand for.
+
+    Directly behind a sequence that `vt100` doesn't know it gives others that `vt100` knows, and that do the same: such
+    as `CSI 4 m` behind the curly underline `CSI 4:3 m`. `docs/PYTHON.md` lists them.
     """
 
     _kind = "filter"
@@ -21,4 +24,4 @@ class Filter(Object):
         """
         with self._lock:
             self._give("pass", data)
-            return self._text("given", first=len(data) + 1)  # as long as it is where no lines are drawn
+            return self._text("given", first=len(data) + 1)  # as long as it is where all comes as it was written

@@ -9,6 +9,9 @@ use crate::raw;
 /// show letters there, as `vt100` does. A filter gives all bytes on as they are, but for such letters: these come as
 /// the characters that they stand for.
 ///
+/// Directly behind a sequence that `vt100` doesn't know it gives others that `vt100` knows, and that do the same: such
+/// as `CSI 4 m` behind the curly underline `CSI 4:3 m`. `jeihpal.h` lists them.
+///
 /// ```
 /// let mut filter = jeihpal::Filter::new()?;
 /// assert_eq!(filter.pass(b"\x1b(0lq")?, "\x1b(0┌─".as_bytes());

@@ -1,5 +1,5 @@
 -- What each call does to a filter that draws lines, and the number that it returns.
-use Rattle.std.specs.Prelude.{◌≡◌, ◌≢◌, ◌⊎◌, ◌≤◌, ◌*◌, ℕ, ℤ, List, [], ◌++◌, length}
+use Rattle.std.specs.Prelude.{◌≡◌, ◌≢◌, ◌⊎◌, ◌≤◌, ◌+◌, ◌*◌, ℕ, ℤ, List, [], ◌++◌, length}
 use Rattle.charset_filter.specs.Given.{given_after}
 use Rattle.charset_filter.specs.Lines.{HasPassed, piece_of}
 use Rattle.charset_filter.specs.declared.lines.LineDrawing.TheVariants.{Drawn}
@@ -25,11 +25,11 @@ IsNewFilter (Filter f) = HasPassed f Drawn []
 abbrev pub last_given : PieceFilter → List ℕ
 last_given f = piece_of f []
 
--- The piece has passed. The filter gives what the piece is with its lines drawn, behind all that has passed before.
+-- The piece has passed. The filter gives what it makes of the piece, behind all that has passed before.
 pub record HasPassedOn (bytes : List ℕ) (f g : PieceFilter) : Type 0 where
   pub passed : (past : List ℕ) → HasPassed f Drawn past → HasPassed g Drawn (past ++ bytes)
   pub gives : (past : List ℕ) → HasPassed f Drawn past → last_given g ≡ given_after past bytes
-  pub short : (past : List ℕ) → HasPassed f Drawn past → length (last_given g) ≤ 4 * length bytes
+  pub short : (past : List ℕ) → HasPassed f Drawn past → length (last_given g) ≤ 8 * length bytes + 512
 
 -- the piece passes; or an allocation failed, and it has not passed
 abbrev pub Passes : List ℕ → PieceFilter → ℤ → PieceFilter → Type 0

@@ -59,7 +59,7 @@ header-byte n h b k =
     let control : is_control b ≡ false = grind (arith, nat_tests) in
     (rw (control, ends, esc) refl, rw (k, ends, esc) refl)
 
-header-run : (n : ℕ) (h k rest : List ℕ) → AreHeader k
+pub header-run : (n : ℕ) (h k rest : List ℕ) → AreHeader k
     → (events_from n (InCsi h) (k ++ rest) ≡ events_from n (InCsi (h ++ k)) rest)
     × (after_bytes (InCsi h) (k ++ rest) ≡ after_bytes (InCsi (h ++ k)) rest)
 header-run n h [] rest are = rw (append-nil h) (refl, refl)
@@ -112,7 +112,7 @@ later-header [] h = tt
 later-header (g ∷ gs) h =
     header-append (codes ";" ++ group_text g) _ (refl, group-header g h.0) (later-header gs h.1)
 
-groups-header : (gs : List (List ℕ)) → AreSmall gs → AreHeader (groups_text gs)
+pub groups-header : (gs : List (List ℕ)) → AreSmall gs → AreHeader (groups_text gs)
 groups-header [] h = tt
 groups-header (g ∷ gs) h = header-append (group_text g) _ (group-header g h.0) (later-header gs h.1)
 
@@ -122,7 +122,7 @@ small-append : (xs ys : List (List ℕ)) → AreSmall xs → AreSmall ys → Are
 small-append [] ys h k = k
 small-append (x ∷ xs) ys h k = (h.0, small-append xs ys h.1 k)
 
-all-small : (gs : List (List ℕ)) → AreSmall gs → AreSmall (flat_map as_known gs)
+pub all-small : (gs : List (List ℕ)) → AreSmall gs → AreSmall (flat_map as_known gs)
 all-small [] h = tt
 all-small (g ∷ gs) h = small-append (as_known g) (flat_map as_known gs) (known-small g h.0) (all-small gs h.1)
 
@@ -147,7 +147,8 @@ alike-csi : (s : CharacterSets) (gs : List (List ℕ)) (is : List ℕ) (many : B
     → Alike (csi_behind s gs is many f)
 alike-csi s gs [] many f h =
     either (f == 0x6D) _ _
-    (either many _ _ none (either (list_all is_known gs) _ _ none (alike-groups (flat_map as_known gs) (all-small gs h))))
+    (either many _ _ none (either (list_all is_known gs) _ _ none
+    (alike-groups (flat_map as_known gs) (all-small gs h))))
     (either (f == 0x72) _ _ (λ n. (refl, refl))
     (either (is_bare gs && f == 0x73) _ _ (λ n. (refl, refl))
     (either (is_bare gs && f == 0x75) _ _ (λ n. (refl, refl)) none)))

@@ -3,6 +3,7 @@ pub mod EventLemmas
 pub mod MarkLemmas
 pub mod NumberLemmas
 pub mod GroundLemmas
+pub mod ReadBack
 pub mod LengthLemmas
 pub mod BehindLemmas
 pub mod SavedLemmas

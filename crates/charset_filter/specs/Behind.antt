@@ -56,8 +56,8 @@ abbrev pub sgr : List (List ℕ) → List ℕ
 sgr [] = []
 sgr (group ∷ groups) = csi (groups_text (group ∷ groups) ++ codes "m")
 
--- All groups once more, so that those count that follow one which isn't read. Each sets what it names, and reads nothing
--- of what is set, so a group that counts twice does what it does once.
+-- All groups once more, since a later one may undo an earlier one. Each sets what it names, and asks nothing of what is
+-- set, so a group that counts twice does what it does once.
 abbrev pub sgr_behind : List (List ℕ) → List ℕ
 sgr_behind groups = if list_all is_known groups then [] else sgr (flat_map as_known groups)
 

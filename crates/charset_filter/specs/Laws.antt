@@ -1,14 +1,17 @@
 -- Laws of what is given.
-use Rattle.std.specs.Prelude.{◌≡◌, ℕ, Bool, true, false, not, ◌&&◌, ◌==◌, List, [], ◌∷◌, ◌++◌}
+use Rattle.std.specs.Prelude.{◌≡◌, ◌<◌, ◌≤◌, ◌^◌, length, ℕ, Bool, true, false, not, ◌&&◌, ◌==◌, List, [], ◌∷◌, ◌++◌}
 use Rattle.std.specs.Int.{is_in_range}
-use Rattle.vte_core.specs.Event.{Event, Esc}
+use Rattle.std.specs.List.{AllByRecursion, concat, flat_map, list_all}
+use Rattle.vte_core.specs.Event.{Event, Csi, Esc}
 use Rattle.vte_core.specs.Shapes.{events}
 use Rattle.charset_filter.specs.Given.{filtered, given_after}
-use Rattle.charset_filter.specs.Behind.{all_behind, drawn_events}
+use Rattle.charset_filter.specs.Behind.{all_behind, as_known, behind, drawn_events, is_known}
 use Rattle.charset_filter.specs.Sets.{first_sets}
+use Rattle.charset_filter.specs.declared.sets.CharacterSets.{CharacterSets}
 
 -- The events of what is given are the events of what was read, each printed character as the events before it have it
--- drawn, and behind each event what stands there. A parser may keep any number n of bytes of an operating system command.
+-- drawn, and behind each event those of what stands there. A parser may keep any number n of bytes of an operating
+-- system command.
 abbrev pub DrawsEvents : Type 0
 DrawsEvents = (n : ℕ) (bs : List ℕ) → events n (filtered bs) ≡ drawn_events first_sets (events n bs)
 
@@ -29,3 +32,23 @@ names_none (e ∷ es) = not (names_lines e) && names_none es
 abbrev pub KeepsAscii : Type 0
 KeepsAscii = (n : ℕ) (bs : List ℕ) → names_none (events n bs) ≡ true → all_behind first_sets (events n bs) ≡ []
     → filtered bs ≡ bs
+
+-- numbers as a parser reads a group: at least one, and each below 2 ^ 16
+abbrev pub IsGroup : List ℕ → Type 0
+IsGroup group = (0 < length group) × AllByRecursion (λ n. n < 2 ^ 16) group
+
+-- the groups of a control sequence: at most 32 numbers
+pub record AreGroups (groups : List (List ℕ)) : Type 0 where
+  pub each : AllByRecursion IsGroup groups
+  pub few : length (concat groups) ≤ 32
+
+-- SGR with these groups, if there are some
+abbrev pub sgr_events : List (List ℕ) → List Event
+sgr_events [] = []
+sgr_events groups = Csi groups [] false 0x6D ∷ []
+
+-- behind SGR with a group that isn't known stands one SGR, whose groups are those that are known in their place
+abbrev pub StandsAsKnown : Type 0
+StandsAsKnown = (n : ℕ) (s : CharacterSets) (groups : List (List ℕ)) → AreGroups groups
+    → list_all is_known groups ≡ false
+    → events n (behind s (Csi groups [] false 0x6D)) ≡ sgr_events (flat_map as_known groups)

@@ -15,7 +15,7 @@ pub record IsSteady (s : CharacterSets) : Type 0 where
   pub main : locked_set s.main_saved ≡ Ascii
   pub alternate : locked_set s.alternate_saved ≡ Ascii
 
--- the final byte of a control sequence behind which nothing stands, if it has no `:`; the others are h, l, p, r, s and u
+-- the final byte of a control sequence behind which nothing stands if it has no `:`; others are h, l, p, r, s and u
 abbrev pub is_quiet_final : ℕ → Bool
 is_quiet_final b = is_in_range 0x40 0x7E b
     && not (b == 0x68 || (b == 0x6C || (b == 0x70 || (b == 0x72 || (b == 0x73 || b == 0x75)))))

@@ -48,8 +48,8 @@ impl CharsetFilter {
     /// Reads the next bytes, and appends to the output what they give: at most eight bytes for each, and 512 more for a
     /// sequence that began before them.
     ///
-    /// Memory is refused only where the output has no room for so many bytes. Then the error tells how many bytes at the
-    /// start have been read, and what these give is appended. The others, at least one, have not been read.
+    /// Memory is refused only where the output has no room for so many bytes. Then the error tells how many bytes at
+    /// the start have been read, and what these give is appended. The others, at least one, have not been read.
     pub fn advance(&mut self, bytes: &[u8], output: &mut Vec<u8>) -> Result<(), AdvanceError>
         ensures given { OnOk result (Gives self.old bytes.now (length bytes.now) self.new output.old.items
             output.new.items) }
@@ -152,7 +152,7 @@ impl CharsetFilter {
     }
 }
 
-/// Whether an escape sequence or a control sequence may be unfinished after a byte, where it may be so before it or not.
+/// Whether an escape sequence or a control sequence may be unfinished after a byte; `before` says whether one was before it.
 fn may_be_in_sequence(before: bool, byte: u8) -> bool
     ensures { result ≡ (if is_esc byte then true else (if ends_both byte then false else before)) }
 {

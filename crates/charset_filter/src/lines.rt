@@ -43,9 +43,9 @@ impl PieceFilter {
 
     /// Reads the next piece. Then [`given`](PieceFilter::given) answers what it gives.
     ///
-    /// Where lines are drawn, it takes room for eight times as many bytes as the piece has, and 512 more, and fails only
-    /// if there is no memory for that. Then the piece has not passed, and may be handed over again. Where they are kept
-    /// it doesn't fail.
+    /// Where lines are drawn, it takes room for eight times as many bytes as the piece has, and 512 more, and fails
+    /// only if there is no memory for that. Then the piece has not passed, and may be handed over again. Where they are
+    /// kept it doesn't fail.
     pub fn pass(&mut self, piece: &[u8]) -> Result<(), AllocError>
         ensures passed { OnOk result ((lines : LineDrawing) (past : List ℕ) → HasPassed self.old lines past
             → HasPassed self.new lines (past ++ piece.now)

@@ -55,7 +55,7 @@ pub fn relay_live<S: Source, W: FlushSink>(
 /// pass as they are. With [`LineDrawing::Drawn`] what is written is what [`relay_live`] writes of the bytes that
 /// `charset_filter` gives, and still each read brings a frame at once.
 ///
-/// A filtered piece has up to four times as many bytes as were read.
+/// A filtered piece has up to eight times as many bytes as were read, and 512 more.
 pub fn relay_live_with<S: Source, W: FlushSink>(
     alloc: Global,
     rows: NonZeroU16,

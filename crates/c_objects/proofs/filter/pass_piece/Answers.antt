@@ -1,4 +1,4 @@
-use Rattle.std.proofs.Common.{◌∙◌, ◌≤◌, ◌*◌, inl, inr, refl, sym, subst, ℕ, List, length, true≢false}
+use Rattle.std.proofs.Common.{◌∙◌, ◌≤◌, ◌+◌, ◌*◌, inl, inr, refl, sym, subst, ℕ, List, length, true≢false}
 use Rattle.charset_filter.specs.declared.lines.LineDrawing.TheVariants.{Drawn}
 use Rattle.c_objects.proofs.Filters.{last-given}
 use Rattle.c_objects.proofs.filter.pass_piece.Goals as goal
@@ -15,7 +15,7 @@ returns-in-Ok c =
         gives = λ past has. let done = e.passed Drawn past has in last-given f bytes done.0.kind ∙ done.1;
         short = λ past has.
             let drawn = last-given f bytes (e.passed Drawn past has).0.kind in
-            subst (λ (given : List ℕ). length given ≤ 4 * length bytes) (sym drawn) e.short;
+            subst (λ (given : List ℕ). length given ≤ 8 * length bytes + 512) (sym drawn) (e.short Drawn past has);
       },
     )
 
