@@ -11,13 +11,13 @@ use Rattle.vt100_cells.specs.Cell.{CellView}
 use Rattle.row_pictures.specs.Elements.{AddsSo}
 use Rattle.row_pictures.specs.Html.{IsHtmlRun}
 use Rattle.row_pictures.specs.Runs.{AddsRuns, AreRuns}
-use Rattle.row_pictures.specs.Svg.{IsSvgRun}
+use Rattle.row_pictures.specs.Svg.{AreSvgRuns}
 use Rattle.row_pictures.specs.declared.look.Look.{Look}
 use Rattle.screen_model.specs.State.{State}
 use Rattle.recorded_screen.specs.Heads.{block_head, svg_head}
-use Rattle.recorded_screen.specs.Picture.{cells_shown}
+use Rattle.recorded_screen.specs.Picture.{cells_shown, cursor_shown}
 use Rattle.recorded_screen.specs.Placed.{AreLines, IsAround, IsBlock, IsHtmlLine, IsHtmlRow, IsSvg, IsSvgLine}
-use Rattle.recorded_screen.specs.Placed.{IsSvgRow, cursor_shown}
+use Rattle.recorded_screen.specs.Placed.{IsSvgRow}
 use Rattle.recorded_screen.specs.Placed.AreLines.{none, line}
 
 -- ---- one line
@@ -32,10 +32,10 @@ html_row_is look s r cells cursor runs cells_are cursor_is row =
 
 pub svg_row_is : (look : Look) (s : State) (r : ℕ) (cells : List CellView) (cursor : Option ℕ) (runs : List ℕ)
     → cells ≡ cells_shown s.shown r → cursor ≡ cursor_shown s r
-    → AreRuns (IsSvgRun look cells cursor) (length cells) runs → IsSvgRow look s r runs
+    → AreSvgRuns look cells cursor runs → IsSvgRow look s r runs
 svg_row_is look s r cells cursor runs cells_are cursor_is row =
-    subst (λ (xs : List CellView). AreRuns (IsSvgRun look xs (cursor_shown s r)) (length xs) runs) cells_are
-    (subst (λ (k : Option ℕ). AreRuns (IsSvgRun look cells k) (length cells) runs) cursor_is row)
+    subst (λ (xs : List CellView). AreSvgRuns look xs (cursor_shown s r) runs) cells_are
+    (subst (λ (k : Option ℕ). AreSvgRuns look cells k runs) cursor_is row)
 
 pub html_line_added : {T E : Type 0} (res : Result T E) (a b d : List ℕ) (look : Look) (s : State) (r : ℕ)
     (cells : List CellView) (cursor : Option ℕ) → cells ≡ cells_shown s.shown r → cursor ≡ cursor_shown s r
@@ -55,7 +55,7 @@ html_line_added res a b d look s r cells cursor cells_are cursor_is row =
 pub svg_line_added : {T E : Type 0} (res : Result T E) (a b d e f g : List ℕ) (look : Look) (s : State) (r : ℕ)
     (cells : List CellView) (cursor : Option ℕ) → cells ≡ cells_shown s.shown r → cursor ≡ cursor_shown s r
     → b ≡ a ++ numbers_bytes ((tag.Row, r * 18) ∷ []) → d ≡ b ++ tag_bytes tag.RowCells
-    → AddsRuns (IsSvgRun look cells cursor) (length cells) d e → f ≡ e ++ tag_bytes tag.RowEnd
+    → AddsSo (AreSvgRuns look cells cursor) d e → f ≡ e ++ tag_bytes tag.RowEnd
     → OnOk res (g ≡ f ++ 10 ∷ []) → OnOk res (AddsSo (IsSvgLine look s r) a g)
 svg_line_added res a b d e f g look s r cells cursor cells_are cursor_is place open_row row close_row =
     on_ok_weaker res (λ (last : g ≡ f ++ 10 ∷ []). record {
@@ -66,7 +66,7 @@ svg_line_added res a b d e f g look s r cells cursor cells_are cursor_is place o
       holds = record {
         runs = row.more;
         is = refl;
-        row = svg_row_is look s r cells cursor row.more cells_are cursor_is row.runs;
+        row = svg_row_is look s r cells cursor row.more cells_are cursor_is row.holds;
       };
     })
 

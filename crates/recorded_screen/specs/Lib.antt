@@ -10,3 +10,4 @@ pub use Rattle.picture_page.specs.Page
 pub use Rattle.picture_page.specs.Seen
 pub use Rattle.row_pictures.specs.Drawn
 pub use Rattle.row_pictures.specs.Text
+pub use Rattle.row_pictures.specs.Unpadded

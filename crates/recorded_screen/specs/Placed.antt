@@ -1,30 +1,23 @@
 -- Where the rows of a whole picture stand: one below the other, each as its runs of cells.
-use Rattle.std.specs.Prelude.{◌≡◌, ℕ, suc, ◌-◌, ◌*◌, ◌==◌, ◌||◌, not, min, List, [], ◌∷◌, ◌++◌, length, Option, Some}
-use Rattle.std.specs.Prelude.{None, if◌then◌else◌}
+use Rattle.std.specs.Prelude.{◌≡◌, ℕ, suc, ◌*◌, List, [], ◌∷◌, ◌++◌, length}
 use Rattle.picture_page.specs.Bytes.{numbers_bytes}
 use Rattle.picture_page.specs.Tags.{tag_bytes}
 use Rattle.picture_page.specs.declared.tag.Tag.TheVariants as tag
 use Rattle.row_pictures.specs.Html.{IsHtmlRun}
 use Rattle.row_pictures.specs.Runs.{AreRuns}
-use Rattle.row_pictures.specs.Svg.{IsSvgRun}
+use Rattle.row_pictures.specs.Svg.{AreSvgRuns}
 use Rattle.row_pictures.specs.declared.look.Look.{Look}
 use Rattle.screen_model.specs.State.{State}
 use Rattle.recorded_screen.specs.Heads.{block_head, svg_head}
-use Rattle.recorded_screen.specs.Picture.{cells_shown}
+use Rattle.recorded_screen.specs.Picture.{cells_shown, cursor_shown}
 
--- the column of a row in which the cursor is shown, if it is: one behind the last column is shown there
-abbrev pub cursor_shown : State → ℕ → Option ℕ
-cursor_shown s r =
-    if s.hidden || not (s.shown.row == r) then None else Some (min s.shown.col (s.shown.width - 1))
-
--- the runs of a row that is shown, with the cursor, in HTML and in SVG
+-- the runs of a row that is shown, with the cursor, in HTML and in SVG; in SVG up to the last cell that shows something
 abbrev pub IsHtmlRow : Look → State → ℕ → List ℕ → Type 0
 IsHtmlRow look s r runs = let cells = cells_shown s.shown r in
     AreRuns (IsHtmlRun look cells (cursor_shown s r)) (length cells) runs
 
 abbrev pub IsSvgRow : Look → State → ℕ → List ℕ → Type 0
-IsSvgRow look s r runs = let cells = cells_shown s.shown r in
-    AreRuns (IsSvgRun look cells (cursor_shown s r)) (length cells) runs
+IsSvgRow look s r runs = AreSvgRuns look (cells_shown s.shown r) (cursor_shown s r) runs
 
 -- a line of a block in HTML: the runs of this row, and a newline
 pub record IsHtmlLine (look : Look) (s : State) (r : ℕ) (bytes : List ℕ) : Type 0 where

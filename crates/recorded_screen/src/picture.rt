@@ -7,9 +7,10 @@ ghost use Rattle.picture_page.specs.Tags.{tag_bytes};
 ghost use Rattle.picture_page.specs.declared.tag.Tag.TheVariants.{Newline, PageFoot, PageHead};
 ghost use Rattle.row_pictures.specs.Elements.{AddsSo};
 ghost use Rattle.recorded_screen.specs.Heads.{block_head, font_bytes, svg_head};
-ghost use Rattle.recorded_screen.specs.Picture.{block_seen, cells_shown, font_line, font_text, line_text, page_seen};
-ghost use Rattle.recorded_screen.specs.Picture.{screen_text, svg_seen};
-ghost use Rattle.recorded_screen.specs.Placed.{IsAround, IsBlock, IsHtmlLine, IsSvg, IsSvgLine, cursor_shown};
+ghost use Rattle.recorded_screen.specs.Picture.{block_seen, cells_shown, cursor_shown, font_line, font_text};
+ghost use Rattle.recorded_screen.specs.Picture.{line_text, page_seen, screen_text, svg_seen, written_line};
+ghost use Rattle.recorded_screen.specs.Picture.{written_text};
+ghost use Rattle.recorded_screen.specs.Placed.{IsAround, IsBlock, IsHtmlLine, IsSvg, IsSvgLine};
 
 use row_pictures::{
     COL_WIDTH, Cell, Look, Page, ROW_HEIGHT, Tag, push_html_colors, push_html_row, push_rect,
@@ -103,11 +104,11 @@ fn push_html_line(page: &mut Page, screen: &Screen, row: u16, look: &Look) -> Re
 
 /// A picture in SVG that shows the screen: markup, and the texts of its cells, row by row, escaped.
 ///
-/// A cell of one line drawing or block character is drawn as a path, whose label is its text.
+/// Spaces at the end of a row that show nothing aren't written. A cell of one line drawing or block character is drawn as a path, whose label is its text.
 pub fn svg(alloc: Global, screen: &Screen, look: &Look) -> Result<Vec<u8>, AllocError>
-    ensures text { IfOk result (λ bytes. Shows bytes.items (screen_text screen.now.state.shown)) }
+    ensures text { IfOk result (λ bytes. Shows bytes.items (written_text screen.now.state)) }
     ensures seen { IfOk result (λ bytes. seen bytes.items
-        ≡ svg_seen (escaped (font_text screen.now.state.shown))) }
+        ≡ svg_seen (escaped (font_text screen.now.state))) }
     ensures placed { IfOk result (λ bytes. IsSvg look.now screen.now.state bytes.items) }
     ensures page { IfOk result (λ bytes. IsPage bytes.items) }
     ensures safe { IfOk result (λ bytes. IsSafe bytes.items) }
@@ -151,8 +152,8 @@ pub(crate) fn push_svg_head(
 }
 
 fn push_svg_line(page: &mut Page, screen: &Screen, row: u16, look: &Look) -> Result<(), AllocError>
-    ensures adds { OnOk result (Adds page.old page.new (line_text screen.now.state.shown row)) }
-    ensures seen { OnOk result (Draws page.old page.new true true (escaped (font_line screen.now.state.shown row))) }
+    ensures adds { OnOk result (Adds page.old page.new (written_line screen.now.state row)) }
+    ensures seen { OnOk result (Draws page.old page.new true true (escaped (font_line screen.now.state row))) }
     ensures line { OnOk result (AddsSo (IsSvgLine look.now screen.now.state row) page.old page.new) }
 {
     page.numbers(&[(Tag::Row, u32::from(row) * ROW_HEIGHT)])?;

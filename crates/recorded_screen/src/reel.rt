@@ -5,7 +5,7 @@ ghost use Rattle.std.specs.Prelude.{Some, if◌then◌else◌, length, map, max,
 ghost use Rattle.picture_page.specs.Bytes.{numbers_bytes};
 ghost use Rattle.picture_page.specs.Page.{Adds, IsPage, IsSafe};
 ghost use Rattle.row_pictures.specs.Runs.{AreRuns};
-ghost use Rattle.row_pictures.specs.Svg.{IsSvgRun};
+ghost use Rattle.row_pictures.specs.Svg.{AreSvgRuns};
 ghost use Rattle.recorded_screen.specs.Reel.{decimal_point, drawn_bytes, drawn_row, film_bytes, in_32_bits, in_64_bits};
 ghost use Rattle.recorded_screen.specs.Reel.{last_place, numbered, place, row_at, screen_at, shot_bytes, times_bytes};
 ghost use Rattle.recorded_screen.specs.Reel.{used_row};
@@ -92,7 +92,7 @@ impl Reel {
         ensures grows { IfOk result (λ n. Grows (λ i. i ≡ n) (λ i. ⊥) self.old self.new) }
         ensures shots { OnOk result (self.new.shots ≡ self.old.shots) }
         ensures row { IfOk result (λ n. IsAt (rows_of self.new) n (λ runs.
-            AreRuns (IsSvgRun look.now cells.now cursor) (length cells.now) runs)) }
+            AreSvgRuns look.now cells.now cursor runs)) }
         ensures memory { IfErr result (λ e. e ≡ Memory) }
     {
         let mut page = Page::new(alloc);

@@ -147,6 +147,35 @@ run_is_wide cells start x lt continued =
     (subst (λ xs. begins_so (is_drawn_at cells start) xs ≡ true) (sym (drop-cons cells (start + 1) x lt))
     (ap (λ v. v || is_drawn_so (is_drawn_at cells start) (get_or cells (start + 1) x)) continued))
 
+drawn_fewer : (d : Bool) (k n : ℕ) (xs : List CellView) → k ≤ n → are_drawn_so d (take n xs) ≡ true
+    → are_drawn_so d (take k xs) ≡ true
+drawn_fewer d zero n xs le h = refl
+drawn_fewer d (suc k) n [] le h = refl
+drawn_fewer d (suc k) zero (x ∷ xs) le h = absurd (omega arith)
+drawn_fewer d (suc k) (suc n) (x ∷ xs) le h =
+    let all = both (x.continuation || is_drawn_so d x) (are_drawn_so d (take n xs)) h in
+    ap₂ (λ v w. v && w) all.0 (drawn_fewer d k n xs (omega arith) all.1)
+
+run_fewer : (k n : ℕ) (xs : List CellView) → k ≤ n → is_run (take (suc n) xs) ≡ true → is_run (take (suc k) xs) ≡ true
+run_fewer k n xs le h =
+    subst (λ d. are_drawn_so d (take (suc k) xs) ≡ true) (sym (begins_taken k xs))
+    (drawn_fewer (begins_drawn xs) (suc k) (suc n) xs (omega arith)
+    (subst (λ d. are_drawn_so d (take (suc n) xs) ≡ true) (begins_taken n xs) h))
+
+-- fewer of the cells
+pub run_shorter : (cells : List CellView) (start end longer : ℕ) → start < end → end ≤ longer
+    → is_run (take (longer - start) (drop start cells)) ≡ true
+    → is_run (take (end - start) (drop start cells)) ≡ true
+run_shorter cells start end longer lt le h =
+    let k : ℕ = end - start - 1 in
+    let n : ℕ = longer - start - 1 in
+    let is : suc k ≡ end - start = omega arith in
+    let long : suc n ≡ longer - start = omega arith in
+    let fewer : k ≤ n = omega arith in
+    subst (λ m. is_run (take m (drop start cells)) ≡ true) is
+    (run_fewer k n (drop start cells) fewer
+    (subst (λ m. is_run (take m (drop start cells)) ≡ true) (sym long) h))
+
 pub drawn_at : (cells : List CellView) (i : ℕ) (x : CellView) → i < length cells
     → is_drawn_at cells i ≡ is_drawn (get_or cells i x)
 drawn_at cells i x lt = ap begins_drawn (drop-cons cells i x lt)

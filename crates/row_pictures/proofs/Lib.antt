@@ -5,3 +5,4 @@ mod RunLemmas
 mod StyleLemmas
 mod SvgLemmas
 mod ThemeLemmas
+mod UnpaddedLemmas

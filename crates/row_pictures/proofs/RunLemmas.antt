@@ -6,7 +6,7 @@ use Rattle.std.proofs.Math.Nat.{eq-or-lt_of_le}
 use Rattle.picture_page.proofs.PageLemmas.{joined_more}
 use Rattle.vt100_cells.specs.Cell.{CellView}
 use Rattle.row_pictures.specs.Paint.{cell_in, style_in}
-use Rattle.row_pictures.specs.Runs.{AddsRuns, AreAlike}
+use Rattle.row_pictures.specs.Runs.{AddsRuns, AreAlike, AreInPlace, KeepsWidth}
 use Rattle.row_pictures.specs.Runs.AreRuns.{none, run}
 
 -- the cell at its start alone
@@ -35,6 +35,30 @@ pub alike_wide : (cells : List CellView) (cursor : Option ℕ) (start end : ℕ)
 alike_wide cells cursor start end is wide second = λ col more below.
     let next : col ≡ start + 1 = omega arith in
     inr (wide, subst (λ (n : ℕ). (cell_in cells n).continuation ≡ true) (sym next) second, next)
+
+-- fewer of the cells
+pub alike_shorter : (cells : List CellView) (cursor : Option ℕ) (start end longer : ℕ) → end ≤ longer
+    → AreAlike cells cursor start longer → AreAlike cells cursor start end
+alike_shorter cells cursor start end longer le all = λ col more below. all col more (omega arith)
+
+-- ---- cells that stay in their columns
+
+-- the cell at its start alone
+pub in_place_begins : (cells : List CellView) (start end : ℕ) → end ≡ start + 1 → AreInPlace cells start end
+in_place_begins cells start end is = λ col more below. absurd (omega arith)
+
+-- a cell more that does
+pub in_place_goes_on : (cells : List CellView) (start end : ℕ) → AreInPlace cells start end
+    → (KeepsWidth (cell_in cells start) × KeepsWidth (cell_in cells end))
+    ⊎ ((cell_in cells end).continuation ≡ true)
+    → AreInPlace cells start (end + 1)
+in_place_goes_on cells start end first next = λ col more below.
+    let at_most : col ≤ end = omega arith in
+    elim (eq-or-lt_of_le at_most) [
+      | inl is ↦ subst (λ (n : ℕ). (KeepsWidth (cell_in cells start) × KeepsWidth (cell_in cells n))
+          ⊎ ((cell_in cells n).continuation ≡ true)) (sym is) next
+      | inr lt ↦ first col more lt
+    ]
 
 -- ---- runs, one after another
 

@@ -11,11 +11,12 @@ use Rattle.picture_page.proofs.PageLemmas.{joined_more}
 use Rattle.vt100_cells.specs.Cell.{CellView}
 use Rattle.row_pictures.specs.Drawn.{begins_drawn}
 use Rattle.row_pictures.specs.Paint.{back_color, style_in, text_color}
-use Rattle.row_pictures.specs.Runs.{AddsRuns, AreAlike, is_wide_run}
+use Rattle.row_pictures.specs.Runs.{AddsRuns, AreAlike, AreInPlace, AreRuns, is_wide_run}
 use Rattle.row_pictures.specs.Elements.{AddsSo, filled}
-use Rattle.row_pictures.specs.Svg.{IsDrawn, IsInk, IsPath, IsSvgRun, behind, letters, opacity_bytes}
-use Rattle.row_pictures.specs.Svg.{pixels}
+use Rattle.row_pictures.specs.Svg.{AreSvgRuns, IsDrawn, IsInk, IsPath, IsSvgRun, behind, letters}
+use Rattle.row_pictures.specs.Svg.{opacity_bytes, pixels}
 use Rattle.row_pictures.specs.Text.{row_text}
+use Rattle.row_pictures.specs.Unpadded.{unpadded}
 use Rattle.row_pictures.specs.declared.look.Look.{Look}
 use Rattle.row_pictures.specs.declared.style.Style.{Style}
 use Rattle.row_pictures.proofs.DrawnLemmas.{not_turned, turned}
@@ -87,15 +88,29 @@ run_added r a b c look cells col x width s back front x_is width_is back_is fron
 -- ---- one run more
 
 pub svg_run_more : (look : Look) (cells : List CellView) (cursor : Option ℕ) (a b c : List ℕ) (start end : ℕ) (s : Style)
-    → start < end → AreAlike cells cursor start end → s ≡ style_in cells cursor start
+    → start < end → AreAlike cells cursor start end → AreInPlace cells start end → s ≡ style_in cells cursor start
     → AddsRuns (IsSvgRun look cells cursor) start a b
     → AddsSo (IsDrawn look (take (end - start) (drop start cells)) start s) b c
     → AddsRuns (IsSvgRun look cells cursor) end a c
-svg_run_more look cells cursor a b c start end s lt alike style first second =
+svg_run_more look cells cursor a b c start end s lt alike in_place style first second =
     one_run_more (IsSvgRun look cells cursor) a b c second.more start end first lt
     (record {
       alike = alike;
+      in_place = in_place;
       drawn = subst (λ (v : Style). IsDrawn look (take (end - start) (drop start cells)) start v second.more) style
           second.holds;
     })
     second.joined
+
+-- ---- a row
+
+pub svg_row_added : {T E : Type 0} (r : Result T E) (a b : List ℕ) (look : Look) (cells written : List CellView)
+    (cursor : Option ℕ) → written ≡ unpadded cells cursor
+    → OnOk r (AddsRuns (IsSvgRun look written cursor) (length written) a b)
+    → OnOk r (AddsSo (AreSvgRuns look cells cursor) a b)
+svg_row_added r a b look cells written cursor is =
+    on_ok_weaker r (λ (row : AddsRuns (IsSvgRun look written cursor) (length written) a b). record {
+      more = row.more;
+      joined = row.joined;
+      holds = subst (λ (xs : List CellView). AreRuns (IsSvgRun look xs cursor) (length xs) row.more) is row.runs;
+    })

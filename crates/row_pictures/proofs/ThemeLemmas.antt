@@ -1,5 +1,5 @@
 -- The theme of some colours.
-use Rattle.std.proofs.Common.{◌≡◌, ◌<◌, ◌≤◌, ◌+◌, ◌-◌, ℕ, List, inl, inr, sym, ap, ◌∙◌, arith, drop, get_or, length}
+use Rattle.std.proofs.Common.{◌≡◌, ◌<◌, ◌≤◌, ◌+◌, ◌-◌, ℕ, List, false, inl, inr, sym, ap, ◌∙◌, arith, drop, get_or, length}
 use Rattle.std.specs.Prelude.{map}
 use Rattle.std.proofs.Math.ListN.{get_or-map, set}
 use Rattle.std.proofs.Math.Nat.{eq-or-lt_of_le}
@@ -9,7 +9,7 @@ use Rattle.row_pictures.specs.Themes.{rgb_of, theme_of}
 use Rattle.row_pictures.specs.declared.theme.Theme.{Theme}
 
 abbrev theme_with : Rgb → Rgb → List Rgb → Theme
-theme_with front back first = record { fgcolor = front; bgcolor = back; colors = first }
+theme_with front back first = record { fgcolor = front; bgcolor = back; colors = first; bold_is_bright = false }
 
 -- the first sixteen colours stand behind two others
 pub theme_is : (colors : List ℕ) (first : List Rgb) (front back : Rgb) → length colors ≡ 18 → length first ≡ 16

@@ -6,3 +6,4 @@ pub mod Runs
 pub mod Svg
 pub mod Text
 pub mod Themes
+pub mod Unpadded

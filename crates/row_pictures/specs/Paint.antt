@@ -1,6 +1,6 @@
 -- How cells are drawn: their styles, and the colours that these have in a look.
 use Rattle.std.specs.Prelude.{ℕ, ◌+◌, ◌-◌, ◌*◌, ◌/◌, ◌%◌, ◌==◌, ◌&&◌, nat_lt, Bool, false, not, List, [], ◌∷◌, Option}
-use Rattle.std.specs.Prelude.{Some, None, slice_index, slice_index_or, if◌then◌else◌}
+use Rattle.std.specs.Prelude.{Some, None, slice_index, slice_index_or, unwrap_or, if◌then◌else◌}
 use Rattle.picture_page.specs.declared.page.Rgb.{Rgb}
 use Rattle.vt100_forms.specs.Attrs.{is_bold, is_dim, is_inverse, is_italic, is_underlined}
 use Rattle.vt100_forms.specs.declared.attrs.Color.{Color}
@@ -75,6 +75,10 @@ painted theme default color.Default = default
 painted theme default (color.Idx index) = numbered theme index
 painted theme default (color.Rgb r g b) = record { red = r; green = g; blue = b }
 
+-- whether bold texts in the first eight colours have the bright ones: as it is said, or else as the theme has it
+abbrev pub bright : Theme → Option Bool → Bool
+bright theme said = unwrap_or said theme.bold_is_bright
+
 -- the bright one of the first eight colours, if it is wanted
 abbrev pub brightened : Bool → Color → Color
 brightened bright color.Default = color.Default
@@ -92,7 +96,8 @@ between a b = record {
 -- the colours that a style names, of texts and of what is behind them
 abbrev pub named_front : Look → Style → Rgb
 named_front look s =
-    painted look.theme look.theme.fgcolor (brightened (look.bold_is_bright && s.bold) s.fgcolor)
+    painted look.theme look.theme.fgcolor (brightened (bright look.theme look.bold_is_bright && s.bold)
+    s.fgcolor)
 
 abbrev pub named_back : Look → Style → Rgb
 named_back look s = painted look.theme look.theme.bgcolor s.bgcolor

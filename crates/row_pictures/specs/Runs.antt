@@ -1,7 +1,9 @@
 -- A row of cells as runs of cells that are drawn alike, one after another.
 use Rattle.std.specs.Prelude.{◌≡◌, ◌⊎◌, ℕ, ◌+◌, ◌<◌, ◌++◌, ◌&&◌, nat_lt, length, Bool, true, false, List, []}
-use Rattle.std.specs.Prelude.{Option}
+use Rattle.std.specs.Prelude.{Option, encode_utf8_all}
+use Rattle.std.specs.Str.{IsAscii}
 use Rattle.vt100_cells.specs.Cell.{CellView}
+use Rattle.row_pictures.specs.Drawn.{is_drawn}
 use Rattle.row_pictures.specs.Paint.{cell_in, style_in}
 
 -- The cells of these columns are drawn as the first one, and none but the first is wide; or they are the two columns of
@@ -10,6 +12,17 @@ abbrev pub AreAlike : List CellView → Option ℕ → ℕ → ℕ → Type 0
 AreAlike cells cursor start end = (col : ℕ) → start < col → col < end
     → (((cell_in cells col).wide ≡ false) × (style_in cells cursor col ≡ style_in cells cursor start))
     ⊎ (((cell_in cells start).wide ≡ true) × ((cell_in cells col).continuation ≡ true) × (col ≡ start + 1))
+
+-- a cell that has its own width in any font: it is drawn with rectangles, or its text is ASCII
+abbrev pub KeepsWidth : CellView → Type 0
+KeepsWidth x = (is_drawn x ≡ true) ⊎ IsAscii (encode_utf8_all x.text)
+
+-- The cells of these columns have their own width in any font; or there is one cell alone, with both of its columns if
+-- it is wide.
+abbrev pub AreInPlace : List CellView → ℕ → ℕ → Type 0
+AreInPlace cells start end = (col : ℕ) → start < col → col < end
+    → (KeepsWidth (cell_in cells start) × KeepsWidth (cell_in cells col))
+    ⊎ ((cell_in cells col).continuation ≡ true)
 
 -- a wide character, with both of its columns
 abbrev pub is_wide_run : List CellView → Bool

@@ -10,8 +10,9 @@ use Rattle.vt100_cells.specs.Cell.{CellView}
 use Rattle.row_pictures.specs.Drawn.{begins_drawn}
 use Rattle.row_pictures.specs.Elements.{filled, tag_if}
 use Rattle.row_pictures.specs.Paint.{back_color, style_in, text_color}
-use Rattle.row_pictures.specs.Runs.{AreAlike, is_wide_run}
+use Rattle.row_pictures.specs.Runs.{AreAlike, AreInPlace, AreRuns, is_wide_run}
 use Rattle.row_pictures.specs.Text.{row_text}
+use Rattle.row_pictures.specs.Unpadded.{unpadded}
 use Rattle.row_pictures.specs.declared.look.Look.{Look}
 use Rattle.row_pictures.specs.declared.style.Style.{Style}
 
@@ -68,9 +69,15 @@ pub record IsDrawn (look : Look) (run : List CellView) (col : ℕ) (s : Style) (
   pub is : bytes ≡ behind look (pixels col) (pixels (length run)) (back_color look s) ++ ink
   pub inked : IsInk (begins_drawn run) (pixels col) (text_color look s) s run ink
 
--- The columns from `start` up to `end` of a row are a run: its cells are alike, and it is drawn in the style of the
--- first one, in its columns.
+-- The columns from `start` up to `end` of a row are a run: its cells are alike and stay in their columns in any font,
+-- and it is drawn in the style of the first one, in its columns.
 pub record IsSvgRun (look : Look) (cells : List CellView) (cursor : Option ℕ) (start end : ℕ) (bytes : List ℕ)
     : Type 0 where
   pub alike : AreAlike cells cursor start end
+  pub in_place : AreInPlace cells start end
   pub drawn : IsDrawn look (take (end - start) (drop start cells)) start (style_in cells cursor start) bytes
+
+-- a row: its runs, up to the last cell that shows something
+abbrev pub AreSvgRuns : Look → List CellView → Option ℕ → List ℕ → Type 0
+AreSvgRuns look cells cursor bytes =
+    let written = unpadded cells cursor in AreRuns (IsSvgRun look written cursor) (length written) bytes

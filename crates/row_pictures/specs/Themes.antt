@@ -1,5 +1,5 @@
 -- The themes: their names, and the colours that each has.
-use Rattle.std.specs.Prelude.{ℕ, ◌/◌, ◌%◌, Bool, List, [], ◌∷◌, Option, Some, None, codes, drop, map, slice_index}
+use Rattle.std.specs.Prelude.{ℕ, ◌/◌, ◌%◌, Bool, true, false, List, [], ◌∷◌, Option, Some, None, codes, drop, map, slice_index}
 use Rattle.std.specs.Prelude.{if◌then◌else◌}
 use Rattle.std.specs.List.{list_any}
 use Rattle.std.specs.Str.{bytes_eq}
@@ -10,18 +10,23 @@ use Rattle.row_pictures.specs.declared.theme.Theme.{Theme}
 abbrev pub rgb_of : ℕ → Rgb
 rgb_of c = record { red = c / 0x10000 % 0x100; green = c / 0x100 % 0x100; blue = c % 0x100 }
 
--- the colour of texts by default, that of backgrounds, and then the first sixteen
+-- the colour of texts by default, that of backgrounds, and then the first sixteen; bold texts keep theirs
 unfoldable pub theme_of : List ℕ → Theme
 theme_of c = record {
   fgcolor = rgb_of (slice_index c 0);
   bgcolor = rgb_of (slice_index c 1);
   colors = map rgb_of
       (drop 2 c);
+  bold_is_bright = false;
 }
+
+-- such a theme in which bold texts in the first eight colours have the bright ones
+abbrev pub bright_theme_of : List ℕ → Theme
+bright_theme_of c = record (theme_of c) { bold_is_bright = true }
 
 abbrev pub xterm : List ℕ
 xterm =
-    0xd4d4d4 ∷ 0x1e1e1e ∷ 0x000000 ∷ 0xcd0000 ∷ 0x00cd00 ∷ 0xcdcd00 ∷ 0x0000ee ∷ 0xcd00cd ∷ 0x00cdcd
+    0xe5e5e5 ∷ 0x000000 ∷ 0x000000 ∷ 0xcd0000 ∷ 0x00cd00 ∷ 0xcdcd00 ∷ 0x0000ee ∷ 0xcd00cd ∷ 0x00cdcd
     ∷ 0xe5e5e5 ∷ 0x7f7f7f ∷ 0xff0000 ∷ 0x00ff00 ∷ 0xffff00 ∷ 0x5c5cff ∷ 0xff00ff ∷ 0x00ffff ∷ 0xffffff ∷ []
 
 abbrev pub light : List ℕ
@@ -69,17 +74,22 @@ tango =
     0xcccccc ∷ 0x121314 ∷ 0x000000 ∷ 0xcc0000 ∷ 0x4e9a06 ∷ 0xc4a000 ∷ 0x3465a4 ∷ 0x75507b ∷ 0x06989a
     ∷ 0xd3d7cf ∷ 0x555753 ∷ 0xef2929 ∷ 0x8ae234 ∷ 0xfce94f ∷ 0x729fcf ∷ 0xad7fa8 ∷ 0x34e2e2 ∷ 0xeeeeec ∷ []
 
--- the theme of the first of these names that is this one
-abbrev pub first_named : List ℕ → List (List ℕ × List ℕ) → Option Theme
-first_named name [] = None
-first_named name (t ∷ ts) = if bytes_eq name t.0 then Some (theme_of t.1) else first_named name ts
+-- what xterm shows, with light texts on black
+abbrev pub xterm_theme : Theme
+xterm_theme = bright_theme_of xterm
 
-abbrev pub themes : List (List ℕ × List ℕ)
+-- the theme of the first of these names that is this one
+abbrev pub first_named : List ℕ → List (List ℕ × Theme) → Option Theme
+first_named name [] = None
+first_named name (t ∷ ts) = if bytes_eq name t.0 then Some t.1 else first_named name ts
+
+abbrev pub themes : List (List ℕ × Theme)
 themes =
-    (codes "xterm", xterm) ∷ (codes "light", light) ∷ (codes "asciinema", asciinema) ∷ (codes "dracula", dracula)
-    ∷ (codes "gruvbox-dark", gruvbox_dark) ∷ (codes "monokai", monokai) ∷ (codes "nord", nord)
-    ∷ (codes "solarized-dark", solarized_dark) ∷ (codes "solarized-light", solarized_light)
-    ∷ (codes "tango", tango) ∷ []
+    (codes "xterm", xterm_theme) ∷ (codes "light", theme_of light) ∷ (codes "asciinema", theme_of asciinema)
+    ∷ (codes "dracula", theme_of dracula) ∷ (codes "gruvbox-dark", theme_of gruvbox_dark)
+    ∷ (codes "monokai", theme_of monokai) ∷ (codes "nord", theme_of nord)
+    ∷ (codes "solarized-dark", theme_of solarized_dark) ∷ (codes "solarized-light", theme_of solarized_light)
+    ∷ (codes "tango", theme_of tango) ∷ []
 
 -- the theme of this name
 unfoldable pub theme_named : List ℕ → Option Theme

@@ -5,6 +5,7 @@ mod arms;
 mod glyph;
 mod html;
 mod look;
+mod padding;
 mod paint;
 mod row;
 mod style;
@@ -13,6 +14,7 @@ mod theme;
 
 pub use html::{push_html_colors, push_html_row};
 pub use look::Look;
+pub use padding::unpadded;
 pub use picture_page::{Page, Rgb, Tag};
 pub use style::Style;
 pub use svg::{COL_WIDTH, ROW_HEIGHT, push_rect, push_svg_row};

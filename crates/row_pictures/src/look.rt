@@ -9,6 +9,7 @@ pub struct Look {
     pub theme: Theme,
     /// The font's name, before which none is tried; monospace is the last.
     pub font: Option<String>,
-    /// Whether a bold text in one of the first eight colours has the bright one in its place.
-    pub bold_is_bright: bool,
+    /// Whether a bold text in one of the first eight colours has the bright one in its place. Where it isn't said, the
+    /// theme says it.
+    pub bold_is_bright: Option<bool>,
 }

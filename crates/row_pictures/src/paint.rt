@@ -1,7 +1,7 @@
 //! The colours of cells as red, green and blue.
 
 ghost use Rattle.std.specs.Prelude.{◌≡◌, ◌+◌, ◌/◌, ◌%◌};
-ghost use Rattle.row_pictures.specs.Paint.{back_color, between as between_of, brightened as brightened_of};
+ghost use Rattle.row_pictures.specs.Paint.{back_color, between as between_of, bright, brightened as brightened_of};
 ghost use Rattle.row_pictures.specs.Paint.{level as level_of};
 ghost use Rattle.row_pictures.specs.Paint.{numbered as numbered_of, painted as painted_of, text_color};
 
@@ -28,7 +28,7 @@ impl Paint {
         ensures back { result.bgcolor ≡ back_color look.now style }
     {
         let theme = look.theme;
-        let bright = look.bold_is_bright && style.bold;
+        let bright = is_bright(look) && style.bold;
         let mut fgcolor = painted(brightened(style.fgcolor, bright), theme.fgcolor, theme);
         let mut bgcolor = painted(style.bgcolor, theme.bgcolor, theme);
         if style.inverse {
@@ -39,6 +39,13 @@ impl Paint {
         }
         Paint { fgcolor, bgcolor }
     }
+}
+
+// Whether bold texts in the first eight colours have the bright ones: where the look doesn't say it, the theme does.
+fn is_bright(look: &Look) -> bool
+    ensures { result ≡ bright look.now.theme look.now.bold_is_bright }
+{
+    look.bold_is_bright.unwrap_or(look.theme.bold_is_bright)
 }
 
 // The bright one of the first eight colours, if it is wanted.

@@ -2,6 +2,7 @@
 
 ghost use Rattle.std.specs.Prelude.{◌≡◌, true};
 ghost use Rattle.row_pictures.specs.Paint.{style_of};
+ghost use Rattle.row_pictures.specs.Unpadded.{has_color as has_color_of, shows_on_spaces};
 
 use vt100_cells::Cell;
 use vt100_forms::Color;
@@ -52,10 +53,26 @@ impl Style {
         }
     }
 
+    /// Whether a space in it shows: it has a colour behind it, or is inverse or underlined.
+    pub(crate) fn shows_on_spaces(self) -> bool
+        ensures { result ≡ shows_on_spaces self }
+    {
+        has_color(self.bgcolor) || self.inverse || self.underline
+    }
+
     /// Whether it is the same as another one.
     pub(crate) fn is_same(self, other: Style) -> bool
         ensures { result ≡ true → self ≡ other }
     {
         self == other
+    }
+}
+
+fn has_color(color: Color) -> bool
+    ensures { result ≡ has_color_of color }
+{
+    match color {
+        Color::Default => false,
+        Color::Idx(_) | Color::Rgb(..) => true,
     }
 }

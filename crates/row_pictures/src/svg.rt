@@ -1,21 +1,25 @@
 //! A row of cells in SVG.
 
-ghost use Rattle.std.specs.Prelude.{◌≡◌, [], ◌++◌, OnOk, ◌<◌, ◌≤◌, length, not, true, false};
+ghost use Rattle.std.specs.Prelude.{◌≡◌, ◌⊎◌, [], ◌++◌, ◌-◌, OnOk, ◌<◌, ◌≤◌, length, not, take, drop, true, false};
 ghost use Rattle.std.specs.Option.{option_map};
 ghost use Rattle.picture_page.specs.Page.{Adds, escaped};
 ghost use Rattle.picture_page.specs.Seen.{Draws};
 ghost use Rattle.picture_page.specs.Tags.{tag_bytes};
 ghost use Rattle.picture_page.specs.declared.tag.Tag.TheVariants.{Lines, LinesData};
 ghost use Rattle.row_pictures.specs.Drawn.{begins_drawn, font_texts, is_font, is_run};
-ghost use Rattle.row_pictures.specs.Paint.{back_color, text_color};
-ghost use Rattle.row_pictures.specs.Runs.{AddsRuns, is_wide_run as is_wide_run_of};
+ghost use Rattle.row_pictures.specs.Paint.{back_color, cell_in, text_color};
+ghost use Rattle.row_pictures.specs.Runs.{AddsRuns, AreAlike, AreInPlace, KeepsWidth};
+ghost use Rattle.row_pictures.specs.Runs.{is_wide_run as is_wide_run_of};
 ghost use Rattle.row_pictures.specs.Elements.{AddsSo, filled};
-ghost use Rattle.row_pictures.specs.Svg.{IsDrawn, IsInk, IsPath, IsSvgRun, behind, letters, opacity_bytes};
+ghost use Rattle.row_pictures.specs.Svg.{AreSvgRuns, IsDrawn, IsInk, IsPath, IsSvgRun, behind, letters};
+ghost use Rattle.row_pictures.specs.Svg.{opacity_bytes};
 ghost use Rattle.row_pictures.specs.Svg.{pixels as pixels_of, rectangle, same_color, text_head};
 ghost use Rattle.row_pictures.specs.Text.{row_text};
+ghost use Rattle.row_pictures.specs.Unpadded.{unpadded as unpadded_of};
 
 use crate::glyph::{Ink, push_glyph};
 use crate::look::Look;
+use crate::padding::unpadded;
 use crate::paint::Paint;
 use crate::row::{is_wide_run, push_cells, run_end, style_at};
 use crate::style::Style;
@@ -32,8 +36,24 @@ pub const ROW_HEIGHT: u32 = 18;
 // How many pixels below the top of a row its text stands.
 const BASELINE: u32 = 14;
 
-/// Appends a row of cells in SVG, its top at 0. The cursor is shown in its column, if it has one.
+/// Appends a row of cells in SVG, its top at 0, up to the last cell that shows something. The cursor is shown in its
+/// column, if it has one.
 pub fn push_svg_row(
+    page: &mut Page,
+    cells: &[Cell],
+    cursor: Option<usize>,
+    look: &Look,
+) -> Result<(), AllocError>
+    ensures adds { OnOk result (Adds page.old page.new (row_text (unpadded_of cells.now cursor))) }
+    ensures seen { OnOk result (Draws page.old page.new true true
+        (escaped (font_texts (unpadded_of cells.now cursor)))) }
+    ensures runs { OnOk result (AddsSo (AreSvgRuns look.now cells.now cursor) page.old page.new) }
+{
+    push_runs(page, unpadded(cells, cursor), cursor, look)
+}
+
+// Appends the runs of cells, one after another.
+fn push_runs(
     page: &mut Page,
     cells: &[Cell],
     cursor: Option<usize>,
@@ -45,12 +65,58 @@ pub fn push_svg_row(
 {
     let mut start = 0;
     while start < cells.len() {
-        let end = run_end(cells, start, cursor);
+        let end = svg_run_end(cells, start, cursor);
         let style = style_at(cells, start, cursor);
         push_run(page, &cells[start..end], start, style, look)?;
         start = end;
     }
     Ok(())
+}
+
+// Where a run of cells ends that begins here. A character that isn't ASCII is alone: the font that has it may give it
+// another width.
+fn svg_run_end(cells: &[Cell], start: usize, cursor: Option<usize>) -> usize
+    requires { start < length cells.now }
+    ensures more { start < result }
+    ensures within { result ≤ length cells.now }
+    ensures run { is_run (take (result - start) (drop start cells.now)) ≡ true }
+    ensures alike { AreAlike cells.now cursor start result }
+    ensures in_place { AreInPlace cells.now start result }
+{
+    let end = run_end(cells, start, cursor);
+    in_place_end(cells, start, end)
+}
+
+// Up to where cells stay in their columns in any font.
+fn in_place_end(cells: &[Cell], start: usize, end: usize) -> usize
+    requires some { start < end }
+    requires within { end ≤ length cells.now }
+    ensures more { start < result }
+    ensures within { result ≤ end }
+    ensures in_place { AreInPlace cells.now start result }
+{
+    let mut place = start + 1;
+    while place < end && is_in_place(cells, start, place) {
+        place += 1;
+    }
+    place
+}
+
+// Whether a cell is in its column, whatever font the run has that begins at another one.
+fn is_in_place(cells: &[Cell], start: usize, col: usize) -> bool
+    requires start { start < length cells.now }
+    requires col { col < length cells.now }
+    ensures { result ≡ true → (KeepsWidth (cell_in cells.now start) × KeepsWidth (cell_in cells.now col))
+        ⊎ ((cell_in cells.now col).continuation ≡ true) }
+{
+    cells[col].is_wide_continuation() || (keeps_width(&cells[start]) && keeps_width(&cells[col]))
+}
+
+// Whether a cell has its own width in any font: it is drawn with rectangles, or its text is ASCII.
+fn keeps_width(cell: &Cell) -> bool
+    ensures { result ≡ true → KeepsWidth cell.now }
+{
+    Ink::of(cell) != Ink::Font || cell.contents().is_ascii()
 }
 
 // Appends a run of cells that begins in a column: what is behind it, unless it is what is behind the picture, and its

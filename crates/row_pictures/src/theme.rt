@@ -1,7 +1,8 @@
 //! The colours of pictures.
 
 ghost use Rattle.std.specs.Prelude.{◌≡◌, is_some};
-ghost use Rattle.row_pictures.specs.Themes.{is_theme, rgb_of, theme_named, theme_of as theme_of_colors, xterm};
+ghost use Rattle.row_pictures.specs.Themes.{is_theme, rgb_of, theme_named, theme_of as theme_of_colors};
+ghost use Rattle.row_pictures.specs.Themes.{xterm_theme};
 
 use picture_page::Rgb;
 
@@ -14,17 +15,23 @@ pub struct Theme {
     pub bgcolor: Rgb,
     /// The first sixteen colours.
     pub colors: [Rgb; 16],
+    /// Whether bold texts in the first eight have the bright ones, where nothing else is said.
+    pub bold_is_bright: bool,
 }
 
 impl Theme {
-    /// xterm's colours on a dark grey: the theme of pictures for which none is named.
+    /// What xterm shows with light texts on black, and bold ones bright: the theme where none is named.
     pub fn new() -> Self
-        ensures { result ≡ theme_of_colors xterm }
+        ensures { result ≡ xterm_theme }
     {
-        theme_of(&XTERM)
+        Theme {
+            bold_is_bright: true,
+            ..theme_of(&XTERM)
+        }
     }
 
-    /// The theme of these colours, each as 0xRRGGBB: that of texts, that of backgrounds, and the first sixteen.
+    /// The theme of these colours, each as 0xRRGGBB: that of texts, that of backgrounds, and the first sixteen. Bold texts
+    /// keep theirs.
     pub fn of_colors(colors: &[u32; 18]) -> Self
         ensures { result ≡ theme_of_colors colors.now }
     {
@@ -38,7 +45,7 @@ impl Theme {
         ensures named { result ≡ theme_named name.now }
     {
         match name {
-            "xterm" => Some(theme_of(&XTERM)),
+            "xterm" => Some(Theme::new()),
             "light" => Some(theme_of(&LIGHT)),
             "asciinema" => Some(theme_of(&ASCIINEMA)),
             "dracula" => Some(theme_of(&DRACULA)),
@@ -53,7 +60,8 @@ impl Theme {
     }
 }
 
-// The theme of these colours: that of texts, that of backgrounds, and the first sixteen, each as 0xRRGGBB.
+// The theme of these colours: that of texts, that of backgrounds, and the first sixteen, each as 0xRRGGBB. Bold texts
+// keep theirs.
 fn theme_of(colors: &[u32; 18]) -> Theme
     ensures { result ≡ theme_of_colors colors.now }
 {
@@ -65,6 +73,7 @@ fn theme_of(colors: &[u32; 18]) -> Theme
         fgcolor: rgb(colors[0]),
         bgcolor: rgb(colors[1]),
         colors: first,
+        bold_is_bright: false,
     }
 }
 
@@ -80,7 +89,7 @@ fn rgb(color: u32) -> Rgb
 }
 
 const XTERM: [u32; 18] = [
-    0xd4d4d4, 0x1e1e1e, 0x000000, 0xcd0000, 0x00cd00, 0xcdcd00, 0x0000ee, 0xcd00cd, 0x00cdcd,
+    0xe5e5e5, 0x000000, 0x000000, 0xcd0000, 0x00cd00, 0xcdcd00, 0x0000ee, 0xcd00cd, 0x00cdcd,
     0xe5e5e5, 0x7f7f7f, 0xff0000, 0x00ff00, 0xffff00, 0x5c5cff, 0xff00ff, 0x00ffff, 0xffffff,
 ];
 

@@ -47,7 +47,8 @@ pub record Manner : Type 0 where
   -- the theme and the name of the font, where words say them
   pub theme : Option Theme
   pub font : Option Text
-  pub bold_is_bright : Bool
+  -- whether bold texts are in bright colours, where a word says it
+  pub bold_is_bright : Option Bool
   pub pace : Pace
 
 -- which screen is printed, and how
@@ -126,6 +127,13 @@ abbrev pub theme_meant : Option Text → Option (Option Theme)
 theme_meant None = Some None
 theme_meant (Some word) = option_map (λ theme. Some theme) (theme_named word)
 
+-- whether bold texts in the first eight colours have the bright ones, by which of the two words there is
+abbrev pub bold_meant : Bool → Bool → Option (Option Bool)
+bold_meant false false = Some None
+bold_meant true false = Some (Some true)
+bold_meant false true = Some (Some false)
+bold_meant true true = None
+
 -- a number that isn't 0, in millionths
 abbrev pub speed_in : Text → Option ℕ
 speed_in word = option_and_then (λ n. then_some (nat_lt 0 n) n) (time_in word)
@@ -158,7 +166,8 @@ pub record SaysOrigin (rows : List Row) (o : Origin) : Type 0 where
 pub record SaysManner (rows : List Row) (m : Manner) : Type 0 where
   pub theme : theme_meant (first_of (codes "theme") rows) ≡ Some m.theme
   pub font : m.font ≡ first_of (codes "font") rows
-  pub bold_is_bright : m.bold_is_bright ≡ has (codes "bold-is-bright") rows
+  pub bold_is_bright : bold_meant (has (codes "bold-is-bright") rows) (has (codes "bold-is-plain") rows)
+      ≡ Some m.bold_is_bright
   pub speed : speed_meant (first_of (codes "speed") rows) ≡ Some m.pace.speed
   pub idle : idle_meant (first_of (codes "idle") rows) ≡ Some m.pace.idle
 

@@ -10,7 +10,7 @@ use Rattle.vt100_core.specs.Grid.{GridView, visible_row_at}
 use Rattle.screen_model.specs.Made.{made}
 use Rattle.picture_page.specs.Tags.{tag_bytes}
 use Rattle.picture_page.specs.declared.tag.Tag.TheVariants.{Newline, PageFoot, PageHead}
-use Rattle.row_pictures.specs.Themes.{theme_of, xterm}
+use Rattle.row_pictures.specs.Themes.{theme_of, xterm_theme}
 use Rattle.row_pictures.specs.declared.look.Look as pictures
 use Rattle.row_pictures.specs.declared.theme.Theme.{Theme}
 use Rattle.screen_model.specs.State.{State}
@@ -27,6 +27,7 @@ use Rattle.recorded_screen.specs.Film as films
 use Rattle.recorded_screen.specs.Moment.{acts_until}
 use Rattle.recorded_screen.specs.Placed.{IsAround, IsSvg}
 use Rattle.recorded_screen.specs.Picture.{block_seen, font_text, page_seen, screen_text, svg_seen}
+use Rattle.recorded_screen.specs.Picture.{written_text}
 use Rattle.recorded_screen.specs.declared.reel.TheConstants.{LONGEST_FILM}
 use Rattle.player_page.specs.Rows.{ShowsRows}
 use Rattle.player_page.specs.declared.page.TheConstants.{LONGEST_PLAYER}
@@ -96,7 +97,7 @@ rows_text look history s =
 abbrev pub theme_shown : Option Theme → Option (List ℕ) → Theme
 theme_shown (Some theme) recorded = theme
 theme_shown None (Some colors) = theme_of colors
-theme_shown None None = theme_of xterm
+theme_shown None None = xterm_theme
 
 -- how pictures of a recording look
 pub record IsLook (m : Manner) (r : Recording) (look : pictures.Look) : Type 0 where
@@ -117,8 +118,8 @@ IsStill Html w r s text = Shows text (screen_text s.shown)
 IsStill HtmlBlock w r s text = Shows text (screen_text s.shown)
     × (seen text ≡ block_seen (escaped (screen_text s.shown)) ++ codes "\n") × IsSafe text
     × HasPlaces w.manner r (λ l. IsAround [] (tag_bytes Newline) l s text)
-IsStill Svg w r s text = Shows text (screen_text s.shown)
-    × (seen text ≡ svg_seen (escaped (font_text s.shown))) × IsSafe text × HasPlaces w.manner r (λ l. IsSvg l s text)
+IsStill Svg w r s text = Shows text (written_text s)
+    × (seen text ≡ svg_seen (escaped (font_text s))) × IsSafe text × HasPlaces w.manner r (λ l. IsSvg l s text)
 
 -- ---- what differs
 

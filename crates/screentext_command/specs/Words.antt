@@ -47,9 +47,9 @@ with_sources a = with_rule
     (value_rule (codes "max-cells"))
 
 abbrev pub with_pictures : App → App
-with_pictures a = with_rule (with_rule (with_rule (with_rule a (flag_rule (codes "html-block")))
-    (value_rule (codes "theme")))
-    (value_rule (codes "font"))) (flag_rule (codes "bold-is-bright"))
+with_pictures a = with_rule (with_rule (with_rule (with_rule (with_rule a (flag_rule (codes "html-block")))
+    (value_rule (codes "theme"))) (value_rule (codes "font"))) (flag_rule (codes "bold-is-bright")))
+    (flag_rule (codes "bold-is-plain"))
 
 abbrev pub with_films : App → App
 with_films a = with_rule (with_rule (with_rule a (flag_rule (codes "animate"))) (value_rule (codes "speed")))
@@ -61,7 +61,7 @@ with_player a = with_rule a (flag_rule (codes "player"))
 -- the description for `clap` of
 -- `[ROWS COLS] [--at TIME] [--diff TIME] [--history N] [--joined] [--colours] [--html | --svg]
 -- [--list] [--kind NAME] [--timing FILE] [--no-line-drawing] [--strict] [--max-cells N] [--html-block] [--theme NAME]
--- [--font NAME] [--bold-is-bright] [--animate] [--speed N] [--idle SECONDS] [--player]`
+-- [--font NAME] [--bold-is-bright | --bold-is-plain] [--animate] [--speed N] [--idle SECONDS] [--player]`
 abbrev pub known : App
 known = with_player (with_films (with_pictures (with_sources (with_flags (with_values program)))))
 
@@ -103,10 +103,15 @@ are_sources rows = option_map_or (λ word. is_some (kind_named word)) (first_of 
 abbrev pub is_speed : Text → Bool
 is_speed word = option_map_or (λ n. nat_lt 0 n) (time_in word) false
 
+-- one of the two words for bold texts at most
+abbrev pub is_bold : Bool → Bool → Bool
+is_bold bright plain = not (bright && plain)
+
 abbrev pub are_pictures : List Row → Bool
 are_pictures rows = option_map_or is_theme (first_of (codes "theme") rows) true
+    && (is_bold (nat_lt 0 (count_of (codes "bold-is-bright") rows)) (nat_lt 0 (count_of (codes "bold-is-plain") rows))
     && (option_map_or is_speed (first_of (codes "speed") rows) true
-    && option_map_or (λ word. is_some (time_in word)) (first_of (codes "idle") rows) true)
+    && option_map_or (λ word. is_some (time_in word)) (first_of (codes "idle") rows) true))
 
 abbrev pub are_words : List Row → Bool
 are_words rows = are_values rows && (are_sources rows && are_pictures rows)
@@ -127,7 +132,7 @@ is_invocation words = is_invocation_of (fault_of known words) (matches_of known 
 
 -- what is printed for words that aren't understood
 abbrev pub usage_line : List ℕ
-usage_line = codes "usage: screentext [ROWS COLS] [--at SECONDS] [--diff SECONDS] [--history N] [--joined] [--colours] [--html | --html-block | --player | --svg [--animate]] [--speed N] [--idle SECONDS] [--theme NAME] [--font NAME] [--bold-is-bright] [--list] [--kind NAME] [--timing FILE] [--no-line-drawing] [--strict] [--max-cells N]; screentext --help says what they do"
+usage_line = codes "usage: screentext [ROWS COLS] [--at SECONDS] [--diff SECONDS] [--history N] [--joined] [--colours] [--html | --html-block | --player | --svg [--animate]] [--speed N] [--idle SECONDS] [--theme NAME] [--font NAME] [--bold-is-bright | --bold-is-plain] [--list] [--kind NAME] [--timing FILE] [--no-line-drawing] [--strict] [--max-cells N]; screentext --help says what they do"
     ++ 0x0A ∷ []
 
 -- what is printed where memory is refused

@@ -27,7 +27,8 @@ Options:
       --theme <NAME>           The colours of pictures: xterm, light, asciinema, dracula, \
 gruvbox-dark, monokai, nord, solarized-dark, solarized-light or tango
       --font <NAME>            The font of pictures, where it is installed
-      --bold-is-bright...      Bold texts in the first eight colours have the bright ones
+      --bold-is-bright...      Bold texts in the first eight colours have the bright ones, as in the theme xterm
+      --bold-is-plain...       Bold texts keep their colour, also in the theme xterm; not with --bold-is-bright
       --animate...             With --svg: a picture that plays the recording, 8 MiB at most
       --speed <N>              It plays N times as fast as it was recorded
       --idle <SECONDS>         No screen stands longer than this time of the recording

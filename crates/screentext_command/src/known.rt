@@ -33,7 +33,8 @@ fn with_pictures<'a>(alloc: Global, command: Command<'a>) -> Result<Command<'a>,
             .arg(flag(alloc, "html-block"))?
             .arg(value(alloc, "theme"))?
             .arg(value(alloc, "font"))?
-            .arg(flag(alloc, "bold-is-bright"))?,
+            .arg(flag(alloc, "bold-is-bright"))?
+            .arg(flag(alloc, "bold-is-plain"))?,
     )
 }
 

@@ -6,9 +6,10 @@ ghost use Rattle.clap.specs.Words.{found_of, rows_of};
 ghost use Rattle.recordings.specs.Themes.{theme_reported};
 ghost use Rattle.recordings.specs.Times.{time_in};
 ghost use Rattle.row_pictures.specs.Themes.{is_theme};
-ghost use Rattle.screentext_command.specs.Asked.{SaysManner, idle_meant, manner_of, speed_meant, theme_meant};
+ghost use Rattle.screentext_command.specs.Asked.{SaysManner, bold_meant, idle_meant, manner_of, speed_meant};
+ghost use Rattle.screentext_command.specs.Asked.{theme_meant};
 ghost use Rattle.screentext_command.specs.Texts.{IsLook, theme_shown};
-ghost use Rattle.screentext_command.specs.Words.{are_pictures, is_speed};
+ghost use Rattle.screentext_command.specs.Words.{are_pictures, is_bold, is_speed};
 
 use crate::source::owned;
 use clap::ArgMatches;
@@ -23,8 +24,8 @@ pub(crate) struct Pictures {
     pub(crate) theme: Option<Theme>,
     /// The font that is named.
     pub(crate) font: Option<String>,
-    /// Whether bold texts are in bright colours.
-    pub(crate) bold_is_bright: bool,
+    /// Whether bold texts are in bright colours, where it is said.
+    pub(crate) bold_is_bright: Option<bool>,
     /// How fast a film plays.
     pub(crate) pace: Pace,
 }
@@ -66,26 +67,29 @@ pub(crate) fn pictures_of(
     let speed = speed_of(alloc, matches.get_str("speed"))?;
     let idle = idle_of(alloc, matches.get_str("idle"))?;
     let font = owned(alloc, matches.get_str("font"))?;
-    let bold_is_bright = matches.get_count("bold-is-bright") > 0;
-    Ok(new_pictures(theme, speed, idle, font, bold_is_bright))
+    let bold = bold_of(
+        matches.get_count("bold-is-bright") > 0,
+        matches.get_count("bold-is-plain") > 0,
+    );
+    Ok(new_pictures(theme, bold, speed, idle, font))
 }
 
 fn new_pictures(
     theme: Option<Option<Theme>>,
+    bold: Option<Option<bool>>,
     speed: Option<u64>,
     idle: Option<Option<u64>>,
     font: Option<String>,
-    bold_is_bright: bool,
 ) -> Option<Pictures>
-    ensures pictures { is_some result ≡ (is_some theme && (is_some speed && is_some idle)) }
-    ensures found { IfSome result (λ p. (theme ≡ Some p.theme) × (speed ≡ Some p.pace.speed)
-        × (idle ≡ Some p.pace.idle)) }
-    ensures given { IfSome result (λ p. (p.font ≡ font) × (p.bold_is_bright ≡ bold_is_bright)) }
+    ensures pictures { is_some result ≡ (is_some theme && (is_some bold && (is_some speed && is_some idle))) }
+    ensures found { IfSome result (λ p. (theme ≡ Some p.theme) × (bold ≡ Some p.bold_is_bright)
+        × (speed ≡ Some p.pace.speed) × (idle ≡ Some p.pace.idle)) }
+    ensures given { IfSome result (λ p. p.font ≡ font) }
 {
     Some(Pictures {
         theme: theme?,
         font,
-        bold_is_bright,
+        bold_is_bright: bold?,
         pace: Pace {
             speed: speed?,
             idle: idle?,
@@ -101,6 +105,19 @@ fn theme_of(word: Option<&str>) -> Option<Option<Theme>>
     match word {
         None => Some(None),
         Some(word) => Some(Some(Theme::of_name(word)?)),
+    }
+}
+
+// Whether bold texts are in bright colours: two words say it, of which there is one at most.
+fn bold_of(bright: bool, plain: bool) -> Option<Option<bool>>
+    ensures bold { is_some result ≡ is_bold bright plain }
+    ensures value { result ≡ bold_meant bright plain }
+{
+    match (bright, plain) {
+        (false, false) => Some(None),
+        (true, false) => Some(Some(true)),
+        (false, true) => Some(Some(false)),
+        (true, true) => None,
     }
 }
 

@@ -1,4 +1,4 @@
-use Rattle.std.proofs.Common.{◌++◌, ◌∙◌, ◌*◌, ap, ◌∷◌, [], subst, true, false, refl, OnOk}
+use Rattle.std.proofs.Common.{◌++◌, ◌∙◌, ◌*◌, ap, ap₂, ◌∷◌, [], subst, true, false, refl, OnOk}
 use Rattle.picture_page.specs.Bytes.{numbers_bytes}
 use Rattle.picture_page.specs.Page.{Adds, escaped}
 use Rattle.picture_page.specs.Seen.{Draws}
@@ -7,13 +7,14 @@ use Rattle.picture_page.proofs.PageLemmas.{after_markup, before_markup, if_both}
 use Rattle.picture_page.proofs.SeenLemmas.{draws_after, draws_before, draws_numbers, draws_tag, if_more_text}
 use Rattle.row_pictures.specs.Drawn.{font_texts}
 use Rattle.row_pictures.specs.Text.{row_text}
+use Rattle.row_pictures.specs.Unpadded.{unpadded}
 use Rattle.recorded_screen.proofs.PlacedLemmas.{svg_line_added}
 use Rattle.recorded_screen.proofs.picture.push_svg_line.Goals as goal
 
 pub returns-clause-adds : goal.returns-clause-adds
 returns-clause-adds c =
     subst (λ cells. OnOk c.end_row.result (Adds c.args.page.now c.end_row.new.self (row_text cells ++ 10 ∷ [])))
-    c.cells_of.ensures
+    (ap₂ unpadded c.cells_of.ensures c.cursor_in.ensures)
     (if_both _ _ _ _ _ _
     (after_markup _ _ _ _ c.in_ok-numbers.ensures.adds
     (after_markup _ _ _ _ c.in_ok-markup.ensures.adds
@@ -23,8 +24,8 @@ returns-clause-adds c =
 pub returns-clause-seen : goal.returns-clause-seen
 returns-clause-seen c =
     subst (λ cells. OnOk c.end_row.result (Draws c.args.page.now c.end_row.new.self true true
-    (escaped (font_texts cells ++ 10 ∷ [])))) c.cells_of.ensures
-    (if_more_text _ _ _ _ (font_texts c.cells_of.result.now) (10 ∷ [])
+    (escaped (font_texts cells ++ 10 ∷ [])))) (ap₂ unpadded c.cells_of.ensures c.cursor_in.ensures)
+    (if_more_text _ _ _ _ (font_texts (unpadded c.cells_of.result.now c.cursor_in.result)) (10 ∷ [])
     (draws_after _ _ _ _ _ _ _ (draws_numbers _ _ true (tag.Row, _) [] refl refl c.in_ok-numbers.ensures.bytes)
     (draws_after _ _ _ _ _ _ _ (draws_tag _ _ tag.RowCells false true [] refl refl c.in_ok-markup.ensures.bytes)
     (draws_before _ _ _ _ _ _ _ c.in_ok-push_svg_row.ensures.seen

@@ -1,6 +1,5 @@
-use Rattle.std.proofs.Common.{◌≡◌, inl, [], ◌++◌, ◌∙◌, ap, sym, append-nil, refl, subst, length, map}
-use Rattle.row_pictures.specs.Runs.{AreRuns}
-use Rattle.row_pictures.specs.Svg.{IsSvgRun}
+use Rattle.std.proofs.Common.{◌≡◌, inl, [], ◌++◌, ◌∙◌, ap, sym, append-nil, refl, subst, map}
+use Rattle.row_pictures.specs.Svg.{AreSvgRuns}
 use Rattle.recorded_screen.specs.Reel.{drawn_row}
 use Rattle.recorded_screen.specs.Shots.{Inserts}
 use Rattle.recorded_screen.proofs.ReelLemmas.{added_items, different_more, drawn_more, item_is_at, items_grow}
@@ -46,6 +45,5 @@ returns-clause-row c =
     record {
       item = c.into_bytes.result.items;
       at = item_is_at _ _ _ c.in_ok-number.number c.in_ok-number.new c.in_ok-number.ensures.inserts;
-      holds = subst (λ xs. AreRuns (IsSvgRun c.args.look.now c.args.cells.now c.args.cursor)
-          (length c.args.cells.now) xs) (sym item) runs.runs;
+      holds = subst (λ xs. AreSvgRuns c.args.look.now c.args.cells.now c.args.cursor xs) (sym item) runs.holds;
     }

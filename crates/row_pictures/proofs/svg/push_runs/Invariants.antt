@@ -5,7 +5,7 @@ use Rattle.row_pictures.specs.Drawn.{font_texts}
 use Rattle.row_pictures.specs.Runs.{AddsRuns}
 use Rattle.row_pictures.specs.Svg.{IsSvgRun}
 use Rattle.row_pictures.specs.Text.{row_text}
-use Rattle.row_pictures.proofs.svg.push_svg_row.Given as goal
+use Rattle.row_pictures.proofs.svg.push_runs.Given as goal
 
 -- the cells so far
 abbrev pub invariant-loop-start : goal.invariant-loop-start
