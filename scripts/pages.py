@@ -76,6 +76,7 @@ PROGRAMS = {
             ("theme", "NAME", THEMES, "The colours of pictures"),
             ("font", "NAME", None, "The font of pictures, where it is installed"),
             ("bold-is-bright", None, None, "Bold texts in the first eight colours have the bright ones, as in xterm"),
+            ("no-cursor", None, None, "Pictures don't show the cursor"),
             ("bold-is-plain", None, None, "Bold texts keep their colour; not with --bold-is-bright"),
             ("list", None, None, "The kind, size, length and markers, and no screen"),
             ("kind", "NAME", "asciicast script ttyrec raw", "What the recording is"),

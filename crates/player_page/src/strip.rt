@@ -128,7 +128,7 @@ impl Strip {
         push_html_row(
             &mut page,
             cells_of(screen, row),
-            cursor_in(screen, row),
+            cursor_in(screen, row, look),
             look,
         )?;
         let (number, new) = self.known.insert_full(page.into_bytes())?;
@@ -197,7 +197,12 @@ pub(crate) fn push_line(
     ensures { OnOk result (Adds page.old page.new (line_text screen.now.state.shown row)) }
 {
     page.markup(Tag::Line)?;
-    push_html_row(page, cells_of(screen, row), cursor_in(screen, row), look)?;
+    push_html_row(
+        page,
+        cells_of(screen, row),
+        cursor_in(screen, row, look),
+        look,
+    )?;
     page.markup(Tag::LineEnd)?;
     page.end_row()
 }

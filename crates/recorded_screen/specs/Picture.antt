@@ -1,13 +1,15 @@
 -- What pictures show of a screen.
-use Rattle.std.specs.Prelude.{ℕ, zero, suc, ◌-◌, ◌==◌, ◌||◌, not, min, List, [], ◌∷◌, ◌++◌, codes, take, Option, Some}
-use Rattle.std.specs.Prelude.{None, if◌then◌else◌}
+use Rattle.std.specs.Prelude.{ℕ, zero, suc, ◌+◌, ◌-◌, ◌^◌, ◌==◌, ◌||◌, not, min, List, [], ◌∷◌, ◌++◌, codes, length}
+use Rattle.std.specs.Prelude.{take, Option, Some, None, if◌then◌else◌}
 use Rattle.std.specs.Option.{option_map_or}
 use Rattle.vt100_cells.specs.Cell.{CellView}
 use Rattle.vt100_core.specs.Grid.{GridView, visible_row_at}
 use Rattle.row_pictures.specs.Drawn.{font_texts}
 use Rattle.row_pictures.specs.Text.{row_text}
 use Rattle.row_pictures.specs.Unpadded.{unpadded}
+use Rattle.row_pictures.specs.declared.look.Look.{Look}
 use Rattle.screen_model.specs.State.{State}
+use Rattle.screen_model.specs.Step.{kept_shown}
 
 -- the cells of a row that is shown, as far as the screen is wide
 abbrev pub cells_shown : GridView → ℕ → List CellView
@@ -17,48 +19,64 @@ cells_shown g r = option_map_or (λ v. take g.width v.cells) (visible_row_at g r
 abbrev pub line_text : GridView → ℕ → List ℕ
 line_text g r = row_text (cells_shown g r) ++ 10 ∷ []
 
--- the first n rows
-abbrev pub lines_text : GridView → ℕ → List ℕ
-lines_text g zero = []
-lines_text g (suc n) = lines_text g n ++ line_text g n
-
-abbrev pub screen_text : GridView → List ℕ
-screen_text g = lines_text g g.height
-
 -- the column of a row in which the cursor is shown, if it is: one behind the last column is shown there
-abbrev pub cursor_shown : State → ℕ → Option ℕ
-cursor_shown s r =
-    if s.hidden || not (s.shown.row == r) then None else Some (min s.shown.col (s.shown.width - 1))
+abbrev pub cursor_shown : Look → State → ℕ → Option ℕ
+cursor_shown look s r =
+    if (look.hides_cursor || s.hidden) || not (s.shown.kept.offset + s.shown.row == r) then None
+    else Some (min s.shown.col (s.shown.width - 1))
 
--- ---- in SVG
-
--- the cells of a row up to the last one that shows something
-abbrev pub cells_written : State → ℕ → List CellView
-cells_written s r = unpadded (cells_shown s.shown r) (cursor_shown s r)
+-- in SVG: the cells of a row up to the last one that shows something
+abbrev pub cells_written : Look → State → ℕ → List CellView
+cells_written look s r = unpadded (cells_shown s.shown r) (cursor_shown look s r)
 
 -- the texts of these cells, and a newline
-abbrev pub written_line : State → ℕ → List ℕ
-written_line s r = row_text (cells_written s r) ++ 10 ∷ []
+abbrev pub written_line : Look → State → ℕ → List ℕ
+written_line look s r = row_text (cells_written look s r) ++ 10 ∷ []
 
--- the first n rows
-abbrev pub written_lines : State → ℕ → List ℕ
-written_lines s zero = []
-written_lines s (suc n) = written_lines s n ++ written_line s n
+-- the texts of those that come in a font, and a newline
+abbrev pub font_line : Look → State → ℕ → List ℕ
+font_line look s r = font_texts (cells_written look s r) ++ 10 ∷ []
 
-abbrev pub written_text : State → List ℕ
-written_text s = written_lines s s.shown.height
+-- ---- the rows of a picture
 
--- the texts of those of these cells that come in a font, and a newline
-abbrev pub font_line : State → ℕ → List ℕ
-font_line s r = font_texts (cells_written s r) ++ 10 ∷ []
+-- how many kept rows come before those of the screen, of at most so many: a picture has at most 65,535 rows
+abbrev pub kept_pictured : ℕ → State → ℕ
+kept_pictured history s = min history (min (length s.shown.kept.rows) (2 ^ 16 - 1 - s.shown.height))
 
--- the first n rows
-abbrev pub font_lines : State → ℕ → List ℕ
-font_lines s zero = []
-font_lines s (suc n) = font_lines s n ++ font_line s n
+abbrev pub rows_pictured : ℕ → State → ℕ
+rows_pictured history s = kept_pictured history s + s.shown.height
 
-abbrev pub font_text : State → List ℕ
-font_text s = font_lines s s.shown.height
+-- the screen that was scrolled back to `count` kept rows, then to one fewer, and so on: n times
+abbrev pub scrolled : State → ℕ → ℕ → State
+scrolled s count zero = s
+scrolled s count (suc n) = kept_shown (count - n) (scrolled s count n)
+
+-- The first n rows, where `count` kept ones come first. Each of these is at the top of the screen that is scrolled back
+-- to it, and then come the rows of the screen that isn't scrolled back.
+abbrev pub lines_text : State → ℕ → ℕ → List ℕ
+lines_text s count zero = []
+lines_text s count (suc n) = lines_text s count n ++ line_text (scrolled s count (suc n)).shown (n - count)
+
+abbrev pub screen_text : ℕ → State → List ℕ
+screen_text history s = lines_text s (kept_pictured history s) (rows_pictured history s)
+
+-- the same in SVG
+abbrev pub written_lines : Look → State → ℕ → ℕ → List ℕ
+written_lines look s count zero = []
+written_lines look s count (suc n) =
+    written_lines look s count n ++ written_line look (scrolled s count (suc n)) (n - count)
+
+abbrev pub written_text : Look → ℕ → State → List ℕ
+written_text look history s = written_lines look s (kept_pictured history s) (rows_pictured history s)
+
+-- and of this what comes in a font
+abbrev pub font_lines : Look → State → ℕ → ℕ → List ℕ
+font_lines look s count zero = []
+font_lines look s count (suc n) =
+    font_lines look s count n ++ font_line look (scrolled s count (suc n)) (n - count)
+
+abbrev pub font_text : Look → ℕ → State → List ℕ
+font_text look history s = font_lines look s (kept_pictured history s) (rows_pictured history s)
 
 -- ---- what is seen
 

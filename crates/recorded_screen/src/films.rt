@@ -117,7 +117,7 @@ fn shoot(reel: &mut Reel, alloc: Global, screen: &Screen, look: &Look) -> Result
     let (rows, _) = screen.size();
     for row in 0..rows.get() {
         let cells = cells_of(screen, row);
-        let cursor = cursor_in(screen, row);
+        let cursor = cursor_in(screen, row, look);
         let number = reel.row_number(alloc, cells, cursor, look)?;
         numbers.push(number)?;
     }

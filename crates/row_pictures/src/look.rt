@@ -12,4 +12,6 @@ pub struct Look {
     /// Whether a bold text in one of the first eight colours has the bright one in its place. Where it isn't said, the
     /// theme says it.
     pub bold_is_bright: Option<bool>,
+    /// Whether the cursor isn't shown.
+    pub hides_cursor: bool,
 }

@@ -8,7 +8,7 @@ use Rattle.vt100_core.specs.Grid.{GridView}
 use Rattle.vt100.specs.Tries.{alive}
 use Rattle.row_texts.specs.declared.row.Look.{Look}
 use Rattle.screentext_command.specs.Texts.{change_text, first_changes, kept_text, line_at, lines_text, pair_text}
-use Rattle.screentext_command.specs.Texts.{scrolled}
+use Rattle.recorded_screen.specs.Picture.{scrolled}
 
 -- a screen that hasn't failed
 pub is_alive : (v : ScreenView) → v.failed ≡ false → v ≡ alive v.state

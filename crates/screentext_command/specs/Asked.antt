@@ -49,6 +49,7 @@ pub record Manner : Type 0 where
   pub font : Option Text
   -- whether bold texts are in bright colours, where a word says it
   pub bold_is_bright : Option Bool
+  pub hides_cursor : Bool
   pub pace : Pace
 
 -- which screen is printed, and how
@@ -78,6 +79,7 @@ manner_of p = record {
   theme = p.theme;
   font = option_map string_bytes p.font;
   bold_is_bright = p.bold_is_bright;
+  hides_cursor = p.hides_cursor;
   pace = p.pace;
 }
 
@@ -168,6 +170,7 @@ pub record SaysManner (rows : List Row) (m : Manner) : Type 0 where
   pub font : m.font ≡ first_of (codes "font") rows
   pub bold_is_bright : bold_meant (has (codes "bold-is-bright") rows) (has (codes "bold-is-plain") rows)
       ≡ Some m.bold_is_bright
+  pub hides_cursor : m.hides_cursor ≡ has (codes "no-cursor") rows
   pub speed : speed_meant (first_of (codes "speed") rows) ≡ Some m.pace.speed
   pub idle : idle_meant (first_of (codes "idle") rows) ≡ Some m.pace.idle
 

@@ -27,7 +27,7 @@ use Rattle.recorded_screen.specs.Film as films
 use Rattle.recorded_screen.specs.Moment.{acts_until}
 use Rattle.recorded_screen.specs.Placed.{IsAround, IsSvg}
 use Rattle.recorded_screen.specs.Picture.{block_seen, font_text, page_seen, screen_text, svg_seen}
-use Rattle.recorded_screen.specs.Picture.{written_text}
+use Rattle.recorded_screen.specs.Picture.{scrolled, written_text}
 use Rattle.recorded_screen.specs.declared.reel.TheConstants.{LONGEST_FILM}
 use Rattle.player_page.specs.Rows.{ShowsRows}
 use Rattle.player_page.specs.declared.page.TheConstants.{LONGEST_PLAYER}
@@ -71,11 +71,6 @@ abbrev pub lines_text : Look → GridView → ℕ → List ℕ
 lines_text look g zero = []
 lines_text look g (suc n) = lines_text look g n ++ line_at look g n
 
--- the screen that was scrolled back to `count` kept rows, then to one fewer, and so on: n times
-abbrev pub scrolled : State → ℕ → ℕ → State
-scrolled s count zero = s
-scrolled s count (suc n) = kept_shown (count - n) (scrolled s count n)
-
 -- of the newest `count` kept rows the first n: each is the first row that is shown then
 abbrev pub kept_text : Look → State → ℕ → ℕ → List ℕ
 kept_text look s count zero = []
@@ -104,22 +99,23 @@ pub record IsLook (m : Manner) (r : Recording) (look : pictures.Look) : Type 0 w
   pub theme : look.theme ≡ theme_shown m.theme (theme_reported r.theme)
   pub font : option_map string_bytes look.font ≡ m.font
   pub bold_is_bright : look.bold_is_bright ≡ m.bold_is_bright
+  pub hides_cursor : look.hides_cursor ≡ m.hides_cursor
 
 -- the rows of the screen stand at their places, in the look that the words ask for
 abbrev pub HasPlaces : Manner → Recording → (pictures.Look → Type 0) → Type 0
 HasPlaces m r IsPlaced = (look : pictures.Look) × IsLook m r look × IsPlaced look
 
--- a text is a screen of the recording, in this form
+-- a text is this screen of the recording, in this form, with the newest kept rows before those of the screen
 abbrev pub IsStill : Picture → Wish → Recording → State → List ℕ → Type 0
 IsStill Text w r s text = text ≡ rows_text w.look w.history s
-IsStill Html w r s text = Shows text (screen_text s.shown)
-    × (seen text ≡ page_seen (escaped (screen_text s.shown))) × IsSafe text
-    × HasPlaces w.manner r (λ l. IsAround (tag_bytes PageHead) (tag_bytes PageFoot) l s text)
-IsStill HtmlBlock w r s text = Shows text (screen_text s.shown)
-    × (seen text ≡ block_seen (escaped (screen_text s.shown)) ++ codes "\n") × IsSafe text
-    × HasPlaces w.manner r (λ l. IsAround [] (tag_bytes Newline) l s text)
-IsStill Svg w r s text = Shows text (written_text s)
-    × (seen text ≡ svg_seen (escaped (font_text s))) × IsSafe text × HasPlaces w.manner r (λ l. IsSvg l s text)
+IsStill Html w r s text = Shows text (screen_text w.history s)
+    × (seen text ≡ page_seen (escaped (screen_text w.history s))) × IsSafe text
+    × HasPlaces w.manner r (λ l. IsAround (tag_bytes PageHead) (tag_bytes PageFoot) l w.history s text)
+IsStill HtmlBlock w r s text = Shows text (screen_text w.history s)
+    × (seen text ≡ block_seen (escaped (screen_text w.history s)) ++ codes "\n") × IsSafe text
+    × HasPlaces w.manner r (λ l. IsAround [] (tag_bytes Newline) l w.history s text)
+IsStill Svg w r s text = IsSafe text × HasPlaces w.manner r (λ l. Shows text (written_text l w.history s)
+    × (seen text ≡ svg_seen (escaped (font_text l w.history s))) × IsSvg l w.history s text)
 
 -- ---- what differs
 

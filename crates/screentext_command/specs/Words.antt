@@ -58,12 +58,16 @@ with_films a = with_rule (with_rule (with_rule a (flag_rule (codes "animate"))) 
 abbrev pub with_player : App → App
 with_player a = with_rule a (flag_rule (codes "player"))
 
+abbrev pub with_frames : App → App
+with_frames a = with_rule a (flag_rule (codes "no-cursor"))
+
 -- the description for `clap` of
 -- `[ROWS COLS] [--at TIME] [--diff TIME] [--history N] [--joined] [--colours] [--html | --svg]
 -- [--list] [--kind NAME] [--timing FILE] [--no-line-drawing] [--strict] [--max-cells N] [--html-block] [--theme NAME]
--- [--font NAME] [--bold-is-bright | --bold-is-plain] [--animate] [--speed N] [--idle SECONDS] [--player]`
+-- [--font NAME] [--bold-is-bright | --bold-is-plain] [--animate] [--speed N] [--idle SECONDS] [--player]
+-- [--no-cursor]`
 abbrev pub known : App
-known = with_player (with_films (with_pictures (with_sources (with_flags (with_values program)))))
+known = with_frames (with_player (with_films (with_pictures (with_sources (with_flags (with_values program))))))
 
 -- both are numbers of rows and columns, or there is neither
 abbrev pub is_screen : Option Text → Option Text → Bool
@@ -132,7 +136,7 @@ is_invocation words = is_invocation_of (fault_of known words) (matches_of known 
 
 -- what is printed for words that aren't understood
 abbrev pub usage_line : List ℕ
-usage_line = codes "usage: screentext [ROWS COLS] [--at SECONDS] [--diff SECONDS] [--history N] [--joined] [--colours] [--html | --html-block | --player | --svg [--animate]] [--speed N] [--idle SECONDS] [--theme NAME] [--font NAME] [--bold-is-bright | --bold-is-plain] [--list] [--kind NAME] [--timing FILE] [--no-line-drawing] [--strict] [--max-cells N]; screentext --help says what they do"
+usage_line = codes "usage: screentext [ROWS COLS] [--at SECONDS] [--diff SECONDS] [--history N] [--joined] [--colours] [--html | --html-block | --player | --svg [--animate]] [--speed N] [--idle SECONDS] [--theme NAME] [--font NAME] [--bold-is-bright | --bold-is-plain] [--no-cursor] [--list] [--kind NAME] [--timing FILE] [--no-line-drawing] [--strict] [--max-cells N]; screentext --help says what they do"
     ++ 0x0A ∷ []
 
 -- what is printed where memory is refused

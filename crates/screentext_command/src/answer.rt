@@ -21,7 +21,7 @@ use recorded_screen::{Recording, ScreenSize, film, html, html_block, svg, termin
 use row_texts::Look;
 use std::alloc::Global;
 use std::num::NonZeroU16;
-use vt100::Parser;
+use vt100::{Parser, Screen};
 
 /// What is printed of a recording.
 pub(crate) fn answer_of(
@@ -85,7 +85,14 @@ fn screen_of(
     let mut terminal = terminal_of(alloc, recording, size, request.history, moments.moment)?;
     match moments.since {
         Some(since) => changes_since(alloc, recording, size, request.look, since, &terminal),
-        None => picture_of(alloc, &mut terminal, recording, request, picture, pictures),
+        None => still_of(
+            alloc,
+            terminal.screen_mut(),
+            recording,
+            request,
+            picture,
+            pictures,
+        ),
     }
 }
 
@@ -151,41 +158,41 @@ fn player_of(
     Ok(page)
 }
 
-// What the terminal shows, in the form that is asked for.
-fn picture_of(
+// What the screen shows, in the form that is asked for, with the newest kept rows before it.
+fn still_of(
     alloc: Global,
-    terminal: &mut Parser<()>,
+    screen: &mut Screen,
     recording: &Recording,
     request: Request,
     picture: Picture,
     pictures: &Pictures,
 ) -> Result<Vec<u8>, TextError>
-    requires { terminal.old.screen.failed ≡ false }
+    requires { screen.old.failed ≡ false }
     ensures picture { IfOk result (λ text. IsStill picture (wish_of request pictures.now) recording.now
-        terminal.old.screen.state text.items) }
+        screen.old.state text.items) }
     ensures fault { IfErr result (λ e. e ≡ Memory) }
 {
     let colors = pictures.look(alloc, recording)?;
     match picture {
-        Picture::Text => lines_of(alloc, terminal, request.history, request.look),
-        Picture::Html => Ok(html(alloc, terminal.screen(), &colors)?),
-        Picture::HtmlBlock => Ok(html_block(alloc, terminal.screen(), &colors)?),
-        Picture::Svg => Ok(svg(alloc, terminal.screen(), &colors)?),
+        Picture::Text => lines_of(alloc, screen, request.history, request.look),
+        Picture::Html => Ok(html(alloc, screen, request.history, &colors)?),
+        Picture::HtmlBlock => Ok(html_block(alloc, screen, request.history, &colors)?),
+        Picture::Svg => Ok(svg(alloc, screen, request.history, &colors)?),
     }
 }
 
 fn lines_of(
     alloc: Global,
-    terminal: &mut Parser<()>,
+    screen: &mut Screen,
     history: usize,
     look: Look,
 ) -> Result<Vec<u8>, TextError>
-    requires { terminal.old.screen.failed ≡ false }
-    ensures lines { IfOk result (λ text. text.items ≡ rows_text look history terminal.old.screen.state) }
+    requires { screen.old.failed ≡ false }
+    ensures lines { IfOk result (λ text. text.items ≡ rows_text look history screen.old.state) }
     ensures fault { IfErr result (λ e. e ≡ Memory) }
 {
     let mut text = String::new(alloc);
-    push_lines(&mut text, terminal.screen_mut(), history, look)?;
+    push_lines(&mut text, screen, history, look)?;
     Ok(text.into_bytes())
 }
 

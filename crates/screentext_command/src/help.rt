@@ -12,8 +12,8 @@ Arguments:
 Options:
       --at <SECONDS|MARKER>    The screen at this time of the recording, or at this marker, and not at its end
       --diff <SECONDS|MARKER>  The rows that changed from this time on, before and after
-      --history <N>            The newest N rows that left at the top, before those of the screen
-      --joined...              A row that goes on in the next is one line with it
+      --history <N>            The newest N rows that left at the top, before those of the screen; not in films and pages
+      --joined...              A row that goes on in the next is one line with it, in text
       --colours...             Colours and other attributes, as escape sequences (SGR) [alias: --colors]
       --html...                A page in HTML that shows the screen
       --svg...                 A picture in SVG of the screen; not with --html
@@ -29,6 +29,7 @@ gruvbox-dark, monokai, nord, solarized-dark, solarized-light or tango
       --font <NAME>            The font of pictures, where it is installed
       --bold-is-bright...      Bold texts in the first eight colours have the bright ones, as in the theme xterm
       --bold-is-plain...       Bold texts keep their colour, also in the theme xterm; not with --bold-is-bright
+      --no-cursor...           Pictures don't show the cursor
       --animate...             With --svg: a picture that plays the recording, 8 MiB at most
       --speed <N>              It plays N times as fast as it was recorded
       --idle <SECONDS>         No screen stands longer than this time of the recording

@@ -26,6 +26,8 @@ pub(crate) struct Pictures {
     pub(crate) font: Option<String>,
     /// Whether bold texts are in bright colours, where it is said.
     pub(crate) bold_is_bright: Option<bool>,
+    /// Whether the cursor isn't shown.
+    pub(crate) hides_cursor: bool,
     /// How fast a film plays.
     pub(crate) pace: Pace,
 }
@@ -39,6 +41,7 @@ impl Pictures {
             theme: theme_shown(self.theme, recording),
             font: owned(alloc, self.font.as_deref())?,
             bold_is_bright: self.bold_is_bright,
+            hides_cursor: self.hides_cursor,
         })
     }
 }
@@ -71,7 +74,8 @@ pub(crate) fn pictures_of(
         matches.get_count("bold-is-bright") > 0,
         matches.get_count("bold-is-plain") > 0,
     );
-    Ok(new_pictures(theme, bold, speed, idle, font))
+    let hides_cursor = matches.get_count("no-cursor") > 0;
+    Ok(new_pictures(theme, bold, speed, idle, font, hides_cursor))
 }
 
 fn new_pictures(
@@ -80,16 +84,18 @@ fn new_pictures(
     speed: Option<u64>,
     idle: Option<Option<u64>>,
     font: Option<String>,
+    hides_cursor: bool,
 ) -> Option<Pictures>
     ensures pictures { is_some result ≡ (is_some theme && (is_some bold && (is_some speed && is_some idle))) }
     ensures found { IfSome result (λ p. (theme ≡ Some p.theme) × (bold ≡ Some p.bold_is_bright)
         × (speed ≡ Some p.pace.speed) × (idle ≡ Some p.pace.idle)) }
-    ensures given { IfSome result (λ p. p.font ≡ font) }
+    ensures given { IfSome result (λ p. (p.font ≡ font) × (p.hides_cursor ≡ hides_cursor)) }
 {
     Some(Pictures {
         theme: theme?,
         font,
         bold_is_bright: bold?,
+        hides_cursor,
         pace: Pace {
             speed: speed?,
             idle: idle?,

@@ -1,7 +1,8 @@
 //! The rows of a screen as text.
 
 ghost use Rattle.std.specs.Prelude.{◌≡◌, ◌++◌, IfErr, OnOk, false, string_bytes};
-ghost use Rattle.screentext_command.specs.Texts.{cells_at, end_text, kept_text, line_at, rows_text, scrolled};
+ghost use Rattle.recorded_screen.specs.Picture.{scrolled};
+ghost use Rattle.screentext_command.specs.Texts.{cells_at, end_text, kept_text, line_at, rows_text};
 ghost use Rattle.screentext_command.specs.Texts.{shown_text};
 ghost use Rattle.screentext_command.specs.declared.error.TextError.TheVariants.{Memory};
 ghost use Rattle.vt100.specs.Tries.{alive};

@@ -22,6 +22,6 @@ returns-clause-seen c =
 
 pub returns-clause-placed : goal.returns-clause-placed
 returns-clause-placed c =
-    around_placed _ _ _ _ _ (tag_bytes tag.PageHead) (tag_bytes tag.PageFoot) c.args.look.now c.args.screen.now.state
+    around_placed _ _ _ _ _ (tag_bytes tag.PageHead) (tag_bytes tag.PageFoot) c.args.look.now c.args.history c.args.screen.now.state
     c.new-page.ensures c.in_ok-markup.ensures.bytes c.in_ok-push_block.ensures.placed
     c.in_ok-markup-2.ensures.bytes c.into_bytes.ensures.bytes

@@ -19,6 +19,6 @@ returns-clause-seen c =
 
 pub returns-clause-placed : goal.returns-clause-placed
 returns-clause-placed c =
-    around_placed _ _ _ _ _ [] (tag_bytes tag.Newline) c.args.look.now c.args.screen.now.state c.new-page.ensures
+    around_placed _ _ _ _ _ [] (tag_bytes tag.Newline) c.args.look.now c.args.history c.args.screen.now.state c.new-page.ensures
     (sym (append-nil c.new-page.result)) c.in_ok-push_block.ensures.placed c.in_ok-markup.ensures.bytes
     c.into_bytes.ensures.bytes

@@ -14,7 +14,7 @@ use Rattle.recorded_screen.proofs.picture.push_svg_line.Goals as goal
 pub returns-clause-adds : goal.returns-clause-adds
 returns-clause-adds c =
     subst (λ cells. OnOk c.end_row.result (Adds c.args.page.now c.end_row.new.self (row_text cells ++ 10 ∷ [])))
-    (ap₂ unpadded c.cells_of.ensures c.cursor_in.ensures)
+    (ap₂ unpadded c.cells_of.ensures c.cursor_in-cursor.ensures)
     (if_both _ _ _ _ _ _
     (after_markup _ _ _ _ c.in_ok-numbers.ensures.adds
     (after_markup _ _ _ _ c.in_ok-markup.ensures.adds
@@ -24,8 +24,8 @@ returns-clause-adds c =
 pub returns-clause-seen : goal.returns-clause-seen
 returns-clause-seen c =
     subst (λ cells. OnOk c.end_row.result (Draws c.args.page.now c.end_row.new.self true true
-    (escaped (font_texts cells ++ 10 ∷ [])))) (ap₂ unpadded c.cells_of.ensures c.cursor_in.ensures)
-    (if_more_text _ _ _ _ (font_texts (unpadded c.cells_of.result.now c.cursor_in.result)) (10 ∷ [])
+    (escaped (font_texts cells ++ 10 ∷ [])))) (ap₂ unpadded c.cells_of.ensures c.cursor_in-cursor.ensures)
+    (if_more_text _ _ _ _ (font_texts (unpadded c.cells_of.result.now c.cursor_in-cursor.result)) (10 ∷ [])
     (draws_after _ _ _ _ _ _ _ (draws_numbers _ _ true (tag.Row, _) [] refl refl c.in_ok-numbers.ensures.bytes)
     (draws_after _ _ _ _ _ _ _ (draws_tag _ _ tag.RowCells false true [] refl refl c.in_ok-markup.ensures.bytes)
     (draws_before _ _ _ _ _ _ _ c.in_ok-push_svg_row.ensures.seen
@@ -34,8 +34,8 @@ returns-clause-seen c =
 
 pub returns-clause-line : goal.returns-clause-line
 returns-clause-line c =
-    svg_line_added _ _ _ _ _ _ _ c.args.look.now c.args.screen.now.state c.args.row c.cells_of.result.now
-    c.cursor_in.result c.cells_of.ensures c.cursor_in.ensures
+    svg_line_added _ _ _ _ _ _ _ c.args.look.now c.args.screen.now.state c.args.row c.args.place c.cells_of.result.now
+    c.cursor_in-cursor.result c.cells_of.ensures c.cursor_in-cursor.ensures
     (c.in_ok-numbers.ensures.bytes ∙ ap (λ r. c.args.page.now ++ numbers_bytes ((tag.Row, r * 18) ∷ [])) c.from.ensures)
     c.in_ok-markup.ensures.bytes c.in_ok-push_svg_row.ensures.runs c.in_ok-markup-2.ensures.bytes
     c.end_row.ensures.bytes

@@ -32,11 +32,12 @@ returns-clause-says c =
     some_both c.new_pictures.result made.found made.given (λ p found given. record {
       theme = sym (c.theme_of-theme.ensures.value
           ∙ ap theme_meant (c.get_str.ensures ∙ first_value-rows f (codes "theme"))) ∙ found.0;
-      font = ap (option_map string_bytes) given ∙ c.in_ok-font.ensures ∙ c.get_str-4.ensures
+      font = ap (option_map string_bytes) given.0 ∙ c.in_ok-font.ensures ∙ c.get_str-4.ensures
           ∙ first_value-rows f (codes "font");
       bold_is_bright = sym (c.bold_of-bold.ensures.value
           ∙ ap₂ (λ m n. bold_meant (nat_lt 0 m) (nat_lt 0 n)) c.get_count.ensures.value c.get_count-2.ensures.value)
           ∙ found.1;
+      hides_cursor = given.1 ∙ ap (λ n. nat_lt 0 n) c.get_count-hides_cursor.ensures.value;
       speed = sym (c.in_ok-speed.ensures.value
           ∙ ap speed_meant (c.get_str-2.ensures ∙ first_value-rows f (codes "speed"))) ∙ found.2;
       idle = sym (c.in_ok-idle.ensures.value

@@ -1,7 +1,8 @@
 use Rattle.std.proofs.Common.{◌≡◌, ◌++◌}
 use Rattle.std.specs.Prelude.{string_bytes}
 use Rattle.vt100.specs.Tries.{alive}
-use Rattle.screentext_command.specs.Texts.{kept_text, scrolled}
+use Rattle.screentext_command.specs.Texts.{kept_text}
+use Rattle.recorded_screen.specs.Picture.{scrolled}
 use Rattle.screentext_command.proofs.text.push_kept.Given as goal
 
 -- the rows so far
