@@ -88,15 +88,15 @@ one_line_more IsLine a b c r first second =
 -- a row of a screen, which is row n of the picture
 pub html_line_of : (a b : List ℕ) (look : Look) (s t : State) (k n r : ℕ) → t ≡ scrolled s k (suc n) → r ≡ n - k
     → AddsSo (IsHtmlLine look t r) a b → AddsSo (IsHtmlLineOf look s k n) a b
-html_line_of a b look s t k n r screen row line =
+html_line_of a b look s t k n r screen row runs =
     subst (λ (i : ℕ). AddsSo (IsHtmlLine look (scrolled s k (suc n)) i) a b) row
-    (subst (λ (v : State). AddsSo (IsHtmlLine look v r) a b) screen line)
+    (subst (λ (v : State). AddsSo (IsHtmlLine look v r) a b) screen runs)
 
 pub svg_line_of : (a b : List ℕ) (look : Look) (s t : State) (k n r : ℕ) → t ≡ scrolled s k (suc n) → r ≡ n - k
     → AddsSo (IsSvgLine look t r n) a b → AddsSo (IsSvgLineOf look s k n) a b
-svg_line_of a b look s t k n r screen row line =
+svg_line_of a b look s t k n r screen row runs =
     subst (λ (i : ℕ). AddsSo (IsSvgLine look (scrolled s k (suc n)) i n) a b) row
-    (subst (λ (v : State). AddsSo (IsSvgLine look v r n) a b) screen line)
+    (subst (λ (v : State). AddsSo (IsSvgLine look v r n) a b) screen runs)
 
 -- ---- what is around them
 
