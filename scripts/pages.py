@@ -73,6 +73,7 @@ PROGRAMS = {
             ("player", None, None, "A page in HTML that plays the recording, 32 MiB at most"),
             ("speed", "N", None, "It plays N times as fast as it was recorded"),
             ("idle", "SECONDS", None, "No screen stands longer than this time of the recording"),
+            ("fps", "N", None, "A film shows N screens a second at most, 1 to 1000: 30 without this option"),
             ("theme", "NAME", THEMES, "The colours of pictures"),
             ("font", "NAME", None, "The font of pictures, where it is installed"),
             ("bold-is-bright", None, None, "Bold texts in the first eight colours have the bright ones, as in xterm"),

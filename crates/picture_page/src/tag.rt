@@ -118,30 +118,40 @@ pub enum Tag {
     RowName,
     /// What comes before its cells.
     RowNameEnd,
-    /// The beginning of when a film shows what.
+    /// The beginning of when a film shows what, before its length in seconds.
+    FilmLength,
+    /// What comes after its length.
+    FilmLengthEnd,
+    /// The beginning of when a track of a film shows what, before the track's number.
     Keyframes,
-    /// What comes after a part of the film's length, before the place of the screen that is shown then.
+    /// What comes after the number.
+    KeyframesStart,
+    /// What comes after a part of the film's length, before the place that is shown then.
     Percent,
     /// What comes after the place.
     PercentEnd,
+    /// What comes after the places, before the track's number.
+    KeyframesEnd,
+    /// What comes between the track's number and the same number, which names its key frames.
+    Animation,
+    /// What comes after that.
+    AnimationEnd,
+    /// What ends when a film shows what: nothing plays for a reader who wants less motion.
+    Still,
     /// The point of a number.
     Point,
-    /// What comes before the length of a film in seconds.
-    FilmLength,
-    /// What comes after it.
-    FilmLengthEnd,
-    /// The beginning of a film's screens. The place of the last one follows, which is shown if nothing plays.
-    Film,
-    /// What ends them.
-    FilmEnd,
-    /// The beginning of a screen of a film, before its place.
-    Frame,
-    /// What comes before its rows.
-    FrameRows,
+    /// The beginning of a track of a film, before its number.
+    Track,
+    /// What comes before the place that is shown if nothing plays.
+    TrackPlace,
+    /// What comes before the rows of a track.
+    TrackRows,
     /// What ends it.
-    FrameEnd,
+    TrackEnd,
     /// A row that was drawn elsewhere, before its number.
     Use,
+    /// How far to the right it is.
+    X,
     /// What comes before the title of a page that plays.
     PlayerHead,
     /// What comes between its title and its heading.
@@ -247,18 +257,24 @@ impl Tag {
             Tag::DefsEnd => b"</defs>\n",
             Tag::RowName => b"<g id=\"r",
             Tag::RowNameEnd => b"\">",
-            Tag::Keyframes => b"<style>@keyframes film{",
+            Tag::FilmLength => b"<style>.film{animation:",
+            Tag::FilmLengthEnd => b"s steps(1,end) infinite}\n",
+            Tag::Keyframes => b"@keyframes t",
+            Tag::KeyframesStart => b"{",
             Tag::Percent => b"%{transform:translate(-",
             Tag::PercentEnd => b"px)}",
+            Tag::KeyframesEnd => b"}.t",
+            Tag::Animation => b"{animation-name:t",
+            Tag::AnimationEnd => b"}\n",
+            Tag::Still =>
+                b"@media (prefers-reduced-motion:reduce){.film{animation:none}}</style>\n",
             Tag::Point => b".",
-            Tag::FilmLength => b"}.film{animation:film ",
-            Tag::FilmLengthEnd => b"s steps(1,end) infinite}</style>\n",
-            Tag::Film => b"<g class=\"film\" transform=\"translate(-",
-            Tag::FilmEnd => b"</g>\n",
-            Tag::Frame => b"<g transform=\"translate(",
-            Tag::FrameRows => b")\">",
-            Tag::FrameEnd => b"</g>\n",
+            Tag::Track => b"<g class=\"film t",
+            Tag::TrackPlace => b"\" transform=\"translate(-",
+            Tag::TrackRows => b")\">",
+            Tag::TrackEnd => b"</g>\n",
             Tag::Use => b"<use href=\"#r",
+            Tag::X => b"\" x=\"",
             Tag::PlayerHead => PLAYER_HEAD,
             Tag::PlayerStyle => PLAYER_STYLE,
             Tag::PlayerLength => b"</bdi></h1>\n<main id=\"player\" data-length=\"",

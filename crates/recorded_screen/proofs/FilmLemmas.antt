@@ -1,10 +1,13 @@
 -- The shots of a film, moment by moment.
-use Rattle.std.proofs.Common.{◌≡◌, ◌<◌, ◌≤◌, ◌+◌, ◌++◌, ℕ, zero, suc, Bool, true, false, List, [], ◌∷◌, Some}
-use Rattle.std.proofs.Common.{Vec, Global, sym, ap, ◌∙◌, subst, length, take, map, max, add-one, refl}
+use Rattle.std.proofs.Common.{◌≡◌, ◌≢◌, ◌<◌, ◌≤◌, ◌+◌, ◌*◌, ◌++◌, ℕ, zero, suc, Bool, true, false, List, [], ◌∷◌, Some}
+use Rattle.std.proofs.Common.{Vec, Global, sym, ap, ◌∙◌, subst, length, take, map, max, add-one, refl, set, length-set}
 use Rattle.std.proofs.Common.{append-nil, append_assoc, Ok, Err, Result, IfOk, IfErr, ◌-◌, ap₂, length-append, arith, drop}
-use Rattle.std.proofs.Common.{below_more, get_or, nat_le, slice_get, ◌⊎◌, inl, inr}
-use Rattle.std.proofs.lemmas.Bool.{le-leb}
-use Rattle.std.proofs.lemmas.List.{map-append, take_more}
+use Rattle.std.proofs.Common.{◌/◌, decimal, nat_lt, below_more, get_or, nat_le, replicate, slice_get, ◌⊎◌, inl, inr}
+use Rattle.std.specs.Prelude.{if◌then◌else◌}
+use Rattle.std.specs.List.{flat_map}
+use Rattle.std.proofs.lemmas.Bool.{le-leb, ltb-false}
+use Rattle.std.proofs.lemmas.List.{get_or-replicate, get_or-set_other, get_or-set_same, get_or_default, length-map}
+use Rattle.std.proofs.lemmas.List.{map-append, map-set, take_more}
 use Rattle.std.proofs.lemmas.List.Sums.{prefix_len-drop_yes}
 use Rattle.row_pictures.specs.declared.look.Look.{Look}
 use Rattle.screen_model.specs.Call.{ScreenView}
@@ -16,23 +19,26 @@ use Rattle.picture_page.specs.Tags.{tag_bytes}
 use Rattle.picture_page.specs.declared.tag.Tag.TheVariants as tag
 use Rattle.recordings.specs.declared.recording.Event.{Event}
 use Rattle.recordings.specs.declared.recording.ScreenSize.{ScreenSize}
-use Rattle.recorded_screen.specs.Film.{AreShots, IsFilm, IsFilmOf, IsScreenOf, IsTooLong, TakesShot, TakesShotIf}
+use Rattle.recorded_screen.specs.Film.{AreShots, IsFilm, IsFilmOf, IsTooLong, TakesShot, TakesShotIf}
 use Rattle.recorded_screen.specs.Film.{count_until, film_time}
-use Rattle.recorded_screen.specs.Film.{is_moment, most, most_cols, most_rows, paced, reached, state_after}
+use Rattle.recorded_screen.specs.Film.{may_stand, most, most_cols, most_rows, paced, reached, slot_start, state_after}
 use Rattle.recorded_screen.specs.Film.AreShots.{none, passed, shot}
 use Rattle.recorded_screen.specs.Moment.{act_of}
 use Rattle.recorded_screen.specs.Placed.{IsSvgRow}
 use Rattle.recorded_screen.specs.Heads.{svg_head}
-use Rattle.recorded_screen.specs.Reel.{drawn_bytes, drawn_row, drawn_screen, film_bytes, in_64_bits, last_place}
-use Rattle.recorded_screen.specs.Reel.{numbered, times_bytes}
-use Rattle.recorded_screen.specs.Shots.{AddsOnly, Grows, IsAt, IsReel, IsShot, IsShown, IsUsed, Shows, rows_of}
-use Rattle.recorded_screen.specs.Shots.{screens_of}
+use Rattle.recorded_screen.specs.Reel.{Track, changes_in, decimal_point, drawn_bytes, drawn_row, film_bytes, in_64_bits}
+use Rattle.recorded_screen.specs.Reel.{in_32_bits, keyframes, place, no_track, numbered, shot_bytes, times_bytes, track_at, track_bytes}
+use Rattle.recorded_screen.specs.Reel.{track_times}
+use Rattle.recorded_screen.specs.Shots.{AddsOnly, Grows, IsAt, IsDrawn, IsLonger, IsReel, IsShot, IsShown, IsTrack}
+use Rattle.recorded_screen.specs.Shots.{IsUsed, Shows, ShowsRow, ShowsRowOf, ShowsSuch, TakesPlace, rows_of, track_of}
+use Rattle.recorded_screen.specs.Shots.{tracks_of}
 use Rattle.recorded_screen.specs.declared.error.FilmError.{FilmError}
 use Rattle.recorded_screen.specs.declared.error.FilmError.TheVariants.{Memory, TooLong}
-use Rattle.recorded_screen.proofs.ReelLemmas.{got_last, other_fault}
+use Rattle.recorded_screen.proofs.ReelLemmas.{got_last, mapped_at, other_fault}
 use Rattle.recorded_screen.specs.declared.films.Pace.{Pace}
 use Rattle.recorded_screen.specs.declared.reel.Reel.{Reel}
 use Rattle.recorded_screen.specs.declared.reel.Shot.{Shot}
+use Rattle.recorded_screen.specs.declared.reel.Track.{Track as GrowingTrack}
 
 -- ---- what is there stays there
 
@@ -42,178 +48,275 @@ got_before [] more n x h = absurd (cc)
 got_before (y ∷ ys) more zero x h = h
 got_before (y ∷ ys) more (suc n) x h = got_before ys more n x h
 
-pub is_at_still : (xs ys more : List (List ℕ)) (n : ℕ) (Holds : List ℕ → Type 0) → ys ≡ xs ++ more → IsAt xs n Holds
+got_still : {A : Type 0} (xs ys : List A) (n : ℕ) (x : A) → IsLonger xs ys → slice_get xs n ≡ Some x
+    → slice_get ys n ≡ Some x
+got_still {A} xs ys n x longer at = ap (λ (zs : List A). slice_get zs n) longer.is ∙ got_before xs longer.more n x at
+
+is_at_still : {A : Type 0} (xs ys : List A) (n : ℕ) (Holds : A → Type 0) → IsLonger xs ys → IsAt xs n Holds
     → IsAt ys n Holds
-is_at_still xs ys more n Holds is at = record {
+is_at_still xs ys n Holds longer at = record {
   item = at.item;
-  at = ap (λ (zs : List (List ℕ)). slice_get zs n) is ∙ got_before xs more n at.item at.at;
+  at = got_still xs ys n at.item longer at.at;
   holds = at.holds;
 }
 
-screen_still : (look : Look) (s : State) (rows more_rows rows_after : List (List ℕ)) (numbers : List ℕ)
-    → rows_after ≡ rows ++ more_rows → IsScreenOf look s rows numbers → IsScreenOf look s rows_after numbers
-screen_still look s rows more_rows rows_after numbers is screen = record {
-  count = screen.count;
-  row = λ r lt. is_at_still rows rows_after more_rows _ (IsSvgRow look s r) is (screen.row r lt);
+is_at_such : {A : Type 0} (xs : List A) (n : ℕ) (Such So : A → Type 0) → ((x : A) → Such x → So x) → IsAt xs n Such
+    → IsAt xs n So
+is_at_such xs n Such So f at = record { item = at.item; at = at.at; holds = f at.item at.holds }
+
+longer_not : {A : Type 0} (xs : List A) → IsLonger xs xs
+longer_not xs = record { more = []; is = sym (append-nil xs) }
+
+longer_both : {A : Type 0} (xs ys zs : List A) → IsLonger xs ys → IsLonger ys zs → IsLonger xs zs
+longer_both {A} xs ys zs first second = record {
+  more = first.more ++ second.more;
+  is = second.is ∙ ap (λ (l : List A). l ++ second.more) first.is ∙ append_assoc xs first.more second.more;
 }
 
-screen_is_at_still : {IsRow IsScreen : ℕ → Type 0} (look : Look) (s : State) (old new : Reel) (screen : ℕ)
-    → Grows IsRow IsScreen old new
-    → IsAt (screens_of old) screen (IsScreenOf look s (rows_of old))
-    → IsAt (screens_of new) screen (IsScreenOf look s (rows_of new))
-screen_is_at_still look s old new screen grows at = record {
-  item = at.item;
-  at = ap (λ (zs : List (List ℕ)). slice_get zs screen) grows.screens
-      ∙ got_before (screens_of old) grows.more_screens screen at.item at.at;
-  holds = screen_still look s (rows_of old) grows.more_rows (rows_of new) at.item grows.rows at.holds;
+shot_still : (xs ys : List Shot) (n : ℕ) → IsLonger xs ys → IsShot xs n → IsShot ys n
+shot_still xs ys n longer is = record {
+  count = is.count;
+  shot = is.shot;
+  at = got_still xs ys is.count is.shot longer is.at;
+  is = is.is;
 }
 
-pub shots_still : {IsRow IsScreen : ℕ → Type 0} (look : Look) (size : ScreenSize) (pace : Pace) (events : List Event)
-    (old new : Reel) (n : ℕ) (shots : List Shot) → Grows IsRow IsScreen old new
-    → AreShots look size pace events (rows_of old) (screens_of old) n shots
-    → AreShots look size pace events (rows_of new) (screens_of new) n shots
-shots_still look size pace events old new _ _ grows none = none
-shots_still look size pace events old new _ _ grows (passed {n = n} {shots = shots} is before) =
-    passed is (shots_still look size pace events old new n shots grows before)
-shots_still look size pace events old new _ _ grows (shot {n = n} {old = earlier} shots screen is before at shown) =
-    shot shots screen is (shots_still look size pace events old new n earlier grows before)
-    (screen_is_at_still look (state_after size events n) old new screen grows at) shown
-
-pub grows_none : {IsRow IsScreen : ℕ → Type 0} (reel : Reel) → Grows IsRow IsScreen reel reel
-grows_none reel = record {
-  more_rows = [];
-  rows = sym (append-nil (rows_of reel));
-  own_rows = λ i lt. inl lt;
-  more_screens = [];
-  screens = sym (append-nil (screens_of reel));
-  own_screens = λ i lt. inl lt;
-  size = refl;
-  time = refl;
+used_still : (xs ys : List Track) (i : ℕ) → ((r : ℕ) → IsLonger (track_at xs r).rows (track_at ys r).rows) → IsUsed xs i
+    → IsUsed ys i
+used_still xs ys i longer used = record {
+  row = used.row;
+  place = used.place;
+  is = got_still _ _ used.place i (longer used.row) used.is;
 }
 
-adds_both : {First Second Holds : ℕ → Type 0} (a b c : List (List ℕ)) → ((i : ℕ) → First i → Holds i)
-    → ((i : ℕ) → Second i → Holds i) → AddsOnly First a b → AddsOnly Second b c → AddsOnly Holds a c
-adds_both {First} {Second} {Holds} a b c one other first second = λ i lt. by i (second i lt)
-  where
-    mapped : (i : ℕ) → (i < length a) ⊎ First i → (i < length a) ⊎ Holds i
-    mapped i (inl lt) = inl lt
-    mapped i (inr is) = inr (one i is)
+-- ---- a place is shown in a track
 
-    by : (i : ℕ) → (i < length b) ⊎ Second i → (i < length a) ⊎ Holds i
-    by i (inl lt) = mapped i (first i lt)
-    by i (inr is) = inr (other i is)
+shots_longer : (old new : List Shot) (time place : ℕ) → IsShown old new time place → IsLonger old new
+shots_longer old new time place (inl is) = record { more = record { time = time; place = place } ∷ []; is = is }
+shots_longer old new time place (inr is) = record { more = []; is = is.0 ∙ sym (append-nil old) }
 
--- the numbers of what is added are such numbers, each time
-pub grows_both : {RowA ScreenA RowB ScreenB IsRow IsScreen : ℕ → Type 0} (a b c : Reel)
-    → ((i : ℕ) → RowA i → IsRow i) → ((i : ℕ) → RowB i → IsRow i) → ((i : ℕ) → ScreenA i → IsScreen i)
-    → ((i : ℕ) → ScreenB i → IsScreen i) → Grows RowA ScreenA a b → Grows RowB ScreenB b c → Grows IsRow IsScreen a c
-grows_both a b c row_a row_b screen_a screen_b first second = record {
-  own_rows = adds_both (rows_of a) (rows_of b) (rows_of c) row_a row_b first.own_rows second.own_rows;
-  own_screens = adds_both (screens_of a) (screens_of b) (screens_of c) screen_a screen_b first.own_screens
-      second.own_screens;
-  more_rows = first.more_rows ++ second.more_rows;
-  rows = second.rows ∙ ap (λ (xs : List (List ℕ)). xs ++ second.more_rows) first.rows
-      ∙ append_assoc (rows_of a) first.more_rows second.more_rows;
-  more_screens = first.more_screens ++ second.more_screens;
-  screens = second.screens ∙ ap (λ (xs : List (List ℕ)). xs ++ second.more_screens) first.screens
-      ∙ append_assoc (screens_of a) first.more_screens second.more_screens;
-  size = second.size ∙ first.size;
-  time = second.time ∙ first.time;
-}
-
--- ---- one shot
-
--- the rows so far have their numbers
-pub record AreNumbered (look : Look) (s : State) (rows : List (List ℕ)) (numbers : List ℕ) (n : ℕ) : Type 0 where
-  pub count : length numbers ≡ n
-  pub row : (r : ℕ) → r < n → IsAt rows (get_or numbers r 0) (IsSvgRow look s r)
-
-got_earlier : (xs : List ℕ) (x r : ℕ) → r < length xs → get_or (xs ++ x ∷ []) r 0 ≡ get_or xs r 0
-got_earlier [] x r lt = absurd (omega arith)
-got_earlier (y ∷ ys) x zero lt = refl
-got_earlier (y ∷ ys) x (suc r) lt = got_earlier ys x r (omega arith)
-
-got_latest : (xs : List ℕ) (x : ℕ) → get_or (xs ++ x ∷ []) (length xs) 0 ≡ x
-got_latest [] x = refl
-got_latest (y ∷ ys) x = got_latest ys x
-
-pub one_row_more : (look : Look) (s : State) (rows more rows_after : List (List ℕ)) (numbers : List ℕ) (n number : ℕ)
-    → rows_after ≡ rows ++ more → AreNumbered look s rows numbers n → IsAt rows_after number (IsSvgRow look s n)
-    → AreNumbered look s rows_after (numbers ++ number ∷ []) (n + 1)
-one_row_more look s rows more rows_after numbers n number is first second = record {
-  count = length-append numbers (number ∷ []) ∙ ap (λ (k : ℕ). k + 1) first.count;
-  row = below_more _ _
-      (λ r lt. subst (λ (k : ℕ). IsAt rows_after k (IsSvgRow look s r))
-      (sym (got_earlier numbers number r (let len = first.count in omega arith)))
-      (is_at_still rows rows_after more _ (IsSvgRow look s r) is (first.row r lt)))
-      (subst (λ (k : ℕ). IsAt rows_after (get_or (numbers ++ number ∷ []) k 0) (IsSvgRow look s n)) first.count
-      (subst (λ (k : ℕ). IsAt rows_after k (IsSvgRow look s n)) (sym (got_latest numbers number)) second));
-}
-
--- a row has one of these numbers
-abbrev pub IsAmong : List ℕ → ℕ → Type 0
-IsAmong numbers i = (r : ℕ) × (slice_get numbers r ≡ Some i)
-
--- a number more
-pub grows_by_row : (first old new : Reel) (numbers : List ℕ) (number : ℕ) → Grows (IsAmong numbers) (λ i. ⊥) first old
-    → Grows (λ i. i ≡ number) (λ i. ⊥) old new → Grows (IsAmong (numbers ++ number ∷ [])) (λ i. ⊥) first new
-grows_by_row first old new numbers number before grows =
-    grows_both first old new (λ i is. (is.0, got_before numbers (number ∷ []) is.0 i is.1))
-    (λ i is. (length numbers, got_last numbers number ∙ ap (λ (k : ℕ). Some k) (sym is))) (λ i no. no) (λ i no. no)
-    before grows
-
--- the rows of a screen that is shown are used
-pub grows_by_shot : (first old new : Reel) (numbers rows : List ℕ) → rows ≡ numbers
-    → Grows (IsAmong numbers) (λ i. ⊥) first old → Grows (λ i. ⊥) (IsShot new.shots.items) old new
-    → Shows rows old new → Grows (IsUsed (screens_of new)) (IsShot new.shots.items) first new
-grows_by_shot first old new numbers rows are before grows shows =
-    grows_both first old new
-    (λ i is. record {
-      screen = shows.screen;
-      rows = rows;
-      at = shows.at;
-      row = is.0;
-      is = ap (λ (xs : List ℕ). slice_get xs is.0) are ∙ is.1;
-    })
-    (λ i no. absurd no) (λ i no. absurd no) (λ i is. is) before grows
-
--- the screen of a shot is shown
-pub is_shot : (old new : List Shot) (time screen : ℕ) → IsShown old new time screen → IsShot new screen
-is_shot old new time screen (inl is) = record {
+is_shot : (old new : List Shot) (time place : ℕ) → IsShown old new time place → IsShot new place
+is_shot old new time place (inl is) = record {
   count = length old;
-  shot = record { time = time; screen = screen };
-  at = ap (λ (xs : List Shot). slice_get xs (length old)) is ∙ got_last old (record { time = time; screen = screen });
+  shot = record { time = time; place = place };
+  at = ap (λ (xs : List Shot). slice_get xs (length old)) is ∙ got_last old (record { time = time; place = place });
   is = refl;
 }
-is_shot old new time screen (inr is) = record {
+is_shot old new time place (inr is) = record {
   count = length old - 1;
   shot = is.1;
   at = ap (λ (xs : List Shot). slice_get xs (length old - 1)) is.0 ∙ is.2;
   is = is.3;
 }
 
-pub old_or_shown : {A : Type 0} (shots : List Shot) (i n : ℕ) → A ⊎ (i ≡ n) → IsShot shots n → A ⊎ IsShot shots i
-old_or_shown shots i n (inl a) seen = inl a
-old_or_shown shots i n (inr is) seen = inr (subst (IsShot shots) (sym is) seen)
+pub track_is : (old new : Track) (number time place : ℕ) → IsTrack old → TakesPlace number old.rows new.rows place
+    → IsShown old.shots new.shots time place → IsTrack new
+track_is old new number time place is takes shown = record {
+  different = takes.different is.different;
+  shown = λ n lt. by n (takes.own n lt);
+}
+  where
+    by : (n : ℕ) → (n < length old.rows) ⊎ (n ≡ place) → IsShot new.shots n
+    by n (inl lt) =
+        shot_still old.shots new.shots n (shots_longer old.shots new.shots time place shown) (is.shown n lt)
+    by n (inr same) = subst (IsShot new.shots) (sym same) (is_shot old.shots new.shots time place shown)
 
--- the screen of these rows is shown
-pub shot_taken : (look : Look) (s : State) (first old new : Reel) (numbers rows : List ℕ) (n : ℕ)
-    → rows ≡ numbers → n ≡ s.shown.height → AreNumbered look s (rows_of old) numbers n
-    → Grows (IsAmong numbers) (λ i. ⊥) first old → Grows (λ i. ⊥) (IsShot new.shots.items) old new
-    → old.shots ≡ first.shots → Shows rows old new → TakesShot look s first new
-shot_taken look s first old new numbers rows n are all numbered before grows shots shows = record {
-  screen = shows.screen;
-  at = record {
-    item = rows;
-    at = shows.at;
-    holds = screen_still look s (rows_of old) grows.more_rows (rows_of new) rows grows.rows
-        (subst (λ (xs : List ℕ). IsScreenOf look s (rows_of old) xs) (sym are) (record {
-          count = numbered.count ∙ all;
-          row = λ r lt. numbered.row r (subst (λ (h : ℕ). r < h) (sym all) lt);
-        }));
-  };
-  shown = subst (λ (v : Vec Shot Global). IsShown v.items new.shots.items first.time shows.screen) shots
-      (subst (λ (t : ℕ). IsShown old.shots.items new.shots.items t shows.screen) before.time shows.shown);
+pub track_shows : (old new : Track) (number time place : ℕ) → TakesPlace number old.rows new.rows place
+    → IsShown old.shots new.shots time place → Shows number time old new
+track_shows old new number time place takes shown = record {
+  place = place;
+  stands = record { item = number; at = takes.at; holds = refl };
+  rows = takes.longer;
+  shown = shown;
+}
+
+shows_such : (Such So : ℕ → Type 0) (time : ℕ) (old new : Track) → ((n : ℕ) → Such n → So n)
+    → ShowsSuch Such time old new → ShowsSuch So time old new
+shows_such Such So time old new f shows = record {
+  place = shows.place;
+  stands = is_at_such new.rows shows.place Such So f shows.stands;
+  rows = shows.rows;
+  shown = shows.shown;
+}
+
+-- ---- one row of the screen
+
+same_or_not : (j r : ℕ) → (j ≡ r) ⊎ (j ≢ r)
+same_or_not zero zero = inl refl
+same_or_not zero (suc r) = inr (λ e. absurd (omega arith))
+same_or_not (suc j) zero = inr (λ e. absurd (omega arith))
+same_or_not (suc j) (suc r) = by (same_or_not j r)
+  where
+    by : (j ≡ r) ⊎ (j ≢ r) → (suc j ≡ suc r) ⊎ (suc j ≢ suc r)
+    by (inl is) = inl (ap suc is)
+    by (inr other) = inr (λ e. other (omega arith))
+
+-- where one track is replaced
+each_track : (xs : List Track) (r : ℕ) (x : Track) (P : ℕ → Track → Type 0) → r < length xs
+    → ((j : ℕ) → P j (track_at xs j)) → P r x → (j : ℕ) → P j (track_at (set xs r x) j)
+each_track xs r x P lt all one j = by (same_or_not j r)
+  where
+    by : (j ≡ r) ⊎ (j ≢ r) → P j (track_at (set xs r x) j)
+    by (inl is) = subst (λ (k : ℕ). P k (track_at (set xs r x) k)) (sym is)
+        (subst (P r) (sym (get_or-set_same xs r x no_track lt)) one)
+    by (inr other) = subst (P j) (sym (get_or-set_other xs r j x no_track other)) (all j)
+
+-- a row may have been drawn, and then one of the tracks shows it
+pub record Replaces (old a new : Reel) (row number start : ℕ) (track : GrowingTrack) : Type 0 where
+  pub grows : Grows number old a
+  pub drawn : IsDrawn new
+  pub rows : rows_of new ≡ rows_of a
+  pub tracks : tracks_of new ≡ set (tracks_of old) row (track_of track)
+  pub count : length new.tracks.items ≡ length old.tracks.items
+  pub within : row < length (tracks_of old)
+  pub shows : Shows number start (track_at (tracks_of old) row) (track_of track)
+  pub is_track : IsTrack (track_of track)
+  pub size : new.size ≡ a.size
+  pub time : new.time ≡ a.time
+
+track_got : (xs : List GrowingTrack) (r : ℕ) (x : GrowingTrack) → r < length xs → x ≡ get_or xs r x
+    → track_of x ≡ track_at (map track_of xs) r
+track_got xs r x lt is =
+    ap (λ (t : GrowingTrack). track_of t) is ∙ sym (mapped_at xs r x)
+    ∙ get_or_default (map track_of xs) r (track_of x) no_track (let len = length-map xs track_of in omega arith)
+
+pub replaced : (old a : Reel) (v : Vec GrowingTrack Global) (row index number time : ℕ) (before track : GrowingTrack)
+    → IsReel old → Grows number old a → IsDrawn a → row < old.size.rows.value → index ≡ row
+    → before ≡ get_or a.tracks.items index before → v.items ≡ set a.tracks.items index track
+    → Shows number time (track_of before) (track_of track) → IsTrack (track_of track)
+    → Replaces old a (record a { tracks = v }) row number time track
+replaced old a v row index number time before track is grows drawn lt same before_is items shows is_track =
+    let tracks = ap (λ (w : Vec GrowingTrack Global). w.items) grows.tracks in
+    let within : row < length old.tracks.items = (let count = is.count in omega arith) in
+    record {
+      grows = grows;
+      drawn = record { rows = drawn.rows; different = drawn.different };
+      rows = refl;
+      tracks = ap (map track_of) items ∙ map-set track_of a.tracks.items index track
+          ∙ ap₂ (λ (xs : List GrowingTrack) (k : ℕ). set (map track_of xs) k (track_of track)) tracks same;
+      count = ap (λ (xs : List GrowingTrack). length xs) items ∙ length-set a.tracks.items index track
+          ∙ ap (λ (xs : List GrowingTrack). length xs) tracks;
+      within = let len = length-map old.tracks.items track_of in omega arith;
+      shows = subst (λ (t : Track). Shows number time t (track_of track))
+          (track_got old.tracks.items row before within
+          (before_is ∙ ap₂ (λ (xs : List GrowingTrack) (k : ℕ). get_or xs k before) tracks same)) shows;
+      is_track = is_track;
+      size = refl;
+      time = refl;
+    }
+
+-- the track of a row before it shows another
+pub track_is_there : (old a : Reel) (row index number : ℕ) (before : GrowingTrack) → IsReel old → Grows number old a
+    → row < old.size.rows.value → index ≡ row → before ≡ get_or a.tracks.items index before → IsTrack (track_of before)
+track_is_there old a row index number before is grows lt same before_is =
+    let tracks = ap (λ (w : Vec GrowingTrack Global). w.items) grows.tracks in
+    let within : row < length old.tracks.items = (let count = is.count in omega arith) in
+    subst IsTrack
+    (sym (track_got old.tracks.items row before within
+    (before_is ∙ ap₂ (λ (xs : List GrowingTrack) (k : ℕ). get_or xs k before) tracks same))) (is.tracks row)
+
+pub reel_is : (old a new : Reel) (row number time : ℕ) (track : GrowingTrack) → IsReel old
+    → Replaces old a new row number time track → IsReel new
+reel_is old a new row number time track is by = record {
+  drawn = by.drawn;
+  used = λ i lt. used i (by.grows.own i (subst (λ (xs : List (List ℕ)). i < length xs) by.rows lt));
+  tracks = subst (λ (xs : List Track). (r : ℕ) → IsTrack (track_at xs r)) (sym by.tracks)
+      (each_track (tracks_of old) row (track_of track) (λ r t. IsTrack t) by.within is.tracks by.is_track);
+  count = by.count ∙ is.count ∙ ap (λ (z : ScreenSize). z.rows.value) (sym (by.size ∙ by.grows.size));
+}
+  where
+    longer : (r : ℕ) → IsLonger (track_at (tracks_of old) r).rows (track_at (tracks_of new) r).rows
+    longer = subst (λ (xs : List Track). (r : ℕ) → IsLonger (track_at (tracks_of old) r).rows (track_at xs r).rows)
+        (sym by.tracks)
+        (each_track (tracks_of old) row (track_of track) (λ r t. IsLonger (track_at (tracks_of old) r).rows t.rows)
+        by.within (λ r. longer_not (track_at (tracks_of old) r).rows) by.shows.rows)
+
+    there : track_at (tracks_of new) row ≡ track_of track
+    there = ap (λ (xs : List Track). track_at xs row) by.tracks
+        ∙ get_or-set_same (tracks_of old) row (track_of track) no_track by.within
+
+    used : (i : ℕ) → (i < length (rows_of old)) ⊎ (i ≡ number) → IsUsed (tracks_of new) i
+    used i (inl lt) = used_still (tracks_of old) (tracks_of new) i longer (is.used i lt)
+    used i (inr same) = record {
+      row = row;
+      place = by.shows.place;
+      is = ap (λ (t : Track). slice_get t.rows by.shows.place) there ∙ by.shows.stands.at
+          ∙ ap (λ (n : ℕ). Some n) (by.shows.stands.holds ∙ sym same);
+    }
+
+pub row_is_shown : (old a new : Reel) (row number time : ℕ) (track : GrowingTrack) (Holds : List ℕ → Type 0)
+    → Replaces old a new row number time track → IsAt (rows_of a) number Holds → ShowsRow Holds row time old new
+row_is_shown old a new row number time track Holds by at = record {
+  rows = subst (IsLonger (rows_of old)) (sym by.rows) by.grows.rows;
+  shows = subst (λ (xs : List Track). ShowsRowOf Holds (rows_of new) time (track_at (tracks_of old) row)
+      (track_at xs row)) (sym by.tracks)
+      (subst (ShowsRowOf Holds (rows_of new) time (track_at (tracks_of old) row))
+      (sym (get_or-set_same (tracks_of old) row (track_of track) no_track by.within))
+      (shows_such (λ n. n ≡ number) (λ n. IsAt (rows_of new) n Holds) time (track_at (tracks_of old) row)
+      (track_of track) (λ n same. subst (λ (k : ℕ). IsAt (rows_of new) k Holds) (sym same)
+      (subst (λ (xs : List (List ℕ)). IsAt xs number Holds) (sym by.rows) at)) by.shows));
+  others = λ r no. ap (λ (xs : List Track). track_at xs r) by.tracks
+      ∙ get_or-set_other (tracks_of old) row r (track_of track) no_track no;
+  size = by.size ∙ by.grows.size;
+  time = by.time ∙ by.grows.time;
+}
+
+-- ---- one shot
+
+-- the rows so far are shown
+pub record AreTaken (look : Look) (s : State) (start : ℕ) (old new : Reel) (n : ℕ) : Type 0 where
+  pub rows : IsLonger (rows_of old) (rows_of new)
+  pub done : (r : ℕ) → r < n
+      → ShowsRowOf (IsSvgRow look s r) (rows_of new) start (track_at (tracks_of old) r) (track_at (tracks_of new) r)
+  pub left : (r : ℕ) → n ≤ r → track_at (tracks_of new) r ≡ track_at (tracks_of old) r
+  pub size : new.size ≡ old.size
+  pub time : new.time ≡ old.time
+
+pub none_taken : (look : Look) (s : State) (time : ℕ) (reel : Reel) → AreTaken look s time reel reel 0
+none_taken look s time reel = record {
+  rows = longer_not (rows_of reel);
+  done = λ r lt. absurd (omega arith);
+  left = λ r le. refl;
+  size = refl;
+  time = refl;
+}
+
+pub one_row_more : (look : Look) (s : State) (time : ℕ) (first old new : Reel) (n : ℕ) (Holds : List ℕ → Type 0)
+    → AreTaken look s time first old n → ShowsRow Holds n time old new
+    → ((runs : List ℕ) → Holds runs → IsSvgRow look s n runs) → AreTaken look s time first new (n + 1)
+one_row_more look s time first old new n Holds before shows is = record {
+  rows = longer_both (rows_of first) (rows_of old) (rows_of new) before.rows shows.rows;
+  done = below_more _ n earlier latest;
+  left = λ r le. shows.others r (λ e. absurd (omega arith)) ∙ before.left r (omega arith);
+  size = shows.size ∙ before.size;
+  time = shows.time ∙ before.time;
+}
+  where
+    earlier : (r : ℕ) → r < n
+        → ShowsRowOf (IsSvgRow look s r) (rows_of new) time (track_at (tracks_of first) r)
+        (track_at (tracks_of new) r)
+    earlier r lt =
+        subst (ShowsRowOf (IsSvgRow look s r) (rows_of new) time (track_at (tracks_of first) r))
+        (sym (shows.others r (λ e. absurd (omega arith))))
+        (shows_such _ _ time (track_at (tracks_of first) r) (track_at (tracks_of old) r)
+        (λ k at. is_at_still (rows_of old) (rows_of new) k (IsSvgRow look s r) shows.rows at) (before.done r lt))
+
+    latest : ShowsRowOf (IsSvgRow look s n) (rows_of new) time (track_at (tracks_of first) n)
+        (track_at (tracks_of new) n)
+    latest =
+        subst (λ (t : Track). ShowsRowOf (IsSvgRow look s n) (rows_of new) time t (track_at (tracks_of new) n))
+        (before.left n (omega arith))
+        (shows_such _ _ time (track_at (tracks_of old) n) (track_at (tracks_of new) n)
+        (λ k at. is_at_such (rows_of new) k Holds (IsSvgRow look s n) is at) shows.shows)
+
+-- all rows are shown
+pub shot_taken : (look : Look) (s : State) (time : ℕ) (old new : Reel) (n : ℕ) → old.size.rows.value ≤ n
+    → AreTaken look s time old new n → TakesShot look s time old new
+shot_taken look s time old new n all taken = record {
+  rows = taken.rows;
+  row = λ r lt. taken.done r (let same = ap (λ (z : ScreenSize). z.rows.value) taken.size in omega arith);
+  size = taken.size;
+  time = taken.time;
 }
 
 -- ---- moment by moment
@@ -223,37 +326,63 @@ pub most-push : (amount : Event → ℕ) (least : ℕ) (events : List Event) (e 
 most-push amount least [] e = refl
 most-push amount least (x ∷ xs) e = most-push amount (max least (amount x)) xs e
 
+shots_still : (look : Look) (size : ScreenSize) (pace : Pace) (events : List Event) (drawn drawn_after : List (List ℕ))
+    (r : ℕ) (rows rows_after : List ℕ) (n : ℕ) (shots : List Shot) → IsLonger drawn drawn_after
+    → IsLonger rows rows_after → AreShots look size pace events drawn r rows n shots
+    → AreShots look size pace events drawn_after r rows_after n shots
+shots_still look size pace events drawn drawn_after r rows rows_after _ _ more longer none = none
+shots_still look size pace events drawn drawn_after r rows rows_after _ _ more longer
+    (passed {n = n} {shots = shots} is before) =
+    passed is (shots_still look size pace events drawn drawn_after r rows rows_after n shots more longer before)
+shots_still look size pace events drawn drawn_after r rows rows_after _ _ more longer
+    (shot {n = n} {old = earlier} shots place is before at shown) =
+    shot shots place is
+    (shots_still look size pace events drawn drawn_after r rows rows_after n earlier more longer before)
+    (is_at_such rows_after place _ _
+    (λ number row. is_at_still drawn drawn_after number (IsSvgRow look (state_after size events n) r) more row)
+    (is_at_still rows rows_after place _ longer at))
+    shown
+
+-- the shots of a row of the screen that a film in the making has
+abbrev pub HasShots : Look → ScreenSize → Pace → List Event → Reel → ℕ → ℕ → Type 0
+HasShots look size pace events reel n r =
+    let track = track_at (tracks_of reel) r in
+    AreShots look size pace events (rows_of reel) r track.rows n track.shots
+
 -- the screen after so many events was looked at
-moment_passed : {IsRow IsScreen : ℕ → Type 0} (look : Look) (size : ScreenSize) (pace : Pace) (events : List Event)
-    (old new : Reel) (n : ℕ) (on : Bool) → on ≡ is_moment events n → old.time ≡ film_time pace events n
-    → Grows IsRow IsScreen old new
-    → TakesShotIf on look (state_after size events n) old new
-    → AreShots look size pace events (rows_of old) (screens_of old) n old.shots.items
-    → AreShots look size pace events (rows_of new) (screens_of new) (suc n) new.shots.items
-moment_passed look size pace events old new n true is time grows takes before =
-    shot new.shots.items takes.screen (sym is)
-    (shots_still look size pace events old new n old.shots.items grows before)
-    takes.at
-    (subst (λ (t : ℕ). IsShown old.shots.items new.shots.items t takes.screen) time takes.shown)
-moment_passed look size pace events old new n false is time grows takes before =
-    subst (λ (v : _). AreShots look size pace events (rows_of new) (screens_of new) (suc n) v.items) (sym takes)
-    (passed (sym is) (shots_still look size pace events old new n old.shots.items grows before))
+moment_passed : (look : Look) (size : ScreenSize) (pace : Pace) (events : List Event) (old new : Reel) (n r : ℕ)
+    (on : Bool) (start : ℕ) → on ≡ may_stand pace events n → start ≡ slot_start pace (film_time pace events n)
+    → r < new.size.rows.value → TakesShotIf on look (state_after size events n) start old new
+    → HasShots look size pace events old n r → HasShots look size pace events new (suc n) r
+moment_passed look size pace events old new n r true start is time lt takes before =
+    let shows = takes.row r lt in
+    shot (track_at (tracks_of new) r).shots shows.place (sym is)
+    (shots_still look size pace events (rows_of old) (rows_of new) r (track_at (tracks_of old) r).rows
+    (track_at (tracks_of new) r).rows n (track_at (tracks_of old) r).shots takes.rows shows.rows before)
+    shows.stands
+    (subst (λ (t : ℕ). IsShown (track_at (tracks_of old) r).shots (track_at (tracks_of new) r).shots t shows.place) time
+    shows.shown)
+moment_passed look size pace events old new n r false start is time lt takes before =
+    subst (λ (reel : Reel). HasShots look size pace events reel (suc n) r) (sym takes) (passed (sym is) before)
+
+size_stays : (look : Look) (s : State) (start : ℕ) (old new : Reel) (on : Bool) → TakesShotIf on look s start old new
+    → new.size ≡ old.size
+size_stays look s start old new true takes = takes.size
+size_stays look s start old new false takes = ap (λ (r : Reel). r.size) takes
+
+time_stays : (look : Look) (s : State) (start : ℕ) (old new : Reel) (on : Bool) → TakesShotIf on look s start old new
+    → new.time ≡ old.time
+time_stays look s start old new true takes = takes.time
+time_stays look s start old new false takes = ap (λ (r : Reel). r.time) takes
 
 -- time passes
 pub reel_waits : (old new : Reel) (t : ℕ) → new ≡ record old { time = t } → IsReel old → IsReel new
 reel_waits old new t is reel = subst IsReel (sym is) (record {
-  rows = reel.rows;
-  screens = reel.screens;
-  different_rows = reel.different_rows;
-  different_screens = reel.different_screens;
+  drawn = record { rows = reel.drawn.rows; different = reel.drawn.different };
+  used = reel.used;
+  tracks = reel.tracks;
+  count = reel.count;
 })
-
-shots_wait : (look : Look) (size : ScreenSize) (pace : Pace) (events : List Event) (old new : Reel) (n t : ℕ)
-    → new ≡ record old { time = t } → AreShots look size pace events (rows_of old) (screens_of old) n old.shots.items
-    → AreShots look size pace events (rows_of new) (screens_of new) n new.shots.items
-shots_wait look size pace events old new n t is before =
-    subst (λ (reel : Reel). AreShots look size pace events (rows_of reel) (screens_of reel) n reel.shots.items) (sym is)
-    before
 
 -- the acts of one event more
 pub acts_more : (events : List Event) (i : ℕ) (e : Event) → i < length events → e ≡ get_or events i e
@@ -298,142 +427,98 @@ time_goes_on pace events i gap waited before after gap_is waited_is before_is af
     (after_is ∙ ap₂ (λ (b w : ℕ). in_64_bits (b + w)) before_is
     (waited_is ∙ ap (paced pace) (gap_is ∙ ap (λ (n : ℕ). reached events n - reached events i) (add-one i))))
 
-no_shots : (look : Look) (size : ScreenSize) (pace : Pace) (events : List Event) (rows screens : List (List ℕ))
-    (shots : List Shot) → shots ≡ [] → AreShots look size pace events rows screens 0 shots
-no_shots look size pace events rows screens shots is =
-    subst (λ (xs : List Shot). AreShots look size pace events rows screens 0 xs) (sym is) none
-
--- each row is in a screen, and each screen is shown
-pub record AllUsed (reel : Reel) : Type 0 where
-  pub rows : (i : ℕ) → i < length (rows_of reel) → IsUsed (screens_of reel) i
-  pub screens : (i : ℕ) → i < length (screens_of reel) → IsShot reel.shots.items i
-
-used_still : (xs ys more : List (List ℕ)) (i : ℕ) → ys ≡ xs ++ more → IsUsed xs i → IsUsed ys i
-used_still xs ys more i is used = record {
-  screen = used.screen;
-  rows = used.rows;
-  at = ap (λ (zs : List (List ℕ)). slice_get zs used.screen) is ∙ got_before xs more used.screen used.rows used.at;
-  row = used.row;
-  is = used.is;
-}
-
-shown_still : (xs ys more : List Shot) (i : ℕ) → ys ≡ xs ++ more → IsShot xs i → IsShot ys i
-shown_still xs ys more i is shown = record {
-  count = shown.count;
-  shot = shown.shot;
-  at = ap (λ (zs : List Shot). slice_get zs shown.count) is ∙ got_before xs more shown.count shown.shot shown.at;
-  is = shown.is;
-}
-
-shots_more : (old new : List Shot) (time screen : ℕ) → IsShown old new time screen
-    → (more : List Shot) × (new ≡ old ++ more)
-shots_more old new time screen (inl is) = (record { time = time; screen = screen } ∷ [], is)
-shots_more old new time screen (inr is) = ([], is.0 ∙ sym (append-nil old))
-
-shots_grow : (look : Look) (s : State) (old new : Reel) (on : Bool) → TakesShotIf on look s old new
-    → (more : List Shot) × (new.shots.items ≡ old.shots.items ++ more)
-shots_grow look s old new true takes = shots_more old.shots.items new.shots.items old.time takes.screen takes.shown
-shots_grow look s old new false same = ([], ap (λ (v : _). v.items) same ∙ sym (append-nil old.shots.items))
-
-used_more : (look : Look) (s : State) (old new : Reel) (on : Bool) → TakesShotIf on look s old new
-    → Grows (IsUsed (screens_of new)) (IsShot new.shots.items) old new → AllUsed old → AllUsed new
-used_more look s old new on takes grows used = record {
-  rows = λ i lt. row i (grows.own_rows i lt);
-  screens = λ i lt. screen i (grows.own_screens i lt);
-}
-  where
-    row : (i : ℕ) → (i < length (rows_of old)) ⊎ IsUsed (screens_of new) i → IsUsed (screens_of new) i
-    row i (inl lt) = used_still (screens_of old) (screens_of new) grows.more_screens i grows.screens (used.rows i lt)
-    row i (inr is) = is
-
-    screen : (i : ℕ) → (i < length (screens_of old)) ⊎ IsShot new.shots.items i → IsShot new.shots.items i
-    screen i (inl lt) =
-        let more = shots_grow look s old new on takes in
-        shown_still old.shots.items new.shots.items more.0 i more.1 (used.screens i lt)
-    screen i (inr is) = is
+pub time_reached : (pace : Pace) (events : List Event) (i gap waited : ℕ) (first old : Reel)
+    → gap ≡ reached events (i + 1) - reached events i → waited ≡ paced pace gap
+    → old ≡ record first { time = in_64_bits (first.time + waited) } → first.time ≡ film_time pace events i
+    → old.time ≡ film_time pace events (i + 1)
+time_reached pace events i gap waited first old gap_is waited_is waits before =
+    time_goes_on pace events i gap waited first.time old.time gap_is waited_is before (ap (λ (r : Reel). r.time) waits)
 
 -- the screens after up to so many events were looked at
 pub record IsTaken (look : Look) (size : ScreenSize) (pace : Pace) (moment : ℕ) (events : List Event) (reel : Reel)
     (n : ℕ) : Type 0 where
-  pub drawn : IsReel reel
-  pub used : AllUsed reel
+  pub is_reel : IsReel reel
   pub rows : reel.size.rows.value ≡ most_rows moment size events
   pub cols : reel.size.cols.value ≡ most_cols moment size events
   pub time : reel.time ≡ film_time pace events n
-  pub shots : AreShots look size pace events (rows_of reel) (screens_of reel) (suc n) reel.shots.items
+  pub shots : (r : ℕ) → r < reel.size.rows.value → HasShots look size pace events reel (suc n) r
+
+no_shots : (look : Look) (size : ScreenSize) (pace : Pace) (events : List Event) (reel : Reel) (r : ℕ)
+    → tracks_of reel ≡ replicate reel.size.rows.value no_track → r < reel.size.rows.value
+    → HasShots look size pace events reel 0 r
+no_shots look size pace events reel r empty lt =
+    subst (λ (t : Track). AreShots look size pace events (rows_of reel) r t.rows 0 t.shots)
+    (sym (ap (λ (xs : List Track). track_at xs r) empty
+    ∙ get_or-replicate reel.size.rows.value r no_track no_track lt)) none
 
 pub taken_first : (look : Look) (size widest : ScreenSize) (pace : Pace) (moment : ℕ) (events : List Event)
     (old new : Reel) (on : Bool) (s : State) → widest.rows.value ≡ most_rows moment size events
-    → widest.cols.value ≡ most_cols moment size events → rows_of old ≡ [] → screens_of old ≡ []
-    → old.shots.items ≡ [] → old.size ≡ widest → old.time ≡ 0 → on ≡ is_moment events 0
-    → s ≡ state_after size events 0 → IsReel new
-    → Grows (IsUsed (screens_of new)) (IsShot new.shots.items) old new → TakesShotIf on look s old new
-    → IsTaken look size pace moment events new 0
-taken_first look size widest pace moment events old new on s rows cols no_rows no_screens empty same_size time is state
-    reel grows takes =
-    let after = subst (λ (x : State). TakesShotIf on look x old new) state takes in
+    → widest.cols.value ≡ most_cols moment size events → tracks_of old ≡ replicate widest.rows.value no_track
+    → old.size ≡ widest → old.time ≡ 0 → on ≡ may_stand pace events 0 → s ≡ state_after size events 0 → IsReel new
+    → TakesShotIf on look s (slot_start pace old.time) old new → IsTaken look size pace moment events new 0
+taken_first look size widest pace moment events old new on s rows cols empty same_size time is state reel takes =
+    let start = slot_start pace old.time in
+    let after = subst (λ (x : State). TakesShotIf on look x (slot_start pace old.time) old new) state takes in
+    let kept = size_stays look s start old new on takes in
     record {
-      drawn = reel;
-      used = used_more look s old new on takes grows (record {
-        rows = λ i lt. let len = ap (λ (xs : List (List ℕ)). length xs) no_rows in absurd (omega arith);
-        screens = λ i lt. let len = ap (λ (xs : List (List ℕ)). length xs) no_screens in absurd (omega arith);
-      });
-      rows = ap (λ (z : ScreenSize). z.rows.value) (grows.size ∙ same_size) ∙ rows;
-      cols = ap (λ (z : ScreenSize). z.cols.value) (grows.size ∙ same_size) ∙ cols;
-      time = grows.time ∙ time;
-      shots = moment_passed look size pace events old new 0 on is time grows after
-          (no_shots look size pace events _ _ _ empty);
+      is_reel = reel;
+      rows = ap (λ (z : ScreenSize). z.rows.value) (kept ∙ same_size) ∙ rows;
+      cols = ap (λ (z : ScreenSize). z.cols.value) (kept ∙ same_size) ∙ cols;
+      time = time_stays look s start old new on takes ∙ time;
+      shots = λ r lt. moment_passed look size pace events old new 0 r on start is (ap (slot_start pace) time) lt after
+          (no_shots look size pace events old r
+          (empty ∙ ap (λ (z : ScreenSize). replicate z.rows.value no_track) (sym same_size))
+          (subst (λ (z : ScreenSize). r < z.rows.value) kept lt));
     }
 
 pub taken_next : (look : Look) (size : ScreenSize) (pace : Pace) (moment : ℕ) (events : List Event)
     (first old new : Reel) (i gap waited : ℕ) (on : Bool) (s : State)
     → gap ≡ reached events (i + 1) - reached events i → waited ≡ paced pace gap
-    → old ≡ record first { time = in_64_bits (first.time + waited) } → on ≡ is_moment events (i + 1)
-    → s ≡ state_after size events (i + 1) → IsReel new
-    → Grows (IsUsed (screens_of new)) (IsShot new.shots.items) old new → TakesShotIf on look s old new
+    → old ≡ record first { time = in_64_bits (first.time + waited) } → on ≡ may_stand pace events (i + 1)
+    → s ≡ state_after size events (i + 1) → IsReel new → TakesShotIf on look s (slot_start pace old.time) old new
     → IsTaken look size pace moment events first i → IsTaken look size pace moment events new (i + 1)
-taken_next look size pace moment events first old new i gap waited on s gap_is waited_is waits is state reel grows takes
-    before =
-    let after = subst (λ (x : State). TakesShotIf on look x old new) state takes in
-    let used : AllUsed old = subst AllUsed (sym waits) (record {
-      rows = before.used.rows;
-      screens = before.used.screens;
-    }) in
-    let same_size = grows.size ∙ ap (λ (r : Reel). r.size) waits in
+taken_next look size pace moment events first old new i gap waited on s gap_is waited_is waits is state reel takes before =
+    let start = slot_start pace old.time in
+    let after = subst (λ (x : State). TakesShotIf on look x (slot_start pace old.time) old new) state takes in
+    let same_size = size_stays look s start old new on takes ∙ ap (λ (r : Reel). r.size) waits in
     let time = time_goes_on pace events i gap waited first.time old.time gap_is waited_is before.time
     (ap (λ (r : Reel). r.time) waits) in
     record {
-      drawn = reel;
-      used = used_more look s old new on takes grows used;
+      is_reel = reel;
       rows = ap (λ (z : ScreenSize). z.rows.value) same_size ∙ before.rows;
       cols = ap (λ (z : ScreenSize). z.cols.value) same_size ∙ before.cols;
-      time = grows.time ∙ time;
-      shots = moment_passed look size pace events old new (i + 1) on is time grows after
-          (shots_wait look size pace events first old (i + 1) _ waits
-          (subst (λ (n : ℕ). AreShots look size pace events (rows_of first) (screens_of first) n first.shots.items)
-          (sym (add-one i)) before.shots));
+      time = time_stays look s start old new on takes ∙ time;
+      shots = λ r lt. moment_passed look size pace events old new (i + 1) r on start is (ap (slot_start pace) time) lt
+          after
+          (subst (λ (x : Reel). HasShots look size pace events x (i + 1) r) (sym waits)
+          (subst (λ (n : ℕ). HasShots look size pace events first n r) (sym (add-one i))
+          (before.shots r (subst (λ (z : ScreenSize). r < z.rows.value) same_size lt))));
     }
+
+-- ---- the film
+
+tracks_counted : (reel : Reel) → IsReel reel → length (tracks_of reel) ≡ reel.size.rows.value
+tracks_counted reel is = length-map reel.tracks.items track_of ∙ is.count
 
 -- the film of a reel
 pub film_is : (look : Look) (size : ScreenSize) (pace : Pace) (moment : ℕ) (events : List Event) (reel : Reel) (n : ℕ)
     (bytes : List ℕ) → IsTaken look size pace moment events reel n
     → bytes ≡ film_bytes look reel.size.rows.value reel.size.cols.value (in_64_bits (reel.time + 1000000)) (rows_of reel)
-    (screens_of reel) reel.shots.items
+    (tracks_of reel)
     → IsFilmOf look size pace moment events n bytes
 film_is look size pace moment events reel n bytes taken is = record {
   rows = rows_of reel;
-  screens = screens_of reel;
-  shots = reel.shots.items;
+  tracks = tracks_of reel;
   is = is
-      ∙ ap₂ (λ (h w : ℕ). film_bytes look h w (in_64_bits (reel.time + 1000000)) (rows_of reel) (screens_of reel)
-      reel.shots.items) taken.rows taken.cols
+      ∙ ap₂ (λ (h w : ℕ). film_bytes look h w (in_64_bits (reel.time + 1000000)) (rows_of reel) (tracks_of reel))
+      taken.rows taken.cols
       ∙ ap (λ (t : ℕ). film_bytes look (most_rows moment size events) (most_cols moment size events)
-      (in_64_bits (t + 1000000)) (rows_of reel) (screens_of reel) reel.shots.items) taken.time;
-  shown = taken.shots;
-  different_rows = taken.drawn.different_rows;
-  used_rows = taken.used.rows;
-  different_screens = taken.drawn.different_screens;
-  used_screens = taken.used.screens;
+      (in_64_bits (t + 1000000)) (rows_of reel) (tracks_of reel)) taken.time;
+  count = tracks_counted reel taken.is_reel ∙ taken.rows;
+  shown = λ r lt. taken.shots r (subst (λ (k : ℕ). r < k) (tracks_counted reel taken.is_reel) lt);
+  different = taken.is_reel.drawn.different;
+  used = taken.is_reel.used;
+  tracked = λ r lt. taken.is_reel.tracks r;
 }
 
 if_ok_more : {T E : Type 0} (r : Result T E) (P Q : T → Type 0) → ((x : T) → P x → Q x) → IfOk r P → IfOk r Q
@@ -444,7 +529,7 @@ pub film_of_reel : {E : Type 0} (r : Result (Vec ℕ Global) E) (look : Look) (s
     (moment : ℕ) (events : List Event) (reel : Reel) (n : ℕ) → n ≡ count_until moment events
     → IsTaken look size pace moment events reel n
     → IfOk r (λ bytes. bytes.items ≡ film_bytes look reel.size.rows.value reel.size.cols.value
-    (in_64_bits (reel.time + 1000000)) (rows_of reel) (screens_of reel) reel.shots.items)
+    (in_64_bits (reel.time + 1000000)) (rows_of reel) (tracks_of reel))
     → IfOk r (λ bytes. IsFilm look size pace moment events bytes.items)
 film_of_reel r look size pace moment events reel n all taken =
     if_ok_more r _ _ (λ bytes is. subst (λ (k : ℕ). IsFilmOf look size pace moment events k bytes.items) all
@@ -461,60 +546,119 @@ within_first a b = let len = length-append a b in omega arith
 within_inner : (a b c : List ℕ) → length b ≤ length c → length b ≤ length (a ++ c)
 within_inner a b c le = let more = within_both a c in omega arith
 
-rows_within : (cols : ℕ) (rows screens : List ℕ) (shots : List Shot)
-    → length rows ≤ length (drawn_bytes cols rows screens shots)
-rows_within cols rows screens shots = within_inner (tag_bytes tag.DefsStart) rows _ (within_first rows _)
-
-screens_within : (cols : ℕ) (rows screens : List ℕ) (shots : List Shot)
-    → length screens ≤ length (drawn_bytes cols rows screens shots)
-screens_within cols rows screens shots =
-    let end = screens ++ tag_bytes tag.FilmEnd in
-    let from_frame = tag_bytes tag.FrameRows ++ end in
-    let from_place = numbers_bytes ((tag.Film, last_place cols shots) ∷ []) ++ from_frame in
-    let from_defs = tag_bytes tag.DefsEnd ++ from_place in
-    within_inner (tag_bytes tag.DefsStart) screens (rows ++ from_defs) (within_inner rows screens from_defs
-    (within_inner (tag_bytes tag.DefsEnd) screens from_place
-    (within_inner (numbers_bytes ((tag.Film, last_place cols shots) ∷ [])) screens from_frame
-    (within_inner (tag_bytes tag.FrameRows) screens end (within_first screens (tag_bytes tag.FilmEnd))))))
-
 drawn_within : (head times drawn foot : List ℕ) → length drawn ≤ length (head ++ (times ++ (drawn ++ foot)))
 drawn_within head times drawn foot =
     within_inner head drawn _ (within_inner times drawn _ (within_first drawn foot))
 
-film_by : (most cols : ℕ) (head times foot rows screens a b : List ℕ) (shots : List Shot) → a ≡ rows → b ≡ screens
-    → (most < length a) ⊎ (most < length b)
-    → most < length (head ++ (times ++ (drawn_bytes cols rows screens shots ++ foot)))
-film_by most cols head times foot rows screens a b shots is_a is_b (inl long) =
-    let same = ap (λ (xs : List ℕ). length xs) is_a in
-    let inner = rows_within cols rows screens shots in
-    let outer = drawn_within head times (drawn_bytes cols rows screens shots) foot in omega arith
-film_by most cols head times foot rows screens a b shots is_a is_b (inr long) =
-    let same = ap (λ (xs : List ℕ). length xs) is_b in
-    let inner = screens_within cols rows screens shots in
-    let outer = drawn_within head times (drawn_bytes cols rows screens shots) foot in omega arith
+through : (a b c : ℕ) → a ≤ b → b ≤ c → a ≤ c
+through a b c first second = omega arith
 
--- a reel whose rows or screens are longer than this makes a film that is longer
+-- a shot has two pieces of markup, of 23 and 4 bytes
+markup_within : (n : ℕ) → 27 ≤ length (numbers_bytes ((tag.Percent, n) ∷ []) ++ tag_bytes tag.PercentEnd)
+markup_within n = let end = within_both (decimal n ++ []) (tag_bytes tag.PercentEnd) in omega arith
+
+shot_within : (cols film_length : ℕ) (x : Shot) → 27 ≤ length (shot_bytes cols film_length x)
+shot_within cols film_length x =
+    through _ _ _ (markup_within (place cols x.place))
+    (within_both (decimal_point 5 (in_64_bits (x.time * 10000000 / max film_length 1)))
+    (numbers_bytes ((tag.Percent, place cols x.place) ∷ []) ++ tag_bytes tag.PercentEnd))
+
+shots_within : (cols film_length : ℕ) (shots : List Shot)
+    → 27 * length shots ≤ length (flat_map (shot_bytes cols film_length) shots)
+shots_within cols film_length [] = omega arith
+shots_within cols film_length (x ∷ xs) =
+    joined_within (shot_bytes cols film_length x) (flat_map (shot_bytes cols film_length) xs) (length xs)
+    (shot_within cols film_length x) (shots_within cols film_length xs)
+  where
+    joined_within : (a b : List ℕ) (n : ℕ) → 27 ≤ length a → 27 * n ≤ length b → 27 * suc n ≤ length (a ++ b)
+    joined_within a b n first second = let both = length-append a b in omega arith
+
+keyframes_within : (cols film_length row : ℕ) (shots : List Shot)
+    → 27 * length shots ≤ length (keyframes cols film_length row shots)
+keyframes_within cols film_length row shots =
+    let shown = flat_map (shot_bytes cols film_length) shots in
+    let end = numbers_bytes ((tag.KeyframesEnd, in_32_bits row) ∷ (tag.Animation, in_32_bits row) ∷ [])
+    ++ tag_bytes tag.AnimationEnd in
+    let from_shots = shown ++ end in
+    let from_start = tag_bytes tag.KeyframesStart ++ from_shots in
+    through _ _ _ (shots_within cols film_length shots)
+    (within_inner (numbers_bytes ((tag.Keyframes, in_32_bits row) ∷ [])) shown from_start
+    (within_inner (tag_bytes tag.KeyframesStart) shown from_shots (within_first shown end)))
+
+one_less : (n k : ℕ) → 27 * n ≤ k → 27 * (n - 1) ≤ k
+one_less n k h = omega arith
+
+shots_or_none : (cols film_length row : ℕ) (shots : List Shot)
+    → 27 * (length shots - 1) ≤ length (if nat_lt 1 (length shots) then keyframes cols film_length row shots else [])
+shots_or_none cols film_length row shots = by (nat_lt 1 (length shots)) refl
+  where
+    by : (many : Bool) → nat_lt 1 (length shots) ≡ many
+        → 27 * (length shots - 1) ≤ length (if many then keyframes cols film_length row shots else [])
+    by true is = one_less _ _ (keyframes_within cols film_length row shots)
+    by false is = let few : length shots ≤ 1 = ltb-false 1 (length shots) is in omega arith
+
+changes_within : (cols film_length n : ℕ) (tracks : List Track)
+    → 27 * changes_in tracks ≤ length (numbered (track_times cols film_length) n tracks)
+changes_within cols film_length n [] = omega arith
+changes_within cols film_length n (t ∷ ts) =
+    joined_within (track_times cols film_length n t) (numbered (track_times cols film_length) (suc n) ts)
+    (length t.shots - 1) (changes_in ts) (shots_or_none cols film_length n t.shots)
+    (changes_within cols film_length (suc n) ts)
+  where
+    joined_within : (a b : List ℕ) (k m : ℕ) → 27 * k ≤ length a → 27 * m ≤ length b → 27 * (k + m) ≤ length (a ++ b)
+    joined_within a b k m first second = let both = length-append a b in omega arith
+
+times_within : (cols film_length : ℕ) (tracks : List Track)
+    → 27 * changes_in tracks ≤ length (times_bytes cols film_length tracks)
+times_within cols film_length tracks =
+    let shown = numbered (track_times cols film_length) 0 tracks in
+    let from_shots = shown ++ tag_bytes tag.Still in
+    let from_end = tag_bytes tag.FilmLengthEnd ++ from_shots in
+    let from_length = decimal_point 6 film_length ++ from_end in
+    through _ _ _ (changes_within cols film_length 0 tracks)
+    (within_inner (tag_bytes tag.FilmLength) shown from_length
+    (within_inner (decimal_point 6 film_length) shown from_end
+    (within_inner (tag_bytes tag.FilmLengthEnd) shown from_shots (within_first shown (tag_bytes tag.Still)))))
+
+longer_then : (most a b : ℕ) → most < a → a ≤ b → most < b
+longer_then most a b first second = omega arith
+
+film_by : (least cols film_length : ℕ) (head foot drawn a : List ℕ) (tracks : List Track) → length a ≤ length drawn
+    → (least < length a) ⊎ (least < 27 * changes_in tracks)
+    → least < length (head ++ (times_bytes cols film_length tracks ++ (drawn ++ foot)))
+film_by least cols film_length head foot drawn a tracks part (inl long) =
+    longer_then least _ _ long
+    (through _ _ _ part (drawn_within head (times_bytes cols film_length tracks) drawn foot))
+film_by least cols film_length head foot drawn a tracks part (inr long) =
+    let times = times_bytes cols film_length tracks in
+    longer_then least _ _ long
+    (through _ _ _ (times_within cols film_length tracks)
+    (within_inner head times (times ++ (drawn ++ foot)) (within_first times (drawn ++ foot))))
+
+-- a reel whose rows are longer than this, or that changes too often, makes a film that is longer
 pub film_longer : (most : ℕ) (look : Look) (reel : Reel) → IsReel reel
-    → (most < length reel.drawn_rows) ⊎ (most < length reel.drawn_screens)
+    → (most < length reel.drawn_rows) ⊎ (most < 27 * changes_in (tracks_of reel))
     → most < length (film_bytes look reel.size.rows.value reel.size.cols.value (in_64_bits (reel.time + 1000000))
-    (rows_of reel) (screens_of reel) reel.shots.items)
+    (rows_of reel) (tracks_of reel))
 film_longer most look reel is longer =
     let cols = reel.size.cols.value in
-    film_by most cols (svg_head look reel.size.rows.value cols)
-    (times_bytes cols (in_64_bits (reel.time + 1000000)) reel.shots.items) (tag_bytes tag.SvgFoot)
-    (numbered drawn_row 0 (rows_of reel)) (numbered (drawn_screen cols) 0 (screens_of reel)) reel.drawn_rows
-    reel.drawn_screens reel.shots.items is.rows is.screens longer
+    let rows = numbered drawn_row 0 (rows_of reel) in
+    let tracks = numbered (track_bytes cols) 0 (tracks_of reel) in
+    film_by most cols (in_64_bits (reel.time + 1000000)) (svg_head look reel.size.rows.value cols) (tag_bytes tag.SvgFoot)
+    (drawn_bytes rows tracks) reel.drawn_rows (tracks_of reel)
+    (subst (λ (xs : List ℕ). length xs ≤ length (drawn_bytes rows tracks)) (sym is.drawn.rows)
+    (within_inner (tag_bytes tag.DefsStart) rows _ (within_first rows (tag_bytes tag.DefsEnd ++ tracks)))) longer
 
 pub is_too_long : (most : ℕ) (look : Look) (size : ScreenSize) (pace : Pace) (moment : ℕ) (events : List Event)
     (reel : Reel) (n : ℕ) → n ≤ count_until moment events → IsTaken look size pace moment events reel n
     → most < length (film_bytes look reel.size.rows.value reel.size.cols.value (in_64_bits (reel.time + 1000000))
-    (rows_of reel) (screens_of reel) reel.shots.items)
+    (rows_of reel) (tracks_of reel))
     → IsTooLong most look size pace moment events
 is_too_long most look size pace moment events reel n within taken long = record {
   count = n;
   within = within;
   bytes = film_bytes look reel.size.rows.value reel.size.cols.value (in_64_bits (reel.time + 1000000)) (rows_of reel)
-      (screens_of reel) reel.shots.items;
+      (tracks_of reel);
   film = film_is look size pace moment events reel n _ taken refl;
   long = long;
 }
@@ -523,7 +667,7 @@ pub fault_of_reel : {T : Type 0} (r : Result T FilmError) (most : ℕ) (look : L
     (moment : ℕ) (events : List Event) (reel : Reel) (n : ℕ) → n ≡ count_until moment events
     → IsTaken look size pace moment events reel n
     → IfErr r (λ e. (e ≡ Memory) ⊎ ((e ≡ TooLong) × (most < length (film_bytes look reel.size.rows.value
-    reel.size.cols.value (in_64_bits (reel.time + 1000000)) (rows_of reel) (screens_of reel) reel.shots.items))))
+    reel.size.cols.value (in_64_bits (reel.time + 1000000)) (rows_of reel) (tracks_of reel)))))
     → IfErr r (λ e. (e ≡ Memory) ⊎ ((e ≡ TooLong) × IsTooLong most look size pace moment events))
 fault_of_reel (Ok x) most look size pace moment events reel n all taken h = h
 fault_of_reel (Err e) most look size pace moment events reel n all taken h =

@@ -1,8 +1,8 @@
--- The rows, the screens and the shots of a film in the making.
+-- The rows, the tracks and the shots of a film in the making.
 use Rattle.std.proofs.Common.{◌≡◌, ◌≢◌, ◌⊎◌, inl, inr, ◌<◌, ◌≤◌, ◌+◌, ◌*◌, ◌/◌, ◌%◌, ◌^◌, ◌++◌, ℕ, zero, suc, max, List, [], ◌∷◌, Bool}
 use Rattle.std.proofs.Common.{true, false, not, cond, ◌&&◌, ◌||◌, Some, sym, ap, ◌∙◌, length, map}
 use Rattle.std.proofs.Common.{subst, take, append-nil, append_assoc, refl, arith, true≢false, nat_eq, decimal}
-use Rattle.std.proofs.Common.{below_more, drop, length-append, slice_get, take-append-drop}
+use Rattle.std.proofs.Common.{◌-◌, below_more, get_or, length-append, slice_get}
 use Rattle.std.specs.Prelude.{if◌then◌else◌}
 use Rattle.std.specs.List.{flat_map, list_any, position_or_len}
 use Rattle.std.specs.Option.{option_map}
@@ -10,16 +10,17 @@ use Rattle.std.specs.Cmp.Lexicographic.{pointwise}
 use Rattle.std.proofs.Math.Nat.{pow-succ', one-le-pow}
 use Rattle.std.proofs.lemmas.Bool.{eq-eqb, eqb-true}
 use Rattle.std.proofs.lemmas.Grind.{flat_map-append}
-use Rattle.std.proofs.lemmas.List.{map-append}
+use Rattle.std.proofs.lemmas.List.{length-map, map-append, take_all, take_more}
 use Rattle.std.proofs.lemmas.Option.{slice_get-map}
 use Rattle.indexmap.specs.IndexSet.{insert_key}
 use Rattle.picture_page.specs.Page.{digit_byte}
 use Rattle.picture_page.specs.Tags.{tag_bytes}
 use Rattle.picture_page.specs.declared.tag.Tag.TheVariants as tag
 use Rattle.picture_page.proofs.PageLemmas.{joined_more}
-use Rattle.recorded_screen.specs.Reel.{decimal_point, in_32_bits, last_digits, numbered}
-use Rattle.recorded_screen.specs.Shots.{AddsOnly, AreDifferent, Inserts}
+use Rattle.recorded_screen.specs.Reel.{Track, changes_in, decimal_point, in_32_bits, last_digits, numbered}
+use Rattle.recorded_screen.specs.Shots.{AddsOnly, AreDifferent, Inserts, IsLonger, TakesPlace, track_of}
 use Rattle.recorded_screen.specs.declared.reel.Shot.{Shot}
+use Rattle.recorded_screen.specs.declared.reel.Track.{Track as GrowingTrack}
 
 -- ---- one after another, by number
 
@@ -55,7 +56,7 @@ numbered_more f a b c xs i x lt more first second =
     ∙ sym (numbered-push-first f (take i xs) x)
     ∙ ap (numbered f 0) (sym more))
 
--- ---- rows and screens, each by its number
+-- ---- rows, each by its number
 
 -- an item is drawn if it is new
 pub drawn_more : (f : ℕ → List ℕ → List ℕ) (old new : List (List ℕ)) (item : List ℕ) (number : ℕ) (is_new : Bool)
@@ -68,41 +69,35 @@ drawn_more f old new item number true a b inserts drawn is =
 drawn_more f old new item number false a b inserts drawn is =
     is ∙ append-nil a ∙ drawn ∙ ap (numbered f 0) (sym inserts.0)
 
--- what is added
-pub added_items : Bool → List ℕ → List (List ℕ)
-added_items true item = item ∷ []
-added_items false item = []
-
-pub items_grow : (old new : List (List ℕ)) (item : List ℕ) (number : ℕ) (is_new : Bool)
-    → Inserts old new item number is_new → new ≡ old ++ added_items is_new item
-unfolding added_items
-items_grow old new item number true inserts = inserts.0
-items_grow old new item number false inserts = inserts.0 ∙ sym (append-nil old)
-
 pub got_last : {A : Type 0} (xs : List A) (x : A) → slice_get (xs ++ x ∷ []) (length xs) ≡ Some x
 got_last [] x = refl
 got_last (y ∷ ys) x = got_last ys x
 
-pub item_is_at : (old new : List (List ℕ)) (item : List ℕ) (number : ℕ) (is_new : Bool)
+longer_by_one : {A : Type 0} (old new : List A) (item : A) (number : ℕ) (is_new : Bool)
+    → Inserts old new item number is_new → IsLonger old new
+longer_by_one old new item number true inserts = record { more = item ∷ []; is = inserts.0 }
+longer_by_one old new item number false inserts = record { more = []; is = inserts.0 ∙ sym (append-nil old) }
+
+item_is_at : {A : Type 0} (old new : List A) (item : A) (number : ℕ) (is_new : Bool)
     → Inserts old new item number is_new → slice_get new number ≡ Some item
-item_is_at old new item number true inserts =
-    ap (λ (xs : List (List ℕ)). slice_get xs number) inserts.0
+item_is_at {A} old new item number true inserts =
+    ap (λ (xs : List A). slice_get xs number) inserts.0
     ∙ ap (λ (k : ℕ). slice_get (old ++ item ∷ []) k) inserts.1 ∙ got_last old item
-item_is_at old new item number false inserts =
-    ap (λ (xs : List (List ℕ)). slice_get xs number) inserts.0 ∙ inserts.1
+item_is_at {A} old new item number false inserts =
+    ap (λ (xs : List A). slice_get xs number) inserts.0 ∙ inserts.1
 
 -- the one that is added is the only new one
-pub number_added : (old new : List (List ℕ)) (item : List ℕ) (number : ℕ) (is_new : Bool)
-    → Inserts old new item number is_new → AddsOnly (λ i. i ≡ number) old new
-number_added old new item number true inserts = λ i lt.
+number_added : {A : Type 0} (old new : List A) (item : A) (number : ℕ) (is_new : Bool)
+    → Inserts old new item number is_new → AddsOnly number old new
+number_added {A} old new item number true inserts = λ i lt.
     let len : length new ≡ length old + 1 =
-    ap (λ (xs : List (List ℕ)). length xs) inserts.0 ∙ length-append old (item ∷ []) in
+    ap (λ (xs : List A). length xs) inserts.0 ∙ length-append old (item ∷ []) in
     below_more (λ (k : ℕ). (k < length old) ⊎ (k ≡ number)) (length old) (λ r below. inl below) (inr (sym inserts.1)) i
     (omega arith)
-number_added old new item number false inserts = λ i lt.
-    inl (subst (λ (xs : List (List ℕ)). i < length xs) inserts.0 lt)
+number_added {A} old new item number false inserts = λ i lt.
+    inl (subst (λ (xs : List A). i < length xs) inserts.0 lt)
 
-got_either : (xs : List (List ℕ)) (x : List ℕ) (i : ℕ) (y : List ℕ) → slice_get (xs ++ x ∷ []) i ≡ Some y
+got_either : {A : Type 0} (xs : List A) (x : A) (i : ℕ) (y : A) → slice_get (xs ++ x ∷ []) i ≡ Some y
     → (slice_get xs i ≡ Some y) ⊎ ((y ≡ x) × (i ≡ length xs))
 got_either [] x zero y h = let same : x ≡ y = cc in inr (sym same, refl)
 got_either [] x (suc i) y h = absurd (cc)
@@ -114,22 +109,31 @@ got_either (z ∷ zs) x (suc i) y h = further (got_either zs x i y h)
     further (inl at) = inl at
     further (inr last) = inr (last.0, ap suc last.1)
 
-different_push : (xs : List (List ℕ)) (x : List ℕ) → AreDifferent xs → ((i : ℕ) → slice_get xs i ≢ Some x)
+different_push : {A : Type 0} (xs : List A) (x : A) → AreDifferent xs → ((i : ℕ) → slice_get xs i ≢ Some x)
     → AreDifferent (xs ++ x ∷ [])
-different_push xs x before absent = λ i j y a b. by i j y (got_either xs x i y a) (got_either xs x j y b)
+different_push {A} xs x before absent = λ i j y a b. by i j y (got_either xs x i y a) (got_either xs x j y b)
   where
-    by : (i j : ℕ) (y : List ℕ) → (slice_get xs i ≡ Some y) ⊎ ((y ≡ x) × (i ≡ length xs))
+    by : (i j : ℕ) (y : A) → (slice_get xs i ≡ Some y) ⊎ ((y ≡ x) × (i ≡ length xs))
         → (slice_get xs j ≡ Some y) ⊎ ((y ≡ x) × (j ≡ length xs)) → i ≡ j
     by i j y (inl a) (inl b) = before i j y a b
-    by i j y (inl a) (inr b) = absurd (absent i (a ∙ ap (λ (zs : List ℕ). Some zs) b.0))
-    by i j y (inr a) (inl b) = absurd (absent j (b ∙ ap (λ (zs : List ℕ). Some zs) a.0))
+    by i j y (inl a) (inr b) = absurd (absent i (a ∙ ap (λ (z : A). Some z) b.0))
+    by i j y (inr a) (inl b) = absurd (absent j (b ∙ ap (λ (z : A). Some z) a.0))
     by i j y (inr a) (inr b) = a.1 ∙ sym b.1
 
-pub different_more : (old new : List (List ℕ)) (item : List ℕ) (number : ℕ) (is_new : Bool)
+different_more : {A : Type 0} (old new : List A) (item : A) (number : ℕ) (is_new : Bool)
     → Inserts old new item number is_new → AreDifferent old → AreDifferent new
 different_more old new item number true inserts before =
     subst AreDifferent (sym inserts.0) (different_push old item before inserts.2)
 different_more old new item number false inserts before = subst AreDifferent (sym inserts.0) before
+
+pub takes_place : {A : Type 0} (old new : List A) (item : A) (number : ℕ) (is_new : Bool)
+    → Inserts old new item number is_new → TakesPlace item old new number
+takes_place old new item number is_new inserts = record {
+  at = item_is_at old new item number is_new inserts;
+  longer = longer_by_one old new item number is_new inserts;
+  own = number_added old new item number is_new inserts;
+  different = different_more old new item number is_new inserts;
+}
 
 -- ---- what a set of them says
 
@@ -153,7 +157,7 @@ equal_to_itself (x ∷ xs) =
 pub items_same : (xs ys : List ℕ) → xs ≡ ys → pointwise nat_eq xs ys ≡ true
 items_same xs ys is = subst (λ (zs : List ℕ). pointwise nat_eq xs zs ≡ true) is (equal_to_itself xs)
 
-got_mapped : {V : Type 0} (items : V → List ℕ) (xs : List V) (i : ℕ) (k : V) → slice_get xs i ≡ Some k
+got_mapped : {V A : Type 0} (items : V → A) (xs : List V) (i : ℕ) (k : V) → slice_get xs i ≡ Some k
     → slice_get (map items xs) i ≡ Some (items k)
 got_mapped items xs i k h = slice_get-map items xs i ∙ ap (option_map items) h
 
@@ -161,7 +165,7 @@ neither : (a b : Bool) → a || b ≡ false → (a ≡ false) × (b ≡ false)
 neither false b h = (refl, h)
 neither true b h = absurd (true≢false h)
 
-position_of_none : {V : Type 0} (items : V → List ℕ) (p : V → Bool) (xs : List V) → list_any p xs ≡ false
+position_of_none : {V A : Type 0} (items : V → A) (p : V → Bool) (xs : List V) → list_any p xs ≡ false
     → position_or_len p xs ≡ length (map items xs)
 position_of_none items p [] h = refl
 position_of_none items p (x ∷ xs) h =
@@ -170,7 +174,7 @@ position_of_none items p (x ∷ xs) h =
     ap (λ (b : Bool). cond (not b) (1 + position_or_len p xs) 0) no.0
     ∙ ap (λ (n : ℕ). 1 + n) (position_of_none items p xs no.1) ∙ one
 
-none_there : {V : Type 0} (eq : V → V → Bool) (items : V → List ℕ)
+none_there : {V A : Type 0} (eq : V → V → Bool) (items : V → A)
     → ((x y : V) → items x ≡ items y → eq x y ≡ true) → (value : V) (old : List V) (i : ℕ)
     → list_any (eq value) old ≡ false → slice_get (map items old) i ≢ Some (items value)
 none_there eq items equal value [] i h = λ at. absurd (cc)
@@ -181,13 +185,13 @@ none_there eq items equal value (x ∷ xs) zero h = λ at.
 none_there eq items equal value (x ∷ xs) (suc i) h =
     none_there eq items equal value xs i (neither (eq value x) (list_any (eq value) xs) h).1
 
-pub inserted : {V : Type 0} (eq : V → V → Bool) (items : V → List ℕ)
+pub inserted : {V A : Type 0} (eq : V → V → Bool) (items : V → A)
     → ((x y : V) → eq x y ≡ true → items x ≡ items y) → ((x y : V) → items x ≡ items y → eq x y ≡ true)
     → (old new : List V) (value : V) (number : ℕ) (is_new : Bool)
     → is_new ≡ not (list_any (eq value) old) → new ≡ insert_key eq old value
     → number ≡ position_or_len (eq value) old → (k : V) → slice_get new number ≡ Some k → eq value k ≡ true
     → Inserts (map items old) (map items new) (items value) number is_new
-inserted {V} eq items same complete old new value number is_new is keys index k stored equal = by (list_any (eq value) old) refl
+inserted {V} {A} eq items same complete old new value number is_new is keys index k stored equal = by (list_any (eq value) old) refl
   where
     by : (b : Bool) → list_any (eq value) old ≡ b
         → Inserts (map items old) (map items new) (items value) number is_new
@@ -197,7 +201,7 @@ inserted {V} eq items same complete old new value number is_new is keys index k 
         subst (λ (b : Bool). Inserts (map items old) (map items new) (items value) number b) (sym none_new) (
           ap (map items) kept,
           got_mapped items old number k (ap (λ (xs : List V). slice_get xs number) (sym kept) ∙ stored)
-              ∙ ap (λ (v : List ℕ). Some v) (sym (same value k equal)),
+              ∙ ap (λ (v : A). Some v) (sym (same value k equal)),
         )
     by false absent =
         let more : new ≡ old ++ value ∷ [] = keys ∙ ap (λ (b : Bool). if b then old else old ++ value ∷ []) absent in
@@ -207,6 +211,64 @@ inserted {V} eq items same complete old new value number is_new is keys index k 
           index ∙ position_of_none items (eq value) old absent,
           λ i. none_there eq items complete value old i absent,
         )
+
+map_same : (xs : List ℕ) → map (λ (x : ℕ). x) xs ≡ xs
+map_same [] = refl
+map_same (x ∷ xs) = ap (λ (ys : List ℕ). x ∷ ys) (map_same xs)
+
+pub inserted_number : (old new : List ℕ) (value number : ℕ) (is_new : Bool)
+    → Inserts (map (λ (x : ℕ). x) old) (map (λ (x : ℕ). x) new) value number is_new
+    → Inserts old new value number is_new
+inserted_number old new value number is_new inserts =
+    subst (λ (xs : List ℕ). Inserts xs new value number is_new) (map_same old)
+    (subst (λ (xs : List ℕ). Inserts (map (λ (x : ℕ). x) old) xs value number is_new) (map_same new) inserts)
+
+-- ---- tracks, one after another
+
+pub mapped_at : (xs : List GrowingTrack) (i : ℕ) (x : GrowingTrack)
+    → get_or (map track_of xs) i (track_of x) ≡ track_of (get_or xs i x)
+mapped_at [] i x = refl
+mapped_at (y ∷ ys) zero x = refl
+mapped_at (y ∷ ys) (suc i) x = mapped_at ys i x
+
+pub track_more : (xs : List GrowingTrack) (i : ℕ) (x : GrowingTrack) → i < length xs → x ≡ get_or xs i x
+    → take (i + 1) (map track_of xs) ≡ take i (map track_of xs) ++ track_of x ∷ []
+track_more xs i x lt is =
+    take_more (map track_of xs) i (track_of x) (let len = length-map xs track_of in omega arith)
+    ∙ ap (λ (t : Track). take i (map track_of xs) ++ t ∷ [])
+    (mapped_at xs i x ∙ ap (λ (t : GrowingTrack). track_of t) (sym is))
+
+-- one more of the tracks that are written
+pub tracks_more : (f : ℕ → Track → List ℕ) (a b d : List ℕ) (xs : List GrowingTrack) (i : ℕ) (x : GrowingTrack)
+    → i < length xs → x ≡ get_or xs i x → b ≡ a ++ numbered f 0 (take i (map track_of xs)) → d ≡ b ++ f i (track_of x)
+    → d ≡ a ++ numbered f 0 (take (i + 1) (map track_of xs))
+tracks_more f a b d xs i x lt is first second =
+    numbered_more f a b d (map track_of xs) i (track_of x) (let len = length-map xs track_of in omega arith)
+    (track_more xs i x lt is) first second
+
+pub all_tracks : (f : ℕ → Track → List ℕ) (a b : List ℕ) (xs : List GrowingTrack) (i : ℕ) → length xs ≤ i
+    → b ≡ a ++ numbered f 0 (take i (map track_of xs)) → b ≡ a ++ numbered f 0 (map track_of xs)
+all_tracks f a b xs i past is =
+    is ∙ ap (λ (ts : List Track). a ++ numbered f 0 ts)
+    (take_all i (map track_of xs) (let len = length-map xs track_of in omega arith))
+
+changes-push : (xs : List Track) (x : Track)
+    → changes_in (xs ++ x ∷ []) ≡ changes_in xs + (length x.shots - 1)
+changes-push [] x = omega arith
+changes-push (y ∷ ys) x = let rest = changes-push ys x in omega arith
+
+pub changes_more : (xs : List GrowingTrack) (i : ℕ) (x : GrowingTrack) (before after : ℕ) → i < length xs
+    → x ≡ get_or xs i x → before ≤ changes_in (take i (map track_of xs))
+    → after ≤ before + (length x.shots.items - 1) → after ≤ changes_in (take (i + 1) (map track_of xs))
+changes_more xs i x before after lt is first second =
+    let more = ap changes_in (track_more xs i x lt is) in
+    let push = changes-push (take i (map track_of xs)) (track_of x) in omega arith
+
+pub all_changes : (xs : List GrowingTrack) (i count : ℕ) → length xs ≤ i
+    → count ≤ changes_in (take i (map track_of xs)) → count ≤ changes_in (map track_of xs)
+all_changes xs i count past is =
+    subst (λ (ts : List Track). count ≤ changes_in ts)
+    (take_all i (map track_of xs) (let len = length-map xs track_of in omega arith)) is
 
 -- ---- decimals
 
@@ -263,54 +325,19 @@ decimal_ends whole a value unit least left = by left.places left.is left.rest
 -- ---- the times
 
 -- a shot more of those that are taken from the left
-pub shots_more : (f : Shot → List ℕ) (a b c k : List ℕ) (shots : List Shot) (i : ℕ) (x : Shot)
-    → take (i + 1) shots ≡ take i shots ++ x ∷ [] → b ≡ a ++ (k ++ flat_map f (take i shots)) → c ≡ b ++ f x
-    → c ≡ a ++ (k ++ flat_map f (take (i + 1) shots))
-shots_more f a b c k shots i x more first second =
+pub shots_more : (f : Shot → List ℕ) (a b c : List ℕ) (shots : List Shot) (i : ℕ) (x : Shot)
+    → take (i + 1) shots ≡ take i shots ++ x ∷ [] → b ≡ a ++ flat_map f (take i shots) → c ≡ b ++ f x
+    → c ≡ a ++ flat_map f (take (i + 1) shots)
+shots_more f a b c shots i x more first second =
     let some = flat_map f (take i shots) in
     let joined : some ++ f x ≡ flat_map f (take (i + 1) shots) =
     sym (ap (flat_map f) more ∙ flat_map-append f (take i shots) (x ∷ [])
     ∙ ap (λ (xs : List ℕ). some ++ xs) (append-nil (f x))) in
-    joined_more a b c (k ++ some) (f x) first second
-    ∙ ap (λ (xs : List ℕ). a ++ xs) (append_assoc k some (f x) ∙ ap (λ (xs : List ℕ). k ++ xs) joined)
-
--- the times on a page are no fewer bytes than some of them
-pub times_part : (f : Shot → List ℕ) (a b k rest : List ℕ) (shots : List Shot) (i most : ℕ)
-    → b ≡ a ++ (k ++ flat_map f (take i shots)) → most < length b
-    → most < length a + length (k ++ (flat_map f shots ++ rest))
-times_part f a b k rest shots i most is long =
-    let some = flat_map f (take i shots) in
-    let others = flat_map f (drop i shots) in
-    let split : flat_map f shots ≡ flat_map f (take i shots) ++ flat_map f (drop i shots) =
-    sym (ap (flat_map f) (take-append-drop i shots)) ∙ flat_map-append f (take i shots) (drop i shots) in
-    let whole = ap (λ (xs : List ℕ). length xs) is in
-    let first = length-append a (k ++ some) in
-    let second = length-append k some in
-    let third = length-append k (flat_map f shots ++ rest) in
-    let fourth = length-append (flat_map f shots) rest in
-    let fifth = ap (λ (xs : List ℕ). length xs) split in
-    let sixth = length-append some others in omega arith
-
--- times that are too long on a page make a film that is
-pub film_of_times : (most : ℕ) (empty page head times drawn foot : List ℕ) → empty ≡ [] → page ≡ empty ++ head
-    → most < length page + length times → most < length (head ++ (times ++ (drawn ++ foot)))
-film_of_times most empty page head times drawn foot nothing is long =
-    let none = ap (λ (xs : List ℕ). length xs) nothing in
-    let whole = ap (λ (xs : List ℕ). length xs) is in
-    let first = length-append empty head in
-    let second = length-append head (times ++ (drawn ++ foot)) in
-    let third = length-append times (drawn ++ foot) in omega arith
+    joined_more a b c some (f x) first second ∙ ap (λ (xs : List ℕ). a ++ xs) joined
 
 pub other_fault : {A B C D : Type 0} → (C → D) → A ⊎ (B × C) → A ⊎ (B × D)
 other_fault f (inl a) = inl a
 other_fault f (inr fault) = inr (fault.0, f fault.1)
-
-pub times_end : (a b d e g k some m p q : List ℕ) → b ≡ a ++ (k ++ some) → d ≡ b ++ m → e ≡ d ++ p → g ≡ e ++ q
-    → g ≡ a ++ (k ++ (some ++ (m ++ (p ++ q))))
-times_end a b d e g k some m p q first second third fourth =
-    joined_more a b g (k ++ some) (m ++ (p ++ q)) first (joined_more b d g m (p ++ q) second
-    (joined_more d e g p q third fourth))
-    ∙ ap (λ (xs : List ℕ). a ++ xs) (append_assoc k some (m ++ (p ++ q)))
 
 -- the parts of a film, on a page that was empty at first
 pub film_developed : (empty a b d e bytes head times drawn foot : List ℕ) → empty ≡ [] → a ≡ empty ++ head

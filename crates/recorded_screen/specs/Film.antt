@@ -1,6 +1,6 @@
 -- Which screens of a recording a film shows, and when.
 use Rattle.std.specs.Prelude.{◌≡◌, ℕ, zero, suc, ◌+◌, ◌-◌, ◌*◌, ◌/◌, ◌≤◌, ◌<◌, ◌==◌, not, max, min, Bool, true, false}
-use Rattle.std.specs.Prelude.{List, [], ◌∷◌, length, map, nat_le, slice_get, slice_index, take, if◌then◌else◌}
+use Rattle.std.specs.Prelude.{List, [], ◌∷◌, length, map, nat_le, slice_get, take, if◌then◌else◌}
 use Rattle.std.specs.List.{prefix_len}
 use Rattle.std.specs.Option.{option_map_or}
 use Rattle.row_pictures.specs.declared.look.Look.{Look}
@@ -12,8 +12,9 @@ use Rattle.recordings.specs.declared.recording.Event.{Event}
 use Rattle.recordings.specs.declared.recording.ScreenSize.{ScreenSize}
 use Rattle.recorded_screen.specs.Moment.{act_of}
 use Rattle.recorded_screen.specs.Placed.{IsSvgRow}
-use Rattle.recorded_screen.specs.Reel.{film_bytes, in_64_bits}
-use Rattle.recorded_screen.specs.Shots.{AreDifferent, IsAt, IsShot, IsShown, IsUsed, rows_of, screens_of}
+use Rattle.recorded_screen.specs.Reel.{Track, film_bytes, in_64_bits, track_at}
+use Rattle.recorded_screen.specs.Shots.{AreDifferent, IsAt, IsLonger, IsShown, IsTrack, IsUsed, ShowsRowOf, rows_of}
+use Rattle.recorded_screen.specs.Shots.{tracks_of}
 use Rattle.recorded_screen.specs.declared.films.Pace.{Pace}
 use Rattle.recorded_screen.specs.declared.reel.Reel.{Reel}
 use Rattle.recorded_screen.specs.declared.reel.Shot.{Shot}
@@ -40,9 +41,25 @@ film_time pace events (suc n) =
 abbrev pub count_until : ℕ → List Event → ℕ
 count_until moment events = prefix_len (λ e. nat_le e.time moment) events
 
--- after so many events a screen may stand: the next event, if there is one, comes at another time
+-- after so many events the next one, if there is one, comes at another time
 abbrev pub is_moment : List Event → ℕ → Bool
 is_moment events n = option_map_or (λ e. not (e.time == reached events n)) (slice_get events n) true
+
+-- ---- slots
+
+-- A second of a film is cut into slots, as many as it has screens at most. A time is in the one of this number.
+abbrev pub slot : Pace → ℕ → ℕ
+slot pace time = time * max pace.rate 1 / 1000000
+
+-- when the slot of a time begins
+abbrev pub slot_start : Pace → ℕ → ℕ
+slot_start pace time = in_64_bits (slot pace time * 1000000 / max pace.rate 1)
+
+-- after so many events a film may show the screen: the next event, if there is one, comes in another slot of its time
+abbrev pub may_stand : Pace → List Event → ℕ → Bool
+may_stand pace events n =
+    option_map_or (λ e. not (slot pace (film_time pace events (suc n)) == slot pace (film_time pace events n)))
+    (slice_get events n) true
 
 -- ---- the size
 
@@ -76,49 +93,47 @@ most_cols moment size events =
 abbrev pub state_after : ScreenSize → List Event → ℕ → State
 state_after size events n = made size.rows.value size.cols.value 0 (map (λ e. act_of e.change) (take n events))
 
--- The screen in this state, by the numbers of its rows. Each of these rows is its runs of cells, with the cursor.
-pub record IsScreenOf (look : Look) (s : State) (rows : List (List ℕ)) (numbers : List ℕ) : Type 0 where
-  pub count : length numbers ≡ s.shown.height
-  pub row : (r : ℕ) → r < s.shown.height → IsAt rows (slice_index numbers r) (IsSvgRow look s r)
+-- in each row of the screen a shot of it in this state is taken, which is shown from this time on
+pub record TakesShot (look : Look) (s : State) (start : ℕ) (old new : Reel) : Type 0 where
+  pub rows : IsLonger (rows_of old) (rows_of new)
+  pub row : (r : ℕ) → r < new.size.rows.value
+      → ShowsRowOf (IsSvgRow look s r) (rows_of new) start (track_at (tracks_of old) r) (track_at (tracks_of new) r)
+  pub size : new.size ≡ old.size
+  pub time : new.time ≡ old.time
 
 -- a shot of this state is taken, if it is wanted
-pub record TakesShot (look : Look) (s : State) (old new : Reel) : Type 0 where
-  pub screen : ℕ
-  pub at : IsAt (screens_of new) screen (IsScreenOf look s (rows_of new))
-  pub shown : IsShown old.shots.items new.shots.items old.time screen
+abbrev pub TakesShotIf : Bool → Look → State → ℕ → Reel → Reel → Type 0
+TakesShotIf true look s start old new = TakesShot look s start old new
+TakesShotIf false look s start old new = new ≡ old
 
-abbrev pub TakesShotIf : Bool → Look → State → Reel → Reel → Type 0
-TakesShotIf true look s old new = TakesShot look s old new
-TakesShotIf false look s old new = new.shots ≡ old.shots
+-- These are the shots of row r of the screens after 0 events, 1, 2 and so on, fewer than this many: of each screen that
+-- may stand, the row is shown from the beginning of its slot on, and of no other. A row below the last one is empty.
+pub data AreShots (look : Look) (size : ScreenSize) (pace : Pace) (events : List Event) (drawn : List (List ℕ)) (r : ℕ)
+    (rows : List ℕ) : ℕ → List Shot → Type 0 where
+  none : AreShots look size pace events drawn r rows 0 []
+  passed : {n : ℕ} {shots : List Shot} → may_stand pace events n ≡ false
+      → AreShots look size pace events drawn r rows n shots → AreShots look size pace events drawn r rows (suc n) shots
+  shot : {n : ℕ} {old : List Shot} (new : List Shot) (place : ℕ) → may_stand pace events n ≡ true
+      → AreShots look size pace events drawn r rows n old
+      → IsAt rows place (λ number. IsAt drawn number (IsSvgRow look (state_after size events n) r))
+      → IsShown old new (slot_start pace (film_time pace events n)) place
+      → AreShots look size pace events drawn r rows (suc n) new
 
--- These are the shots of the screens after 0 events, 1, 2 and so on, fewer than this many: each that may stand is shown
--- from its time on, and no other.
-pub data AreShots (look : Look) (size : ScreenSize) (pace : Pace) (events : List Event) (rows screens : List (List ℕ))
-    : ℕ → List Shot → Type 0 where
-  none : AreShots look size pace events rows screens 0 []
-  passed : {n : ℕ} {shots : List Shot} → is_moment events n ≡ false
-      → AreShots look size pace events rows screens n shots → AreShots look size pace events rows screens (suc n) shots
-  shot : {n : ℕ} {old : List Shot} (new : List Shot) (screen : ℕ) → is_moment events n ≡ true
-      → AreShots look size pace events rows screens n old
-      → IsAt screens screen (IsScreenOf look (state_after size events n) rows)
-      → IsShown old new (film_time pace events n) screen
-      → AreShots look size pace events rows screens (suc n) new
-
--- A film of the first n events, at the size of all up to a time: it shows the screens that may stand, each from its time
--- on, and the last one for a second. Its rows are all different, and each is in one of its screens. These are all
--- different too, and each is shown.
+-- A film of the first n events, at the size of all up to a time. Each row of the screen has a track, which shows that
+-- row of the screens that may stand, each from its slot on, and the last one for a second. The rows that are drawn are
+-- all different, and each stands in a track. Those of a track are all different too, and each is shown.
 pub record IsFilmOf (look : Look) (size : ScreenSize) (pace : Pace) (moment : ℕ) (events : List Event) (n : ℕ)
     (bytes : List ℕ) : Type 0 where
   pub rows : List (List ℕ)
-  pub screens : List (List ℕ)
-  pub shots : List Shot
+  pub tracks : List Track
   pub is : bytes ≡ film_bytes look (most_rows moment size events) (most_cols moment size events)
-      (in_64_bits (film_time pace events n + 1000000)) rows screens shots
-  pub shown : AreShots look size pace events rows screens (suc n) shots
-  pub different_rows : AreDifferent rows
-  pub used_rows : (i : ℕ) → i < length rows → IsUsed screens i
-  pub different_screens : AreDifferent screens
-  pub used_screens : (i : ℕ) → i < length screens → IsShot shots i
+      (in_64_bits (film_time pace events n + 1000000)) rows tracks
+  pub count : length tracks ≡ most_rows moment size events
+  pub shown : (r : ℕ) → r < length tracks
+      → AreShots look size pace events rows r (track_at tracks r).rows (suc n) (track_at tracks r).shots
+  pub different : AreDifferent rows
+  pub used : (i : ℕ) → i < length rows → IsUsed tracks i
+  pub tracked : (r : ℕ) → r < length tracks → IsTrack (track_at tracks r)
 
 -- a film of the events up to a time
 abbrev pub IsFilm : Look → ScreenSize → Pace → ℕ → List Event → List ℕ → Type 0

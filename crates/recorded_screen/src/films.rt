@@ -5,9 +5,10 @@ ghost use Rattle.std.specs.Prelude.{if◌then◌else◌};
 ghost use Rattle.std.specs.Option.{option_map_or};
 ghost use Rattle.picture_page.specs.Page.{IsPage, IsSafe};
 ghost use Rattle.recorded_screen.specs.Film.{IsFilm, IsTooLong, TakesShot, TakesShotIf, cols_set};
+ghost use Rattle.recorded_screen.specs.Film.{film_time, may_stand as may_stand_of, slot as slot_of, slot_start};
 ghost use Rattle.recorded_screen.specs.Film.{count_until as count_until_of};
 ghost use Rattle.recorded_screen.specs.Film.{is_moment as is_moment_of, most_cols, most_rows, paced, reached, rows_set};
-ghost use Rattle.recorded_screen.specs.Shots.{Grows, IsReel, IsShot, IsUsed, screens_of};
+ghost use Rattle.recorded_screen.specs.Shots.{IsReel};
 ghost use Rattle.recorded_screen.specs.declared.error.FilmError.TheVariants.{Memory, TooLong};
 
 use crate::error::FilmError;
@@ -27,6 +28,8 @@ pub struct Pace {
     pub speed: u64,
     /// The longest time of the recording for which a screen stands, in microseconds.
     pub idle: Option<u64>,
+    /// How many screens a second a film shows at most.
+    pub rate: u16,
 }
 
 impl Pace {
@@ -41,6 +44,21 @@ impl Pace {
         u64::try_from(film / u128::from(self.speed.max(1))).unwrap_or(u64::MAX)
     }
 
+    // The slot of a time of the film.
+    fn slot(self, time: u64) -> u128
+        ensures { result ≡ slot_of self time }
+    {
+        u128::from(time) * u128::from(self.rate.max(1)) / 1_000_000
+    }
+
+    // When the slot of a time of the film begins.
+    fn slot_start(self, time: u64) -> u64
+        ensures { result ≡ slot_start self time }
+    {
+        let start = self.slot(time) * 1_000_000 / u128::from(self.rate.max(1));
+        u64::try_from(start).unwrap_or(u64::MAX)
+    }
+
     // How much of a time a screen stands.
     fn standing(self, time: u64) -> u64
         ensures { result ≡ option_map_or (min time) self.idle time }
@@ -52,8 +70,9 @@ impl Pace {
     }
 }
 
-/// A picture in SVG that plays the events up to a moment, over and over, and needs no script. Each screen and each row
-/// that occurs more than once is drawn once. The last screen stands for a second.
+/// A picture in SVG that plays the events up to a moment, over and over, and needs no script. A row that occurs more than
+/// once is drawn once. The last screen stands for a second. It is shown where nothing plays, and to a reader who wants
+/// less motion.
 pub fn film(
     alloc: Global,
     size: ScreenSize,
@@ -70,15 +89,15 @@ pub fn film(
         × IsTooLong LONGEST_FILM look.now size pace moment events.now)) }
 {
     let mut terminal = Parser::new(alloc, size.rows, size.cols, 0)?;
-    let mut reel = Reel::new(alloc, widest(size, events, moment));
-    let first = is_moment(events, 0);
-    shoot_if(first, &mut reel, alloc, terminal.screen(), look)?;
+    let mut reel = Reel::new(alloc, widest(size, events, moment))?;
+    let first = may_stand(pace, events, 0, reel.time());
+    shoot_if(first, &mut reel, alloc, pace, terminal.screen(), look)?;
     reel.check()?;
     for i in 0..count_until(events, moment) {
         reel.wait(pace.of_time(gap_before(events, i)));
         act(&mut terminal, &events[i].change)?;
-        let on = is_moment(events, i + 1);
-        shoot_if(on, &mut reel, alloc, terminal.screen(), look)?;
+        let on = may_stand(pace, events, i + 1, reel.time());
+        shoot_if(on, &mut reel, alloc, pace, terminal.screen(), look)?;
         reel.check()?;
     }
     reel.develop(alloc, look)
@@ -89,39 +108,42 @@ fn shoot_if(
     on: bool,
     reel: &mut Reel,
     alloc: Global,
+    pace: Pace,
     screen: &Screen,
     look: &Look,
 ) -> Result<(), FilmError>
     requires reel { IsReel reel.old }
     ensures reel { OnOk result (IsReel reel.new) }
-    ensures grows { OnOk result (Grows (IsUsed (screens_of reel.new)) (IsShot reel.new.shots.items) reel.old reel.new) }
-    ensures shot { OnOk result (TakesShotIf on look.now screen.now.state reel.old reel.new) }
+    ensures shot { OnOk result (TakesShotIf on look.now screen.now.state (slot_start pace reel.old.time) reel.old
+        reel.new) }
     ensures memory { IfErr result (λ e. e ≡ Memory) }
 {
     if on {
-        shoot(reel, alloc, screen, look)
+        shoot(reel, alloc, pace, screen, look)
     } else {
         Ok(())
     }
 }
 
-// Takes a shot of the screen, which is shown from now on.
-fn shoot(reel: &mut Reel, alloc: Global, screen: &Screen, look: &Look) -> Result<(), FilmError>
+// Takes a shot of the screen, which is shown from the beginning of this slot on.
+fn shoot(
+    reel: &mut Reel,
+    alloc: Global,
+    pace: Pace,
+    screen: &Screen,
+    look: &Look,
+) -> Result<(), FilmError>
     requires reel { IsReel reel.old }
     ensures reel { OnOk result (IsReel reel.new) }
-    ensures grows { OnOk result (Grows (IsUsed (screens_of reel.new)) (IsShot reel.new.shots.items) reel.old reel.new) }
-    ensures shot { OnOk result (TakesShot look.now screen.now.state reel.old reel.new) }
+    ensures shot { OnOk result (TakesShot look.now screen.now.state (slot_start pace reel.old.time) reel.old reel.new) }
     ensures memory { IfErr result (λ e. e ≡ Memory) }
 {
-    let mut numbers = Vec::new(alloc);
-    let (rows, _) = screen.size();
-    for row in 0..rows.get() {
+    let time = pace.slot_start(reel.time());
+    for row in 0..reel.height() {
         let cells = cells_of(screen, row);
         let cursor = cursor_in(screen, row, look);
-        let number = reel.row_number(alloc, cells, cursor, look)?;
-        numbers.push(number)?;
+        reel.show(alloc, row, cells, cursor, look)?;
     }
-    reel.show(alloc, &numbers)?;
     Ok(())
 }
 
@@ -159,7 +181,20 @@ fn time_after(events: &[Event], count: usize) -> u64
     }
 }
 
-// Whether a screen may stand after so many events: the next one comes at another time.
+// Whether a film may show the screen after so many events, by the time that it has reached: the next one comes in
+// another slot.
+fn may_stand(pace: Pace, events: &[Event], count: usize, time: u64) -> bool
+    requires { time ≡ film_time pace events.now count }
+    ensures { result ≡ may_stand_of pace events.now count }
+{
+    if count >= events.len() {
+        return true;
+    }
+    let next = time.saturating_add(pace.of_time(gap_before(events, count)));
+    pace.slot(next) != pace.slot(time)
+}
+
+// Whether the event after so many comes at another time, or there is none.
 fn is_moment(events: &[Event], count: usize) -> bool
     ensures { result ≡ is_moment_of events.now count }
 {

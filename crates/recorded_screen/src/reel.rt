@@ -1,16 +1,17 @@
-//! What a film is made of: rows that are drawn once, screens side by side, and when which one is shown.
+//! What a film is made of: rows that are drawn once, and a track for each row of the screen.
 
 ghost use Rattle.std.specs.Prelude.{◌≡◌, ◌⊎◌, ◌≤◌, ◌<◌, ◌+◌, ◌*◌, ◌/◌, ◌^◌, ◌++◌, ℕ, [], ◌∷◌, IfOk, IfErr, OnOk};
-ghost use Rattle.std.specs.Prelude.{Some, if◌then◌else◌, length, map, max, slice_get};
+ghost use Rattle.std.specs.Prelude.{◌-◌, if◌then◌else◌, length, map, max, nat_lt, replicate, slice_index};
+ghost use Rattle.std.specs.List.{flat_map};
 ghost use Rattle.picture_page.specs.Bytes.{numbers_bytes};
 ghost use Rattle.picture_page.specs.Page.{Adds, IsPage, IsSafe};
-ghost use Rattle.row_pictures.specs.Runs.{AreRuns};
 ghost use Rattle.row_pictures.specs.Svg.{AreSvgRuns};
-ghost use Rattle.recorded_screen.specs.Reel.{decimal_point, drawn_bytes, drawn_row, film_bytes, in_32_bits, in_64_bits};
-ghost use Rattle.recorded_screen.specs.Reel.{last_place, numbered, place, row_at, screen_at, shot_bytes, times_bytes};
-ghost use Rattle.recorded_screen.specs.Reel.{used_row};
-ghost use Rattle.recorded_screen.specs.Shots.{Grows, Inserts, IsAt, IsReel, IsShot, IsShown, Shows, rows_of};
-ghost use Rattle.recorded_screen.specs.Shots.{screens_of};
+ghost use Rattle.recorded_screen.specs.Reel.{changes_in, decimal_point, drawn_bytes, drawn_row, film_bytes, in_64_bits};
+ghost use Rattle.recorded_screen.specs.Reel.{in_32_bits as in_32_bits_of, keyframes, last_place as last_place_in};
+ghost use Rattle.recorded_screen.specs.Reel.{no_track, numbered, place as place_in, shot_bytes};
+ghost use Rattle.recorded_screen.specs.Reel.{times_bytes, track_bytes, track_times, used_row};
+ghost use Rattle.recorded_screen.specs.Shots.{Grows, Inserts, IsAt, IsDrawn, IsReel, IsShown, IsTrack, Shows, ShowsRow};
+ghost use Rattle.recorded_screen.specs.Shots.{TakesPlace, rows_of, track_of, tracks_of};
 ghost use Rattle.recorded_screen.specs.declared.error.FilmError.TheVariants.{Memory, TooLong};
 
 use crate::error::FilmError;
@@ -26,6 +27,9 @@ pub const LONGEST_FILM: usize = 8 << 20;
 // How long the last screen stands, in microseconds.
 const LAST: u64 = 1_000_000;
 
+// A change in a track takes at least this many bytes of a film.
+const CHANGE_LEN: usize = 27;
+
 /// A film in the making.
 #[derive(Drop)]
 pub(crate) struct Reel {
@@ -33,43 +37,92 @@ pub(crate) struct Reel {
     size: ScreenSize,
     // The rows that are drawn, as they are written.
     rows: IndexSet<Vec<u8>>,
-    // The screens, each by the numbers of its rows.
-    screens: IndexSet<Vec<usize>>,
-    // The rows and the screens as they stand in the picture.
+    // The rows as they stand in the picture.
     drawn_rows: Page,
-    drawn_screens: Page,
-    // Which screen is shown from when on, in microseconds of the film.
-    shots: Vec<Shot>,
+    // The tracks, one for each row of the screen.
+    tracks: Vec<Track>,
     // The time of the film that was reached, in microseconds.
     time: u64,
 }
 
-/// From a time of the film on, in microseconds, this screen is shown.
+/// The track of a row of the screen.
+#[derive(Drop)]
+pub(crate) struct Track {
+    // What stands in it at some time: drawn rows, by their numbers.
+    rows: IndexSet<usize>,
+    // Which of these is shown from when on.
+    shots: Vec<Shot>,
+}
+
+/// From a time of the film on, in microseconds, the row at this place of a track is shown.
 #[derive(Clone, Copy)]
 pub(crate) struct Shot {
     time: u64,
-    screen: usize,
+    place: usize,
+}
+
+impl Track {
+    // An empty one.
+    fn new(alloc: Global) -> Self
+        ensures { track_of result ≡ no_track }
+    {
+        Track {
+            rows: IndexSet::new(alloc),
+            shots: Vec::new(alloc),
+        }
+    }
+
+    // The row of this number is shown from a time on.
+    fn show(&mut self, time: u64, number: usize) -> Result<(), FilmError>
+        requires track { IsTrack (track_of self.old) }
+        ensures track { OnOk result (IsTrack (track_of self.new)) }
+        ensures shows { OnOk result (Shows number time (track_of self.old) (track_of self.new)) }
+        ensures memory { IfErr result (λ e. e ≡ Memory) }
+    {
+        let place = insert_number(&mut self.rows, number)?;
+        push_shot(&mut self.shots, time, place)?;
+        Ok(())
+    }
+
+    // How often it changes.
+    fn changes(&self) -> usize
+        ensures { result ≡ length self.now.shots.items - 1 }
+    {
+        self.shots.len().saturating_sub(1)
+    }
 }
 
 impl Reel {
     /// An empty one, of so many rows and columns.
-    pub(crate) fn new(alloc: Global, size: ScreenSize) -> Self
-        ensures reel { IsReel result }
-        ensures rows { rows_of result ≡ [] }
-        ensures screens { screens_of result ≡ [] }
-        ensures shots { result.shots.items ≡ [] }
-        ensures size { result.size ≡ size }
-        ensures time { result.time ≡ 0 }
+    pub(crate) fn new(alloc: Global, size: ScreenSize) -> Result<Self, FilmError>
+        ensures reel { IfOk result (λ reel. IsReel reel) }
+        ensures rows { IfOk result (λ reel. rows_of reel ≡ []) }
+        ensures tracks { IfOk result (λ reel. tracks_of reel ≡ replicate size.rows.value no_track) }
+        ensures size { IfOk result (λ reel. reel.size ≡ size) }
+        ensures time { IfOk result (λ reel. reel.time ≡ 0) }
+        ensures memory { IfErr result (λ e. e ≡ Memory) }
     {
-        Reel {
+        Ok(Reel {
             size,
             rows: IndexSet::new(alloc),
-            screens: IndexSet::new(alloc),
             drawn_rows: Page::new(alloc),
-            drawn_screens: Page::new(alloc),
-            shots: Vec::new(alloc),
+            tracks: empty_tracks(alloc, size.rows.get())?,
             time: 0,
-        }
+        })
+    }
+
+    /// How many rows the screen has at most.
+    pub(crate) fn height(&self) -> u16
+        ensures { result ≡ self.now.size.rows.value }
+    {
+        self.size.rows.get()
+    }
+
+    /// The time of the film that was reached, in microseconds.
+    pub(crate) fn time(&self) -> u64
+        ensures { result ≡ self.now.time }
+    {
+        self.time
     }
 
     /// Time goes on.
@@ -79,18 +132,39 @@ impl Reel {
         self.time = self.time.saturating_add(time);
     }
 
-    /// The number of a row of cells, which is drawn if it is new.
-    pub(crate) fn row_number(
+    /// These cells are shown in a row of the screen from this time of the film on, in microseconds.
+    pub(crate) fn show(
+        &mut self,
+        alloc: Global,
+        row: u16,
+        time: u64,
+        cells: &[Cell],
+        cursor: Option<usize>,
+        look: &Look,
+    ) -> Result<(), FilmError>
+        requires reel { IsReel self.old }
+        requires row { row < self.old.size.rows.value }
+        ensures reel { OnOk result (IsReel self.new) }
+        ensures shows { OnOk result (ShowsRow (λ runs. AreSvgRuns look.now cells.now cursor runs)
+            row time self.old self.new) }
+        ensures memory { IfErr result (λ e. e ≡ Memory) }
+    {
+        let number = self.row_number(alloc, cells, cursor, look)?;
+        self.tracks[usize::from(row)].show(time, number)?;
+        Ok(())
+    }
+
+    // The number of a row of cells, which is drawn if it is new.
+    fn row_number(
         &mut self,
         alloc: Global,
         cells: &[Cell],
         cursor: Option<usize>,
         look: &Look,
     ) -> Result<usize, FilmError>
-        requires reel { IsReel self.old }
-        ensures reel { OnOk result (IsReel self.new) }
-        ensures grows { IfOk result (λ n. Grows (λ i. i ≡ n) (λ i. ⊥) self.old self.new) }
-        ensures shots { OnOk result (self.new.shots ≡ self.old.shots) }
+        requires drawn { IsDrawn self.old }
+        ensures drawn { OnOk result (IsDrawn self.new) }
+        ensures grows { IfOk result (λ n. Grows n self.old self.new) }
         ensures row { IfOk result (λ n. IsAt (rows_of self.new) n (λ runs.
             AreSvgRuns look.now cells.now cursor runs)) }
         ensures memory { IfErr result (λ e. e ≡ Memory) }
@@ -104,72 +178,26 @@ impl Reel {
         Ok(number)
     }
 
-    /// A screen of these rows is shown from now on.
-    pub(crate) fn show(&mut self, alloc: Global, rows: &[usize]) -> Result<(), FilmError>
-        requires reel { IsReel self.old }
-        ensures reel { OnOk result (IsReel self.new) }
-        ensures grows { OnOk result (Grows (λ i. ⊥) (IsShot self.new.shots.items) self.old self.new) }
-        ensures shows { OnOk result (Shows rows.now self.old self.new) }
-        ensures memory { IfErr result (λ e. e ≡ Memory) }
-    {
-        let screen = self.screen_number(alloc, rows)?;
-        push_shot(&mut self.shots, self.time, screen)?;
-        Ok(())
-    }
-
-    // The number of a screen of these rows, which is drawn if it is new.
-    fn screen_number(&mut self, alloc: Global, rows: &[usize]) -> Result<usize, FilmError>
-        requires reel { IsReel self.old }
-        ensures reel { OnOk result (IsReel self.new) }
-        ensures grows { IfOk result (λ n. Grows (λ i. ⊥) (λ i. i ≡ n) self.old self.new) }
-        ensures shots { OnOk result (self.new.shots ≡ self.old.shots) }
-        ensures screen { IfOk result (λ n. slice_get (screens_of self.new) n ≡ Some rows.now) }
-        ensures memory { IfErr result (λ e. e ≡ Memory) }
-    {
-        let (number, new) = insert_screen(&mut self.screens, rows.to_vec(alloc)?)?;
-        let x = self.place_of(number);
-        draw_screen_if(new, &mut self.drawn_screens, x, rows)?;
-        Ok(number)
-    }
-
-    /// A film whose rows or screens get longer than the longest film is given up.
+    /// A film is given up whose rows are longer than the longest film, or that changes too often.
     pub(crate) fn check(&self) -> Result<(), FilmError>
         ensures { IfErr result (λ e. (e ≡ TooLong) × ((LONGEST_FILM < length self.now.drawn_rows)
-            ⊎ (LONGEST_FILM < length self.now.drawn_screens))) }
+            ⊎ (LONGEST_FILM < 27 * changes_in (tracks_of self.now)))) }
     {
         check_length(&self.drawn_rows)?;
-        check_length(&self.drawn_screens)
-    }
-
-    // Where a screen stands, in pixels.
-    fn place_of(&self, screen: usize) -> u32
-        ensures { result ≡ place self.now.size.cols.value screen }
-    {
-        let width = u64::from(self.size.cols.get()) * u64::from(COL_WIDTH);
-        u32::try_from((screen as u64).saturating_mul(width)).unwrap_or(u32::MAX)
-    }
-
-    // The place of the last screen, in pixels.
-    fn last_place(&self) -> u32
-        ensures { result ≡ last_place self.now.size.cols.value self.now.shots.items }
-    {
-        match self.shots.last() {
-            Some(shot) => self.place_of(shot.screen),
-            None => 0,
-        }
+        check_changes(&self.tracks)
     }
 
     /// The film.
     pub(crate) fn develop(self, alloc: Global, look: &Look) -> Result<Vec<u8>, FilmError>
         requires reel { IsReel self }
         ensures film { IfOk result (λ bytes. bytes.items ≡ film_bytes look.now self.size.rows.value self.size.cols.value
-            (in_64_bits (self.time + 1000000)) (rows_of self) (screens_of self) self.shots.items) }
+            (in_64_bits (self.time + 1000000)) (rows_of self) (tracks_of self)) }
         ensures page { IfOk result (λ bytes. IsPage bytes.items) }
         ensures safe { IfOk result (λ bytes. IsSafe bytes.items) }
         ensures short { IfOk result (λ bytes. length bytes.items ≤ LONGEST_FILM) }
         ensures fault { IfErr result (λ e. (e ≡ Memory) ⊎ ((e ≡ TooLong) × (LONGEST_FILM < length (film_bytes look.now
             self.size.rows.value self.size.cols.value (in_64_bits (self.time + 1000000)) (rows_of self)
-            (screens_of self) self.shots.items)))) }
+            (tracks_of self))))) }
     {
         let mut page = Page::new(alloc);
         push_svg_head(&mut page, self.size.rows.get(), self.size.cols.get(), look)?;
@@ -180,47 +208,41 @@ impl Reel {
         Ok(page.into_bytes())
     }
 
-    // Appends the rows that are drawn and the screens.
+    // Appends when what is shown.
+    fn push_times(&self, page: &mut Page) -> Result<(), AllocError>
+        ensures { OnOk result (page.new ≡ page.old ++ times_bytes self.now.size.cols.value
+            (in_64_bits (self.now.time + 1000000)) (tracks_of self.now)) }
+    {
+        let length = self.time.saturating_add(LAST);
+        page.markup(Tag::FilmLength)?;
+        push_decimal(page, length, 1_000_000)?;
+        page.markup(Tag::FilmLengthEnd)?;
+        push_all_keyframes(page, self.size.cols.get(), &self.tracks, length)?;
+        page.markup(Tag::Still)
+    }
+
+    // Appends the rows that are drawn and the tracks.
     fn push_drawn(&self, page: &mut Page) -> Result<(), AllocError>
-        ensures { OnOk result (page.new ≡ page.old ++ drawn_bytes self.now.size.cols.value self.now.drawn_rows
-            self.now.drawn_screens self.now.shots.items) }
+        ensures { OnOk result (page.new ≡ page.old ++ drawn_bytes self.now.drawn_rows
+            (numbered (track_bytes self.now.size.cols.value) 0 (tracks_of self.now))) }
     {
         page.markup(Tag::DefsStart)?;
         page.append(&self.drawn_rows)?;
         page.markup(Tag::DefsEnd)?;
-        page.numbers(&[(Tag::Film, self.last_place())])?;
-        page.markup(Tag::FrameRows)?;
-        page.append(&self.drawn_screens)?;
-        page.markup(Tag::FilmEnd)
+        push_tracks(page, self.size.cols.get(), &self.tracks)
     }
+}
 
-    // Appends when which screen is shown.
-    fn push_times(&self, page: &mut Page) -> Result<(), FilmError>
-        ensures times { OnOk result (page.new ≡ page.old ++ times_bytes self.now.size.cols.value
-            (in_64_bits (self.now.time + 1000000)) self.now.shots.items) }
-        ensures fault { IfErr result (λ e. (e ≡ Memory) ⊎ ((e ≡ TooLong) × (LONGEST_FILM < length page.old
-            + length (times_bytes self.now.size.cols.value (in_64_bits (self.now.time + 1000000))
-            self.now.shots.items)))) }
-    {
-        let length = self.time.saturating_add(LAST);
-        page.markup(Tag::Keyframes)?;
-        for shot in &self.shots {
-            self.push_time(page, *shot, length)?;
-            check_length(page)?;
-        }
-        page.markup(Tag::FilmLength)?;
-        push_decimal(page, length, 1_000_000)?;
-        Ok(page.markup(Tag::FilmLengthEnd)?)
+// So many empty tracks.
+fn empty_tracks(alloc: Global, count: u16) -> Result<Vec<Track>, FilmError>
+    ensures tracks { IfOk result (λ tracks. map track_of tracks.items ≡ replicate count no_track) }
+    ensures memory { IfErr result (λ e. e ≡ Memory) }
+{
+    let mut tracks = Vec::new(alloc);
+    for _ in 0..count {
+        tracks.push(Track::new(alloc))?;
     }
-
-    // Appends when a shot begins in a film of this length, and which screen is shown then.
-    fn push_time(&self, page: &mut Page, shot: Shot, length: u64) -> Result<(), AllocError>
-        ensures { OnOk result (page.new ≡ page.old ++ shot_bytes self.now.size.cols.value length shot) }
-    {
-        push_decimal(page, part_of(shot.time, length), 100_000)?;
-        page.numbers(&[(Tag::Percent, self.place_of(shot.screen))])?;
-        page.markup(Tag::PercentEnd)
-    }
+    Ok(tracks)
 }
 
 // Inserts a row that is written so, and returns its number with whether it is new.
@@ -232,26 +254,22 @@ fn insert_row(rows: &mut IndexSet<Vec<u8>>, row: Vec<u8>) -> Result<(usize, bool
     Ok(rows.insert_full(row)?)
 }
 
-// Inserts a screen of these rows, and returns its number with whether it is new.
-fn insert_screen(
-    screens: &mut IndexSet<Vec<usize>>,
-    rows: Vec<usize>,
-) -> Result<(usize, bool), FilmError>
-    ensures inserts { IfOk result (λ r. Inserts (map (λ v. v.items) screens.old.keys)
-        (map (λ v. v.items) screens.new.keys) rows.items r.0 r.1) }
+// Inserts the number of a row, unless it is there, and returns its place.
+fn insert_number(numbers: &mut IndexSet<usize>, number: usize) -> Result<usize, FilmError>
+    ensures place { IfOk result (TakesPlace number numbers.old.keys numbers.new.keys) }
     ensures memory { IfErr result (λ e. e ≡ Memory) }
 {
-    Ok(screens.insert_full(rows)?)
+    Ok(numbers.insert_full(number)?.0)
 }
 
-// Another screen is shown from this time on, unless it is shown already.
-fn push_shot(shots: &mut Vec<Shot>, time: u64, screen: usize) -> Result<(), AllocError>
-    ensures { OnOk result (IsShown shots.old.items shots.new.items time screen) }
+// The row at another place of a track is shown from this time on, unless it is shown already.
+fn push_shot(shots: &mut Vec<Shot>, time: u64, place: usize) -> Result<(), AllocError>
+    ensures { OnOk result (IsShown shots.old.items shots.new.items time place) }
 {
     match shots.last() {
-        Some(shot) if shot.screen == screen => Ok(()),
+        Some(shot) if shot.place == place => Ok(()),
         _ => {
-            shots.push(Shot { time, screen })?;
+            shots.push(Shot { time, place })?;
             Ok(())
         }
     }
@@ -263,6 +281,20 @@ fn check_length(page: &Page) -> Result<(), FilmError>
     ensures long { IfErr result (λ e. (e ≡ TooLong) × (LONGEST_FILM < length page.now)) }
 {
     if page.len() > LONGEST_FILM {
+        return Err(FilmError::TooLong);
+    }
+    Ok(())
+}
+
+// A film whose tracks change so often that it gets longer than the longest one is given up.
+fn check_changes(tracks: &[Track]) -> Result<(), FilmError>
+    ensures { IfErr result (λ e. (e ≡ TooLong) × (LONGEST_FILM < 27 * changes_in (map track_of tracks.now))) }
+{
+    let mut changes: usize = 0;
+    for track in tracks {
+        changes = changes.saturating_add(track.changes());
+    }
+    if changes > LONGEST_FILM / CHANGE_LEN {
         return Err(FilmError::TooLong);
     }
     Ok(())
@@ -283,60 +315,171 @@ fn draw_row_if(on: bool, page: &mut Page, number: usize, row: &Page) -> Result<(
 fn draw_row(page: &mut Page, number: usize, row: &Page) -> Result<(), AllocError>
     ensures { OnOk result (page.new ≡ page.old ++ drawn_row number row.now) }
 {
-    push_count(page, Tag::RowName, number)?;
+    page.numbers(&[(Tag::RowName, in_32_bits(number))])?;
     page.markup(Tag::RowNameEnd)?;
     page.append(row)?;
     page.markup(Tag::RowEnd)?;
     page.end_row()
 }
 
-// Draws a screen, if it is wanted.
-fn draw_screen_if(on: bool, page: &mut Page, x: u32, rows: &[usize]) -> Result<(), AllocError>
-    ensures { OnOk result (page.new ≡ page.old ++ (if on then screen_at x rows.now else [])) }
+// Appends the tracks of a film that has so many columns.
+fn push_tracks(page: &mut Page, cols: u16, tracks: &[Track]) -> Result<(), AllocError>
+    ensures { OnOk result (page.new ≡ page.old ++ numbered (track_bytes cols) 0 (map track_of tracks.now)) }
 {
-    if on {
-        draw_screen(page, x, rows)
+    for (number, track) in tracks.iter().enumerate() {
+        push_track(page, cols, number, track)?;
+    }
+    Ok(())
+}
+
+// Appends a track: its rows, side by side.
+fn push_track(page: &mut Page, cols: u16, number: usize, track: &Track) -> Result<(), AllocError>
+    ensures { OnOk result (page.new ≡ page.old ++ track_bytes cols number (track_of track.now)) }
+{
+    let shown = last_place(cols, &track.shots);
+    page.numbers(&[(Tag::Track, in_32_bits(number)), (Tag::TrackPlace, shown)])?;
+    page.markup(Tag::TrackRows)?;
+    use_rows(
+        page,
+        cols,
+        in_32_bits(number).saturating_mul(ROW_HEIGHT),
+        &track.rows,
+    )?;
+    page.markup(Tag::TrackEnd)
+}
+
+// Appends rows that are drawn, by their numbers, side by side, so many pixels from the top.
+fn use_rows(page: &mut Page, cols: u16, y: u32, rows: &IndexSet<usize>) -> Result<(), AllocError>
+    ensures { OnOk result (page.new ≡ page.old ++ numbered (used_row cols y) 0 rows.now.keys) }
+{
+    for place in 0..rows.len() {
+        use_row(page, cols, y, place, number_at(rows, place))?;
+    }
+    Ok(())
+}
+
+// The number at a place of a track.
+fn number_at(rows: &IndexSet<usize>, place: usize) -> usize
+    ensures { result ≡ slice_index rows.now.keys place }
+{
+    match rows.get_index(place) {
+        Some(number) => *number,
+        None => 0,
+    }
+}
+
+// Appends a row that is drawn, at a place, so many pixels from the top.
+fn use_row(page: &mut Page, cols: u16, y: u32, place: usize, row: usize) -> Result<(), AllocError>
+    ensures { OnOk result (page.new ≡ page.old ++ used_row cols y place row) }
+{
+    page.numbers(&[
+        (Tag::Use, in_32_bits(row)),
+        (Tag::X, place_of(cols, place)),
+        (Tag::Y, y),
+    ])?;
+    page.markup(Tag::Close)
+}
+
+// Appends the key frames of each track that changes, in a film of this length.
+fn push_all_keyframes(
+    page: &mut Page,
+    cols: u16,
+    tracks: &[Track],
+    film_length: u64,
+) -> Result<(), AllocError>
+    ensures { OnOk result (page.new ≡ page.old ++ numbered (track_times cols film_length) 0 (map track_of tracks.now)) }
+{
+    for (number, track) in tracks.iter().enumerate() {
+        push_keyframes_if(page, cols, number, &track.shots, film_length)?;
+    }
+    Ok(())
+}
+
+// Appends the key frames of a track, if it changes.
+fn push_keyframes_if(
+    page: &mut Page,
+    cols: u16,
+    number: usize,
+    shots: &[Shot],
+    film_length: u64,
+) -> Result<(), AllocError>
+    ensures { OnOk result (page.new ≡ page.old
+        ++ (if nat_lt 1 (length shots.now) then keyframes cols film_length number shots.now else [])) }
+{
+    if shots.len() > 1 {
+        push_keyframes(page, cols, number, shots, film_length)
     } else {
         Ok(())
     }
 }
 
-// Draws a screen at a place: its rows, one below the other.
-fn draw_screen(page: &mut Page, x: u32, rows: &[usize]) -> Result<(), AllocError>
-    ensures { OnOk result (page.new ≡ page.old ++ screen_at x rows.now) }
+// Appends the key frames of a track, in a film of this length.
+fn push_keyframes(
+    page: &mut Page,
+    cols: u16,
+    number: usize,
+    shots: &[Shot],
+    film_length: u64,
+) -> Result<(), AllocError>
+    ensures { OnOk result (page.new ≡ page.old ++ keyframes cols film_length number shots.now) }
 {
-    page.numbers(&[(Tag::Frame, x)])?;
-    page.markup(Tag::FrameRows)?;
-    use_rows(page, rows)?;
-    page.markup(Tag::FrameEnd)
+    page.numbers(&[(Tag::Keyframes, in_32_bits(number))])?;
+    page.markup(Tag::KeyframesStart)?;
+    push_shots(page, cols, shots, film_length)?;
+    page.numbers(&[
+        (Tag::KeyframesEnd, in_32_bits(number)),
+        (Tag::Animation, in_32_bits(number)),
+    ])?;
+    page.markup(Tag::AnimationEnd)
 }
 
-// Appends rows that are drawn, by their numbers, one below the other.
-fn use_rows(page: &mut Page, rows: &[usize]) -> Result<(), AllocError>
-    ensures { OnOk result (page.new ≡ page.old ++ numbered used_row 0 rows.now) }
+// Appends when each of these shots begins in a film of this length, and what is shown then.
+fn push_shots(
+    page: &mut Page,
+    cols: u16,
+    shots: &[Shot],
+    film_length: u64,
+) -> Result<(), AllocError>
+    ensures { OnOk result (page.new ≡ page.old ++ flat_map (shot_bytes cols film_length) shots.now) }
 {
-    let mut y: u32 = 0;
-    for row in rows {
-        use_row(page, *row, y)?;
-        y = y.saturating_add(ROW_HEIGHT);
+    for shot in shots {
+        push_time(page, cols, *shot, film_length)?;
     }
     Ok(())
 }
 
-// Appends a row that is drawn, so many pixels from the top.
-fn use_row(page: &mut Page, row: usize, y: u32) -> Result<(), AllocError>
-    ensures { OnOk result (page.new ≡ page.old ++ row_at y row) }
+// Appends when a shot begins in a film of this length, and what is shown then.
+fn push_time(page: &mut Page, cols: u16, shot: Shot, film_length: u64) -> Result<(), AllocError>
+    ensures { OnOk result (page.new ≡ page.old ++ shot_bytes cols film_length shot) }
 {
-    push_count(page, Tag::Use, row)?;
-    page.numbers(&[(Tag::Y, y)])?;
-    page.markup(Tag::Close)
+    push_decimal(page, part_of(shot.time, film_length), 100_000)?;
+    page.numbers(&[(Tag::Percent, place_of(cols, shot.place))])?;
+    page.markup(Tag::PercentEnd)
 }
 
-// Appends a piece of markup and a count.
-fn push_count(page: &mut Page, tag: Tag, count: usize) -> Result<(), AllocError>
-    ensures { OnOk result (page.new ≡ page.old ++ numbers_bytes ((tag, in_32_bits count) ∷ [])) }
+// Where the row at a place of a track stands, in pixels from the left.
+fn place_of(cols: u16, place: usize) -> u32
+    ensures { result ≡ place_in cols place }
 {
-    page.numbers(&[(tag, u32::try_from(count).unwrap_or(u32::MAX))])
+    let width = u64::from(cols) * u64::from(COL_WIDTH);
+    u32::try_from((place as u64).saturating_mul(width)).unwrap_or(u32::MAX)
+}
+
+// Where the row stands that is shown last, in pixels from the left.
+fn last_place(cols: u16, shots: &[Shot]) -> u32
+    ensures { result ≡ last_place_in cols shots.now }
+{
+    match shots.last() {
+        Some(shot) => place_of(cols, shot.place),
+        None => 0,
+    }
+}
+
+// As much of a count as fits.
+fn in_32_bits(count: usize) -> u32
+    ensures { result ≡ in_32_bits_of count }
+{
+    u32::try_from(count).unwrap_or(u32::MAX)
 }
 
 // The hundred thousandths of a hundredth of a length that a time is.
@@ -367,7 +510,7 @@ pub fn push_decimal(page: &mut Page, value: u64, unit: u32) -> Result<(), AllocE
 // The whole ones of so many parts of one.
 fn whole_of(value: u64, parts: u64) -> u32
     requires { 0 < parts }
-    ensures { result ≡ in_32_bits (value / parts) }
+    ensures { result ≡ in_32_bits_of (value / parts) }
 {
     u32::try_from(value / parts).unwrap_or(u32::MAX)
 }

@@ -12,10 +12,11 @@ use Rattle.clap.specs.declared.error.ErrorKind.{ErrorKind}
 use Rattle.clap.specs.declared.error.ErrorKind.TheVariants.{DisplayHelp, DisplayVersion}
 use Rattle.clap.proofs.OnLiterals.{clap_on_literals}
 use Rattle.screentext_command.specs.Asked.{AskForText, IsMadeOf, IsMeant, IsRequested, IsToldFor, Says, SaysOrigin}
-use Rattle.screentext_command.specs.Asked.{SaysManner, SaysWish}
+use Rattle.screentext_command.specs.Asked.{SaysManner, SaysPace, SaysWish}
 use Rattle.screentext_command.specs.Asked.{form_meant, manner_of, origin_of, wish_of}
 use Rattle.screentext_command.specs.Words.{are_words, is_form, is_invocation_of, is_request, known}
 use Rattle.screentext_command.proofs.KindLemmas.{IsSingle}
+use Rattle.recorded_screen.specs.declared.films.Pace.{Pace}
 use Rattle.screentext_command.specs.declared.help.TheConstants.{HELP, VERSION}
 use Rattle.screentext_command.specs.declared.pictures.Pictures.{Pictures}
 use Rattle.screentext_command.specs.declared.source.Source.{Source}
@@ -156,3 +157,8 @@ help_told words is = subst (λ (ks : Kinds). IsToldFor ks HELP.now) (sym is) ref
 
 pub version_told : (words : List Text) → fault_of known words ≡ DisplayVersion ∷ [] → AskForText words VERSION.now
 version_told words is = subst (λ (ks : Kinds). IsToldFor ks VERSION.now) (sym is) refl
+
+-- a pace that there is
+pub pace_said : (rows : List Row) (o : Option Pace) (pace : Pace) → o ≡ Some pace → IfSome o (SaysPace rows)
+    → SaysPace rows pace
+pace_said rows o pace is says = subst (λ (p : Option Pace). IfSome p (SaysPace rows)) is says

@@ -1,5 +1,5 @@
 -- What the words ask for.
-use Rattle.std.specs.Prelude.{◌≡◌, ℕ, nat_eq, nat_lt, Bool, true, false, List, [], ◌∷◌, Option, Some, None, codes}
+use Rattle.std.specs.Prelude.{◌≡◌, ℕ, nat_eq, nat_le, nat_lt, Bool, true, false, List, [], ◌∷◌, Option, Some, None, codes}
 use Rattle.std.specs.Prelude.{option_and_then, string_bytes}
 use Rattle.std.specs.Bool.{then_some}
 use Rattle.std.specs.Option.{option_map}
@@ -150,6 +150,15 @@ abbrev pub idle_meant : Option Text → Option (Option ℕ)
 idle_meant None = Some None
 idle_meant (Some word) = option_map (λ time. Some time) (time_in word)
 
+-- how many screens a second a film shows at most: 1 to 1,000
+abbrev pub rate_in : Text → Option ℕ
+rate_in word = option_and_then (λ n. then_some (nat_le n 1000) n) (size_in word)
+
+-- thirty of them without a word
+abbrev pub rate_meant : Option Text → Option ℕ
+rate_meant None = Some 30
+rate_meant (Some word) = rate_in word
+
 abbrev pub has : Text → List Row → Bool
 has name rows = nat_lt 0 (count_of name rows)
 
@@ -164,6 +173,12 @@ pub record SaysOrigin (rows : List Row) (o : Origin) : Type 0 where
   pub strict : o.strict ≡ has (codes "strict") rows
   pub most_cells : cells_meant (first_of (codes "max-cells") rows) ≡ Some o.most_cells
 
+-- they say how fast a film plays
+pub record SaysPace (rows : List Row) (pace : Pace) : Type 0 where
+  pub speed : speed_meant (first_of (codes "speed") rows) ≡ Some pace.speed
+  pub idle : idle_meant (first_of (codes "idle") rows) ≡ Some pace.idle
+  pub rate : rate_meant (first_of (codes "fps") rows) ≡ Some pace.rate
+
 -- they say how pictures look, and how fast a film plays
 pub record SaysManner (rows : List Row) (m : Manner) : Type 0 where
   pub theme : theme_meant (first_of (codes "theme") rows) ≡ Some m.theme
@@ -171,8 +186,7 @@ pub record SaysManner (rows : List Row) (m : Manner) : Type 0 where
   pub bold_is_bright : bold_meant (has (codes "bold-is-bright") rows) (has (codes "bold-is-plain") rows)
       ≡ Some m.bold_is_bright
   pub hides_cursor : m.hides_cursor ≡ has (codes "no-cursor") rows
-  pub speed : speed_meant (first_of (codes "speed") rows) ≡ Some m.pace.speed
-  pub idle : idle_meant (first_of (codes "idle") rows) ≡ Some m.pace.idle
+  pub pace : SaysPace rows m.pace
 
 -- they say which screen is printed, and how
 pub record SaysWish (rows : List Row) (w : Wish) : Type 0 where

@@ -1,5 +1,5 @@
 -- The words of the command line.
-use Rattle.std.specs.Prelude.{ℕ, nat_lt, Bool, true, false, not, ◌&&◌, ◌||◌, is_some, List, [], ◌∷◌, ◌++◌, Option, Some}
+use Rattle.std.specs.Prelude.{ℕ, nat_le, nat_lt, Bool, true, false, not, ◌&&◌, ◌||◌, is_some, List, [], ◌∷◌, ◌++◌, Option, Some}
 use Rattle.std.specs.Prelude.{None, codes}
 use Rattle.std.specs.Option.{option_map_or}
 use Rattle.clap.specs.Words.{App, Kinds, Row, Rule, Text, count_of, fault_of, first_of, matches_of, new_app, new_rule}
@@ -12,7 +12,7 @@ use Rattle.serde_json.specs.Find.{as_number}
 use Rattle.recordings.specs.Kinds.{kind_named}
 use Rattle.recordings.specs.Times.{json_in, time_in, time_of}
 use Rattle.row_pictures.specs.Themes.{is_theme}
-use Rattle.command_line.specs.Numbers.{is_size, is_count}
+use Rattle.command_line.specs.Numbers.{is_size, is_count, size_in}
 
 -- an option with a value
 abbrev pub value_rule : Text → Rule
@@ -52,8 +52,8 @@ with_pictures a = with_rule (with_rule (with_rule (with_rule (with_rule a (flag_
     (flag_rule (codes "bold-is-plain"))
 
 abbrev pub with_films : App → App
-with_films a = with_rule (with_rule (with_rule a (flag_rule (codes "animate"))) (value_rule (codes "speed")))
-    (value_rule (codes "idle"))
+with_films a = with_rule (with_rule (with_rule (with_rule a (flag_rule (codes "animate")))
+    (value_rule (codes "speed"))) (value_rule (codes "idle"))) (value_rule (codes "fps"))
 
 abbrev pub with_player : App → App
 with_player a = with_rule a (flag_rule (codes "player"))
@@ -64,7 +64,7 @@ with_frames a = with_rule a (flag_rule (codes "no-cursor"))
 -- the description for `clap` of
 -- `[ROWS COLS] [--at TIME] [--diff TIME] [--history N] [--joined] [--colours] [--html | --svg]
 -- [--list] [--kind NAME] [--timing FILE] [--no-line-drawing] [--strict] [--max-cells N] [--html-block] [--theme NAME]
--- [--font NAME] [--bold-is-bright | --bold-is-plain] [--animate] [--speed N] [--idle SECONDS] [--player]
+-- [--font NAME] [--bold-is-bright | --bold-is-plain] [--animate] [--speed N] [--idle SECONDS] [--fps N] [--player]
 -- [--no-cursor]`
 abbrev pub known : App
 known = with_frames (with_player (with_films (with_pictures (with_sources (with_flags (with_values program))))))
@@ -111,11 +111,19 @@ is_speed word = option_map_or (λ n. nat_lt 0 n) (time_in word) false
 abbrev pub is_bold : Bool → Bool → Bool
 is_bold bright plain = not (bright && plain)
 
+-- 1 to 1,000
+abbrev pub is_rate : Text → Bool
+is_rate word = option_map_or (λ n. nat_le n 1000) (size_in word) false
+
+abbrev pub are_paces : List Row → Bool
+are_paces rows = option_map_or is_speed (first_of (codes "speed") rows) true
+    && (option_map_or (λ word. is_some (time_in word)) (first_of (codes "idle") rows) true
+    && option_map_or is_rate (first_of (codes "fps") rows) true)
+
 abbrev pub are_pictures : List Row → Bool
 are_pictures rows = option_map_or is_theme (first_of (codes "theme") rows) true
     && (is_bold (nat_lt 0 (count_of (codes "bold-is-bright") rows)) (nat_lt 0 (count_of (codes "bold-is-plain") rows))
-    && (option_map_or is_speed (first_of (codes "speed") rows) true
-    && option_map_or (λ word. is_some (time_in word)) (first_of (codes "idle") rows) true))
+    && are_paces rows)
 
 abbrev pub are_words : List Row → Bool
 are_words rows = are_values rows && (are_sources rows && are_pictures rows)
@@ -136,7 +144,7 @@ is_invocation words = is_invocation_of (fault_of known words) (matches_of known 
 
 -- what is printed for words that aren't understood
 abbrev pub usage_line : List ℕ
-usage_line = codes "usage: screentext [ROWS COLS] [--at SECONDS] [--diff SECONDS] [--history N] [--joined] [--colours] [--html | --html-block | --player | --svg [--animate]] [--speed N] [--idle SECONDS] [--theme NAME] [--font NAME] [--bold-is-bright | --bold-is-plain] [--no-cursor] [--list] [--kind NAME] [--timing FILE] [--no-line-drawing] [--strict] [--max-cells N]; screentext --help says what they do"
+usage_line = codes "usage: screentext [ROWS COLS] [--at SECONDS] [--diff SECONDS] [--history N] [--joined] [--colours] [--html | --html-block | --player | --svg [--animate]] [--speed N] [--idle SECONDS] [--fps N] [--theme NAME] [--font NAME] [--bold-is-bright | --bold-is-plain] [--no-cursor] [--list] [--kind NAME] [--timing FILE] [--no-line-drawing] [--strict] [--max-cells N]; screentext --help says what they do"
     ++ 0x0A ∷ []
 
 -- what is printed where memory is refused

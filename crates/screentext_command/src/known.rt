@@ -52,7 +52,8 @@ fn with_films<'a>(alloc: Global, command: Command<'a>) -> Result<Command<'a>, Al
         command
             .arg(flag(alloc, "animate"))?
             .arg(value(alloc, "speed"))?
-            .arg(value(alloc, "idle"))?,
+            .arg(value(alloc, "idle"))?
+            .arg(value(alloc, "fps"))?,
     )
 }
 

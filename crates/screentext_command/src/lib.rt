@@ -14,6 +14,7 @@ mod known;
 mod limits;
 mod list;
 mod outputs;
+mod pace;
 mod pictures;
 mod reading;
 mod source;

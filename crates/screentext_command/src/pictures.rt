@@ -4,17 +4,15 @@ ghost use Rattle.std.specs.Prelude.{◌≡◌, ◌&&◌, is_some, true, false, n
 ghost use Rattle.std.specs.Option.{option_map, option_map_or};
 ghost use Rattle.clap.specs.Words.{found_of, rows_of};
 ghost use Rattle.recordings.specs.Themes.{theme_reported};
-ghost use Rattle.recordings.specs.Times.{time_in};
 ghost use Rattle.row_pictures.specs.Themes.{is_theme};
-ghost use Rattle.screentext_command.specs.Asked.{SaysManner, bold_meant, idle_meant, manner_of, speed_meant};
-ghost use Rattle.screentext_command.specs.Asked.{theme_meant};
+ghost use Rattle.screentext_command.specs.Asked.{SaysManner, bold_meant, manner_of, theme_meant};
 ghost use Rattle.screentext_command.specs.Texts.{IsLook, theme_shown};
-ghost use Rattle.screentext_command.specs.Words.{are_pictures, is_bold, is_speed};
+ghost use Rattle.screentext_command.specs.Words.{are_pictures, is_bold};
 
+use crate::pace::pace_of;
 use crate::source::owned;
 use clap::ArgMatches;
 use recorded_screen::{Look, Pace, Recording, Theme};
-use recordings::parse_seconds;
 use std::alloc::{AllocError, Global};
 
 /// What the words say of pictures.
@@ -67,28 +65,26 @@ pub(crate) fn pictures_of(
         SaysManner (rows_of (found_of matches.now)) (manner_of pictures))) }
 {
     let theme = theme_of(matches.get_str("theme"));
-    let speed = speed_of(alloc, matches.get_str("speed"))?;
-    let idle = idle_of(alloc, matches.get_str("idle"))?;
+    let pace = pace_of(alloc, matches)?;
     let font = owned(alloc, matches.get_str("font"))?;
     let bold = bold_of(
         matches.get_count("bold-is-bright") > 0,
         matches.get_count("bold-is-plain") > 0,
     );
     let hides_cursor = matches.get_count("no-cursor") > 0;
-    Ok(new_pictures(theme, bold, speed, idle, font, hides_cursor))
+    Ok(new_pictures(theme, bold, pace, font, hides_cursor))
 }
 
 fn new_pictures(
     theme: Option<Option<Theme>>,
     bold: Option<Option<bool>>,
-    speed: Option<u64>,
-    idle: Option<Option<u64>>,
+    pace: Option<Pace>,
     font: Option<String>,
     hides_cursor: bool,
 ) -> Option<Pictures>
-    ensures pictures { is_some result ≡ (is_some theme && (is_some bold && (is_some speed && is_some idle))) }
+    ensures pictures { is_some result ≡ (is_some theme && (is_some bold && is_some pace)) }
     ensures found { IfSome result (λ p. (theme ≡ Some p.theme) × (bold ≡ Some p.bold_is_bright)
-        × (speed ≡ Some p.pace.speed) × (idle ≡ Some p.pace.idle)) }
+        × (pace ≡ Some p.pace)) }
     ensures given { IfSome result (λ p. (p.font ≡ font) × (p.hides_cursor ≡ hides_cursor)) }
 {
     Some(Pictures {
@@ -96,10 +92,7 @@ fn new_pictures(
         font,
         bold_is_bright: bold?,
         hides_cursor,
-        pace: Pace {
-            speed: speed?,
-            idle: idle?,
-        },
+        pace: pace?,
     })
 }
 
@@ -124,28 +117,5 @@ fn bold_of(bright: bool, plain: bool) -> Option<Option<bool>>
         (true, false) => Some(Some(true)),
         (false, true) => Some(Some(false)),
         (true, true) => None,
-    }
-}
-
-// How many millionths of the recorded speed a film has: a million where there is no word.
-fn speed_of(alloc: Global, word: Option<&str>) -> Result<Option<u64>, AllocError>
-    ensures speed { IfOk result (λ s. is_some s ≡ option_map_or is_speed (option_map (λ w. w.now) word.entry) true) }
-    ensures value { IfOk result (λ s. s ≡ speed_meant (option_map (λ w. w.now) word.entry)) }
-{
-    match word {
-        None => Ok(Some(Pace::AS_RECORDED)),
-        Some(word) => Ok(parse_seconds(alloc, word.as_bytes())?.filter(|speed| *speed > 0)),
-    }
-}
-
-// The longest time in which nothing changes, in microseconds, or none where there is no word.
-fn idle_of(alloc: Global, word: Option<&str>) -> Result<Option<Option<u64>>, AllocError>
-    ensures idle { IfOk result (λ t. is_some t ≡ option_map_or (λ w. is_some (time_in w))
-        (option_map (λ w. w.now) word.entry) true) }
-    ensures value { IfOk result (λ t. t ≡ idle_meant (option_map (λ w. w.now) word.entry)) }
-{
-    match word {
-        None => Ok(Some(None)),
-        Some(word) => Ok(parse_seconds(alloc, word.as_bytes())?.map(Some)),
     }
 }

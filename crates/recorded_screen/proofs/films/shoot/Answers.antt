@@ -1,50 +1,38 @@
-use Rattle.std.proofs.Common.{◌≡◌, ◌∙◌, ◌+◌, ap, arith, length, refl, subst, sym, ℕ, List}
-use Rattle.recorded_screen.specs.Shots.{Grows, rows_of}
-use Rattle.recorded_screen.proofs.FilmLemmas.{AreNumbered, IsAmong, grows_by_row, grows_by_shot, grows_none}
-use Rattle.recorded_screen.proofs.FilmLemmas.{one_row_more, shot_taken}
+use Rattle.std.proofs.Common.{◌≡◌, ◌≤◌, ◌∙◌, ap, arith, subst}
+use Rattle.recorded_screen.specs.Film.{TakesShot, slot_start}
+use Rattle.recorded_screen.proofs.FilmLemmas.{none_taken, one_row_more, shot_taken}
 use Rattle.recorded_screen.proofs.PlacedLemmas.{svg_row_is}
 use Rattle.recorded_screen.proofs.films.shoot.Goals as goal
 
 pub loop-row-init : goal.loop-row-init
 loop-row-init c = record {
   reel = c.requires.reel;
-  grows = grows_none c.args.reel.now;
-  shots = refl;
-  numbered = record { count = ap length c.new-numbers.ensures.items; row = λ r lt. absurd (omega arith) };
+  taken = none_taken c.args.look.now c.args.screen.now.state c.slot_start-time.result c.args.reel.now;
 }
 
 pub loop-row-preserved : goal.loop-row-preserved
 loop-row-preserved c =
     let look = c.args.look.now in
     let s = c.args.screen.now.state in
-    let row = c.in_ok-number.ensures.row in
     record {
-      reel = c.in_ok-number.ensures.reel;
-      grows = subst (λ (xs : List ℕ). Grows (IsAmong xs) (λ i. ⊥) c.args.reel.now c.row_number.new.self)
-          (sym c.in_ok-push.ensures.items)
-          (grows_by_row c.args.reel.now c.loop-row.reel c.row_number.new.self c.loop-row.numbers.items
-          c.in_ok-number.number c.loop-row.invariant.grows c.in_ok-number.ensures.grows);
-      shots = c.in_ok-number.ensures.shots ∙ c.loop-row.invariant.shots;
-      numbered = subst (λ (xs : List ℕ). AreNumbered look s (rows_of c.row_number.new.self) xs (c.loop-row.row + 1))
-          (sym c.in_ok-push.ensures.items)
-          (one_row_more look s _ c.in_ok-number.ensures.grows.more_rows _ c.loop-row.numbers.items c.loop-row.row
-          c.in_ok-number.number c.in_ok-number.ensures.grows.rows c.loop-row.invariant.numbered
-          (record {
-            item = row.item;
-            at = row.at;
-            holds = svg_row_is look s c.loop-row.row c.cells_of-cells.result.now c.cursor_in-cursor.result row.item
-                c.cells_of-cells.ensures c.cursor_in-cursor.ensures row.holds;
-          }));
+      reel = c.in_ok-show.ensures.reel;
+      taken = one_row_more look s c.slot_start-time.result c.args.reel.now c.loop-row.reel c.show.new.self c.loop-row.row _
+          c.loop-row.invariant.taken c.in_ok-show.ensures.shows
+          (λ runs row. svg_row_is look s c.loop-row.row c.cells_of-cells.result.now c.cursor_in-cursor.result runs
+          c.cells_of-cells.ensures c.cursor_in-cursor.ensures row);
     }
 
-pub returns-clause-grows : goal.returns-clause-grows
-returns-clause-grows c =
-    grows_by_shot c.args.reel.now c.loop-row.reel c.show.new.self c.loop-row.numbers.items c.deref.result.now
-    c.deref.ensures.value c.loop-row.invariant.grows c.in_ok-show.ensures.grows c.in_ok-show.ensures.shows
+pub show-requires-clause-row : goal.show-requires-clause-row
+show-requires-clause-row c =
+    let lt = c.loop-row-test.true in
+    let end = c.height-row-end.ensures in
+    let same = ap (λ z. z.rows.value) c.loop-row.invariant.taken.size in omega arith
 
 pub returns-clause-shot : goal.returns-clause-shot
 returns-clause-shot c =
-    let end : c.loop-row.row ≡ c.args.screen.now.state.shown.height = omega arith in
-    shot_taken c.args.look.now c.args.screen.now.state c.args.reel.now c.loop-row.reel c.show.new.self
-    c.loop-row.numbers.items c.deref.result.now c.loop-row.row c.deref.ensures.value end c.loop-row.invariant.numbered
-    c.loop-row.invariant.grows c.in_ok-show.ensures.grows c.loop-row.invariant.shots c.in_ok-show.ensures.shows
+    let past = c.loop-row-test.false in
+    let end = c.height-row-end.ensures in
+    subst (λ t. TakesShot c.args.look.now c.args.screen.now.state t c.args.reel.now c.loop-row.reel)
+    (c.slot_start-time.ensures ∙ ap (slot_start c.args.pace) c.time.ensures)
+    (shot_taken c.args.look.now c.args.screen.now.state c.slot_start-time.result c.args.reel.now c.loop-row.reel
+    c.loop-row.row (omega arith) c.loop-row.invariant.taken)

@@ -12,4 +12,10 @@ returns c = record {
   between = λ change. refl;
   behind = λ change. refl;
   faster = λ change. refl;
+  empty = λ change. refl;
+  early = λ change. refl;
+  latest = λ change. refl;
+  start = λ change. refl;
+  next = λ change. refl;
+  fourth = refl;
 }

@@ -1,17 +1,16 @@
-use Rattle.std.proofs.Common.{◌++◌, ◌∙◌, ap, arith, get_or}
+use Rattle.std.proofs.Common.{◌<◌, ◌++◌, ◌∙◌, ap, arith, get_or, length}
 use Rattle.std.proofs.lemmas.List.{take_more}
-use Rattle.recorded_screen.specs.Reel.{row_at, used_row}
+use Rattle.recorded_screen.specs.Reel.{used_row}
 use Rattle.recorded_screen.proofs.ReelLemmas.{numbered_more}
 use Rattle.recorded_screen.proofs.reel.use_rows.Goals as goal
 
-pub loop-row-preserved : goal.loop-row-preserved
-loop-row-preserved c =
-    let rows = c.args.rows.now in
-    let i = c.loop-row.row-index in
-    let x = get_or rows i 0 in
-    record {
-      y = omega arith;
-      bytes = numbered_more used_row _ _ _ rows i x c.loop-row-test.true (take_more rows i 0 c.loop-row-test.true)
-          c.loop-row.invariant.bytes
-          (c.in_ok-use_row.ensures ∙ ap (λ y. c.loop-row.page ++ row_at y x) c.loop-row.invariant.y);
-    }
+pub loop-place-preserved : goal.loop-place-preserved
+loop-place-preserved c =
+    let rows = c.args.rows.now.keys in
+    let i = c.loop-place.place in
+    let cols = c.args.cols in
+    let y = c.args.y in
+    let lt : c.loop-place.place < length c.args.rows.now.keys =
+    (let below = c.loop-place-test.true in let len = c.len-place-end.ensures.len in omega arith) in
+    numbered_more (used_row cols y) _ _ _ rows i (get_or rows i 0) lt (take_more rows i 0 lt) c.loop-place.invariant
+    (c.in_ok-use_row.ensures ∙ ap (λ n. c.loop-place.page ++ used_row cols y i n) c.number_at.ensures)

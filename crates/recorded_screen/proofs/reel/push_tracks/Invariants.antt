@@ -1,0 +1,9 @@
+use Rattle.std.proofs.Common.{◌≡◌, ◌++◌, map, take}
+use Rattle.recorded_screen.specs.Reel.{numbered, track_bytes}
+use Rattle.recorded_screen.specs.Shots.{track_of}
+use Rattle.recorded_screen.proofs.reel.push_tracks.Given as goal
+
+-- the tracks so far
+abbrev pub invariant-loop-number : goal.invariant-loop-number
+invariant-loop-number l =
+    l.page ≡ l.fn.page ++ numbered (track_bytes l.cols) 0 (take l.number (map track_of l.tracks))
