@@ -142,7 +142,7 @@ fn shoot(
     for row in 0..reel.height() {
         let cells = cells_of(screen, row);
         let cursor = cursor_in(screen, row, look);
-        reel.show(alloc, row, cells, cursor, look)?;
+        reel.show(alloc, row, time, cells, cursor, look)?;
     }
     Ok(())
 }

@@ -11,11 +11,13 @@ Arguments:
   COLS  Its columns, 1 to 65535
 
 Options:
-      --no-line-drawing  Letters stay where a program draws lines with DEC's special graphics.
+      --no-line-drawing  The screen reads the output as it is: letters stay where a program
+                         draws lines with DEC's special graphics.
                          The option may also come before ROWS
   -h, --help             Print this help
 
-Standard input is read to its end. Then the rows of the screen are printed.
+Standard input is read to its end. An update that the program left open is ended. Then the rows of
+the screen are printed.
 
 Examples:
   screencat 24 80 < output                      the screen that a program's output leaves
@@ -35,12 +37,14 @@ Arguments:
   COLS  Its columns, 1 to 65535
 
 Options:
-      --no-line-drawing  Letters stay where a program draws lines with DEC's special graphics.
+      --no-line-drawing  The screen reads the output as it is: letters stay where a program
+                         draws lines with DEC's special graphics.
                          The option may also come before ROWS
   -h, --help             Print this help
 
 A frame is written after each read of standard input, and at once. The terminal that reads the
-frames shows each one whole.
+frames shows each one whole. At the end of the input what the program left on is ended, such as an
+update, mouse reports or a hidden cursor, and a last frame is written where one is due.
 
 Examples:
   script -qfc top /dev/null | screenlive 24 80 | ssh there 'cat > /dev/tty1'
