@@ -1,6 +1,7 @@
 -- How many bytes are given for some bytes: at most eight for each, and what the sequence before them may bring.
 use Rattle.std.proofs.Common.{◌≡◌, ℕ, ◌+◌, ◌*◌, ◌≤◌, min, Bool, true, false, List, [], ◌∷◌, length}
-use Rattle.std.proofs.Common.{length-append, ◌==◌, ◌&&◌, ◌||◌, if◌then◌else◌, Option, None, Some, refl, sym, ap, subst, take}
+use Rattle.std.proofs.Common.{length-append, ◌==◌, ◌&&◌, ◌||◌, if◌then◌else◌, Option, None, Some, refl, sym, ap}
+use Rattle.std.proofs.Common.{subst, take}
 use Rattle.std.proofs.Common.{inl, inr, arith}
 use Rattle.std.proofs.lemmas.Bool.Decides.{nat_tests}
 use Rattle.std.proofs.lemmas.Str.{length-encode, len_utf8_bounds}
@@ -14,7 +15,8 @@ use Rattle.vte_core.proofs.Characters.{bool_cases, if_holds}
 use Rattle.charset_filter.specs.Sets.{after_event, after_events}
 use Rattle.charset_filter.specs.Behind.{behind, csi_behind, escape_behind}
 use Rattle.charset_filter.specs.Filter.{is_sequence}
-use Rattle.charset_filter.specs.Given.{drawn_or, given_byte, given_for, given_from, is_drawable, last_behind, last_drawn}
+use Rattle.charset_filter.specs.Given.{drawn_or, given_byte, given_for, given_from, is_drawable}
+use Rattle.charset_filter.specs.Given.{last_behind, last_drawn}
 use Rattle.charset_filter.specs.declared.sets.CharacterSets.{CharacterSets}
 use Rattle.charset_filter.proofs.EventLemmas.{unmarked, unmarked-cons, unmarked-last}
 use Rattle.charset_filter.proofs.MarkLemmas.{escape-ends, csi-ends, outside-unmarked}

@@ -1,5 +1,6 @@
 -- Which bytes have an event behind which something may stand.
-use Rattle.std.proofs.Common.{◌≡◌, ℕ, ◌+◌, Bool, true, false, ◌&&◌, ◌||◌, List, [], ◌∷◌, ◌++◌, length, take, nat_lt, ◌==◌}
+use Rattle.std.proofs.Common.{◌≡◌, ℕ, ◌+◌, Bool, true, false, ◌&&◌, ◌||◌, List, [], ◌∷◌, ◌++◌, length, take}
+use Rattle.std.proofs.Common.{nat_lt, ◌==◌}
 use Rattle.std.proofs.Common.{◌⊎◌, refl, inl, inr}
 use Rattle.std.specs.Int.{is_in_range}
 use Rattle.vte_core.specs.Event.{Event, Print, Execute, Csi, Esc}
@@ -25,8 +26,8 @@ unmarked-char c = if_holds (λ (e : Event). Unmarked (e ∷ [])) (nat_lt c 0x20 
 unmarked-begun : (b : ℕ) → Unmarked (begun b)
 unmarked-begun b = if_holds Unmarked (char_len b == 1) _ _ (unmarked-char (first_bits b))
     (if_holds Unmarked (char_len b == 0) _ _
-    (if_holds (λ (e : Event). Unmarked (e ∷ [])) (1 == 1 && is_in_range 0x80 0x9F b) (Execute b) (Print 0xFFFD) refl refl)
-    refl)
+    (if_holds (λ (e : Event). Unmarked (e ∷ [])) (1 == 1 && is_in_range 0x80 0x9F b) (Execute b) (Print 0xFFFD) refl
+    refl) refl)
 
 unmarked-text : (u : List ℕ) (b : ℕ) → Unmarked (text_reported u b)
 unmarked-text [] b = unmarked-begun b

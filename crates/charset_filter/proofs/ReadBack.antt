@@ -70,7 +70,8 @@ digits-without c (d ∷ ds) m h =
     let r = digit_from_value d h.0 in
     (not-byte c d m (omega (arith, r)) (omega (arith, r)), digits-without c ds m h.1)
 
-append-each : (P : ℕ → Type 0) (xs ys : List ℕ) → AllByRecursion P xs → AllByRecursion P ys → AllByRecursion P (xs ++ ys)
+append-each : (P : ℕ → Type 0) (xs ys : List ℕ) → AllByRecursion P xs → AllByRecursion P ys
+    → AllByRecursion P (xs ++ ys)
 append-each P [] ys h k = k
 append-each P (x ∷ xs) ys h k = (h.0, append-each P xs ys h.1 k)
 

@@ -152,7 +152,7 @@ impl CharsetFilter {
     }
 }
 
-/// Whether an escape sequence or a control sequence may be unfinished after a byte; `before` says whether one was before it.
+/// Whether an escape sequence or a control sequence may be unfinished after a byte, where `before` says it of before.
 fn may_be_in_sequence(before: bool, byte: u8) -> bool
     ensures { result ≡ (if is_esc byte then true else (if ends_both byte then false else before)) }
 {

@@ -19,8 +19,8 @@ pub fn keeps_ascii()
     ensures { KeepsAscii }
 {}
 
-/// Behind SGR with a group that `vt100` doesn't know stands one SGR, and its groups are those that `vt100` knows in their
-/// place; where there are none, nothing.
+/// Behind SGR with a group that `vt100` doesn't know stands one SGR, and its groups are those that `vt100` knows in
+/// their place; where there are none, nothing.
 pub fn stands_as_known()
     ensures { StandsAsKnown }
 {}

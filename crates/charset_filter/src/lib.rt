@@ -59,8 +59,8 @@
 //!
 //! Not resolved is what needs the bytes of a character to be held back: hidden text (SGR 8) and insert mode
 //! (`CSI 4 h`). Nor is U+FFFD, which `vt100` doesn't show, nor what needs to know the cursor: back tabs (`CSI Z`), tab
-//! stops (`ESC H`, `CSI g`), no wrap (`CSI ? 7 l`), `ESC # 8`, and the cursor that xterm leaves in place as modes 47 and
-//! 1047 change.
+//! stops (`ESC H`, `CSI g`), no wrap (`CSI ? 7 l`), `ESC # 8`, and the cursor that xterm leaves in place as modes 47
+//! and 1047 change.
 #![tactic(auto)]
 
 mod behind;

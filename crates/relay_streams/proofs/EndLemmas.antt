@@ -14,7 +14,8 @@ use Rattle.termrelay.specs.Frame.{is_unsure}
 use Rattle.charset_filter.specs.declared.lines.LineDrawing.{LineDrawing}
 use Rattle.charset_filter.specs.declared.lines.LineDrawing.TheVariants.{Kept, Drawn}
 use Rattle.charset_filter.specs.Lines.{passed}
-use Rattle.charset_filter.specs.Sets.{drawn_events, first_sets}
+use Rattle.charset_filter.specs.Behind.{drawn_events}
+use Rattle.charset_filter.specs.Sets.{first_sets}
 use Rattle.charset_filter.proofs.EventLemmas.{drawn_events-append}
 use Rattle.charset_filter.proofs.LawLemmas.{draws-events}
 use Rattle.relay_streams.specs.Frames.{state_after}
