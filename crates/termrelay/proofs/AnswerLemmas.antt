@@ -18,18 +18,6 @@ use Rattle.termrelay.proofs.FrameLengths.{frame-short}
 
 -- ---- what is wanted
 
--- a frame is wanted if it is due
-pub wanted-due : (now : State) (base : Option Shown) (owed : List ℕ) → is_frame (wanted_to now base owed) ≡ true
-    → wanted_to now base owed ≡ due (grid_size now.shown) (shown_state now) base
-wanted-due now base [] frame = grind arith
-wanted-due now base (b ∷ bs) frame = absurd cc
-
--- and where nothing is owed
-pub wanted-none : (now : State) (base : Option Shown) (owed : List ℕ) → is_frame (wanted_to now base owed) ≡ true
-    → owed ≡ []
-wanted-none now base [] frame = refl
-wanted-none now base (b ∷ bs) frame = absurd cc
-
 -- it isn't that a frame is too long
 pub never-wanted : (now : State) (base : Option Shown) (owed : List ℕ) → wanted_to now base owed ≡ TooLong → ⊥
 never-wanted now None [] e = grind arith
@@ -52,10 +40,6 @@ answer-capped now base [] =
     (due (grid_size now.shown) (shown_state now) base)
 answer-capped now base (b ∷ bs) = refl
 
-pub may-take : (long : Bool) (wanted : Answer) → is_frame wanted ≡ true
-    → may_allocate (if is_frame wanted && long then TooLong else wanted) ≡ true
-may-take long wanted frame = grind arith
-
 module _ (now : State) (c : ClientState) (answer : Answer) (is : answer ≡ wanted_of now c) where
   capped : answer_for now c ≡ unless_too_long (grid_size now.shown) (shown_state now) c.base answer
   capped = rw is (answer-capped now c.base c.owed)
@@ -64,10 +48,7 @@ module _ (now : State) (c : ClientState) (answer : Answer) (is : answer ≡ want
   pub answer-none : is_frame answer ≡ false → answer ≡ answer_for now c
   answer-none none = rw (capped, none)
 
-  -- a frame was wanted, for which memory may be taken, and which is too long or not
-  pub answer-memory : is_frame answer ≡ true → may_allocate (answer_for now c) ≡ true
-  answer-memory frame = rw capped (may-take (is_too_long (grid_size now.shown) (shown_state now) c.base) answer frame)
-
+  -- a frame was wanted, which is too long or not
   pub answer-long : is_frame answer ≡ true → is_too_long (grid_size now.shown) (shown_state now) c.base ≡ true
       → TooLong ≡ answer_for now c
   answer-long frame long = rw (capped, frame, long)

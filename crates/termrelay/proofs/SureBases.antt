@@ -16,7 +16,6 @@ use Rattle.termrelay.specs.ClientRecord.{IsBaseOf, is_unsure_screen, sure_base}
 use Rattle.termrelay.specs.contracts.answer.Answer.{the_type}
 use Rattle.termrelay.specs.declared.answer.Answer.{Answer}
 use Rattle.termrelay.specs.declared.answer.Answer.TheVariants.{Full, Difference, Unsure, Unchanged}
-use Rattle.termrelay.proofs.AnswerLemmas.{wanted-due}
 use Rattle.termrelay.proofs.SameLemmas.{same-one}
 
 -- what is true of a sure base of one size, and whether the same is shown as there
@@ -72,17 +71,3 @@ redraw-due now None h e = refl
 redraw-due now (Some v) h e =
     let unsure : is_unsure_screen v ≡ true = grind arith in
     rw (rw h.size at unsure)
-
--- ---- what an answer says
-
-reported : (z : Size) (now : Shown) (base : Option Shown) → sameb the_type (due z now base) Unsure ≡ is_unsure z now
-reported z now None = grind arith
-reported z now (Some base) = grind arith
-
--- where it brings a frame, whether the screen of the frame is sure
-pub unsure-reported : (now : State) (base : Option Shown) (owed : List ℕ) (answer : Answer)
-    → answer ≡ wanted_to now base owed → is_frame answer ≡ true
-    → sameb the_type answer Unsure ≡ is_unsure (grid_size now.shown) (shown_state now)
-unsure-reported now base owed answer is frame =
-    ap (λ a. sameb the_type a Unsure) (is ∙ wanted-due now base owed (rw is at frame))
-    ∙ reported (grid_size now.shown) (shown_state now) base

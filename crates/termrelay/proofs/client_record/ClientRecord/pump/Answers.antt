@@ -7,10 +7,7 @@ use Rattle.termrelay.specs.ClientRecord.{FrameView, RecordView, left_of}
 use Rattle.byte_streams.proofs.PumpLemmas.{pumps-within}
 use Rattle.termrelay.proofs.client_record.ClientRecord.pump.Goals as goal
 
--- so many bytes are left of the last frame
-Holds : Option FrameView → ℕ → Type 0
-Holds last left = IfSome last (λ f. left ≤ length f.text)
-
+-- what is said of a frame is said of the one that is shared
 holds-value : {A : Type 0} (o : Option A) (view : A → FrameView) (left : ℕ)
     → IfSome o (λ a. left ≤ length (view a).text) → IfSome (option_map view o) (λ f. left ≤ length f.text)
 holds-value None view left h = tt
