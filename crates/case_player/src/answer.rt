@@ -83,6 +83,13 @@ impl Answer {
         self.push("\n");
     }
 
+    /// A check inside of the step. Where it doesn't hold, these words are a line of the answer, which no case wants.
+    pub fn check(&mut self, holds: bool, words: &str) {
+        if !holds {
+            self.line(words);
+        }
+    }
+
     /// Whether nothing was appended yet.
     pub fn is_empty(&self) -> bool {
         self.text.is_empty()

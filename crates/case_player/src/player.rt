@@ -9,8 +9,8 @@ use std::alloc::{AllocError, AllocFailed};
 
 /// Plays the steps of cases.
 pub trait Player {
-    /// Begins a case: what earlier ones left is gone.
-    fn begin(&mut self);
+    /// Begins a case of a file in this folder: what earlier ones left is gone.
+    fn begin(&mut self, folder: &str);
 
     /// Takes a step, and appends to the answer a line for each thing that it answers.
     ///

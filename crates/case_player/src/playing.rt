@@ -5,7 +5,7 @@ use crate::invocation::Invocation;
 use crate::lines::{Line, parse_line};
 use crate::player::{Player, StepError};
 use crate::report::{Fault, Place, push_fault, push_listed};
-use crate::words::Words;
+use crate::words::LineWords;
 use std::alloc::{AllocError, Global};
 
 /// What becomes of the next line.
@@ -30,6 +30,7 @@ pub(crate) struct Play {
     lists: bool,
     only: Option<usize>,
     stage: Stage,
+    words: LineWords,
     answer: Answer,
     /// How many cases have begun, also those that aren't played.
     begun: usize,
@@ -51,6 +52,7 @@ impl Play {
             lists: invocation.lists,
             only: invocation.only,
             stage: Stage::Outside,
+            words: LineWords::new(alloc)?,
             answer: Answer::new(alloc)?,
             begun: 0,
             cases: 0,
@@ -134,7 +136,7 @@ impl Play {
         }
         self.cases = self.cases.saturating_add(1);
         self.stage = Stage::Begun;
-        player.begin();
+        player.begin(folder_of(place.file));
     }
 
     fn take<P: Player>(&mut self, player: &mut P, place: &Place<'_>) {
@@ -144,7 +146,7 @@ impl Play {
             Stage::Begun | Stage::Answered | Stage::Undone => {}
         }
         self.stage = Stage::Undone;
-        match taken(player, place.step, &mut self.answer, self.may_refuse) {
+        match self.taken(player, place.step) {
             Ok(()) => {
                 self.stage = Stage::Answered;
                 self.steps = self.steps.saturating_add(1);
@@ -180,31 +182,40 @@ impl Play {
             _ => {}
         }
     }
-}
 
-// Takes a step, once more where memory was refused and may be.
-fn taken<P: Player>(
-    player: &mut P,
-    step: (&str, &str),
-    answer: &mut Answer,
-    may_refuse: bool,
-) -> Result<(), StepError> {
-    match take_once(player, step, answer) {
-        Err(StepError::Memory) if may_refuse => take_once(player, step, answer),
-        outcome => outcome,
+    // Takes a step, once more where memory was refused and may be.
+    fn taken<P: Player>(&mut self, player: &mut P, step: (&str, &str)) -> Result<(), StepError> {
+        match self.take_once(player, step) {
+            Err(StepError::Memory) if self.may_refuse => self.take_once(player, step),
+            outcome => outcome,
+        }
+    }
+
+    fn take_once<P: Player>(
+        &mut self,
+        player: &mut P,
+        (name, words): (&str, &str),
+    ) -> Result<(), StepError> {
+        self.words.read(words)?;
+        self.answer.clear();
+        let mut words = self.words.words();
+        let outcome = player.take(name, &mut words, &mut self.answer);
+        words.check()?;
+        outcome?;
+        if self.answer.is_refused() {
+            return Err(StepError::Memory);
+        }
+        words.end()
     }
 }
 
-fn take_once<P: Player>(
-    player: &mut P,
-    step: (&str, &str),
-    answer: &mut Answer,
-) -> Result<(), StepError> {
-    answer.clear();
-    let mut words = Words::new(step.1);
-    player.take(step.0, &mut words, answer)?;
-    if answer.is_refused() {
-        return Err(StepError::Memory);
+// The name of the folder that a file lies in, if its path says it.
+fn folder_of(path: &str) -> &str {
+    let Some((folder, _)) = path.rsplit_once('/') else {
+        return "";
+    };
+    match folder.rsplit_once('/') {
+        Some((_, last)) => last,
+        None => folder,
     }
-    words.end()
 }

@@ -1,0 +1,102 @@
+//! Rows, cells and texts in answers.
+use case_player::Answer;
+use vt100_core::attrs::Attrs;
+use vt100_core::{Cell, Color, Row};
+
+/// A cell's text: `.` for an empty one, and `_` for the second half of a wide one.
+fn text_of(cell: &Cell) -> &str {
+    if cell.has_contents() {
+        cell.contents()
+    } else if cell.is_wide_continuation() {
+        "_"
+    } else {
+        "."
+    }
+}
+
+/// Appends a row's cells, and `>` where the row is wrapped.
+pub fn push_row(answer: &mut Answer, row: &Row) {
+    for cell in row.cells() {
+        answer.escaped(text_of(cell).as_bytes());
+    }
+    if row.wrapped() {
+        answer.push(">");
+    }
+}
+
+/// Appends a colour after its name, if it isn't the terminal's own.
+fn push_color(answer: &mut Answer, name: &str, color: Color) {
+    match color {
+        Color::Default => {}
+        Color::Idx(index) => write!(answer, " {name} idx {index}"),
+        Color::Rgb(red, green, blue) => write!(answer, " {name} rgb {red} {green} {blue}"),
+    }
+}
+
+/// Appends each word that applies.
+fn push_words(answer: &mut Answer, words: &[(bool, &str)]) {
+    for (applies, word) in words {
+        if *applies {
+            answer.push(word);
+        }
+    }
+}
+
+/// Appends the modes that a cell is drawn in.
+fn push_modes(answer: &mut Answer, cell: &Cell) {
+    let words = [
+        (cell.bold(), " bold"),
+        (cell.dim(), " dim"),
+        (cell.italic(), " italic"),
+        (cell.underline(), " underline"),
+        (cell.inverse(), " inverse"),
+    ];
+    push_words(answer, &words);
+}
+
+/// The attributes that the single calls tell.
+fn told_attrs(cell: &Cell) -> Attrs {
+    let mut attrs = Attrs {
+        fgcolor: cell.fgcolor(),
+        bgcolor: cell.bgcolor(),
+        mode: 0,
+    };
+    if cell.bold() {
+        attrs.set_bold();
+    }
+    if cell.dim() {
+        attrs.set_dim();
+    }
+    attrs.set_italic(cell.italic());
+    attrs.set_underline(cell.underline());
+    attrs.set_inverse(cell.inverse());
+    attrs
+}
+
+/// Appends a cell's text, whether it is wide, and its attributes where they aren't the default ones.
+pub fn push_cell(answer: &mut Answer, cell: &Cell) {
+    answer.escaped(text_of(cell).as_bytes());
+    push_words(answer, &[(cell.is_wide(), " wide")]);
+    push_color(answer, "fg", cell.fgcolor());
+    push_color(answer, "bg", cell.bgcolor());
+    push_modes(answer, cell);
+    answer.end_line();
+    answer.check(
+        cell.attrs() == told_attrs(cell),
+        "attrs() tells other attributes than the single calls",
+    );
+}
+
+/// Appends a text as a quoted line.
+pub fn tell_text(answer: &mut Answer, text: &str) {
+    answer.quoted_line(text.as_bytes());
+}
+
+/// Whether something draws with the default attributes.
+pub fn plainness(attrs: Attrs) -> &'static str {
+    if attrs == Attrs::new() {
+        "plain"
+    } else {
+        "not plain"
+    }
+}

@@ -1,0 +1,102 @@
+//! Characters that are printed on a row.
+use crate::grids::answers::push_cell;
+use crate::grids::words::{character, color};
+use case_player::{Answer, Words};
+use vt100_core::Row;
+use vt100_core::attrs::Attrs;
+use vt100_rows::{Join, columns};
+
+/// Prints a text from column `col` on, as far as the row goes.
+pub fn print(row: &mut Row, col: u16, text: &str, attrs: Attrs) {
+    let mut col = col;
+    for c in text.chars() {
+        match columns(c) {
+            Some(0) if 0 < col && col <= row.cols() => {
+                if let Join::Widened = row.join(col, c, attrs) {
+                    col = col.saturating_add(1);
+                }
+            }
+            Some(n) if 0 < n && u32::from(col) + u32::from(n) <= u32::from(row.cols()) => {
+                row.put(col, c, n, attrs);
+                col += n;
+            }
+            _ => {}
+        }
+    }
+}
+
+/// Puts a character that takes columns.
+fn put(row: &mut Row, attrs: Attrs, words: &mut Words<'_>) {
+    let (col, c) = (words.place(), character(words));
+    match columns(c) {
+        Some(n) if 0 < n && u32::from(col) + u32::from(n) <= u32::from(row.cols()) => {
+            row.put(col, c, n, attrs);
+        }
+        _ => words.want("a character that fits there"),
+    }
+}
+
+/// Joins a character that takes no column, and tells what became of it.
+fn join(row: &mut Row, attrs: Attrs, words: &mut Words<'_>, answer: &mut Answer) {
+    let (col, c) = (words.place(), character(words));
+    match columns(c) {
+        Some(0) if 0 < col && col <= row.cols() => { tell_join(row.join(col, c, attrs), answer) }
+        _ => words.want("a character that joins one there"),
+    }
+}
+
+fn tell_join(join: Join, answer: &mut Answer) {
+    match join {
+        Join::InPlace => answer.line("in place"),
+        Join::Ignored => answer.line("ignored"),
+        Join::Widened => answer.line("widened"),
+        Join::Carried(cell) => {
+            answer.push("carried ");
+            push_cell(answer, &cell);
+        }
+    }
+}
+
+/// Takes a step that prints, if it is one.
+pub fn print_at(
+    row: &mut Row,
+    pen: Attrs,
+    name: &str,
+    words: &mut Words<'_>,
+    answer: &mut Answer,
+) -> bool {
+    match name {
+        "print" => print(row, words.place(), words.text(), pen),
+        "put" => put(row, pen, words),
+        "join" => join(row, pen, words, answer),
+        _ => return false,
+    }
+    true
+}
+
+/// Sets the attributes to draw with: two colours, and modes.
+pub fn set_pen(pen: &mut Attrs, words: &mut Words<'_>) {
+    let mut attrs = Attrs {
+        fgcolor: color(words),
+        bgcolor: color(words),
+        mode: 0,
+    };
+    for _ in 0..u64::MAX {
+        if words.is_empty() {
+            break;
+        }
+        add_mode(&mut attrs, words);
+    }
+    *pen = attrs;
+}
+
+fn add_mode(attrs: &mut Attrs, words: &mut Words<'_>) {
+    match words.word() {
+        "bold" => attrs.set_bold(),
+        "dim" => attrs.set_dim(),
+        "italic" => attrs.set_italic(true),
+        "underline" => attrs.set_underline(true),
+        "inverse" => attrs.set_inverse(true),
+        _ => words.want("bold, dim, italic, underline or inverse"),
+    }
+}

@@ -1,0 +1,117 @@
+//! The words of attributes, and the changes from some to others.
+use crate::screens::answers::{BEGUN, appended, tell_text};
+use crate::screens::limited::{Limited, check_writes};
+use crate::screens::modes::switch_of;
+use case_player::{Answer, StepError, Words};
+use std::alloc::Global;
+use std::fmt;
+use vt100_forms::Color;
+use vt100_forms::attrs::Attrs;
+use vt100_forms::term::{self, Intensity};
+
+const COLOR: &str = "a colour: default, an index, or red;green;blue";
+
+/// The colour that a text says, if it is one.
+fn parse_color(word: &str) -> Option<Color> {
+    if word == "default" {
+        return Some(Color::Default);
+    }
+    let Some((red, rest)) = word.split_once(';') else {
+        return Some(Color::Idx(word.parse::<u8>().ok()?));
+    };
+    let (green, blue) = rest.split_once(';')?;
+    Some(Color::Rgb(
+        red.parse::<u8>().ok()?,
+        green.parse::<u8>().ok()?,
+        blue.parse::<u8>().ok()?,
+    ))
+}
+
+fn color_of(words: &mut Words<'_>, word: &str) -> Color {
+    words.named(parse_color(word), COLOR, Color::Default)
+}
+
+fn color(words: &mut Words<'_>) -> Color {
+    let word = words.word();
+    color_of(words, word)
+}
+
+/// Attributes: the colours of the text and behind it, and the bits of the mode.
+pub fn attributes(words: &mut Words<'_>) -> Attrs {
+    let (fgcolor, bgcolor) = (color(words), color(words));
+    let mode = words.word().parse::<u8>().ok();
+    Attrs {
+        fgcolor,
+        bgcolor,
+        mode: words.named(mode, "a mode up to 255", 0),
+    }
+}
+
+/// A change of attributes.
+#[derive(Clone, Copy)]
+pub struct Change {
+    /// Those before.
+    pub old: Attrs,
+    /// Those after.
+    pub new: Attrs,
+}
+
+impl Change {
+    fn write(&self, writer: &mut Limited) -> fmt::Result {
+        self.new.write_escape_code_diff_fmt(writer, &self.old)
+    }
+}
+
+/// Tells a change. A writer gets it in one call, or in no call if it is empty.
+pub fn tell_change(alloc: Global, change: &Change, answer: &mut Answer) -> Result<(), StepError> {
+    let mut text = String::from_str(alloc, BEGUN)?;
+    let written = change.new.write_escape_code_diff(&mut text, &change.old);
+    let form = appended(text.as_str(), written)?;
+    check_writes(alloc, form, |writer| change.write(writer))?;
+    tell_text(answer, form);
+    Ok(())
+}
+
+/// The attributes that are named, in the order of the words: both colours, the intensity, and whether text is in
+/// italics, underlined and inverse. What is `-` isn't named.
+pub fn named_attributes(words: &mut Words<'_>) -> term::Attrs {
+    let mut attrs = term::Attrs::default();
+    if let Some(word) = named(words) {
+        attrs = attrs.fgcolor(color_of(words, word));
+    }
+    if let Some(word) = named(words) {
+        attrs = attrs.bgcolor(color_of(words, word));
+    }
+    if let Some(word) = named(words) {
+        attrs = attrs.intensity(intensity_of(words, word));
+    }
+    if let Some(word) = named(words) {
+        attrs = attrs.italic(switch_of(words, word));
+    }
+    if let Some(word) = named(words) {
+        attrs = attrs.underline(switch_of(words, word));
+    }
+    if let Some(word) = named(words) {
+        attrs = attrs.inverse(switch_of(words, word));
+    }
+    attrs
+}
+
+fn named<'a>(words: &mut Words<'a>) -> Option<&'a str> {
+    match words.word() {
+        "-" => None,
+        word => Some(word),
+    }
+}
+
+fn intensity_of(words: &mut Words<'_>, word: &str) -> Intensity {
+    match word {
+        "normal" => Intensity::Normal,
+        "bold" => Intensity::Bold,
+        "dim" => Intensity::Dim,
+        _ => {
+            words.want("normal, bold, dim or -");
+            Intensity::Normal
+        }
+    }
+}

@@ -1,0 +1,73 @@
+//! Captures: what is written of rows, and what is read of it.
+use crate::screens::answers::{tell_lines, tell_text, written};
+use crate::screens::log::Log;
+use case_player::{Answer, StepError, Words};
+use std::alloc::Global;
+use vt100::Parser;
+use vt100::capture::{
+    BasicFormattedCaptureRange, basic_formatted_rows, basic_formatted_to_plain,
+    basic_formatted_to_plain_indexed,
+};
+
+/// Tells the calls that the callbacks got since they were last told. From now on they are told.
+pub fn tell_calls(parser: &mut Parser<Log>, answer: &mut Answer) -> Result<(), StepError> {
+    let log = parser.callbacks_mut();
+    if log.is_cut {
+        return Err(StepError::Ended);
+    }
+    tell_lines(answer, log.calls.as_str());
+    log.calls.clear();
+    Ok(())
+}
+
+/// Tells the capture of the rows that left, and of all that are left, where `whole` says so.
+pub fn tell_capture(
+    alloc: Global,
+    parser: &Parser<Log>,
+    whole: bool,
+    answer: &mut Answer,
+) -> Result<(), StepError> {
+    let log = parser.callbacks();
+    if log.is_cut {
+        return Err(StepError::Ended);
+    }
+    let mut text = String::from_str(alloc, log.capture.as_str())?;
+    if whole {
+        let mut state = log.state.clone()?;
+        let range = BasicFormattedCaptureRange::Full(&mut state);
+        let screen = parser.screen();
+        written(screen.write_contents_formatted_basic(&mut text, range))?;
+    }
+    tell_text(answer, text.as_str());
+    Ok(())
+}
+
+/// Reads a capture: its rows, its plain pieces, or these with their places.
+pub fn read_capture(name: &str, words: &mut Words<'_>, answer: &mut Answer) {
+    let capture = words.text();
+    match name {
+        "cut" => tell_cut(capture, words.place(), answer),
+        "plain" => tell_plain(capture, answer),
+        _ => tell_pieces(capture, answer),
+    }
+}
+
+fn tell_cut(capture: &str, width: u16, answer: &mut Answer) {
+    for row in basic_formatted_rows(capture, width) {
+        tell_text(answer, row);
+    }
+}
+
+fn tell_plain(capture: &str, answer: &mut Answer) {
+    for piece in basic_formatted_to_plain(capture) {
+        tell_text(answer, piece);
+    }
+}
+
+fn tell_pieces(capture: &str, answer: &mut Answer) {
+    for (place, piece) in basic_formatted_to_plain_indexed(capture) {
+        answer.number(place as u64);
+        answer.push(" ");
+        tell_text(answer, piece);
+    }
+}

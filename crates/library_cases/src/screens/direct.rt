@@ -1,0 +1,27 @@
+//! Direct calls on a screen.
+use case_player::Words;
+use vt100::{ScreenError, WrappedScreen};
+
+/// Makes the call that the words say, and tells its answer. A call that answers nothing is never refused.
+pub fn call(wrapped: &mut WrappedScreen<()>, words: &mut Words<'_>) -> Result<(), ScreenError> {
+    match words.word() {
+        "text" => return wrapped.text(character(words)),
+        "lf" => return wrapped.lf(),
+        "vt" => return wrapped.vt(),
+        "ff" => return wrapped.ff(),
+        "su" => return wrapped.su(words.place()),
+        "ris" => return wrapped.ris(),
+        "set_size_with_cb" => return wrapped.set_size_with_cb(words.size(), words.size()),
+        "cha" => wrapped.cha(words.place()),
+        "vpa" => wrapped.vpa(words.place()),
+        "cup" => wrapped.cup((words.place(), words.place())),
+        "decstbm" => wrapped.decstbm((words.place(), words.place())),
+        _ => words.want("the name of a call"),
+    }
+    Ok(())
+}
+
+fn character(words: &mut Words<'_>) -> char {
+    let first = words.text().chars().next();
+    words.named(first, "a character", ' ')
+}

@@ -1,0 +1,96 @@
+//! What plays the steps of a case.
+use crate::screens::attributes::{Change, attributes, tell_change};
+use crate::screens::captures::{read_capture, tell_calls, tell_capture};
+use crate::screens::forms::tell_form;
+use crate::screens::questions::ask;
+use crate::screens::stage::Stage;
+use case_player::{Answer, StepError, Words};
+use std::alloc::Global;
+use vt100_forms::attrs::Attrs;
+
+/// Plays steps on a parser and its screen, and tells forms and what captures are.
+#[derive(Drop)]
+pub struct ScreenPlayer {
+    alloc: Global,
+    /// What the step `new` made.
+    stage: Option<Stage>,
+    /// The attributes that a change begins with.
+    old: Attrs,
+}
+
+impl ScreenPlayer {
+    /// A player with nothing on its stage.
+    pub fn new(alloc: Global) -> ScreenPlayer {
+        ScreenPlayer {
+            alloc,
+            stage: None,
+            old: Attrs::new(),
+        }
+    }
+
+    /// Takes a step that needs no screen.
+    fn take_alone(
+        &mut self,
+        name: &str,
+        words: &mut Words<'_>,
+        answer: &mut Answer,
+    ) -> Result<(), StepError> {
+        match name {
+            "new" => self.stage = Some(Stage::new(self.alloc, words)?),
+            "form" => tell_form(self.alloc, words, answer)?,
+            "from" => self.old = attributes(words),
+            "to" => {
+                let (old, new) = (self.old, attributes(words));
+                tell_change(self.alloc, &Change { old, new }, answer)?;
+            }
+            _ => read_capture(name, words, answer),
+        }
+        Ok(())
+    }
+
+    /// Begins a case.
+    pub fn begin(&mut self) {
+        self.stage = None;
+        self.old = Attrs::new();
+    }
+
+    /// Takes a step.
+    pub fn take(
+        &mut self,
+        name: &str,
+        words: &mut Words<'_>,
+        answer: &mut Answer,
+    ) -> Result<(), StepError> {
+        match (name, &mut self.stage) {
+            ("new" | "form" | "from" | "to" | "cut" | "plain" | "pieces", _) => {
+                self.take_alone(name, words, answer)
+            }
+            (_, Some(stage)) => take_on_stage(self.alloc, stage, name, words, answer),
+            (_, None) => Err(StepError::Wrong("no step new stands before this step")),
+        }
+    }
+}
+
+/// Takes a step on a stage.
+fn take_on_stage(
+    alloc: Global,
+    stage: &mut Stage,
+    name: &str,
+    words: &mut Words<'_>,
+    answer: &mut Answer,
+) -> Result<(), StepError> {
+    match name {
+        "feed" | "print" | "fill" | "set_size" | "set_screen_size" | "set_scrollback" => {
+            stage.change(alloc, name, words)
+        }
+        "set_base" | "set_base_shown" | "copy_shown" | "set_base_scrollback" => {
+            stage.change_base(alloc, name, words)
+        }
+        "call" => stage.call(alloc, words),
+        "copy" | "redraw" => stage.check(alloc, name),
+        "calls" => tell_calls(&mut stage.parser, answer),
+        "captured" => tell_capture(alloc, &stage.parser, false, answer),
+        "capture" => tell_capture(alloc, &stage.parser, true, answer),
+        _ => ask(alloc, stage, name, words, answer),
+    }
+}

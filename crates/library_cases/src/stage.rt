@@ -1,0 +1,62 @@
+//! What plays the steps of each folder's cases.
+
+use crate::grids::GridPlayer;
+use crate::screens::ScreenPlayer;
+use crate::streams::StreamPlayer;
+use case_player::{Answer, Player, StepError, Words};
+use std::alloc::Global;
+
+/// What cases are about.
+#[derive(Clone, Copy)]
+enum Subject {
+    Streams,
+    Grids,
+    Screens,
+}
+
+/// A player for each folder of cases, and whose turn it is.
+#[derive(Drop)]
+pub struct Stage {
+    subject: Subject,
+    streams: StreamPlayer,
+    grids: GridPlayer,
+    screens: ScreenPlayer,
+}
+
+impl Stage {
+    /// Players that have taken no step.
+    pub fn new(alloc: Global) -> Stage {
+        Stage {
+            subject: Subject::Streams,
+            streams: StreamPlayer::new(alloc),
+            grids: GridPlayer::new(alloc),
+            screens: ScreenPlayer::new(alloc),
+        }
+    }
+}
+
+impl Player for Stage {
+    fn begin(&mut self, folder: &str) {
+        self.subject = match folder {
+            "grids" => Subject::Grids,
+            "screens" => Subject::Screens,
+            _ => Subject::Streams,
+        };
+        self.streams.begin();
+        self.grids.begin();
+        self.screens.begin();
+    }
+
+    fn take(
+        &mut self,
+        name: &str,
+        words: &mut Words<'_>,
+        answer: &mut Answer,
+    ) -> Result<(), StepError> {
+        match self.subject {
+            Subject::Streams => self.streams.take(name, words, answer),
+            Subject::Grids => self.grids.take(name, words, answer),
+            Subject::Screens => self.screens.take(name, words, answer),
+        }
+    }
+}

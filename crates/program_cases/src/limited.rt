@@ -1,0 +1,59 @@
+//! A writer with a limit.
+
+use std::io;
+use std::io::{ErrorKind, Write};
+
+/// A writer that keeps the bytes it takes, so many a write. Once it has taken `room` bytes, each write of more fails, or
+/// takes nothing.
+#[derive(Drop)]
+pub struct LimitedWriter {
+    /// The bytes that it took.
+    pub kept: Vec<u8>,
+    /// How many bytes it takes altogether.
+    pub room: usize,
+    /// How many bytes it takes at most in one write.
+    pub step: usize,
+    /// What a write is answered then, or none where it takes nothing.
+    pub fault: Option<ErrorKind>,
+    /// Whether a flush succeeds. If not, it fails with `BrokenPipe`.
+    pub flushes: bool,
+    /// How many flushes were made, also those that failed.
+    pub flushed: u64,
+}
+
+impl LimitedWriter {
+    /// A writer that takes all in one write, and keeps it behind these bytes.
+    pub fn new(kept: Vec<u8>, room: usize) -> LimitedWriter {
+        LimitedWriter {
+            kept,
+            room,
+            step: usize::MAX,
+            fault: None,
+            flushes: true,
+            flushed: 0,
+        }
+    }
+}
+
+impl Write for LimitedWriter {
+    fn write(&mut self, buf: &[u8]) -> io::Result<usize> {
+        let left = self.room.saturating_sub(self.kept.len());
+        let (taken, _) = buf.split_at(buf.len().min(self.step).min(left));
+        match self.fault {
+            Some(kind) if taken.is_empty() && !buf.is_empty() => Err(io::Error::from(kind)),
+            _ => {
+                self.kept.extend_from_slice(taken)?;
+                Ok(taken.len())
+            }
+        }
+    }
+
+    fn flush(&mut self) -> io::Result<()> {
+        self.flushed = self.flushed.saturating_add(1);
+        if self.flushes {
+            Ok(())
+        } else {
+            Err(io::Error::from(ErrorKind::BrokenPipe))
+        }
+    }
+}

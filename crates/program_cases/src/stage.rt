@@ -1,0 +1,46 @@
+//! What plays the steps of each folder's cases.
+
+use crate::commands::CommandPlayer;
+use crate::relays::RelayPlayer;
+use case_player::{Answer, Disk, Player, StepError, Words};
+
+/// A player for each folder of cases, and whose turn it is.
+#[derive(Drop)]
+pub struct Stage<'a> {
+    // Whether the cases are about command lines.
+    is_command: bool,
+    commands: CommandPlayer<'a>,
+    relays: RelayPlayer,
+}
+
+impl<'a> Stage<'a> {
+    /// Players that have taken no step. Files lie on the system's disk.
+    pub fn new(rt: &'a HostRuntime) -> Stage<'a> {
+        Stage {
+            is_command: false,
+            commands: CommandPlayer::new(rt.alloc(), Disk(rt)),
+            relays: RelayPlayer::new(rt.alloc()),
+        }
+    }
+}
+
+impl Player for Stage<'_> {
+    fn begin(&mut self, folder: &str) {
+        self.is_command = folder == "commands";
+        self.commands.begin();
+        self.relays.begin();
+    }
+
+    fn take(
+        &mut self,
+        name: &str,
+        words: &mut Words<'_>,
+        answer: &mut Answer,
+    ) -> Result<(), StepError> {
+        if self.is_command {
+            self.commands.take(name, words, answer)
+        } else {
+            self.relays.take(name, words, answer)
+        }
+    }
+}
