@@ -1,6 +1,6 @@
 //! Reads a stream into a terminal of alacritty_terminal again and again:
-//! `peer_alacritty screen|kept ROWS COLS TIMES < STREAM`. Or has one that keeps 100,000 rows scroll back, give its text or
-//! resize: `peer_alacritty scrollback|contents|resize ROWS COLS TIMES < STREAM`.
+//! `peer_alacritty screen|kept ROWS COLS TIMES < STREAM`. Or has one that keeps 100,000 rows scroll back, give its text
+//! or resize: `peer_alacritty scrollback|contents|resize ROWS COLS TIMES < STREAM`.
 use alacritty_terminal::ansi::Processor;
 use alacritty_terminal::config::Config;
 use alacritty_terminal::event::VoidListener;
