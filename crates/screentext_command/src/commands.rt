@@ -30,8 +30,9 @@ const MEMORY_LINE: &[u8] = b"screentext: memory\n";
 const USAGE_LINE: &[u8] =
     b"usage: screentext [ROWS COLS] [--at SECONDS] [--diff SECONDS] [--history N] [--joined] \
 [--colours] [--html | --html-block | --player | --svg [--animate]] [--speed N] \
-[--idle SECONDS] [--theme NAME] [--font NAME] [--bold-is-bright | --bold-is-plain] [--no-cursor] [--list] [--kind NAME] [--timing FILE] \
-[--no-line-drawing] [--strict] [--max-cells N]; screentext --help says what they do\n";
+[--idle SECONDS] [--fps N] [--theme NAME] [--font NAME] [--bold-is-bright | --bold-is-plain] [--no-cursor] \
+[--list] [--kind NAME] [--timing FILE] [--no-line-drawing] [--strict] [--max-cells N]; \
+screentext --help says what they do\n";
 
 /// Runs the program where no file can be read: [`command_with`] without a timing file.
 pub fn command<R: Source, W: FlushSink, V: ByteSink>(

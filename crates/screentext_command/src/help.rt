@@ -12,7 +12,7 @@ Arguments:
 Options:
       --at <SECONDS|MARKER>    The screen at this time of the recording, or at this marker, and not at its end
       --diff <SECONDS|MARKER>  The rows that changed from this time on, before and after
-      --history <N>            The newest N rows that left at the top, before those of the screen; not in films and pages
+      --history <N>            The newest N rows that left at the top, before those of the screen; not in films or pages
       --joined...              A row that goes on in the next is one line with it, in text
       --colours...             Colours and other attributes, as escape sequences (SGR) [alias: --colors]
       --html...                A page in HTML that shows the screen

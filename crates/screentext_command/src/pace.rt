@@ -20,10 +20,7 @@ const USUAL_RATE: u16 = 30;
 const MOST_RATE: u16 = 1000;
 
 /// Reads the words that say it.
-pub(crate) fn pace_of(
-    alloc: Global,
-    matches: &ArgMatches<'_>,
-) -> Result<Option<Pace>, AllocError>
+pub(crate) fn pace_of(alloc: Global, matches: &ArgMatches<'_>) -> Result<Option<Pace>, AllocError>
     ensures pace { IfOk result (λ p. is_some p ≡ are_paces (rows_of (found_of matches.now))) }
     ensures says { IfOk result (λ p. IfSome p (SaysPace (rows_of (found_of matches.now)))) }
 {
