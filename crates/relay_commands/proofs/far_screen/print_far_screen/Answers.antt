@@ -26,7 +26,9 @@ returns-in_err-client-clause-prints g c =
 
 pub returns-in_err-view-clause-prints : goal.returns-in_err-view-clause-prints
 returns-in_err-view-clause-prints g c =
-    let is : c.from_residual-in_err-view.result ≡ Err Memory = search rules in
+    let made = c.from_residual-in_err-view in
+    let p = err_from_is_err_and made.result made.ensures.1 in
+    let is : c.from_residual-in_err-view.result ≡ Err Memory = p.1 ∙ ap Err p.2 in
     rw is (refused refl refl)
 
 pub returns-in_err-carry_frames-clause-prints : goal.returns-in_err-carry_frames-clause-prints
