@@ -1,6 +1,8 @@
 //! Cases of byte streams: their events, the calls of a handler, and what the character sets draw.
 
+mod call_log;
 mod calls;
+mod constants;
 mod cuts;
 mod drawing;
 mod events;
@@ -9,6 +11,7 @@ mod player;
 mod runs;
 mod states;
 mod text;
+mod timed;
 mod values;
 
 pub use player::StreamPlayer;

@@ -8,5 +8,3 @@ mod relays;
 mod same;
 #[cfg(test)]
 mod screens;
-#[cfg(test)]
-mod streams;

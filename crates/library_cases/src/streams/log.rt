@@ -2,7 +2,7 @@
 
 ghost use Rattle.std.specs.Prelude.{⊤, ◌≡◌};
 
-use call_log::CallLog;
+use super::call_log::CallLog;
 use case_player::StepError;
 use std::alloc::{AllocError, Global};
 use vte_core::{Event, Params, Perform};
@@ -19,7 +19,7 @@ pub enum Until {
 }
 
 /// How many bytes a log has room for.
-const ROOM: usize = 65_536;
+pub const ROOM: usize = 65_536;
 
 /// The events or calls so far, each as a few words.
 #[derive(Drop)]

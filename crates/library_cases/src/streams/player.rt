@@ -1,12 +1,14 @@
 //! The player of the steps.
 
 use super::calls::{Held, tell_calls};
+use super::constants::tell_constants;
 use super::cuts::{tell_cut, tell_whole};
 use super::drawing::tell_drawn;
 use super::events::{InRuns, Keeping, tell_until};
 use super::log::Log;
 use super::states::tell_states;
 use super::text::{tell_after, tell_fours};
+use super::timed::{tell_flagged, tell_timeout, tell_times};
 use super::values::{tell_color, tell_mapped, tell_mode, tell_private_mode, tell_sums};
 use case_player::{Answer, StepError, Words};
 use std::alloc::Global;
@@ -56,6 +58,8 @@ impl StreamPlayer {
             "new" | "advance" | "stop" | "pending" | "sets" => {
                 self.held.take(name, log, words, answer)
             }
+            "flagged" => tell_flagged(alloc, words, answer),
+            "times" => tell_times(alloc, words, answer),
             _ => {
                 take_value(name, words, answer);
                 Ok(())
@@ -72,6 +76,7 @@ fn take_value(name: &str, words: &mut Words<'_>, answer: &mut Answer) {
         "color" => tell_color(words.text(), answer),
         "drawn" => tell_mapped(words.text(), answer),
         "color_sums" => tell_sums(words, answer),
-        _ => words.fail(StepError::Unknown),
+        "timeout" => tell_timeout(words, answer),
+        _ => tell_constants(name, words, answer),
     }
 }

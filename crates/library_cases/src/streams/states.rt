@@ -1,9 +1,9 @@
 //! Each byte in each state, against the table of states written out.
 
+use super::call_log::CallLog;
 use crate::streams::cuts::read;
 use crate::streams::events::Keeping;
 use crate::streams::log::{Log, Until};
-use call_log::CallLog;
 use case_player::{Answer, StepError};
 use std::alloc::Global;
 

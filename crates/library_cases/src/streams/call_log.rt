@@ -1,7 +1,6 @@
-//! A handler that writes down its calls, for tests.
+//! A handler that writes down its calls.
 //!
-//! An implementation of `vte`'s `Handler` is proved method by method. So the tests share this one.
-#![tactic(auto)]
+//! An implementation of `vte`'s `Handler` is proved method by method. So all steps share this one.
 
 ghost use Rattle.std.specs.Prelude.{⊤};
 
