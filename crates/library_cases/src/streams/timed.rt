@@ -54,9 +54,19 @@ pub fn tell_flagged(
     answer: &mut Answer,
 ) -> Result<(), StepError> {
     let flag = Cell::new(false);
+    play_flagged(&flag, alloc, words, answer)
+}
+
+// Answers the calls of a processor whose timeout is this flag.
+fn play_flagged(
+    flag: &Cell<bool>,
+    alloc: Global,
+    words: &mut Words<'_>,
+    answer: &mut Answer,
+) -> Result<(), StepError> {
     let mut log = CallLog::new(alloc);
     log.restart(ROOM)?;
-    let Ok(mut processor) = Processor::new(alloc, Flagged(&flag)) else {
+    let Ok(mut processor) = Processor::new(alloc, Flagged(flag)) else {
         return Err(StepError::Memory);
     };
     for _ in 0..MOST_WORDS {
@@ -66,7 +76,7 @@ pub fn tell_flagged(
         match words.bytes() {
             b"up" => flag.set(true),
             b"down" => flag.set(false),
-            b"watch" => log.flag = Some(&flag),
+            b"watch" => log.flag = Some(flag),
             b"count" => log.inputs = Some(0),
             piece => hand(&mut processor, &mut log, piece, words, answer),
         }
