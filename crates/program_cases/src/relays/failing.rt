@@ -25,16 +25,15 @@ fn tells(hub: &mut Hub, call: &Call<'_>, told: Told) -> bool {
     told_by(hub, call, &mut Writer::new()) == told
 }
 
+// A failed hub refuses everything, and knows nobody whom it didn't attach.
 fn check_refusals(hub: &mut Hub) -> Result<(), StepError> {
     let one = NonZeroU16::MIN;
+    let nobody = Client::from_key(usize::MAX);
     if tells(hub, &Call::Feed(b"x"), Told::Failed)
         && tells(hub, &Call::Attach, Told::Failed)
         && tells(hub, &Call::Resize(one, one), Told::Failed)
-        && tells(
-            hub,
-            &Call::Frame(Client::from_key(usize::MAX)),
-            Told::Unknown,
-        )
+        && tells(hub, &Call::Frame(nobody), Told::Unknown)
+        && tells(hub, &Call::Pump(nobody, &[]), Told::Unknown)
     {
         Ok(())
     } else {
