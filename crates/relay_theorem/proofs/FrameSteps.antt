@@ -22,7 +22,7 @@ pub byte-base : (z : Size) (base : Option Shown) → IsShotBase z base → HasBy
 byte-base z None h = tt
 byte-base z (Some base) h = h.small.attrs
 
-shots-sent : (z : Size) (base : Option Shown) (now : Shown) → IsShotBase z base → IsShot z now
+pub shots-sent : (z : Size) (base : Option Shown) (now : Shown) → IsShotBase z base → IsShot z now
     → AreSentForms (body_forms z base now)
 shots-sent z base now b h =
     body-sent z base now (byte-base z base b) h.small h.known

@@ -156,24 +156,24 @@ text-some z base now true text h e = h
 text-some z base now false text h e = absurd (let no : false ≡ true = e in cc)
 
 module _ (rows cols : ℕ) (z : Size) (height : IsSide z.rows) (width : IsSide z.cols) where
-  small : IsSmall z
+  pub small : IsSmall z
   small = (height.1, width.1)
 
   -- what was shown at the last frame
-  abbrev base_of : Option Entry → Option Shown
+  abbrev pub base_of : Option Entry → Option Shown
   base_of None = None
   base_of (Some e) = Some (shown_at rows cols e)
 
-  abbrev Known : Option Entry → Type 0
+  abbrev pub Known : Option Entry → Type 0
   Known None = Unit {0}
   Known (Some e) = IsShot z (shown_at rows cols e) × (is_unsure z (shown_at rows cols e) ≡ true → e.answer ≡ Unsure)
       × (size_at rows cols e ≡ z) × (e.answer ≡ Unsure → is_unsure z (shown_at rows cols e) ≡ true)
 
-  known-base : (last : Option Entry) → Known last → IsShotBase z (base_of last)
+  pub known-base : (last : Option Entry) → Known last → IsShotBase z (base_of last)
   known-base None h = tt
   known-base (Some e) h = h.0
 
-  abbrev frame_by : Bool → Option Entry → Entry → Option Entry
+  abbrev pub frame_by : Bool → Option Entry → Entry → Option Entry
   frame_by frame last e = if frame then Some e else last
 
   base-by : (frame : Bool) (last : Option Entry) (e : Entry)
@@ -181,21 +181,21 @@ module _ (rows cols : ℕ) (z : Size) (height : IsSide z.rows) (width : IsSide z
   base-by true last e = refl
   base-by false last e = refl
 
-  later : (last : Option Entry) (e : Entry) (es : List Entry)
+  pub later : (last : Option Entry) (e : Entry) (es : List Entry)
       → AreAnswered rows cols z (base_of last) (e ∷ es) → AreAnswered rows cols z (base_of (frame_or last e)) es
   later last e es h = subst (λ base. AreAnswered rows cols z base es) (base-by (is_frame e.answer) last e) h.1
 
-  entry-none : (last : Option Entry) (e : Entry) → IsAnswered rows cols z (base_of last) e → is_frame e.answer ≡ false
+  pub entry-none : (last : Option Entry) (e : Entry) → IsAnswered rows cols z (base_of last) e → is_frame e.answer ≡ false
       → e.text ≡ []
   entry-none last e h f =
       text-none z (base_of last) (shown_at rows cols e) (is_frame e.answer) e.text h.text f
 
-  entry-some : (last : Option Entry) (e : Entry) → IsAnswered rows cols z (base_of last) e → is_frame e.answer ≡ true
+  pub entry-some : (last : Option Entry) (e : Entry) → IsAnswered rows cols z (base_of last) e → is_frame e.answer ≡ true
       → e.text ≡ frame_text z (base_of last) (shown_at rows cols e)
   entry-some last e h f =
       text-some z (base_of last) (shown_at rows cols e) (is_frame e.answer) e.text h.text f
 
-  entry-shot : (base : Option Shown) (e : Entry) → IsAnswered rows cols z base e → IsShot z (shown_at rows cols e)
+  pub entry-shot : (base : Option Shown) (e : Entry) → IsAnswered rows cols z base e → IsShot z (shown_at rows cols e)
   entry-shot base e h = shot-made rows cols e.moment z h.acts height width h.size
 
   abbrev client_of : (base : Option Shown) (e : Entry) → IsAnswered rows cols z base e → ClientState
@@ -207,7 +207,7 @@ module _ (rows cols : ℕ) (z : Size) (height : IsSide z.rows) (width : IsSide z
       subst (IsDue z (state_at rows cols e) (client_of base e h)) (sym h.answer)
       (answer-due z (state_at rows cols e) base h.owed h.size)
 
-  entry-known : (base : Option Shown) (e : Entry) → IsAnswered rows cols z base e → is_frame e.answer ≡ true
+  pub entry-known : (base : Option Shown) (e : Entry) → IsAnswered rows cols z base e → is_frame e.answer ≡ true
       → Known (Some e)
   entry-known base e h f =
       let s = state_at rows cols e in
@@ -424,14 +424,14 @@ module _ (rows cols : ℕ) (z : Size) (height : IsSide z.rows) (width : IsSide z
   not-whole p text [] e some = absurd (some refl)
   not-whole p text (x ∷ left) e some = omega (arith, ap length e, length-append p (x ∷ left))
 
-  in-more : (e : Entry) (es : List Entry) (k more : ℕ) → k ≡ length e.text + more
+  pub in-more : (e : Entry) (es : List Entry) (k more : ℕ) → k ≡ length e.text + more
       → whole_in (e ∷ es) k ≡ e ∷ whole_in es more
   in-more e es k more h =
       let t : nat_le (length e.text) k ≡ true = grind (arith, nat_tests) in
       let m : k - length e.text ≡ more = omega (arith, h) in
       rw (t, m) refl
 
-  in-stops : (e : Entry) (es : List Entry) (k : ℕ) → k < length e.text → whole_in (e ∷ es) k ≡ []
+  pub in-stops : (e : Entry) (es : List Entry) (k : ℕ) → k < length e.text → whole_in (e ∷ es) k ≡ []
   in-stops e es k h =
       let t : nat_le (length e.text) k ≡ false = grind (arith, nat_tests) in
       rw t refl

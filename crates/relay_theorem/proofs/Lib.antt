@@ -17,3 +17,5 @@ pub mod BoundLemmas
 pub mod ForkLemmas
 pub mod RedrawLemmas
 pub mod GrowthLemmas
+pub mod FrameScreens
+pub mod TreeLemmas

@@ -60,7 +60,7 @@ same-made past s (Fed xs ∷ p) (Resized rows cols ∷ q) m n e b r =
 same-made past s (Resized height width ∷ p) (Fed ys ∷ q) m n e b r =
     absurd (let no : Resized height width ∷ (p ++ m) ≡ Fed ys ∷ (q ++ n) = e in cc)
 
-abbrev IsPrefix : List Act → List Act → Type 0
+abbrev pub IsPrefix : List Act → List Act → Type 0
 IsPrefix acts p = (more : List Act) × (p ++ more ≡ acts)
 
 all-here : (acts : List Act) → IsPrefix acts acts
@@ -154,7 +154,7 @@ frame-has : (P : Entry → Type 0) (frame : Bool) (last : Option Entry) (e : Ent
 frame-has P true last e h p = p
 frame-has P false last e h p = h
 
-last-has : (P : Entry → Type 0) (last : Option Entry) (es : List Entry) (e : Entry) → IfSome last P
+pub last-has : (P : Entry → Type 0) (last : Option Entry) (es : List Entry) (e : Entry) → IfSome last P
     → AllByRecursion P es → last_frame last es ≡ Some e → P e
 last-has P last [] e h k is = let there : IfSome (Some e) P = subst (λ o. IfSome o P) is h in there
 last-has P last (x ∷ es) e h k is =

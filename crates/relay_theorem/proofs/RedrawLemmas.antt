@@ -37,7 +37,7 @@ updating-by true a h = absurd (let no : false ≡ true = h in cc)
 updating-by false a h = refl
 
 -- at a frame the program is in no update of its own
-not-updating : (s : State) (base : Option Shown) (owed : List ℕ) → is_frame (answer_to s base owed) ≡ true
+pub not-updating : (s : State) (base : Option Shown) (owed : List ℕ) → is_frame (answer_to s base owed) ≡ true
     → s.updating ≡ false
 not-updating s base [] h = updating-by s.updating _ h
 not-updating s base (x ∷ owed) h = absurd (let no : false ≡ true = h in cc)

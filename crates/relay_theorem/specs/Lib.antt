@@ -9,3 +9,4 @@ pub mod Isolation
 pub mod Bounds
 pub mod Forks
 pub mod Redraws
+pub mod Trees

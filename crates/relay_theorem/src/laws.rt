@@ -15,6 +15,7 @@ ghost use Rattle.relay_theorem.specs.Forks.{EachSessionIsOneWithForks, EachForkI
 ghost use Rattle.relay_theorem.specs.Forks.{EachForkedRunHasAHistory};
 ghost use Rattle.relay_theorem.specs.Redraws.{EachRedrawIsReported, EachStoryGrows, EachRedrawMatches};
 ghost use Rattle.relay_theorem.specs.Redraws.{RedrawnFramesAreShown, NoRedrawIsTorn};
+ghost use Rattle.relay_theorem.specs.Trees.{EachFedScreenIsRight, EachFedHubIsRight, TreesAreShown};
 ghost use Rattle.relay_theorem.specs.Logged.{EachLoggedReadIsARead, LoggedFramesAreShown, WholeLoggedFramesAreShown};
 ghost use Rattle.relay_theorem.specs.Isolation.{SessionsAreIsolated, LoggedSessionsAreIsolated, EachSessionIsIsolated};
 ghost use Rattle.relay_theorem.specs.Isolation.{EachLoneSessionIsAlike, EachLoggedLoneSessionIsAlike};
@@ -206,4 +207,23 @@ pub fn redraws_are_reported()
 pub fn redrawn_frames_are_shown()
     ensures shown { RedrawnFramesAreShown }
     ensures untorn { NoRedrawIsTorn }
+{}
+
+/// A screen of a session's size is fed any prefix of the session's bytes, in any pieces. While it is in no synchronized
+/// update, it shows the program's screen at the request for the last frame that lies wholly in the prefix, or a blank
+/// screen if none does (`screens`). The same holds of the screen of a hub after any calls, wherever its answer isn't
+/// `Held` (`hubs`). This holds unless the program's screen showed U+FE0F.
+pub fn fed_screens_are_right()
+    ensures screens { EachFedScreenIsRight }
+    ensures hubs { EachFedHubIsRight }
+{}
+
+/// A tree of hubs: a second hub of a session's size is fed any prefix of the session's bytes, in any pieces, and has
+/// clients of its own. A new view reads any prefix of the bytes pumped to one of these, in any pieces.
+///
+/// It shows the program's screen at the request for a whole frame, or a blank screen. The frame is the last one that the
+/// second hub had been fed wholly when it made the last frame that the view has read wholly. This holds unless the
+/// program's screen showed U+FE0F then.
+pub fn trees_are_shown()
+    ensures { TreesAreShown }
 {}
