@@ -4,13 +4,14 @@ use Rattle.std.proofs.Common.{Ok, Err, refl, sym, ap, subst, append_assoc, appen
 use Rattle.std.specs.Prelude.{is_some, if◌then◌else◌}
 use Rattle.std.specs.List.{AllByRecursion, list_any, concat}
 use Rattle.std.proofs.lemmas.Bool.{or_from}
-use Rattle.terminal_model.specs.Term.{Shown, shown_of}
+use Rattle.terminal_model.specs.Term.{Size, Shown, shown_of}
 use Rattle.vt100_core.specs.Picture.{grid_size}
 use Rattle.screen_model.specs.Call.{ScreenView}
 use Rattle.termrelay.specs.Answers.{ClientState}
 use Rattle.termrelay.specs.Redraw.{redraw_of}
+use Rattle.termrelay.specs.Whole.{whole_of}
 use Rattle.termrelay.specs.Hub.{HubState, as_kept, size_in, clients_in}
-use Rattle.termrelay.specs.Joins.{forked, RedrawsFrom, ForksFrom}
+use Rattle.termrelay.specs.Joins.{forked, DrawsFrom, ForksFrom}
 use Rattle.termrelay.specs.Calls.{Call}
 use Rattle.termrelay.specs.declared.runs.call.Reply.{Reply}
 use Rattle.termrelay.specs.declared.error.HubError.{HubError}
@@ -28,6 +29,7 @@ use Rattle.relay_theorem.specs.Forks.{GoesReported, IsForkSession, EachSessionIs
 use Rattle.relay_theorem.specs.Forks.{LastWholeForkedFrameIsShown, EachForkedRunHasAHistory}
 use Rattle.relay_theorem.specs.Redraws.{ReadsRedraw, redrawn_then, RedrawnFramesAreShown, NoRedrawIsTorn}
 use Rattle.relay_theorem.specs.Redraws.{EachRedrawIsReported, EachRedrawMatches}
+use Rattle.relay_theorem.specs.Wholes.{EachWholeIsReported, EachWholeMatches}
 use Rattle.relay_theorem.proofs.StoryLemmas.{all-at, on-live, on-key, put, at-key}
 use Rattle.relay_theorem.proofs.CallLemmas.{serves-does, same-hub}
 use Rattle.relay_theorem.proofs.HistoryLemmas.{served-as, IsIn, IsKept, added-kept, does-kept, does-first, fresh-kept}
@@ -172,7 +174,7 @@ module _ (rows cols : ℕ) (deeds : List Deed) (n : ℕ) (t : Story) (s : IsFork
   abbrev IsReportedOf : ℕ → ℕ → Type 0
   IsReportedOf r c = IsReported r c (clients_in s.hub) t
 
-  fork-reported : IsReportedOf rows cols
+  pub fork-reported : IsReportedOf rows cols
   fork-reported =
       subst (λ c. IsReportedOf rows c) fork-in.1.1
       (subst (λ r. IsReportedOf r s.hub.parser.cols) fork-in.1.0 fork-in.0.reported)
@@ -221,14 +223,14 @@ module _ (rows cols : ℕ) (deeds : List Deed) (n : ℕ) (t : Story) (s : IsFork
   abbrev base : Option Shown
   base = base_after rows cols None first
 
-  joined : AreAnswered rows cols (size_of_story t) None (first ++ later)
+  pub joined : AreAnswered rows cols (size_of_story t) None (first ++ later)
   joined = subst (AreAnswered rows cols (size_of_story t) None) parts reported.entries
 
-  later-answered : AreAnswered rows cols (size_of_story t) base later
+  pub later-answered : AreAnswered rows cols (size_of_story t) base later
   later-answered =
       answered-back rows cols (size_of_story t) reported.height reported.width None first later joined
 
-  first-shows : Shows rows cols (size_of_story t) reported.height reported.width base (last_frame None first)
+  pub first-shows : Shows rows cols (size_of_story t) reported.height reported.width base (last_frame None first)
   first-shows =
       shows-all rows cols (size_of_story t) reported.height reported.width None None first refl
       (answered-prefix rows cols (size_of_story t) None first later joined)
@@ -258,32 +260,48 @@ redraw-untorn rows cols deeds n t redraw first later pieces more parsed parsed' 
     ∙ ap (λ es. seen (size_of_story t) (texts es)) same
     ∙ sym (then-seen rows cols deeds n t redraw first later pieces parsed s r))
 
-redraw-is : (h : HubState as_reported) (o : Option ClientState) (c : ClientState) (text : Option (List ℕ)) → o ≡ Some c
-    → RedrawsFrom h o (Ok text) → text ≡ redraw_of (size_in h) c.base
-redraw-is h None c text at f = absurd (let no : None ≡ Some c = at in cc)
-redraw-is h (Some d) c text at f =
-    let same : d ≡ c = cc in f.1 ∙ ap (λ (x : ClientState). redraw_of (size_in h) x.base) same
+module _ (text_of : Size → Option Shown → Option (List ℕ)) where
+  drawn-is : (h : HubState as_reported) (o : Option ClientState) (c : ClientState) (text : Option (List ℕ))
+      → o ≡ Some c → DrawsFrom text_of h o (Ok text) → text ≡ text_of (size_in h) c.base
+  drawn-is h None c text at f = absurd (let no : None ≡ Some c = at in cc)
+  drawn-is h (Some d) c text at f =
+      let same : d ≡ c = cc in f.1 ∙ ap (λ (x : ClientState). text_of (size_in h) x.base) same
+
+  drawn-reported : (rows cols : ℕ) (deeds : List Deed) (n : ℕ) (t : Story) (s : IsForkSession rows cols deeds n t)
+      → t.session.ended ≡ false → (text : Option (List ℕ))
+      → DrawsFrom text_of s.hub (clients_in s.hub t.session.client) (Ok text)
+      → text ≡ text_of (size_of_story t) (base_after rows cols None t.entries)
+  drawn-reported rows cols deeds n t s alive text f =
+      let i = fork-in rows cols deeds n t s in
+      let h = fork-reported rows cols deeds n t s in
+      let c = h.served alive in
+      drawn-is s.hub (clients_in s.hub t.session.client) c.0 text c.1 f
+      ∙ ap (λ z. text_of z c.0.base) (sym (i.0.size alive)) ∙ ap (text_of (size_of_story t)) c.2.base
 
 pub redraws-reported : EachRedrawIsReported
-redraws-reported rows cols deeds n t s alive text f =
-    let i = fork-in rows cols deeds n t s in
-    let h = fork-reported rows cols deeds n t s in
-    let c = h.served alive in
-    redraw-is s.hub (clients_in s.hub t.session.client) c.0 text c.1 f
-    ∙ ap (λ z. redraw_of z c.0.base) (sym (i.0.size alive)) ∙ ap (redraw_of (size_of_story t)) c.2.base
+redraws-reported = drawn-reported redraw_of
+
+pub wholes-reported : EachWholeIsReported
+wholes-reported = drawn-reported whole_of
 
 -- ---- hubs and histories
 
 module _ (h : HubState as_kept) (u : HubState as_reported) (m : Matches h u) where
-  redraw-matches : (o : Option ClientState) (result : Result (Option (List ℕ)) HubError) → RedrawsFrom h o result
-      → RedrawsFrom u o result
-  redraw-matches None result f = f
-  redraw-matches (Some c) (Ok text) f =
-      let on = live h u m f.0 in
-      (on, f.1 ∙ ap (λ (v : ScreenView). redraw_of (grid_size v.state.shown) c.base) (screen-now h u m on))
-  redraw-matches (Some c) (Err hub.Memory) f = (live h u m f.0, f.1)
-  redraw-matches (Some c) (Err hub.Failed) f = dead h u m f
-  redraw-matches (Some c) _ f = absurd f
+  module _ (text_of : Size → Option Shown → Option (List ℕ)) where
+    drawn-from : (o : Option ClientState) (result : Result (Option (List ℕ)) HubError) → DrawsFrom text_of h o result
+        → DrawsFrom text_of u o result
+    drawn-from None result f = f
+    drawn-from (Some c) (Ok text) f =
+        let on = live h u m f.0 in
+        (on, f.1 ∙ ap (λ (v : ScreenView). text_of (grid_size v.state.shown) c.base) (screen-now h u m on))
+    drawn-from (Some c) (Err hub.Memory) f = (live h u m f.0, f.1)
+    drawn-from (Some c) (Err hub.Failed) f = dead h u m f
+    drawn-from (Some c) _ f = absurd f
+
+    drawn-matches : (key : ℕ) (result : Result (Option (List ℕ)) HubError)
+        → DrawsFrom text_of h (clients_in h key) result → DrawsFrom text_of u (clients_in u key) result
+    drawn-matches key result f =
+        drawn-from (clients_in u key) result (subst (λ o. DrawsFrom text_of h o result) (client-now h u m key) f)
 
   fork-follows : (o : Option ClientState) (result : Result ℕ HubError) (g : HubState as_kept) → ForksFrom h o result g
       → (v : HubState as_reported) × ForksFrom u o result v × Matches g v
@@ -307,9 +325,10 @@ module _ (h : HubState as_kept) (u : HubState as_reported) (m : Matches h u) whe
       (x.0, x.1, x.2)
 
 pub redraws-match : EachRedrawMatches
-redraws-match h u key result m f =
-    redraw-matches h u m (clients_in u key) result
-    (subst (λ o. RedrawsFrom h o result) (client-now h u m key) f)
+redraws-match h u key result m f = drawn-matches h u m redraw_of key result f
+
+pub wholes-match : EachWholeMatches
+wholes-match h u key result m f = drawn-matches h u m whole_of key result f
 
 goes-follow : (h g : HubState as_kept) (u : HubState as_reported) (ts : List Story) (deeds : List Deed) → Matches h u
     → Goes h deeds g

@@ -51,7 +51,7 @@ use Rattle.termrelay.specs.Answers.{ClientState}
 abbrev frames_by : Bool → Entry → List (List ℕ) → List (List ℕ)
 frames_by frame e rest = if frame then e.text ∷ rest else rest
 
-abbrev frame_texts : List Entry → List (List ℕ)
+abbrev pub frame_texts : List Entry → List (List ℕ)
 frame_texts [] = []
 frame_texts (e ∷ es) = frames_by (is_frame e.answer) e (frame_texts es)
 
@@ -138,7 +138,7 @@ module _ (z : Size) (s : State) (c : ClientState) where
 
 -- ---- lengths
 
-below-limit : (text : List ℕ) → nat_lt longest_frame (length text) ≡ false → length text < limit
+pub below-limit : (text : List ℕ) → nat_lt longest_frame (length text) ≡ false → length text < limit
 below-limit text h = omega (arith, ltb-false longest_frame (length text) h)
 
 few-cells : (z : Size) (text : List ℕ) → z.rows * z.cols ≤ 2000 → IsShortFrame z text
@@ -198,10 +198,10 @@ module _ (rows cols : ℕ) (z : Size) (height : IsSide z.rows) (width : IsSide z
   pub entry-shot : (base : Option Shown) (e : Entry) → IsAnswered rows cols z base e → IsShot z (shown_at rows cols e)
   entry-shot base e h = shot-made rows cols e.moment z h.acts height width h.size
 
-  abbrev client_of : (base : Option Shown) (e : Entry) → IsAnswered rows cols z base e → ClientState
+  abbrev pub client_of : (base : Option Shown) (e : Entry) → IsAnswered rows cols z base e → ClientState
   client_of base e h = record { owed = h.owed; base = base }
 
-  entry-due : (base : Option Shown) (e : Entry) → (h : IsAnswered rows cols z base e)
+  pub entry-due : (base : Option Shown) (e : Entry) → (h : IsAnswered rows cols z base e)
       → IsDue z (state_at rows cols e) (client_of base e h) e.answer
   entry-due base e h =
       subst (IsDue z (state_at rows cols e) (client_of base e h)) (sym h.answer)
@@ -228,7 +228,7 @@ module _ (rows cols : ℕ) (z : Size) (height : IsSide z.rows) (width : IsSide z
   known-next last e h k = known-by (is_frame e.answer) last e h (λ f. entry-known (base_of last) e k f)
 
   -- what is true of each entry, by what is known of the last frame before it
-  entries-all : (P : Entry → Type 0)
+  pub entries-all : (P : Entry → Type 0)
       → ((last : Option Entry) (e : Entry) → Known last → IsAnswered rows cols z (base_of last) e → P e)
       → (last : Option Entry) (es : List Entry) → Known last → AreAnswered rows cols z (base_of last) es
       → AllByRecursion P es
@@ -237,7 +237,7 @@ module _ (rows cols : ℕ) (z : Size) (height : IsSide z.rows) (width : IsSide z
       (each last e h k.0, entries-all P each (frame_or last e) es (known-next last e h k.0) (later last e es k))
 
   -- and of its text, which is a frame's or empty
-  text-by : (P : List ℕ → Type 0) (frame : Bool) (last : Option Entry) (e : Entry)
+  pub text-by : (P : List ℕ → Type 0) (frame : Bool) (last : Option Entry) (e : Entry)
       → IsAnswered rows cols z (base_of last) e → is_frame e.answer ≡ frame → P []
       → (is_frame e.answer ≡ true → P (frame_text z (base_of last) (shown_at rows cols e))) → P e.text
   text-by P true last e k f none some = subst P (sym (entry-some last e k f)) (some f)
@@ -298,12 +298,12 @@ module _ (rows cols : ℕ) (z : Size) (height : IsSide z.rows) (width : IsSide z
   all-by P true e rest h k = (h refl, k)
   all-by P false e rest h k = k
 
-  frames-all : (P : List ℕ → Type 0) (es : List Entry)
+  pub frames-all : (P : List ℕ → Type 0) (es : List Entry)
       → AllByRecursion (λ e. is_frame e.answer ≡ true → P e.text) es → AllByRecursion P (frame_texts es)
   frames-all P [] h = tt
   frames-all P (e ∷ es) h = all-by P (is_frame e.answer) e (frame_texts es) h.0 (frames-all P es h.1)
 
-  frames-joined : (last : Option Entry) (es : List Entry) → AreAnswered rows cols z (base_of last) es
+  pub frames-joined : (last : Option Entry) (es : List Entry) → AreAnswered rows cols z (base_of last) es
       → concat (frame_texts es) ≡ texts es
   frames-joined last [] h = refl
   frames-joined last (e ∷ es) h =
@@ -318,7 +318,7 @@ module _ (rows cols : ℕ) (z : Size) (height : IsSide z.rows) (width : IsSide z
     pub agrees : Agrees z (base_of last) (shown_of (seen z past))
     pub known : Known last
 
-  read-nothing : HasRead None []
+  pub read-nothing : HasRead None []
   read-nothing = record { ground = ground-nothing 1024; agrees = refl; known = tt }
 
   read-by : (frame : Bool) (last : Option Entry) (e : Entry) (past : List ℕ) → is_frame e.answer ≡ frame
@@ -341,7 +341,7 @@ module _ (rows cols : ℕ) (z : Size) (height : IsSide z.rows) (width : IsSide z
       → IsAnswered rows cols z (base_of last) e → HasRead (frame_or last e) (past ++ e.text)
   read-entry last e past h k = read-by (is_frame e.answer) last e past refl h k
 
-  read-all : (last : Option Entry) (es : List Entry) (past : List ℕ) → HasRead last past
+  pub read-all : (last : Option Entry) (es : List Entry) (past : List ℕ) → HasRead last past
       → AreAnswered rows cols z (base_of last) es → HasRead (last_frame last es) (past ++ texts es)
   read-all last [] past h k = subst (λ (xs : List ℕ). HasRead last xs) (sym (append-nil past)) h
   read-all last (e ∷ es) past h k =
@@ -354,7 +354,7 @@ module _ (rows cols : ℕ) (z : Size) (height : IsSide z.rows) (width : IsSide z
   judged-by e s true u h sure a = absurd (sure (h.1 u))
   judged-by e s false u h sure a = a
 
-  judged-shown : (last : Option Entry) (past : List ℕ) → HasRead last past → IsSure last
+  pub judged-shown : (last : Option Entry) (past : List ℕ) → HasRead last past → IsSure last
       → shown_of (seen z past) ≡ judged rows cols last
   judged-shown None past h sure = h.agrees
   judged-shown (Some e) past h sure =
@@ -437,7 +437,7 @@ module _ (rows cols : ℕ) (z : Size) (height : IsSide z.rows) (width : IsSide z
       rw t refl
 
   -- the whole frames' texts are those of the entries that lie wholly in the bytes
-  abbrev Covers : List Entry → Type 0
+  abbrev pub Covers : List Entry → Type 0
   Covers es = (last : Option Entry) (whole rest : List (List ℕ)) (p : List ℕ) → AreAnswered rows cols z (base_of last)
       es
       → frame_texts es ≡ whole ++ rest → IsPart p rest → texts (whole_in es (length (concat whole ++ p))) ≡ concat whole
@@ -471,7 +471,7 @@ module _ (rows cols : ℕ) (z : Size) (height : IsSide z.rows) (width : IsSide z
       ∙ ap (λ xs. e.text ++ xs) (go (frame_or last e) whole rest p (later last e es k) tails part)
       ∙ ap (λ xs. xs ++ concat whole) head
 
-  covers : (es : List Entry) → Covers es
+  pub covers : (es : List Entry) → Covers es
   covers [] last [] rest p k cut part = refl
   covers [] last (w ∷ whole) rest p k cut part = absurd (cc)
   covers (e ∷ es) last whole rest p k cut part =

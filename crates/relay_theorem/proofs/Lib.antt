@@ -19,3 +19,4 @@ pub mod RedrawLemmas
 pub mod GrowthLemmas
 pub mod FrameScreens
 pub mod TreeLemmas
+pub mod WholeFrames

@@ -9,4 +9,5 @@ pub mod Isolation
 pub mod Bounds
 pub mod Forks
 pub mod Redraws
+pub mod Wholes
 pub mod Trees

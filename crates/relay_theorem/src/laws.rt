@@ -15,6 +15,8 @@ ghost use Rattle.relay_theorem.specs.Forks.{EachSessionIsOneWithForks, EachForkI
 ghost use Rattle.relay_theorem.specs.Forks.{EachForkedRunHasAHistory};
 ghost use Rattle.relay_theorem.specs.Redraws.{EachRedrawIsReported, EachStoryGrows, EachRedrawMatches};
 ghost use Rattle.relay_theorem.specs.Redraws.{RedrawnFramesAreShown, NoRedrawIsTorn};
+ghost use Rattle.relay_theorem.specs.Wholes.{WholeFramesLeadFromAnything, NoWholeFrameIsTorn, EachFrameEndsAtGround};
+ghost use Rattle.relay_theorem.specs.Wholes.{EachWholeIsReported, EachWholeMatches};
 ghost use Rattle.relay_theorem.specs.Trees.{EachFedScreenIsRight, EachFedHubIsRight, TreesAreShown};
 ghost use Rattle.relay_theorem.specs.Logged.{EachLoggedReadIsARead, LoggedFramesAreShown, WholeLoggedFramesAreShown};
 ghost use Rattle.relay_theorem.specs.Isolation.{SessionsAreIsolated, LoggedSessionsAreIsolated, EachSessionIsIsolated};
@@ -207,6 +209,27 @@ pub fn redraws_are_reported()
 pub fn redrawn_frames_are_shown()
     ensures shown { RedrawnFramesAreShown }
     ensures untorn { NoRedrawIsTorn }
+{}
+
+/// A whole frame is for terminals in any state. A view of the session's size has read anything, such as whole frames of
+/// any session, and nothing is unfinished or buffered. It reads a client's whole frame, and then any prefix of the
+/// client's later frames, in any pieces. Once it has read the whole frame, it shows the program's screen at the request
+/// for the last frame that lies wholly in what it read (`shown`). The whole frame counts as the client's last frame
+/// before it. This holds unless the screen at that request showed U+FE0F.
+///
+/// If the view reads more bytes, but no further frame is whole, it still shows the same: until the whole frame has come
+/// wholly, what it showed before (`untorn`). Whole frames of any session leave nothing unfinished (`ground`).
+pub fn whole_frames_lead_from_anything()
+    ensures shown { WholeFramesLeadFromAnything }
+    ensures untorn { NoWholeFrameIsTorn }
+    ensures ground { EachFrameEndsAtGround }
+{}
+
+/// The whole frame of a client whose session hasn't ended is that after all answers to the session so far (`answered`).
+/// What a hub answers to requests for whole frames, it answers by its history (`whole`).
+pub fn whole_frames_are_reported()
+    ensures answered { EachWholeIsReported }
+    ensures whole { EachWholeMatches }
 {}
 
 /// A screen of a session's size is fed any prefix of the session's bytes, in any pieces. While it is in no synchronized

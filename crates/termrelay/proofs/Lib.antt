@@ -19,3 +19,4 @@ pub mod RunLemmas
 pub mod BodyForms
 pub mod FrameLengths
 pub mod AnswerLemmas
+pub mod WholeLemmas

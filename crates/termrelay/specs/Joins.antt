@@ -1,7 +1,9 @@
--- Redraws and forks of a hub's clients, for terminals that join late.
+-- Redraws, whole frames and forks of a hub's clients, for terminals that join late.
 use Rattle.std.specs.Prelude.{◌≡◌, ℕ, true, false, List, [], Option, Some, None, Result, Ok, Err, IsSome}
+use Rattle.terminal_model.specs.Term.{Size, Shown}
 use Rattle.termrelay.specs.Answers.{ClientState}
 use Rattle.termrelay.specs.Redraw.{redraw_of}
+use Rattle.termrelay.specs.Whole.{whole_of}
 use Rattle.termrelay.specs.Hub.{Telling, HubState, is_failed, size_in, clients_in, Puts}
 use Rattle.termrelay.specs.declared.error.HubError.{HubError}
 use Rattle.termrelay.specs.declared.error.HubError.TheVariants.{Memory, Failed, UnknownClient, Write}
@@ -12,19 +14,24 @@ forked c = record { owed = []; base = c.base }
 
 -- For each way to describe a hub:
 module _ {way : Telling} where
-  -- The results that a request for a redraw can have, by the client at the key, if there is one. Memory is taken only
-  -- if the client has had a frame.
-  abbrev pub RedrawsFrom : HubState way → Option ClientState → Result (Option (List ℕ)) HubError → Type 0
-  RedrawsFrom h None result = result ≡ Err UnknownClient
-  RedrawsFrom h (Some c) (Ok text) = (is_failed h ≡ false) × (text ≡ redraw_of (size_in h) c.base)
-  RedrawsFrom h (Some c) (Err Memory) = (is_failed h ≡ false) × IsSome c.base
-  RedrawsFrom h (Some c) (Err Failed) = is_failed h ≡ true
-  RedrawsFrom h (Some c) (Err UnknownClient) = ⊥
-  RedrawsFrom h (Some c) (Err (Write e)) = ⊥
+  -- The results that a request for a text can have, by the client at the key, if there is one. The text depends only on
+  -- the size and the screen at the client's last frame. Memory is taken only if the client has had a frame.
+  abbrev pub DrawsFrom : (Size → Option Shown → Option (List ℕ)) → HubState way → Option ClientState
+      → Result (Option (List ℕ)) HubError → Type 0
+  DrawsFrom text_of h None result = result ≡ Err UnknownClient
+  DrawsFrom text_of h (Some c) (Ok text) = (is_failed h ≡ false) × (text ≡ text_of (size_in h) c.base)
+  DrawsFrom text_of h (Some c) (Err Memory) = (is_failed h ≡ false) × IsSome c.base
+  DrawsFrom text_of h (Some c) (Err Failed) = is_failed h ≡ true
+  DrawsFrom text_of h (Some c) (Err UnknownClient) = ⊥
+  DrawsFrom text_of h (Some c) (Err (Write e)) = ⊥
 
   -- a redraw is asked for the client at a key; nothing changes
   abbrev pub Redraws : HubState way → ℕ → Result (Option (List ℕ)) HubError → Type 0
-  Redraws h key result = RedrawsFrom h (clients_in h key) result
+  Redraws h key result = DrawsFrom redraw_of h (clients_in h key) result
+
+  -- a whole frame is asked for the client at a key; nothing changes
+  abbrev pub DrawsWhole : HubState way → ℕ → Result (Option (List ℕ)) HubError → Type 0
+  DrawsWhole h key result = DrawsFrom whole_of h (clients_in h key) result
 
   -- A fork of a client takes the hub h to g. The new client gets a key that no client has.
   abbrev pub ForksFrom : HubState way → Option ClientState → Result ℕ HubError → HubState way → Type 0

@@ -9,4 +9,5 @@ pub mod Laws
 pub mod Calls
 pub mod Log
 pub mod Redraw
+pub mod Whole
 pub mod Joins

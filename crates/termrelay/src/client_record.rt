@@ -11,6 +11,7 @@ ghost use Rattle.termrelay.specs.Answers.{wanted_of, due, is_frame, longest_fram
 ghost use Rattle.byte_streams.specs.Pump.{Pumps};
 ghost use Rattle.termrelay.specs.ClientRecord.{base_of, moment_of, client_of, IsRecordOf, is_unsure_screen, sure_base};
 ghost use Rattle.termrelay.specs.Redraw.{redraw_kept};
+ghost use Rattle.termrelay.specs.Whole.{whole_text as text_of_whole, whole_kept};
 ghost use Rattle.termrelay.specs.declared.answer.Answer.TheVariants.{Unsure};
 ghost use Rattle.termrelay.specs.declared.error.HubError.TheVariants.{Memory};
 
@@ -31,6 +32,9 @@ const START_MARK: &str = "\x1b[?2026h";
 
 /// The bytes that end a synchronized update: private mode 2026 reset (`CSI ? 2026 l`).
 const END_MARK: &str = "\x1b[?2026l";
+
+/// The bytes that turn off each mouse mode and encoding (`CSI ? 9 ; .. l`) and the cursor's style (`CSI 0 SP q`).
+const MODES_OFF: &str = "\x1b[?9l\x1b[?1000l\x1b[?1002l\x1b[?1003l\x1b[?1005l\x1b[?1006l\x1b[0 q";
 
 /// The longest frame, in bytes, that a terminal buffers and then parses as a whole.
 const LONGEST_FRAME: usize = 2_097_150;
@@ -54,6 +58,29 @@ pub(crate) fn first_text(alloc: Global, now: &Screen) -> Result<Vec<u8>, HubErro
     push_state(&mut text, now)?;
     text.push_str(END_MARK)?;
     Ok(text.into_bytes())
+}
+
+/// The text of a whole frame of the screen. Fails only if an allocation fails.
+fn whole_text(alloc: Global, now: &Screen) -> Result<Vec<u8>, HubError>
+    requires { IsUnscrolled now.now.state }
+    ensures text { IfOk result (λ text. text.items
+        ≡ text_of_whole (grid_size now.now.state.shown) (shown_state now.now.state)) }
+    ensures memory { OnErr result (result ≡ Err Memory) }
+{
+    let mut text = String::new(alloc);
+    text.push_str(START_MARK)?;
+    text.push_str(MODES_OFF)?;
+    push_state(&mut text, now)?;
+    text.push_str(END_MARK)?;
+    Ok(text.into_bytes())
+}
+
+/// The text, unless it is too long.
+fn unless_too_long(text: Vec<u8>) -> Option<Vec<u8>>
+    ensures { option_map (λ text. text.items) result
+        ≡ (if nat_lt longest_frame (length text.items) then None else Some text.items) }
+{
+    if is_too_long(&text) { None } else { Some(text) }
 }
 
 /// `Unsure` if the screen shows U+FE0F, else the answer.
@@ -122,14 +149,25 @@ impl ClientRecord {
         ensures memory { OnErr result (result ≡ Err Memory) }
         ensures needed { OnErr result (IsSome self.now.last) }
     {
-        let Some(base) = self.base() else {
-            return Ok(Some(Vec::new(alloc)));
-        };
-        let text = first_text(alloc, base)?;
-        if is_too_long(&text) {
-            return Ok(None);
+        match self.base() {
+            Some(base) => Ok(unless_too_long(first_text(alloc, base)?)),
+            None => Ok(Some(Vec::new(alloc))),
         }
-        Ok(Some(text))
+    }
+
+    /// The text of a whole frame of the screen at the last frame. `None` if there was no frame, or if it is too long.
+    /// Fails only if an allocation fails; nothing is allocated if there was no frame.
+    pub(crate) fn whole_frame(&self, alloc: Global) -> Result<Option<Vec<u8>>, HubError>
+        requires { IfSome (base_of self.now.last) (λ base. IsUnscrolled base.state) }
+        ensures text { IfOk result (λ whole. option_map (λ text. text.items) whole
+            ≡ whole_kept (base_of self.now.last)) }
+        ensures memory { OnErr result (result ≡ Err Memory) }
+        ensures needed { OnErr result (IsSome self.now.last) }
+    {
+        match self.base() {
+            Some(base) => Ok(unless_too_long(whole_text(alloc, base)?)),
+            None => Ok(None),
+        }
     }
 
     /// The bytes that are owed.

@@ -2,6 +2,7 @@
 ghost use Rattle.termrelay.specs.Answers.{EachSameIsOne, EachOneIsSame, EachExampleIsAnswered, EachSmallScreenFits};
 ghost use Rattle.termrelay.specs.Frame.{EachSureIsPlain, EachFrameIsMarked, EachFrameLeads, EachFrameSetsModes};
 ghost use Rattle.termrelay.specs.Frame.{EachBodyIsSent, EachBodyIsOfForms, EachFrameIsShort};
+ghost use Rattle.termrelay.specs.Whole.{EachWholeFrameLeads, EachWholeFrameSetsModes, EachWholeFrameIsSent};
 ghost use Rattle.termrelay.specs.Laws.{TwoFeedsAreOne, TwoFeedsRunAsOne};
 
 /// On a screen that is sure, no cell has U+FE0F.
@@ -37,6 +38,15 @@ pub fn bodies_are_of_forms()
 /// A frame has at most 1,024 bytes for each cell, and 1,024 more, also if a cell shows U+FE0F.
 pub fn frames_are_short()
     ensures { EachFrameIsShort }
+{}
+
+/// A whole frame makes a terminal show the screen, whatever picture, modes and cursor style it had before (`lead`). If a
+/// cell shows U+FE0F, modes and cursor style still come out right (`modes`). The body is a list of forms that the writers
+/// send (`sent`).
+pub fn whole_frames_lead()
+    ensures lead { EachWholeFrameLeads }
+    ensures modes { EachWholeFrameSetsModes }
+    ensures sent { EachWholeFrameIsSent }
 {}
 
 /// On a screen of at most 2,000 cells no frame is too long, so that `TooLong` never comes.
