@@ -79,6 +79,12 @@ tag_bytes tag.TrackRows = codes ")\">"
 tag_bytes tag.TrackEnd = codes "</g>\n"
 tag_bytes tag.Use = codes "<use href=\"#r"
 tag_bytes tag.X = codes "\" x=\""
+tag_bytes tag.Frame = codes "<svg xmlns=\"http://www.w3.org/2000/svg"
+tag_bytes tag.Inner = codes "<svg x=\""
+tag_bytes tag.Button = codes "<circle cx=\""
+tag_bytes tag.MiddleY = codes "\" cy=\""
+tag_bytes tag.Radius = codes "\" r=\""
+tag_bytes tag.TitleSize = codes "\" font-family=\"sans-serif\" text-anchor=\"middle\" font-size=\""
 tag_bytes tag.PlayerHead = PLAYER_HEAD.now
 tag_bytes tag.PlayerStyle = PLAYER_STYLE.now
 tag_bytes tag.PlayerLength = codes "</bdi></h1>\n<main id=\"player\" data-length=\""

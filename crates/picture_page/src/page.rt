@@ -49,6 +49,14 @@ impl Page {
         }
     }
 
+    /// The page that has these bytes.
+    pub fn of_bytes(bytes: Vec<u8>) -> Self
+        requires { IsPage bytes.items }
+        ensures { result ≡ bytes.items }
+    {
+        Page { bytes }
+    }
+
     /// Appends a piece of markup.
     pub fn markup(&mut self, tag: Tag) -> Result<(), AllocError>
         ensures adds { OnOk result (Adds self.old self.new []) }

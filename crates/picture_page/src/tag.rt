@@ -152,6 +152,18 @@ pub enum Tag {
     Use,
     /// How far to the right it is.
     X,
+    /// The beginning of a picture in SVG around another.
+    Frame,
+    /// The beginning of the place of a picture in another, before how far to the right it is.
+    Inner,
+    /// The beginning of a round button, before where its middle is.
+    Button,
+    /// How far down its middle is.
+    MiddleY,
+    /// How far its edge is from there.
+    Radius,
+    /// A text that is a title, before how high its letters are.
+    TitleSize,
     /// What comes before the title of a page that plays.
     PlayerHead,
     /// What comes between its title and its heading.
@@ -275,6 +287,12 @@ impl Tag {
             Tag::TrackEnd => b"</g>\n",
             Tag::Use => b"<use href=\"#r",
             Tag::X => b"\" x=\"",
+            Tag::Frame => b"<svg xmlns=\"http://www.w3.org/2000/svg",
+            Tag::Inner => b"<svg x=\"",
+            Tag::Button => b"<circle cx=\"",
+            Tag::MiddleY => b"\" cy=\"",
+            Tag::Radius => b"\" r=\"",
+            Tag::TitleSize => b"\" font-family=\"sans-serif\" text-anchor=\"middle\" font-size=\"",
             Tag::PlayerHead => PLAYER_HEAD,
             Tag::PlayerStyle => PLAYER_STYLE,
             Tag::PlayerLength => b"</bdi></h1>\n<main id=\"player\" data-length=\"",

@@ -1,4 +1,5 @@
 mod DrawnLemmas
+mod FrameLemmas
 mod HtmlLemmas
 mod RowLemmas
 mod RunLemmas

@@ -1,5 +1,6 @@
 pub mod Drawn
 pub mod Elements
+pub mod Frames
 pub mod Html
 pub mod Paint
 pub mod Runs

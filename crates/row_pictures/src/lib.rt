@@ -1,7 +1,8 @@
-//! Pictures of a row of cells, in HTML and SVG.
+//! Pictures of a row of cells, in HTML and SVG, and frames of pictures.
 #![tactic(auto)]
 
 mod arms;
+mod frame;
 mod glyph;
 mod html;
 mod look;
@@ -12,6 +13,7 @@ mod style;
 mod svg;
 mod theme;
 
+pub use frame::{Frame, framed};
 pub use html::{push_html_colors, push_html_row};
 pub use look::Look;
 pub use padding::unpadded;

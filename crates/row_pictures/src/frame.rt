@@ -1,0 +1,251 @@
+//! Frames of pictures in SVG: space around a picture, how large it is shown, and the bar of a window.
+
+ghost use Rattle.std.specs.Prelude.{◌≡◌, ◌≤◌, ◌*◌, ◌^◌, ◌++◌, [], List, ℕ, true, codes, IfOk, OnOk};
+ghost use Rattle.picture_page.specs.Page.{Adds, IsPage, IsSafe, Shows, escaped};
+ghost use Rattle.picture_page.specs.Seen.{Draws, seen};
+ghost use Rattle.row_pictures.specs.Frames.{around, around_seen, bar_bytes, bar_height as bar_height_of, bar_seen};
+ghost use Rattle.row_pictures.specs.Frames.{button, enlarged as enlarged_of, frame_head, frame_said, framed as framed_of};
+ghost use Rattle.row_pictures.specs.Frames.{framed_height, framed_seen, framed_width, inner_head, is_bare as is_bare_of};
+ghost use Rattle.row_pictures.specs.Frames.{title_text, window_bar};
+
+use crate::svg::{COL_WIDTH, ROW_HEIGHT, push_rect};
+use crate::theme::Theme;
+use picture_page::{Page, Rgb, Tag};
+use std::alloc::{AllocError, Global};
+
+/// What is around a picture in SVG, and how large the picture is shown.
+#[derive(Drop)]
+pub struct Frame {
+    /// How many pixels there are between the picture and each edge.
+    pub padding: u8,
+    /// How many pixels high letters are shown. In a picture they are 15 pixels high.
+    pub font_size: u8,
+    /// The title in the bar of a window, if there is one.
+    pub title: Option<String>,
+}
+
+impl Frame {
+    // Whether it adds nothing.
+    fn is_bare(&self) -> bool
+        ensures { result ≡ is_bare_of (frame_said self.now) }
+    {
+        match &self.title {
+            Some(_) => false,
+            None => self.padding == 0 && self.font_size == 15,
+        }
+    }
+
+    // So many pixels of a picture, as large as they are shown.
+    fn enlarged(&self, pixels: u32) -> u32
+        requires { pixels ≤ 65535 * 18 }
+        ensures pixels { result ≡ enlarged_of (frame_said self.now) pixels }
+        ensures few { result ≤ 2 ^ 26 }
+    {
+        (pixels * u32::from(self.font_size) + 14) / 15
+    }
+
+    // How high the bar of the window is, if there is one.
+    fn bar_height(&self) -> u32
+        ensures pixels { result ≡ bar_height_of (frame_said self.now) }
+        ensures few { result ≤ 2 * 255 }
+    {
+        match &self.title {
+            Some(_) => 2 * u32::from(self.font_size),
+            None => 0,
+        }
+    }
+
+    // The width of a picture of so many columns with what is around it.
+    fn width(&self, cols: u16) -> u32
+        ensures { result ≡ framed_width (frame_said self.now) (cols * 9) }
+    {
+        self.enlarged(u32::from(cols) * COL_WIDTH) + 2 * u32::from(self.padding)
+    }
+
+    // The height of a picture of so many rows with what is around it.
+    fn height(&self, rows: u16) -> u32
+        ensures { result ≡ framed_height (frame_said self.now) (rows * 18) }
+    {
+        let inner = self.enlarged(u32::from(rows) * ROW_HEIGHT) + 2 * u32::from(self.padding);
+        self.bar_height() + inner
+    }
+}
+
+/// A picture in SVG of so many rows and columns in its frame. Where the frame adds nothing, it is the picture as it is.
+///
+/// The picture stands as it is in another one, which has the background of the theme. There are as many pixels around it
+/// as the padding says. It is shown larger by as much as the letters are higher than 15 pixels. A size in pixels that
+/// isn't whole is rounded up. Above it is the bar of the window, if there is one, which is twice as high as the letters:
+/// in the theme's black, with a red, a yellow and a green button, and the title in white. A title that is wider than the
+/// bar is cut.
+pub fn framed(
+    alloc: Global,
+    picture: Vec<u8>,
+    rows: u16,
+    cols: u16,
+    theme: Theme,
+    frame: &Frame,
+) -> Result<Vec<u8>, AllocError>
+    requires { IsPage picture.items }
+    ensures bytes { IfOk result (λ bytes. bytes.items
+        ≡ framed_of (frame_said frame.now) theme rows cols picture.items) }
+    ensures seen { IfOk result (λ bytes. seen bytes.items ≡ framed_seen (frame_said frame.now) (seen picture.items)) }
+    ensures text { IfOk result (λ bytes. (text : List ℕ) → Shows picture.items text → Shows bytes.items text) }
+    ensures page { IfOk result (λ bytes. IsPage bytes.items) }
+    ensures safe { IfOk result (λ bytes. IsSafe bytes.items) }
+{
+    let inner = Page::of_bytes(picture);
+    if frame.is_bare() {
+        return Ok(inner.into_bytes());
+    }
+    let mut page = Page::new(alloc);
+    push_around(&mut page, &inner, rows, cols, theme, frame)?;
+    Ok(page.into_bytes())
+}
+
+// Appends a picture and what is around it.
+fn push_around(
+    page: &mut Page,
+    picture: &Page,
+    rows: u16,
+    cols: u16,
+    theme: Theme,
+    frame: &Frame,
+) -> Result<(), AllocError>
+    ensures bytes { OnOk result (page.new
+        ≡ page.old ++ around (frame_said frame.now) theme (cols * 9) (rows * 18) picture.now) }
+    ensures seen { OnOk result (Draws page.old page.new true true
+        (around_seen (frame_said frame.now) (seen picture.now))) }
+    ensures text { OnOk result ((text : List ℕ) → Shows picture.now text → Adds page.old page.new text) }
+{
+    push_frame_head(page, rows, cols, theme, frame)?;
+    push_window_bar(page, cols, theme, frame)?;
+    push_inner_head(page, rows, cols, frame)?;
+    page.append(picture)?;
+    page.markup(Tag::SvgFoot)?;
+    page.markup(Tag::SvgFoot)
+}
+
+// Appends what comes before the bar of a window and the picture.
+fn push_frame_head(
+    page: &mut Page,
+    rows: u16,
+    cols: u16,
+    theme: Theme,
+    frame: &Frame,
+) -> Result<(), AllocError>
+    ensures adds { OnOk result (Adds page.old page.new []) }
+    ensures seen { OnOk result (Draws page.old page.new true true (codes "\n\n")) }
+    ensures bytes { OnOk result (page.new
+        ≡ page.old ++ frame_head (frame_said frame.now) theme (cols * 9) (rows * 18)) }
+{
+    let width = frame.width(cols);
+    let height = frame.height(rows);
+    page.markup(Tag::Frame)?;
+    let numbers = [
+        (Tag::Width, width),
+        (Tag::Height, height),
+        (Tag::ViewBox, width),
+        (Tag::Space, height),
+    ];
+    page.numbers(&numbers)?;
+    page.markup(Tag::SvgRows)?;
+    push_rect(page, 0, width, height, theme.bgcolor)?;
+    page.markup(Tag::Newline)
+}
+
+// Appends the bar of a window, if there is one.
+fn push_window_bar(
+    page: &mut Page,
+    cols: u16,
+    theme: Theme,
+    frame: &Frame,
+) -> Result<(), AllocError>
+    ensures adds { OnOk result (Adds page.old page.new []) }
+    ensures seen { OnOk result (Draws page.old page.new true true (bar_seen (frame_said frame.now))) }
+    ensures bytes { OnOk result (page.new ≡ page.old ++ window_bar (frame_said frame.now) theme (cols * 9)) }
+{
+    match &frame.title {
+        Some(title) => {
+            let width = frame.width(cols);
+            push_bar(page, frame.font_size, theme, width, title.as_str())
+        }
+        None => Ok(()),
+    }
+}
+
+// Appends the bar of a window that is so wide, with letters of this size.
+fn push_bar(
+    page: &mut Page,
+    size: u8,
+    theme: Theme,
+    width: u32,
+    title: &str,
+) -> Result<(), AllocError>
+    ensures adds { OnOk result (Adds page.old page.new []) }
+    ensures seen { OnOk result (Draws page.old page.new true true (escaped title.now ++ codes "\n")) }
+    ensures bytes { OnOk result (page.new ≡ page.old ++ bar_bytes size theme width title.now) }
+{
+    let size = u32::from(size);
+    push_rect(page, 0, width, 2 * size, theme.colors[0])?;
+    push_button(page, size, size, theme.colors[1])?;
+    push_button(page, size, 2 * size, theme.colors[3])?;
+    push_button(page, size, 3 * size, theme.colors[2])?;
+    push_title(page, size, width / 2, theme.colors[7], title)?;
+    page.markup(Tag::Newline)
+}
+
+// Appends a round button, whose middle is so far to the right.
+fn push_button(page: &mut Page, size: u32, x: u32, color: Rgb) -> Result<(), AllocError>
+    ensures adds { OnOk result (Adds page.old page.new []) }
+    ensures seen { OnOk result (Draws page.old page.new true true []) }
+    ensures bytes { OnOk result (page.new ≡ page.old ++ button size x color) }
+{
+    let numbers = [
+        (Tag::Button, x),
+        (Tag::MiddleY, size),
+        (Tag::Radius, size / 3),
+    ];
+    page.numbers(&numbers)?;
+    page.color(Tag::Fill, color)?;
+    page.markup(Tag::Close)
+}
+
+// Appends the title, with its middle so far to the right.
+fn push_title(page: &mut Page, size: u32, x: u32, color: Rgb, title: &str) -> Result<(), AllocError>
+    requires { size ≤ 255 }
+    ensures adds { OnOk result (Adds page.old page.new []) }
+    ensures seen { OnOk result (Draws page.old page.new true true (escaped title.now)) }
+    ensures bytes { OnOk result (page.new ≡ page.old ++ title_text size x color title.now) }
+{
+    let numbers = [
+        (Tag::Text, x),
+        (Tag::Y, size + size / 3),
+        (Tag::TitleSize, size),
+    ];
+    page.numbers(&numbers)?;
+    page.color(Tag::Fill, color)?;
+    page.markup(Tag::TextStart)?;
+    page.name(title)?;
+    page.markup(Tag::TextEnd)
+}
+
+// Appends where the picture is, and how large it is shown.
+fn push_inner_head(page: &mut Page, rows: u16, cols: u16, frame: &Frame) -> Result<(), AllocError>
+    ensures adds { OnOk result (Adds page.old page.new []) }
+    ensures seen { OnOk result (Draws page.old page.new true true (codes "\n")) }
+    ensures bytes { OnOk result (page.new ≡ page.old ++ inner_head (frame_said frame.now) (cols * 9) (rows * 18)) }
+{
+    let width = u32::from(cols) * COL_WIDTH;
+    let height = u32::from(rows) * ROW_HEIGHT;
+    let numbers = [
+        (Tag::Inner, u32::from(frame.padding)),
+        (Tag::Y, frame.bar_height() + u32::from(frame.padding)),
+        (Tag::Width, frame.enlarged(width)),
+        (Tag::Height, frame.enlarged(height)),
+        (Tag::ViewBox, width),
+        (Tag::Space, height),
+    ];
+    page.numbers(&numbers)?;
+    page.markup(Tag::SvgRows)
+}
