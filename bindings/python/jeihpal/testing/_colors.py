@@ -4,12 +4,14 @@ from __future__ import annotations
 
 from jeihpal import Color
 
-FOREGROUND, BACKGROUND = "#d4d4d4", "#1e1e1e"  # the terminal's own, where a picture or a program wants to know them
+# The terminal's own, where a picture or a program wants to know them. These and the first sixteen are xterm's, as in the
+# theme `xterm` of screentext.
+FOREGROUND, BACKGROUND = "#e5e5e5", "#000000"
 _EIGHT = ("black", "red", "green", "yellow", "blue", "magenta", "cyan", "white")
 NAMES = (*_EIGHT, *(f"bright-{name}" for name in _EIGHT))
 _SIXTEEN = (
-    *("#000000", "#cd0000", "#00cd00", "#cdcd00", "#1e5fee", "#cd00cd", "#00cdcd", "#e5e5e5"),
-    *("#7f7f7f", "#ff0000", "#00ff00", "#ffff00", "#5c8cff", "#ff00ff", "#00ffff", "#ffffff"),
+    *("#000000", "#cd0000", "#00cd00", "#cdcd00", "#0000ee", "#cd00cd", "#00cdcd", "#e5e5e5"),
+    *("#7f7f7f", "#ff0000", "#00ff00", "#ffff00", "#5c5cff", "#ff00ff", "#00ffff", "#ffffff"),
 )
 _STEPS = (0, 95, 135, 175, 215, 255)
 
