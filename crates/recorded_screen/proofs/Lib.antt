@@ -1,4 +1,5 @@
 mod FilmLemmas
+mod FramedLemmas
 mod HeadLemmas
 mod MomentLemmas
 mod PictureLemmas

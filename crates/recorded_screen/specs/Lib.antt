@@ -1,5 +1,6 @@
 pub mod Examples
 pub mod Film
+pub mod Framed
 pub mod Heads
 pub mod Moment
 pub mod Picture

@@ -92,8 +92,8 @@ fn push_block(
     page.markup(Tag::BlockEnd)
 }
 
-// How many kept rows come first.
-fn kept_of(screen: &Screen, history: usize) -> u16
+/// How many kept rows come first.
+pub(crate) fn kept_of(screen: &Screen, history: usize) -> u16
     ensures count { result ≡ kept_pictured history screen.now.state }
     ensures room { result + screen.now.state.shown.height ≤ 2 ^ 16 - 1 }
 {
@@ -106,8 +106,8 @@ fn kept_of(screen: &Screen, history: usize) -> u16
     }
 }
 
-// How many rows a picture has, where so many kept ones come first.
-fn rows_of(screen: &Screen, count: u16) -> u16
+/// How many rows a picture has, where so many kept ones come first.
+pub(crate) fn rows_of(screen: &Screen, count: u16) -> u16
     requires { count + screen.now.state.shown.height ≤ 2 ^ 16 - 1 }
     ensures { result ≡ count + screen.now.state.shown.height }
 {
