@@ -75,8 +75,8 @@ pub(crate) fn split_common_narrow(text: &str) -> Option<(Char3, &str)>
     ensures apart { IfSome result (λ p. (p.0 < 0x80) ⊎ (0xA0 ≤ p.0)) }
     ensures below { IfSome result (λ p. p.0 < 0xFFFD) }
 {
-    if begins_three_bytes(text) {
-        if is_common_of_three_bytes(text) {
+    if begins_past_two_bytes(text) {
+        if begins_three_bytes(text) && is_common_of_three_bytes(text) {
             Some(split_three_bytes(text))
         } else {
             None
@@ -92,6 +92,13 @@ pub(crate) fn split_common_narrow(text: &str) -> Option<(Char3, &str)>
     } else {
         None
     }
+}
+
+/// Whether a text begins with a byte above those that characters of one byte or two begin with.
+// One comparison parts these, which the tests for a number of bytes then needn't.
+#[inline(always)]
+fn begins_past_two_bytes(text: &str) -> bool {
+    matches!(text.as_bytes(), [0xE0..=0xFF, ..])
 }
 
 /// Whether a text begins with a printable character of ASCII.
@@ -161,6 +168,7 @@ fn is_common_wide(code: u32) -> bool
 }
 
 /// Whether the character of two bytes at the start of a text is of a common script of one column.
+// Nearly always the first byte tells. Of those that begin with 0xCC and 0xCD many combine.
 #[inline(always)]
 fn is_common_of_two_bytes(text: &str) -> bool
     requires { BeginsTwoBytes text.now }
@@ -169,7 +177,8 @@ fn is_common_of_two_bytes(text: &str) -> bool
     ensures below { IsTrue result → first_char text.now < 0xFFFD }
 {
     match text.as_bytes()[0] {
-        0xC3..=0xCB | 0xCE..=0xD1 => true,
+        0xCC | 0xCD => is_common_two(code_of_two(text)),
+        0xC3..=0xD1 => true,
         _ => is_common_two(code_of_two(text)),
     }
 }
@@ -183,9 +192,10 @@ fn is_common_of_three_bytes(text: &str) -> bool
     ensures above { IsTrue result → 0xA0 ≤ first_char text.now }
     ensures below { IsTrue result → first_char text.now < 0xFFFD }
 {
-    match text.as_bytes() {
-        [0xE2, 0x94..=0x96, ..] => true,
-        [0xE3..=0xED, ..] => false,
+    let bytes = text.as_bytes();
+    match bytes[0] {
+        0xE2 if matches!(bytes[1], 0x94..=0x96) => true,
+        0xE3..=0xED => false,
         _ => is_common_three(code_of_three(text)),
     }
 }
@@ -201,19 +211,20 @@ fn is_common_two(code: u32) -> bool
 }
 
 /// Whether a character of three bytes is of a common script of one column.
+// Braille is told first, since whole rows of graphs are of it.
 #[inline(always)]
 fn is_common_three(code: u32) -> bool
     ensures narrow { IsTrue result → IsNarrow code }
     ensures above { IsTrue result → 0xA0 ≤ code }
     ensures below { IsTrue result → code < 0xFFFD }
 {
-    matches!(
+    matches!(code, 0x2800..=0x28FF)
+        || matches!(
         code,
         0x1E00..=0x1FFF
             | 0x2010..=0x2027
             | 0x2190..=0x2319
             | 0x2500..=0x25FC
-            | 0x2800..=0x28FF
             | 0xE000..=0xF8FF
     )
 }

@@ -44,9 +44,9 @@ returns-in-7680-to-8191-5-clause-narrow c _ = (
       (grind (arith, nat_tests)) (omega arith)),
 )
 
-pub returns-in-7680-to-8191-6-clause-narrow : goal.returns-in-7680-to-8191-6-clause-narrow
+pub returns-then-matches-clause-narrow : goal.returns-then-matches-clause-narrow
 unfolding in_ranges
-returns-in-7680-to-8191-6-clause-narrow c _ = (
+returns-then-matches-clause-narrow c _ = (
   grind (arith, nat_tests),
   sym (drawn-narrow c.args.code (omega arith)
       (grind (arith, nat_tests)) (omega arith)),
