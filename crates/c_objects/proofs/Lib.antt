@@ -1,5 +1,6 @@
 mod Did
 mod Filters
+mod LeftText
 mod Prefixes
 mod RowTexts
 mod RunLemmas

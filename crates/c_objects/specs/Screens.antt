@@ -1,6 +1,6 @@
 -- What each call does to a screen, by the library's call, and the number that it returns.
-use Rattle.std.specs.Prelude.{◌≡◌, ◌⊎◌, ℕ, ◌<◌, ◌*◌, ℤ, true, false, List, [], ◌∷◌, ◌++◌, length, min, Option, Some}
-use Rattle.std.specs.Prelude.{None, Ok, Err, Result}
+use Rattle.std.specs.Prelude.{◌≡◌, ◌⊎◌, ℕ, ◌<◌, ◌*◌, ℤ, Bool, true, false, List, [], ◌∷◌, ◌++◌, length, min, Option}
+use Rattle.std.specs.Prelude.{Some, None, Ok, Err, Result}
 use Rattle.std.specs.Prelude.{String}
 use Rattle.std.specs.Global.{Global}
 use Rattle.std.specs.Prelude.{OnOk, IsOk, encode_utf8_all}
@@ -22,7 +22,7 @@ use Rattle.vt100.specs.declared.error.ScreenError.TheVariants.{Memory, Failed}
 use Rattle.c_objects.specs.Codes.{ok, bad_size, memory, screen_code}
 use Rattle.c_objects.specs.Hubs.{ShowsCell, ShowsRow, ShowsContents}
 use Rattle.c_objects.specs.Looks.{screen_look}
-use Rattle.c_objects.specs.Requests.{RequestsView, no_requests, Receives, Takes}
+use Rattle.c_objects.specs.Requests.{RequestsView, no_requests, telling, Receives, Leaves, Takes}
 use Rattle.c_objects.specs.Texts.{CopiesText, Copies}
 use Rattle.c_objects.specs.declared.plain.CCell.{CCell}
 use Rattle.c_objects.specs.declared.plain.CLook.{CLook}
@@ -48,10 +48,6 @@ IsNewScreenOf rows cols capacity (Filter f) = ⊥
 
 -- ---- calls that change it
 
--- the report of a row that scrolls off doesn't change the queue
-abbrev pub keeps_queue : {R A : Type 0} → RequestsView → R → A → RequestsView → Type 0
-keeps_queue q row alternate r = q ≡ r
-
 -- the parser reads bytes, with all that the library's call promises of it
 pub record Reads (bytes : List ℕ) (p : ParserView RequestsView) (answer : Result (Unit {0}) ScreenError)
     (q : ParserView RequestsView) : Type 0 where
@@ -61,7 +57,7 @@ pub record Reads (bytes : List ℕ) (p : ParserView RequestsView) (answer : Resu
   pub dead : p.screen.failed ≡ true → (answer ≡ Err Failed) × (q ≡ p)
   pub reads : p.screen.failed ≡ false → (past : List ℕ) → HasRead p past → HasRead q (past ++ bytes)
   pub goes : p.screen.failed ≡ false → (past : List ℕ) → HasRead p past
-      → GoesThrough Receives keeps_queue (events_added past bytes) p.callbacks p.screen q.callbacks q.screen
+      → GoesThrough Receives Leaves (events_added past bytes) p.callbacks p.screen q.callbacks q.screen
   pub made : (rows cols capacity : ℕ) (acts : List Act) → ParserIsAfter p rows cols capacity acts
       → OnOk answer (ParserIsAfter q rows cols capacity (acts ++ Fed bytes ∷ []))
   pub bounds : (rows cols capacity : ℕ) (acts : List Act) → AreActs rows cols capacity acts
@@ -77,7 +73,7 @@ Processes bytes m code n =
 -- the parser's screen gets another size, with all that the library's call promises of it
 pub record Resizes (rows cols : ℕ) (p : ParserView RequestsView) (answer : Result (Unit {0}) ScreenError)
     (q : ParserView RequestsView) : Type 0 where
-  pub screen : Tries keeps_queue (resized_to rows cols) p.screen p.callbacks answer q.screen q.callbacks
+  pub screen : Tries Leaves (resized_to rows cols) p.screen p.callbacks answer q.screen q.callbacks
   pub stops : answer ≡ Err Memory → Stops rows cols p.screen.state q.screen.state
   pub same : p.screen.failed ≡ false → rows ≡ p.screen.state.shown.height → cols ≡ p.screen.state.shown.width
       → IsOk answer
@@ -127,6 +123,10 @@ Marks m code n =
 -- the object with this queue, and otherwise as it was
 abbrev pub with_requests : Marked → RequestsView → Marked
 with_requests m q = record m { parser = record (m.parser) { callbacks = q } }
+
+-- what isn't known is queued from now on, or isn't, and so are rows that leave for good
+abbrev pub Tells : Bool → Bool → Marked → ℤ → Marked → Type 0
+Tells unknown rows m code n = (code ≡ ok) × (n ≡ with_requests m (telling unknown rows m.parser.callbacks))
 
 -- the oldest request is copied
 abbrev pub TellsOldest : List ℕ → List ℕ → CRequest → Marked → ℤ → Marked → Type 0

@@ -19,6 +19,7 @@ mod requests;
 pub mod rows;
 pub mod screen;
 mod sent;
+mod told;
 pub mod view;
 
 pub use code::{CLOSED, OK};

@@ -5,7 +5,7 @@ ghost use Rattle.c_objects.specs.Codes.{IsRefusal};
 ghost use Rattle.c_objects.specs.Hubs.{IsNoObjectCode};
 ghost use Rattle.c_objects.specs.Objects.{ScreenDoes, ScreenSays};
 ghost use Rattle.c_objects.specs.Screens.{IsNewScreenOf, Processes, ResizesTo, ResizesMarked, ScrollsMarked, Marks};
-ghost use Rattle.c_objects.specs.Screens.{TellsOldest};
+ghost use Rattle.c_objects.specs.Screens.{Tells, TellsOldest};
 ghost use Rattle.c_objects.specs.Screens.{Looks, HasCell, HasRow, HasContents, HasBetween};
 ghost use Rattle.c_objects.specs.Screens.{HasFormatted, HasState, HasDifference};
 
@@ -129,6 +129,24 @@ pub fn mark(object: &mut Object) -> i32
 {
     match object {
         Object::Screen(marked) => mark_as_now(marked),
+        _ => OTHER_KIND,
+    }
+}
+
+fn tell_marked(marked: &mut Marked, unknown: bool, rows: bool) -> i32
+    ensures { Tells unknown rows marked.old result marked.new }
+{
+    marked.parser.callbacks_mut().tell(unknown, rows);
+    OK
+}
+
+/// Chooses whether a screen's queue gets what the screen doesn't know from now on, and whether it gets rows that leave
+/// the screen for good.
+pub fn tell(object: &mut Object, unknown: bool, rows: bool) -> i32
+    ensures { ScreenDoes (Tells unknown rows) object.old result object.new }
+{
+    match object {
+        Object::Screen(marked) => tell_marked(marked, unknown, rows),
         _ => OTHER_KIND,
     }
 }
