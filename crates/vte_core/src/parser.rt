@@ -300,16 +300,20 @@ impl<const N: usize> Parser<N> {
         }
     }
 
-    /// A byte that mostly is the final one of a sequence, since those before it had no event. What comes most often is
-    /// looked for first.
+    /// A byte that mostly is the final one of a sequence, or ends a command, since those before it had no event. ESC is
+    /// looked for first, and then what comes most often.
     #[inline(always)]
     fn likely_final<P: Perform>(&mut self, performer: &mut P, byte: u8)
         ensures { ReadsByte P.step N self.old performer.old byte self.new performer.new }
     {
+        if byte == 0x1B {
+            self.begin_escape(performer);
+            return;
+        }
         match self.state {
             State::Csi if is_final(byte) => self.dispatch_csi(performer, byte),
             State::Escape if is_escape_final(byte) => self.end_escape(performer, byte),
-            _ if byte == 0x1B => self.begin_escape(performer),
+            State::OscString => self.osc_string(performer, byte),
             _ => self.byte(performer, byte),
         }
     }
