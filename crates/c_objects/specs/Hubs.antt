@@ -2,7 +2,7 @@
 use Rattle.std.specs.Prelude.{◌≡◌, ◌≢◌, ◌⊎◌, ℕ, ◌≤◌, ◌<◌, ◌*◌, ℤ, false, List, length, drop, Option, Some, None, Ok}
 use Rattle.std.specs.Prelude.{Err}
 use Rattle.std.specs.Prelude.{Result, IfOk, OnOk}
-use Rattle.std.specs.Prelude.{MatchOption, encode_utf8_all}
+use Rattle.std.specs.Prelude.{MatchOption, IsSomeAnd, is_some, if◌then◌else◌, encode_utf8_all}
 use Rattle.vt100_core.specs.Grid.{visible_row_at, cell_in}
 use Rattle.vt100_core.specs.Contents.{newlines_cut, text_lines}
 use Rattle.screen_model.specs.Call.{ScreenView}
@@ -10,6 +10,7 @@ use Rattle.vt100.specs.Texts.{text_between}
 use Rattle.termrelay.specs.declared.answer.Answer.{Answer}
 use Rattle.termrelay.specs.declared.answer.Answer.TheVariants.{Difference, TooLong}
 use Rattle.termrelay.specs.declared.error.HubError.{HubError}
+use Rattle.termrelay.specs.Answers.{ClientState}
 use Rattle.termrelay.specs.Hub as hub
 use Rattle.termrelay.specs.Hub.{HubState, as_kept, IsNewHub, clients_in, Puts, OwesOneFrame, OwesLocalFrame, size_in}
 use Rattle.termrelay.specs.Hub.{is_failed}
@@ -99,6 +100,22 @@ Redrawn (Err e) old new count code = code ≡ refusal_code e
 abbrev pub Redraws : ℕ → List ℕ → List ℕ → ℕ → HubState as_kept → ℤ → Type 0
 Redraws key old new count h code =
     (answer : Result (Option (List ℕ)) HubError) × joins.Redraws h key answer × Redrawn answer old new count code
+
+-- the number if there is no whole frame, by the client: it has had no frame, or its whole frame is too long
+abbrev pub no_whole_code : ClientState → ℤ
+no_whole_code c = if is_some c.base then answer_code TooLong else ok
+
+-- the bytes of a client's whole frame are copied, as many as fit, and counted; if there is none, no byte is
+abbrev pub WholeDrawn : Option ClientState → Result (Option (List ℕ)) HubError → List ℕ → List ℕ → ℕ → ℤ → Type 0
+WholeDrawn client (Ok (Some text)) old new count code = (code ≡ ok) × IsCopied text old new count
+WholeDrawn client (Ok None) old new count code =
+    IsSomeAnd client (λ c. code ≡ no_whole_code c) × (new ≡ old) × (count ≡ 0)
+WholeDrawn client (Err e) old new count code = code ≡ refusal_code e
+
+abbrev pub DrawsWhole : ℕ → List ℕ → List ℕ → ℕ → HubState as_kept → ℤ → Type 0
+DrawsWhole key old new count h code =
+    (answer : Result (Option (List ℕ)) HubError) × joins.DrawsWhole h key answer
+    × WholeDrawn (clients_in h key) answer old new count code
 
 -- a cell of a screen is copied, or the place is outside it
 abbrev pub ShowsCell : ScreenView → ℕ → ℕ → CCell → ℤ → Type 0

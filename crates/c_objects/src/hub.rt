@@ -1,11 +1,13 @@
 //! The calls of a hub.
-ghost use Rattle.std.specs.Prelude.{◌≡◌, IfOk, IfErr};
+ghost use Rattle.std.specs.Prelude.{◌≡◌, IfOk, IfErr, IsSomeAnd, is_some, Err};
+ghost use Rattle.termrelay.specs.Hub.{clients_in};
+ghost use Rattle.termrelay.specs.Joins.{DrawsWhole as hub_draws_whole};
 ghost use Rattle.c_objects.specs.Cells.{HubHasCells};
 ghost use Rattle.c_objects.specs.Codes.{IsRefusal};
 ghost use Rattle.c_objects.specs.Objects.{HubDoes, HubSays};
 ghost use Rattle.c_objects.specs.Hubs.{IsNewHubOf, IsNoObjectCode, Feeds, Resizes, Attaches, Detaches, Frames, Sends};
-ghost use Rattle.c_objects.specs.Hubs.{Forks, Owes, Redraws, Looks, HasCell, HasRow, HasContents, ShowsCell, ShowsRow};
-ghost use Rattle.c_objects.specs.Hubs.{ShowsContents};
+ghost use Rattle.c_objects.specs.Hubs.{Forks, Owes, Redraws, DrawsWhole, Looks, HasCell, HasRow, HasContents, ShowsCell};
+ghost use Rattle.c_objects.specs.Hubs.{ShowsRow, ShowsContents};
 
 use crate::cells::copy_screen_cells;
 use crate::code::{
@@ -19,7 +21,7 @@ use crate::plain::{CCell, CLook};
 use crate::sent::SoMany;
 use std::alloc::Global;
 use std::num::NonZeroU16;
-use termrelay::{Client, Hub};
+use termrelay::{Client, Hub, HubError};
 use vt100::Screen;
 
 /// Makes a hub with a blank screen of this size, and without clients. Refused for a size without cells, and if an
@@ -187,6 +189,50 @@ pub fn redraw(object: &Object, client: usize, to: &mut [u8], count: &mut usize) 
 {
     match object {
         Object::Hub(hub) => copy_redraw(hub, Client::from_key(client), to, count),
+        _ => OTHER_KIND,
+    }
+}
+
+/// Whether the client has had a frame: before its first one there is an empty redraw.
+fn has_had_frame(hub: &Hub, client: Client) -> Result<bool, HubError>
+    ensures had { IfOk result (λ had. IsSomeAnd (clients_in hub.now client) (λ c. had ≡ is_some c.base)) }
+    ensures refused { IfErr result (λ error. hub_draws_whole hub.now client (Err error)) }
+{
+    match hub.redraw(client)? {
+        Some(text) => Ok(!text.is_empty()),
+        None => Ok(true),
+    }
+}
+
+fn copy_whole_frame(hub: &Hub, client: Client, to: &mut [u8], count: &mut usize) -> i32
+    ensures draws { DrawsWhole client to.old to.new count.new hub.now result }
+    ensures refused { IsRefusal result → (to.new ≡ to.old) × (count.new ≡ count.old) }
+{
+    match hub.whole_frame(client) {
+        Ok(Some(text)) => {
+            copy_prefix(&text, to, count);
+            OK
+        }
+        Ok(None) => match has_had_frame(hub, client) {
+            Ok(had) => {
+                *count = 0;
+                if had { TOO_LONG } else { OK }
+            }
+            Err(error) => refusal_code(error),
+        },
+        Err(error) => refusal_code(error),
+    }
+}
+
+/// Copies as many as fit of the bytes of a client's whole frame, which draws what the client shows once it has read all
+/// its frames, on any terminal that has read frames. Sets `count` to how many there are. Before the client's first frame
+/// there are none, nor if they are more than a terminal buffers.
+pub fn whole_frame(object: &Object, client: usize, to: &mut [u8], count: &mut usize) -> i32
+    ensures draws { HubSays (DrawsWhole client to.old to.new count.new) object.now result }
+    ensures refused { IsRefusal result → (to.new ≡ to.old) × (count.new ≡ count.old) }
+{
+    match object {
+        Object::Hub(hub) => copy_whole_frame(hub, Client::from_key(client), to, count),
         _ => OTHER_KIND,
     }
 }
