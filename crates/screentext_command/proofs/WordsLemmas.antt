@@ -158,6 +158,10 @@ help_told words is = subst (λ (ks : Kinds). IsToldFor ks HELP.now) (sym is) ref
 pub version_told : (words : List Text) → fault_of known words ≡ DisplayVersion ∷ [] → AskForText words VERSION.now
 version_told words is = subst (λ (ks : Kinds). IsToldFor ks VERSION.now) (sym is) refl
 
+-- what holds of a value if there is one holds of the one that there is
+pub some_at : {X : Type 0} (o : Option X) (x : X) (P : X → Type 0) → o ≡ Some x → IfSome o P → P x
+some_at {X = X} o x P is holds = subst (λ (p : Option X). IfSome p P) is holds
+
 -- a pace that there is
 pub pace_said : (rows : List Row) (o : Option Pace) (pace : Pace) → o ≡ Some pace → IfSome o (SaysPace rows)
     → SaysPace rows pace

@@ -14,8 +14,10 @@ use Rattle.recordings.specs.Recorded.{size_said}
 use Rattle.recordings.specs.Times.{time_in}
 use Rattle.recordings.specs.declared.recording.Kind.{Kind}
 use Rattle.recorded_screen.specs.declared.films.Pace.{Pace}
+use Rattle.row_pictures.specs.Frames.{FrameView, frame_said}
 use Rattle.row_pictures.specs.Themes.{theme_named}
 use Rattle.row_pictures.specs.declared.theme.Theme.{Theme}
+use Rattle.screentext_command.specs.Frames.{SaysFrame}
 use Rattle.screentext_command.specs.Words.{known}
 use Rattle.row_texts.specs.declared.row.Look.{Look}
 use Rattle.screentext_command.specs.declared.help.TheConstants.{HELP, VERSION}
@@ -43,7 +45,7 @@ pub record Origin : Type 0 where
   -- how many cells a size has at most
   pub most_cells : ℕ
 
--- how pictures look, and how fast a film plays
+-- how pictures look, what is around them, and how fast a film plays
 pub record Manner : Type 0 where
   -- the theme and the name of the font, where words say them
   pub theme : Option Theme
@@ -52,6 +54,8 @@ pub record Manner : Type 0 where
   pub bold_is_bright : Option Bool
   pub hides_cursor : Bool
   pub pace : Pace
+  -- what is around pictures in SVG, and how large they are shown
+  pub frame : FrameView
 
 -- which screen is printed, and how
 pub record Wish : Type 0 where
@@ -82,6 +86,7 @@ manner_of p = record {
   bold_is_bright = p.bold_is_bright;
   hides_cursor = p.hides_cursor;
   pace = p.pace;
+  frame = frame_said p.frame;
 }
 
 abbrev pub wish_of : Request → Pictures → Wish
@@ -180,7 +185,7 @@ pub record SaysPace (rows : List Row) (pace : Pace) : Type 0 where
   pub idle : idle_meant (first_of (codes "idle") rows) ≡ Some pace.idle
   pub rate : rate_meant (first_of (codes "fps") rows) ≡ Some pace.rate
 
--- they say how pictures look, and how fast a film plays
+-- they say how pictures look, what is around them, and how fast a film plays
 pub record SaysManner (rows : List Row) (m : Manner) : Type 0 where
   pub theme : theme_meant (first_of (codes "theme") rows) ≡ Some m.theme
   pub font : m.font ≡ first_of (codes "font") rows
@@ -188,6 +193,7 @@ pub record SaysManner (rows : List Row) (m : Manner) : Type 0 where
       ≡ Some m.bold_is_bright
   pub hides_cursor : m.hides_cursor ≡ has (codes "no-cursor") rows
   pub pace : SaysPace rows m.pace
+  pub frame : SaysFrame rows m.frame
 
 -- they say which screen is printed, and how
 pub record SaysWish (rows : List Row) (w : Wish) : Type 0 where

@@ -2,6 +2,7 @@ pub mod Asked
 pub mod Command
 pub mod Drawn
 pub mod Faults
+pub mod Frames
 pub mod Limits
 pub mod Listed
 pub mod Missing

@@ -10,6 +10,7 @@ use Rattle.vt100_core.specs.Grid.{GridView, visible_row_at}
 use Rattle.screen_model.specs.Made.{made}
 use Rattle.picture_page.specs.Tags.{tag_bytes}
 use Rattle.picture_page.specs.declared.tag.Tag.TheVariants.{Newline, PageFoot, PageHead}
+use Rattle.row_pictures.specs.Frames.{framed_seen}
 use Rattle.row_pictures.specs.Themes.{theme_of, xterm_theme}
 use Rattle.row_pictures.specs.declared.look.Look as pictures
 use Rattle.row_pictures.specs.declared.theme.Theme.{Theme}
@@ -24,10 +25,11 @@ use Rattle.recordings.specs.Recorded.{size_said}
 use Rattle.recordings.specs.Themes.{theme_reported}
 use Rattle.recordings.specs.declared.recording.ScreenSize.{ScreenSize}
 use Rattle.recorded_screen.specs.Film as films
+use Rattle.recorded_screen.specs.Framed.{IsFramed}
 use Rattle.recorded_screen.specs.Moment.{acts_until}
 use Rattle.recorded_screen.specs.Placed.{IsAround, IsSvg}
 use Rattle.recorded_screen.specs.Picture.{block_seen, font_text, page_seen, screen_text, svg_seen}
-use Rattle.recorded_screen.specs.Picture.{scrolled, written_text}
+use Rattle.recorded_screen.specs.Picture.{rows_pictured, scrolled, written_text}
 use Rattle.recorded_screen.specs.declared.reel.TheConstants.{LONGEST_FILM}
 use Rattle.player_page.specs.Rows.{ShowsRows}
 use Rattle.player_page.specs.declared.page.TheConstants.{LONGEST_PLAYER}
@@ -115,7 +117,8 @@ IsStill HtmlBlock w r s text = Shows text (screen_text w.history s)
     × (seen text ≡ block_seen (escaped (screen_text w.history s)) ++ codes "\n") × IsSafe text
     × HasPlaces w.manner r (λ l. IsAround [] (tag_bytes Newline) l w.history s text)
 IsStill Svg w r s text = IsSafe text × HasPlaces w.manner r (λ l. Shows text (written_text l w.history s)
-    × (seen text ≡ svg_seen (escaped (font_text l w.history s))) × IsSvg l w.history s text)
+    × (seen text ≡ framed_seen w.manner.frame (svg_seen (escaped (font_text l w.history s))))
+    × IsFramed w.manner.frame l.theme (rows_pictured w.history s) s.shown.width (IsSvg l w.history s) text)
 
 -- ---- what differs
 
@@ -156,7 +159,8 @@ IsScreen picture w size r moment None text = IsStill picture w r (screen_at size
 IsScreen picture w size r moment (Some since) text =
     text ≡ changes_text w.look (screen_at size 0 r since).shown (screen_at size w.history r moment).shown
 
--- a film of a terminal of this size at first up to a moment, in the look and at the pace that the words ask for
+-- a film of a terminal of this size at first up to a moment, in the look, at the pace and in the frame that the words
+-- ask for
 pub record IsFilm (m : Manner) (size : ℕ × ℕ) (r : Recording) (moment : ℕ) (text : List ℕ) : Type 0 where
   pub safe : IsSafe text
   pub short : length text ≤ LONGEST_FILM
@@ -164,7 +168,8 @@ pub record IsFilm (m : Manner) (size : ℕ × ℕ) (r : Recording) (moment : ℕ
   pub is_look : IsLook m r look
   pub at_first : ScreenSize
   pub is_size : size_said at_first ≡ size
-  pub shows : films.IsFilm look at_first m.pace moment r.events.items text
+  pub shows : IsFramed m.frame look.theme (films.most_rows moment at_first r.events.items)
+      (films.most_cols moment at_first r.events.items) (films.IsFilm look at_first m.pace moment r.events.items) text
 
 abbrev pub IsPlayer : ℕ × ℕ → Recording → List ℕ → Type 0
 IsPlayer size r text = ShowsRows size.0 size.1 r.events.items text × IsSafe text × (length text ≤ LONGEST_PLAYER)

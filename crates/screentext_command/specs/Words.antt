@@ -14,6 +14,7 @@ use Rattle.recordings.specs.Kinds.{kind_named}
 use Rattle.recordings.specs.Times.{json_in, time_in, time_of}
 use Rattle.row_pictures.specs.Themes.{is_theme}
 use Rattle.command_line.specs.Numbers.{is_size, is_count, size_in}
+use Rattle.screentext_command.specs.Frames.{are_frames}
 
 -- an option with a value
 abbrev pub value_rule : Text → Rule
@@ -62,13 +63,18 @@ with_player a = with_rule a (flag_rule (codes "player"))
 abbrev pub with_frames : App → App
 with_frames a = with_rule a (flag_rule (codes "no-cursor"))
 
+abbrev pub with_windows : App → App
+with_windows a = with_rule (with_rule (with_rule a (value_rule (codes "padding"))) (value_rule (codes "font-size")))
+    (value_rule (codes "window"))
+
 -- the description for `clap` of
 -- `[ROWS COLS] [--at TIME] [--diff TIME] [--history N] [--joined] [--colours] [--html | --svg]
 -- [--list] [--kind NAME] [--timing FILE] [--no-line-drawing] [--strict] [--max-cells N] [--html-block] [--theme NAME]
 -- [--font NAME] [--bold-is-bright | --bold-is-plain] [--animate] [--speed N] [--idle SECONDS] [--fps N] [--player]
--- [--no-cursor]`
+-- [--no-cursor] [--padding N] [--font-size N] [--window TITLE]`
 abbrev pub known : App
-known = with_frames (with_player (with_films (with_pictures (with_sources (with_flags (with_values program))))))
+known = with_windows
+    (with_frames (with_player (with_films (with_pictures (with_sources (with_flags (with_values program)))))))
 
 -- both are numbers of rows and columns, or there is neither
 abbrev pub is_screen : Option Text → Option Text → Bool
@@ -124,7 +130,7 @@ are_paces rows = option_map_or is_speed (first_of (codes "speed") rows) true
 abbrev pub are_pictures : List Row → Bool
 are_pictures rows = option_map_or is_theme (first_of (codes "theme") rows) true
     && (is_bold (nat_lt 0 (count_of (codes "bold-is-bright") rows)) (nat_lt 0 (count_of (codes "bold-is-plain") rows))
-    && are_paces rows)
+    && (are_paces rows && are_frames rows))
 
 abbrev pub are_words : List Row → Bool
 are_words rows = are_values rows && (are_sources rows && are_pictures rows)
@@ -145,7 +151,7 @@ is_invocation words = is_invocation_of (fault_of known words) (matches_of known 
 
 -- what is printed for words that aren't understood
 abbrev pub usage_line : List ℕ
-usage_line = codes "usage: screentext [ROWS COLS] [--at SECONDS] [--diff SECONDS] [--history N] [--joined] [--colours] [--html | --html-block | --player | --svg [--animate]] [--speed N] [--idle SECONDS] [--fps N] [--theme NAME] [--font NAME] [--bold-is-bright | --bold-is-plain] [--no-cursor] [--list] [--kind NAME] [--timing FILE] [--no-line-drawing] [--strict] [--max-cells N]; screentext --help says what they do"
+usage_line = codes "usage: screentext [ROWS COLS] [--at SECONDS] [--diff SECONDS] [--history N] [--joined] [--colours] [--html | --html-block | --player | --svg [--animate]] [--speed N] [--idle SECONDS] [--fps N] [--theme NAME] [--font NAME] [--bold-is-bright | --bold-is-plain] [--no-cursor] [--padding N] [--font-size N] [--window TITLE] [--list] [--kind NAME] [--timing FILE] [--no-line-drawing] [--strict] [--max-cells N]; screentext --help says what they do"
     ++ 0x0A ∷ []
 
 -- what is printed where memory is refused

@@ -17,7 +17,9 @@ use crate::source::Moments;
 use crate::text::push_lines;
 use crate::words::{Form, Picture, Request};
 use player_page::{Play, player};
-use recorded_screen::{Recording, ScreenSize, film, html, html_block, svg, terminal_at};
+use recorded_screen::{
+    Recording, ScreenSize, framed_film, framed_svg, html, html_block, terminal_at,
+};
 use row_texts::Look;
 use std::alloc::Global;
 use std::num::NonZeroU16;
@@ -125,13 +127,14 @@ fn film_of(
     ensures fault { IfErr result (λ e. (e ≡ Memory) ⊎ (e ≡ LongFilm)) }
 {
     let colors = pictures.look(alloc, recording)?;
-    Ok(film(
+    Ok(framed_film(
         alloc,
         size,
         &recording.events,
         moment,
         &colors,
         pictures.pace,
+        &pictures.frame,
     )?)
 }
 
@@ -177,7 +180,7 @@ fn still_of(
         Picture::Text => lines_of(alloc, screen, request.history, request.look),
         Picture::Html => Ok(html(alloc, screen, request.history, &colors)?),
         Picture::HtmlBlock => Ok(html_block(alloc, screen, request.history, &colors)?),
-        Picture::Svg => Ok(svg(alloc, screen, request.history, &colors)?),
+        Picture::Svg => Ok(framed_svg(alloc, screen, request.history, &colors, &pictures.frame)?),
     }
 }
 

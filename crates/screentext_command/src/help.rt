@@ -30,6 +30,9 @@ gruvbox-dark, monokai, nord, solarized-dark, solarized-light or tango
       --bold-is-bright...      Bold texts in the first eight colours have the bright ones, as in the theme xterm
       --bold-is-plain...       Bold texts keep their colour, also in the theme xterm; not with --bold-is-bright
       --no-cursor...           Pictures don't show the cursor
+      --padding <N>            N pixels between a picture in SVG and each edge, 0 to 255: none without this option
+      --font-size <N>          Letters of a picture in SVG are N pixels high, 1 to 255: 15 without this option
+      --window <TITLE>         A picture in SVG is in a window, with this title in its bar
       --animate...             With --svg: a picture that plays the recording, 8 MiB at most
       --speed <N>              It plays N times as fast as it was recorded
       --idle <SECONDS>         No screen stands longer than this time of the recording
@@ -49,6 +52,7 @@ Examples:
   screentext --at done --html < demo.cast        a page of the screen at the marker `done`
   screentext --html-block < demo.cast            a block to be pasted into a page
   screentext --svg --theme nord < demo.cast      a picture in other colours
+  screentext --svg --window demo --padding 8 < demo.cast       a picture in a window
   screentext --svg --animate --idle 2 < demo.cast > demo.svg   a film for a README
   screentext --player --idle 2 < demo.cast > demo.html         a page that plays it
   screentext --timing times 24 80 < typescript   a session that script(1) recorded

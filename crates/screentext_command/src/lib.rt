@@ -9,6 +9,7 @@ mod changes;
 mod commands;
 mod error;
 mod files;
+mod frames;
 mod help;
 mod known;
 mod limits;

@@ -9,10 +9,11 @@ ghost use Rattle.screentext_command.specs.Asked.{SaysManner, bold_meant, manner_
 ghost use Rattle.screentext_command.specs.Texts.{IsLook, theme_shown};
 ghost use Rattle.screentext_command.specs.Words.{are_pictures, is_bold};
 
+use crate::frames::frame_of;
 use crate::pace::pace_of;
 use crate::source::owned;
 use clap::ArgMatches;
-use recorded_screen::{Look, Pace, Recording, Theme};
+use recorded_screen::{Frame, Look, Pace, Recording, Theme};
 use std::alloc::{AllocError, Global};
 
 /// What the words say of pictures.
@@ -28,6 +29,8 @@ pub(crate) struct Pictures {
     pub(crate) hides_cursor: bool,
     /// How fast a film plays.
     pub(crate) pace: Pace,
+    /// What is around pictures in SVG, and how large they are shown.
+    pub(crate) frame: Frame,
 }
 
 impl Pictures {
@@ -72,7 +75,8 @@ pub(crate) fn pictures_of(
         matches.get_count("bold-is-plain") > 0,
     );
     let hides_cursor = matches.get_count("no-cursor") > 0;
-    Ok(new_pictures(theme, bold, pace, font, hides_cursor))
+    let frame = frame_of(alloc, matches)?;
+    Ok(new_pictures(theme, bold, pace, font, hides_cursor, frame))
 }
 
 fn new_pictures(
@@ -81,10 +85,11 @@ fn new_pictures(
     pace: Option<Pace>,
     font: Option<String>,
     hides_cursor: bool,
+    frame: Option<Frame>,
 ) -> Option<Pictures>
-    ensures pictures { is_some result ≡ (is_some theme && (is_some bold && is_some pace)) }
+    ensures pictures { is_some result ≡ (is_some theme && (is_some bold && (is_some pace && is_some frame))) }
     ensures found { IfSome result (λ p. (theme ≡ Some p.theme) × (bold ≡ Some p.bold_is_bright)
-        × (pace ≡ Some p.pace)) }
+        × (pace ≡ Some p.pace) × (frame ≡ Some p.frame)) }
     ensures given { IfSome result (λ p. (p.font ≡ font) × (p.hides_cursor ≡ hides_cursor)) }
 {
     Some(Pictures {
@@ -93,6 +98,7 @@ fn new_pictures(
         bold_is_bright: bold?,
         hides_cursor,
         pace: pace?,
+        frame: frame?,
     })
 }
 

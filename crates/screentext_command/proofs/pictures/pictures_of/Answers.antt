@@ -6,7 +6,9 @@ use Rattle.clap.proofs.WalkLemmas.{first_value-rows}
 use Rattle.row_pictures.specs.Themes.{is_theme}
 use Rattle.screentext_command.specs.Asked.{bold_meant, theme_meant}
 use Rattle.screentext_command.specs.Words.{is_bold}
-use Rattle.screentext_command.proofs.WordsLemmas.{pace_said, some_both}
+use Rattle.row_pictures.specs.Frames.{frame_said}
+use Rattle.screentext_command.specs.Frames.{SaysFrame}
+use Rattle.screentext_command.proofs.WordsLemmas.{pace_said, some_at, some_both}
 use Rattle.screentext_command.proofs.pictures.pictures_of.Goals as goal
 
 pub returns-clause-pictures : goal.returns-clause-pictures
@@ -17,7 +19,8 @@ returns-clause-pictures c =
     let bold = c.bold_of-bold.ensures.bold
     ∙ ap₂ (λ m n. is_bold (nat_lt 0 m) (nat_lt 0 n)) c.get_count.ensures.value c.get_count-2.ensures.value in
     c.new_pictures.ensures.pictures
-    ∙ ap₂ (λ a b. a && b) theme (ap₂ (λ a b. a && b) bold c.in_ok-pace.ensures.pace)
+    ∙ ap₂ (λ a b. a && b) theme (ap₂ (λ a b. a && b) bold (ap₂ (λ a b. a && b) c.in_ok-pace.ensures.pace
+    c.in_ok-frame.ensures.frame))
 
 pub returns-clause-says : goal.returns-clause-says
 returns-clause-says c =
@@ -33,4 +36,6 @@ returns-clause-says c =
           ∙ found.1;
       hides_cursor = given.1 ∙ ap (λ n. nat_lt 0 n) c.get_count-hides_cursor.ensures.value;
       pace = pace_said (rows_of f) c.in_ok-pace.pace p.pace found.2 c.in_ok-pace.ensures.says;
+      frame = some_at c.in_ok-frame.frame p.frame (λ frame. SaysFrame (rows_of f) (frame_said frame)) found.3
+          c.in_ok-frame.ensures.says;
     })
