@@ -72,6 +72,8 @@ impl<CB: Callbacks> WrappedScreen<CB> {
 
     /// Moves the cursor a row up. At the scroll region's top, and at the screen's, the region scrolls down instead
     /// (RI).
+    // Never inlined, so that the frequent escape sequences need no stack.
+    #[inline(never)]
     pub fn ri(&mut self)
         ensures { Changes line_fed_back self.old self.new }
     {

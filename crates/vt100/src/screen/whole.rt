@@ -159,6 +159,8 @@ impl<CB: Callbacks> WrappedScreen<CB> {
     ///
     /// No memory is allocated: the main sheet's rows serve again. On a failed screen nothing is done, and the answer is
     /// [`ScreenError::Failed`].
+    // Never inlined, so that the frequent escape sequences need no stack.
+    #[inline(never)]
     pub fn ris(&mut self) -> Result<(), ScreenError>
         ensures tries { Tries CB.scrolls (λ s. quietly (made_anew s)) self.old.screen self.old.callbacks result
             self.new.screen self.new.callbacks }
