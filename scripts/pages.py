@@ -72,7 +72,7 @@ PROGRAMS = {
             ("animate", None, None, "With --svg: a picture that plays the recording, 8 MiB at most"),
             ("player", None, None, "A page in HTML that plays the recording, 32 MiB at most"),
             ("speed", "N", None, "It plays N times as fast as it was recorded"),
-            ("idle", "SECONDS", None, "No screen stands longer than this time of the recording"),
+            ("idle", "SECONDS", None, "No screen stands longer than this time, in place of an asciicast's own limit"),
             ("fps", "N", None, "A film shows N screens a second at most, 1 to 1000: 30 without this option"),
             ("theme", "NAME", THEMES, "The colours of pictures"),
             ("font", "NAME", None, "The font of pictures, where it is installed"),

@@ -4,11 +4,14 @@ use Rattle.std.proofs.Common.{subst, take, ◌+◌}
 use Rattle.std.proofs.Common.{◌<◌, ◌%◌, ◌^◌, append-nil, arith, cond, decimal, unwrap_or, Result, OnOk}
 use Rattle.std.proofs.lemmas.Bool.{le-leb}
 use Rattle.std.proofs.lemmas.Fmt.{decimal_by_steps}
+use Rattle.std.proofs.lemmas.Grind.{flat_map-append}
 use Rattle.std.proofs.lemmas.Result.{on_ok_weaker}
+use Rattle.std.specs.Prelude.{encode_utf8}
 use Rattle.picture_page.specs.Bytes.{numbers_bytes}
 use Rattle.picture_page.specs.Page.{Adds, Part, Digit, Name, Text, Shows, escaped, part_bytes, part_text, parts_bytes}
 use Rattle.picture_page.specs.Page.{parts_text, IsPage, reference}
 use Rattle.picture_page.specs.Tags.{tag_bytes}
+use Rattle.picture_page.specs.Titles.{title_character, title_characters}
 use Rattle.picture_page.specs.declared.tag.Tag.{Tag}
 
 pub parts_bytes-append : (ps : List Part) (p : Part) → parts_bytes (ps ++ p ∷ []) ≡ parts_bytes ps ++ part_bytes p
@@ -205,6 +208,17 @@ escaped_as_reference old more b r = ap (λ xs. old ++ xs) (escaped_one b (Some m
 
 pub escaped_as_byte : (old : List ℕ) (b : ℕ) → None ≡ reference b → old ++ b ∷ [] ≡ old ++ escaped (b ∷ [])
 escaped_as_byte old b r = ap (λ xs. old ++ xs) (escaped_one b None r)
+
+-- a character more of a title, escaped
+pub titled_more : (a b c cs : List ℕ) (x : ℕ) → b ≡ a ++ escaped (title_characters cs)
+    → c ≡ b ++ escaped (encode_utf8 (title_character x)) → c ≡ a ++ escaped (title_characters (cs ++ x ∷ []))
+titled_more a b c cs x first second =
+    let y = encode_utf8 (title_character x) in
+    let more : title_characters (cs ++ x ∷ []) ≡ title_characters cs ++ y =
+    flat_map-append (λ i. encode_utf8 (title_character i)) cs (x ∷ []) ∙ ap (λ xs. title_characters cs ++ xs)
+    (append-nil y) in
+    joined_more a b c (escaped (title_characters cs)) (escaped y) first second
+    ∙ ap (λ xs. a ++ xs) (sym (ap escaped more ∙ escaped-append (title_characters cs) y))
 
 -- a number more of those that are taken from the left
 pub numbers_more : (a b c : List ℕ) (ns : List (Tag × ℕ)) (i : ℕ) (x : Tag × ℕ) → take (i + 1) ns ≡ take i ns ++ x ∷ []

@@ -3,3 +3,4 @@ pub mod Examples
 pub mod Page
 pub mod Seen
 pub mod Tags
+pub mod Titles

@@ -5,8 +5,9 @@ use Rattle.picture_page.specs.declared.player.TheConstants.{PLAYER_CONTROLS, PLA
 use Rattle.picture_page.specs.declared.tag.Tag.TheVariants as tag
 
 abbrev pub tag_bytes : Tag → List ℕ
-tag_bytes tag.PageHead =
-    codes "<!DOCTYPE html>\n<html><head><meta charset=\"utf-8\"><title>screentext</title></head>\n<body>"
+tag_bytes tag.PageHead = codes "<!DOCTYPE html>\n<html><head><meta charset=\"utf-8\"><title>"
+tag_bytes tag.PageTitle = codes "screentext"
+tag_bytes tag.PageBody = codes "</title></head>\n<body>"
 tag_bytes tag.PageFoot = codes "</body></html>\n"
 tag_bytes tag.Block = codes "<pre style=\"display:inline-block;line-height:normal;"
 tag_bytes tag.BlockFont = codes ";font-family:'"
@@ -31,6 +32,8 @@ tag_bytes tag.Monospace = codes "monospace"
 tag_bytes tag.ViewBox = codes "\" viewBox=\"0 0 "
 tag_bytes tag.Space = codes " "
 tag_bytes tag.SvgRows = codes "\">\n"
+tag_bytes tag.Title = codes "<title>"
+tag_bytes tag.TitleEnd = codes "</title>\n"
 tag_bytes tag.SvgFoot = codes "</svg>\n"
 tag_bytes tag.Row = codes "<g transform=\"translate(0 "
 tag_bytes tag.RowCells = codes ")\">"

@@ -5,6 +5,7 @@ pub mod laws;
 mod page;
 mod player;
 mod tag;
+mod title;
 
 pub use page::{Page, Rgb};
 pub use tag::Tag;

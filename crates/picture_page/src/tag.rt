@@ -8,8 +8,12 @@ use crate::player::{PLAYER_CONTROLS, PLAYER_HEAD, PLAYER_SCRIPT, PLAYER_STYLE};
 /// A piece of markup: the only bytes of a picture that aren't digits, names or the escaped texts of cells.
 #[derive(Clone, Copy)]
 pub enum Tag {
-    /// What comes before the block of a page in HTML.
+    /// What comes before the title of a page in HTML.
     PageHead,
+    /// The title of a page without one of its own.
+    PageTitle,
+    /// What comes between the title of a page and its block.
+    PageBody,
     /// What comes after it.
     PageFoot,
     /// The beginning of a block of rows in HTML.
@@ -56,6 +60,10 @@ pub enum Tag {
     Space,
     /// What comes before the rows of a picture in SVG.
     SvgRows,
+    /// What comes before the title of a picture in SVG.
+    Title,
+    /// What comes after it.
+    TitleEnd,
     /// What ends it.
     SvgFoot,
     /// The beginning of a row in SVG, before how far down it is.
@@ -212,8 +220,9 @@ impl Tag {
         ensures { result.now ≡ tag_bytes self }
     {
         match self {
-            Tag::PageHead =>
-                b"<!DOCTYPE html>\n<html><head><meta charset=\"utf-8\"><title>screentext</title></head>\n<body>",
+            Tag::PageHead => b"<!DOCTYPE html>\n<html><head><meta charset=\"utf-8\"><title>",
+            Tag::PageTitle => b"screentext",
+            Tag::PageBody => b"</title></head>\n<body>",
             Tag::PageFoot => b"</body></html>\n",
             Tag::Block => b"<pre style=\"display:inline-block;line-height:normal;",
             Tag::BlockFont => b";font-family:'",
@@ -238,6 +247,8 @@ impl Tag {
             Tag::ViewBox => b"\" viewBox=\"0 0 ",
             Tag::Space => b" ",
             Tag::SvgRows => b"\">\n",
+            Tag::Title => b"<title>",
+            Tag::TitleEnd => b"</title>\n",
             Tag::SvgFoot => b"</svg>\n",
             Tag::Row => b"<g transform=\"translate(0 ",
             Tag::RowCells => b")\">",

@@ -8,12 +8,13 @@ use Rattle.screen_model.specs.Call.{ScreenView}
 use Rattle.screen_model.specs.Made.{Act}
 use Rattle.vt100.specs.Parsing.{ParserIsAfter, ParserView}
 use Rattle.vt100_cells.specs.Cell.{CellView}
-use Rattle.picture_page.specs.Page.{Adds}
+use Rattle.picture_page.specs.Page.{Adds, parts_bytes}
 use Rattle.picture_page.proofs.PageLemmas.{adds_both, adds_none, after_markup, before_markup, shows_page}
 use Rattle.row_pictures.specs.Text.{row_text}
 use Rattle.recordings.specs.declared.recording.Event.{Event}
 use Rattle.recorded_screen.specs.Moment.{act_of}
 use Rattle.recorded_screen.specs.Picture.{cells_shown}
+use Rattle.player_page.specs.Heads.{BeginsWith}
 use Rattle.player_page.specs.Rows.{AddsRows, IsRowAfter, IsRowOf, ShowsRows, acts_of, rows_text}
 
 -- nothing is added
@@ -70,6 +71,15 @@ rows_shown rows cols events empty page bytes none is adds = record {
   lines = adds.lines;
   shows = shows_page empty page bytes (rows_text adds.lines) none is adds.adds;
   shown = adds.shown;
+}
+
+-- a head, and then rows
+pub begins_with : (rows cols : ℕ) (events : List Event) (empty a b head bytes : List ℕ) → empty ≡ [] → bytes ≡ b
+    → a ≡ empty ++ head → AddsRows rows cols events a b → BeginsWith head bytes
+begins_with rows cols events empty a b head bytes none is head_is adds = record {
+  more = parts_bytes adds.adds.parts;
+  is = is ∙ adds.adds.joined ∙ ap (λ xs. xs ++ parts_bytes adds.adds.parts)
+      (head_is ∙ ap (λ xs. xs ++ head) none);
 }
 
 -- the rows of a terminal's screen

@@ -2,6 +2,7 @@
 #![tactic(auto)]
 
 mod error;
+mod head;
 mod page;
 mod strip;
 

@@ -4,11 +4,13 @@ ghost use Rattle.std.specs.Prelude.{◌≤◌, ℕ, [], List, IfOk, OnOk, length
 ghost use Rattle.picture_page.specs.Page.{Adds, IsPage, IsSafe};
 ghost use Rattle.recordings.specs.declared.recording.Event.{Event};
 ghost use Rattle.recorded_screen.specs.Picture.{cells_shown};
+ghost use Rattle.player_page.specs.Heads.{BeginsWith, head_bytes};
 ghost use Rattle.player_page.specs.Rows.{AddsRows, IsRowOf, ShowsRows};
 
 use crate::error::PlayerError;
+use crate::head::{push_head, push_seconds};
 use crate::strip::{Strip, push_line, strip_of};
-use recorded_screen::{END, Pace, push_decimal, push_font, terminal_at, widest};
+use recorded_screen::{END, Pace, push_font, terminal_at, widest};
 use recordings::{Change, Event, ScreenSize};
 use row_pictures::{Look, Page, Tag, push_html_colors};
 use std::alloc::{AllocError, Global};
@@ -20,8 +22,6 @@ pub const LONGEST_PLAYER: usize = 32 << 20;
 /// How a recording is played.
 #[derive(Drop)]
 pub struct Play {
-    /// The title of the page. It may be empty.
-    pub title: String,
     /// The length of the recording, in microseconds.
     pub length: u64,
     /// The time of the moment that is shown before it is played, in microseconds of the recording.
@@ -31,7 +31,7 @@ pub struct Play {
 }
 
 /// A page in HTML that plays the events, and needs nothing else. It has rows of the recording's screens, each drawn
-/// once, moments as numbers, the names of the markers, and a fixed script.
+/// once, moments as numbers, the names of the markers, and a fixed script. Its title is that of `look`, if it has one.
 pub fn player(
     alloc: Global,
     size: ScreenSize,
@@ -40,6 +40,7 @@ pub fn player(
     play: &Play,
 ) -> Result<Vec<u8>, PlayerError>
     ensures rows { IfOk result (λ bytes. ShowsRows size.rows.value size.cols.value events.now bytes.items) }
+    ensures head { IfOk result (λ bytes. BeginsWith (head_bytes look.now play.now) bytes.items) }
     ensures page { IfOk result (λ bytes. IsPage bytes.items) }
     ensures safe { IfOk result (λ bytes. IsSafe bytes.items) }
     ensures short { IfOk result (λ bytes. length bytes.items ≤ LONGEST_PLAYER) }
@@ -47,7 +48,7 @@ pub fn player(
     let strip = strip_of(alloc, size, events, look)?;
     let poster = terminal_at(alloc, size, 0, events, play.poster)?;
     let mut page = Page::new(alloc);
-    push_head(&mut page, play)?;
+    push_head(&mut page, look, play)?;
     push_size(&mut page, widest(size, events, END), look)?;
     push_screen(&mut page, poster.screen(), look)?;
     push_markers(&mut page, events)?;
@@ -64,38 +65,6 @@ pub(crate) fn check_length(page: &Page) -> Result<(), PlayerError>
         return Err(PlayerError::TooLong);
     }
     Ok(())
-}
-
-// Appends what comes before the screen: the title and how it is played.
-fn push_head(page: &mut Page, play: &Play) -> Result<(), AllocError>
-    ensures { OnOk result (Adds page.old page.new []) }
-{
-    page.markup(Tag::PlayerHead)?;
-    page.name(play.title.as_str())?;
-    page.markup(Tag::PlayerStyle)?;
-    page.name(play.title.as_str())?;
-    push_seconds(page, Tag::PlayerLength, play.length)?;
-    push_idle(page, play.pace.idle)?;
-    push_seconds(page, Tag::PlayerSpeed, play.pace.speed)?;
-    push_seconds(page, Tag::PlayerPoster, play.poster.min(play.length))
-}
-
-// Appends the longest time for which a moment stands, if there is one.
-fn push_idle(page: &mut Page, idle: Option<u64>) -> Result<(), AllocError>
-    ensures { OnOk result (Adds page.old page.new []) }
-{
-    match idle {
-        Some(idle) => push_seconds(page, Tag::PlayerIdle, idle),
-        None => Ok(()),
-    }
-}
-
-// Appends a piece of markup and millionths as a decimal.
-fn push_seconds(page: &mut Page, tag: Tag, millionths: u64) -> Result<(), AllocError>
-    ensures { OnOk result (Adds page.old page.new []) }
-{
-    page.markup(tag)?;
-    push_decimal(page, millionths, 1_000_000)
 }
 
 // Appends the size of the screen, its colours and its font.

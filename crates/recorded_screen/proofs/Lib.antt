@@ -5,3 +5,4 @@ mod MomentLemmas
 mod PictureLemmas
 mod PlacedLemmas
 mod ReelLemmas
+mod TitleLemmas

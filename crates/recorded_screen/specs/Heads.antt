@@ -9,6 +9,7 @@ use Rattle.picture_page.specs.declared.tag.Tag.TheVariants as tag
 use Rattle.row_pictures.specs.Html.{html_colors}
 use Rattle.row_pictures.specs.Svg.{rectangle}
 use Rattle.row_pictures.specs.declared.look.Look.{Look}
+use Rattle.recorded_screen.specs.Titles.{svg_title}
 
 -- the name of the font between two pieces of markup, if there is one
 abbrev pub font_bytes : Tag → Tag → Look → List ℕ
@@ -21,7 +22,8 @@ block_head look =
     ++ (html_colors look.theme.fgcolor look.theme.bgcolor
     ++ (font_bytes tag.BlockFont tag.BlockFontEnd look ++ tag_bytes tag.BlockRows))
 
--- The head of a picture in SVG of so many rows and columns. Behind them is a rectangle as large as the picture.
+-- The head of a picture in SVG of so many rows and columns: its size, its title, and behind the rows a rectangle as
+-- large as the picture.
 abbrev pub svg_head : Look → ℕ → ℕ → List ℕ
 svg_head look rows cols =
     let width = cols * 9 in
@@ -30,4 +32,5 @@ svg_head look rows cols =
     ++ (font_bytes tag.SvgFont tag.SvgFontEnd look
     ++ (tag_bytes tag.Monospace
     ++ (numbers_bytes ((tag.Width, width) ∷ (tag.Height, height) ∷ (tag.ViewBox, width) ∷ (tag.Space, height) ∷ [])
-    ++ (tag_bytes tag.SvgRows ++ (rectangle 0 width height look.theme.bgcolor ++ tag_bytes tag.Newline)))))
+    ++ (tag_bytes tag.SvgRows
+    ++ (svg_title look ++ (rectangle 0 width height look.theme.bgcolor ++ tag_bytes tag.Newline))))))

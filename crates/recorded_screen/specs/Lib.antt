@@ -7,6 +7,7 @@ pub mod Picture
 pub mod Placed
 pub mod Reel
 pub mod Shots
+pub mod Titles
 pub use Rattle.picture_page.specs.Page
 pub use Rattle.picture_page.specs.Seen
 pub use Rattle.row_pictures.specs.Drawn

@@ -80,14 +80,18 @@ font_text look history s = font_lines look s (kept_pictured history s) (rows_pic
 
 -- ---- what is seen
 
+-- what stands outside of the tags before the rows: a title between two newlines
+abbrev pub front_seen : List ℕ → List ℕ
+front_seen title = codes "\n" ++ (title ++ codes "\n")
+
 -- what stands outside of the tags of a block in HTML that has these rows: they, behind a newline
 abbrev pub block_seen : List ℕ → List ℕ
 block_seen rows = codes "\n" ++ rows
 
--- of a page in HTML: its title, and the block
-abbrev pub page_seen : List ℕ → List ℕ
-page_seen rows = codes "\nscreentext\n" ++ (block_seen rows ++ codes "\n")
+-- of a page in HTML that has this title: it, and the block
+abbrev pub page_seen : List ℕ → List ℕ → List ℕ
+page_seen title rows = front_seen title ++ (block_seen rows ++ codes "\n")
 
--- of a picture in SVG
-abbrev pub svg_seen : List ℕ → List ℕ
-svg_seen rows = (codes "\n\n" ++ rows) ++ codes "\n"
+-- of a picture in SVG: its title, if it has one, with a newline, and the rows
+abbrev pub svg_seen : List ℕ → List ℕ → List ℕ
+svg_seen title rows = (front_seen title ++ rows) ++ codes "\n"

@@ -7,6 +7,7 @@ ghost use Rattle.row_pictures.specs.Frames.{frame_said, framed_seen};
 ghost use Rattle.recorded_screen.specs.Film.{IsFilm, most_cols, most_rows};
 ghost use Rattle.recorded_screen.specs.Framed.{IsFramed, IsFramedTooLong};
 ghost use Rattle.recorded_screen.specs.Picture.{font_text, kept_pictured, rows_pictured, scrolled, svg_seen, written_text};
+ghost use Rattle.recorded_screen.specs.Titles.{title_line};
 ghost use Rattle.recorded_screen.specs.Placed.{IsSvg};
 ghost use Rattle.recorded_screen.specs.declared.error.FilmError.TheVariants.{Memory, TooLong};
 
@@ -29,7 +30,8 @@ pub fn framed_svg(
 ) -> Result<Vec<u8>, AllocError>
     ensures text { IfOk result (λ bytes. Shows bytes.items (written_text look.now history screen.old.state)) }
     ensures seen { IfOk result (λ bytes. seen bytes.items
-        ≡ framed_seen (frame_said frame.now) (svg_seen (escaped (font_text look.now history screen.old.state)))) }
+        ≡ framed_seen (frame_said frame.now) (svg_seen (title_line look.now)
+        (escaped (font_text look.now history screen.old.state)))) }
     ensures placed { IfOk result (λ bytes. IsFramed (frame_said frame.now) look.now.theme
         (rows_pictured history screen.old.state) screen.old.state.shown.width
         (IsSvg look.now history screen.old.state) bytes.items) }

@@ -8,6 +8,7 @@ pub mod laws;
 mod moment;
 mod picture;
 mod reel;
+mod titles;
 
 pub use error::FilmError;
 pub use films::{Pace, begins_at_once, film, is_followed, widest};

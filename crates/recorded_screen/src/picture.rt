@@ -4,15 +4,18 @@ ghost use Rattle.std.specs.Prelude.{◌≡◌, ◌≤◌, ◌++◌, ◌+◌, ◌
 ghost use Rattle.picture_page.specs.Page.{Adds, IsPage, IsSafe, Shows, escaped};
 ghost use Rattle.picture_page.specs.Seen.{Draws, is_plain, seen};
 ghost use Rattle.picture_page.specs.Tags.{tag_bytes};
-ghost use Rattle.picture_page.specs.declared.tag.Tag.TheVariants.{Newline, PageFoot, PageHead};
+ghost use Rattle.picture_page.specs.declared.tag.Tag.TheVariants.{Newline, PageFoot};
 ghost use Rattle.row_pictures.specs.Elements.{AddsSo};
 ghost use Rattle.screen_model.specs.Step.{kept_shown};
 ghost use Rattle.recorded_screen.specs.Heads.{block_head, font_bytes, svg_head};
 ghost use Rattle.recorded_screen.specs.Picture.{block_seen, cells_shown, cursor_shown, font_line, font_text};
+ghost use Rattle.recorded_screen.specs.Picture.{front_seen};
 ghost use Rattle.recorded_screen.specs.Picture.{kept_pictured, line_text, page_seen, rows_pictured, screen_text};
 ghost use Rattle.recorded_screen.specs.Picture.{scrolled, svg_seen, written_line, written_text};
 ghost use Rattle.recorded_screen.specs.Placed.{IsAround, IsBlock, IsHtmlLine, IsSvg, IsSvgLine};
+ghost use Rattle.recorded_screen.specs.Titles.{page_head, page_title, title_line};
 
+use crate::titles::{push_page_head, push_svg_title};
 use row_pictures::{
     COL_WIDTH, Cell, Look, Page, ROW_HEIGHT, Tag, push_html_colors, push_html_row, push_rect,
     push_svg_row,
@@ -20,7 +23,8 @@ use row_pictures::{
 use std::alloc::{AllocError, Global};
 use vt100::Screen;
 
-/// A page in HTML that shows the screen: markup, and the texts of its cells, row by row, escaped.
+/// A page in HTML that shows the screen: markup, and the texts of its cells, row by row, escaped. Its title is that of
+/// `look`, or else `screentext`.
 ///
 /// The newest kept rows come first, `history` at most. A picture has at most 65,535 rows. The screen is left scrolled
 /// back to none. Where it has failed, the answer is as where memory is refused.
@@ -32,8 +36,8 @@ pub fn html(
 ) -> Result<Vec<u8>, AllocError>
     ensures text { IfOk result (λ bytes. Shows bytes.items (screen_text history screen.old.state)) }
     ensures seen { IfOk result (λ bytes. seen bytes.items
-        ≡ page_seen (escaped (screen_text history screen.old.state))) }
-    ensures placed { IfOk result (λ bytes. IsAround (tag_bytes PageHead) (tag_bytes PageFoot) look.now history
+        ≡ page_seen (page_title look.now) (escaped (screen_text history screen.old.state))) }
+    ensures placed { IfOk result (λ bytes. IsAround (page_head look.now) (tag_bytes PageFoot) look.now history
         screen.old.state bytes.items) }
     ensures page { IfOk result (λ bytes. IsPage bytes.items) }
     ensures safe { IfOk result (λ bytes. IsSafe bytes.items) }
@@ -41,7 +45,7 @@ pub fn html(
         ≡ scrolled screen.old.state (kept_pictured history screen.old.state) (rows_pictured history screen.old.state)) }
 {
     let mut page = Page::new(alloc);
-    page.markup(Tag::PageHead)?;
+    push_page_head(&mut page, look)?;
     push_block(&mut page, screen, history, look)?;
     page.markup(Tag::PageFoot)?;
     Ok(page.into_bytes())
@@ -163,7 +167,7 @@ fn push_html_line(page: &mut Page, screen: &Screen, row: u16, look: &Look) -> Re
 }
 
 /// A picture in SVG that shows the screen: markup, and the texts of its cells, row by row, escaped. Its rows are those
-/// of [`html`].
+/// of [`html`]. If `look` has a title, it is a `title` element.
 ///
 /// Spaces at the end of a row that show nothing aren't written. A cell of one line drawing or block character is drawn
 /// as a path, whose label is its text.
@@ -175,7 +179,7 @@ pub fn svg(
 ) -> Result<Vec<u8>, AllocError>
     ensures text { IfOk result (λ bytes. Shows bytes.items (written_text look.now history screen.old.state)) }
     ensures seen { IfOk result (λ bytes. seen bytes.items
-        ≡ svg_seen (escaped (font_text look.now history screen.old.state))) }
+        ≡ svg_seen (title_line look.now) (escaped (font_text look.now history screen.old.state))) }
     ensures placed { IfOk result (λ bytes. IsSvg look.now history screen.old.state bytes.items) }
     ensures page { IfOk result (λ bytes. IsPage bytes.items) }
     ensures safe { IfOk result (λ bytes. IsSafe bytes.items) }
@@ -203,7 +207,7 @@ pub(crate) fn push_svg_head(
     look: &Look,
 ) -> Result<(), AllocError>
     ensures adds { OnOk result (Adds page.old page.new []) }
-    ensures seen { OnOk result (Draws page.old page.new true true (codes "\n\n")) }
+    ensures seen { OnOk result (Draws page.old page.new true true (front_seen (title_line look.now))) }
     ensures bytes { OnOk result (page.new ≡ page.old ++ svg_head look.now rows cols) }
 {
     let width = u32::from(cols) * COL_WIDTH;
@@ -219,6 +223,7 @@ pub(crate) fn push_svg_head(
     ];
     page.numbers(&numbers)?;
     page.markup(Tag::SvgRows)?;
+    push_svg_title(page, look)?;
     push_rect(page, 0, width, height, look.theme.bgcolor)?;
     page.markup(Tag::Newline)
 }

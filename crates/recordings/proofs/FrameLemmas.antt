@@ -10,6 +10,7 @@ use Rattle.std.proofs.lemmas.Grind.{flat_map-append}
 use Rattle.std.proofs.lemmas.List.{append-nil, get_or-map, length-map, length-take-le, map-append, take-append-drop}
 use Rattle.std.proofs.lemmas.Bool.Decides.{nat_tests}
 use Rattle.std.proofs.lemmas.Nat.{from_le_bytes-to_le_bytes_4, le_bytes_4}
+use Rattle.recordings.specs.Details.{details_of, no_details}
 use Rattle.recordings.specs.Recorded.{Row, IsStateAfter, said, writes}
 use Rattle.recordings.specs.Ttyrec.{AreFrames, IsNoFrame, IsReadTtyrec, IsTtyrec, Piece, begins_with_frame, clock}
 use Rattle.recordings.specs.Ttyrec.{piece_of, rows_after, start_of, stored, stored_one}
@@ -71,29 +72,30 @@ next_played frames i d start time text t lt when what state_after =
 -- ---- what is read up to a fault
 
 plays : (bytes : List ℕ) (pieces : List Piece) (t : Timeline) (r : Recording) → bytes ≡ stored pieces
-    → IsStateAfter FromStart (rows_after (start_of pieces) pieces) t → r.kind ≡ AsTtyrec → r.size ≡ None → r.theme ≡ None
-    → r.events ≡ t.events → r.length ≡ t.time → IsTtyrec bytes r
-plays bytes pieces t r whole state_after kind size theme events length = record {
+    → IsStateAfter FromStart (rows_after (start_of pieces) pieces) t → r.kind ≡ AsTtyrec → r.size ≡ None
+    → details_of r ≡ no_details → r.events ≡ t.events → r.length ≡ t.time → IsTtyrec bytes r
+plays bytes pieces t r whole state_after kind size own events length = record {
   pieces = pieces;
   whole = whole;
   kind = kind;
   size = size;
-  theme = theme;
+  own = own;
   moments = ap (λ es. said es.items) events ∙ state_after.moments;
   length = length ∙ state_after.last;
 }
 
 pub frames_read : (bytes : List ℕ) (pieces : List Piece) (cut : Option ℕ) (t : Timeline) (r : Recording)
     (fault : Option RecordingError) → AreFrames bytes pieces cut
-    → IsStateAfter FromStart (rows_after (start_of pieces) pieces) t → r.kind ≡ AsTtyrec → r.size ≡ None → r.theme ≡ None
-    → r.events ≡ t.events → r.length ≡ t.time → fault ≡ option_map Byte cut → IsReadTtyrec bytes r fault
-frames_read bytes pieces None t r fault frames state_after kind size theme events length is =
-    subst (IsReadTtyrec bytes r) (sym is) (plays bytes pieces t r frames state_after kind size theme events length)
-frames_read bytes pieces (Some n) t r fault frames state_after kind size theme events length is =
+    → IsStateAfter FromStart (rows_after (start_of pieces) pieces) t → r.kind ≡ AsTtyrec → r.size ≡ None
+    → details_of r ≡ no_details → r.events ≡ t.events → r.length ≡ t.time → fault ≡ option_map Byte cut
+    → IsReadTtyrec bytes r fault
+frames_read bytes pieces None t r fault frames state_after kind size own events length is =
+    subst (IsReadTtyrec bytes r) (sym is) (plays bytes pieces t r frames state_after kind size own events length)
+frames_read bytes pieces (Some n) t r fault frames state_after kind size own events length is =
     let before = ap₂ (λ k bs. take k bs) frames.number frames.whole ∙ take-append_seam (stored pieces) frames.left in
     subst (IsReadTtyrec bytes r) (sym is) (
       (pieces, frames),
-      plays (take n bytes) pieces t r before state_after kind size theme events length,
+      plays (take n bytes) pieces t r before state_after kind size own events length,
     )
 
 -- ---- whether the bytes begin with a frame

@@ -14,6 +14,7 @@ use Rattle.std.proofs.lemmas.Str.{IsUtf8-from_ascii}
 use Rattle.command_line.specs.Numbers.{count_of, size_in}
 use Rattle.command_line.proofs.NumberLemmas.{own}
 use Rattle.std.proofs.lemmas.List.{get_or-map, length-map, length-take-le}
+use Rattle.recordings.specs.Details.{details_of, no_details}
 use Rattle.recordings.specs.Lines.{lines_in}
 use Rattle.recordings.specs.Recorded.{IsStateAfter, Row, said, size_said, writes}
 use Rattle.recordings.specs.Typescript.{AreSteps, IsReadScript, SaysRows, event_of, events_of, gives}
@@ -133,44 +134,44 @@ bytes_skipped left after time count le rest =
 -- ---- what is read up to a fault
 
 says_rows : (timing : List ℕ) (rows : List Row) (t : Timeline) (r : Recording) → IsStateAfter FromLast rows t
-    → r.kind ≡ Script → option_map size_said r.size ≡ size_named (lines_in timing) → r.theme ≡ None
+    → r.kind ≡ Script → option_map size_said r.size ≡ size_named (lines_in timing) → details_of r ≡ no_details
     → r.events ≡ t.events → r.length ≡ t.time → SaysRows timing rows r
-says_rows timing rows t r state_after kind size theme events end = record {
+says_rows timing rows t r state_after kind size own events end = record {
   kind = kind;
   size = size;
-  theme = theme;
+  own = own;
   moments = ap (λ es. said es.items) events ∙ state_after.moments;
   length = end ∙ state_after.last;
 }
 
 read_by : (typescript timing : List ℕ) (t : Timeline) (n : Option ℕ) (r : Recording)
     → AreSteps (shares_log (lines_in timing)) (output_of typescript) (lines_in timing) t n
-    → r.kind ≡ Script → option_map size_said r.size ≡ size_named (lines_in timing) → r.theme ≡ None
+    → r.kind ≡ Script → option_map size_said r.size ≡ size_named (lines_in timing) → details_of r ≡ no_details
     → r.events ≡ t.events → r.length ≡ t.time → IsReadScript typescript timing r (option_map AStep n)
-read_by typescript timing t None r read kind size theme events end = record {
+read_by typescript timing t None r read kind size own events end = record {
   rows = read.0;
   left = read.1;
   steps = read.2;
-  says = says_rows timing read.0 t r read.3 kind size theme events end;
+  says = says_rows timing read.0 t r read.3 kind size own events end;
 }
-read_by typescript timing t (Some n) r read kind size theme events end = (
+read_by typescript timing t (Some n) r read kind size own events end = (
   read.0,
-  says_rows timing read.0.rows t r read.1 kind size theme events end,
+  says_rows timing read.0.rows t r read.1 kind size own events end,
 )
 
 pub steps_read : (typescript timing output : List ℕ) (shared : Bool) (lines : List (List ℕ)) (t : Timeline)
     (n : Option ℕ) (r : Recording) (fault : Option RecordingError) → output ≡ output_of typescript
     → lines ≡ lines_in timing → shared ≡ shares_log lines → AreSteps shared output lines t n → r.kind ≡ Script
-    → option_map size_said r.size ≡ size_named lines → r.theme ≡ None
+    → option_map size_said r.size ≡ size_named lines → details_of r ≡ no_details
     → r.events ≡ t.events → r.length ≡ t.time → fault ≡ option_map AStep n → IsReadScript typescript timing r fault
-steps_read typescript timing output shared lines t n r fault output_is lines_is shared_is read kind size theme events
+steps_read typescript timing output shared lines t n r fault output_is lines_is shared_is read kind size own events
     end is =
     let by_output = subst (λ (o : List ℕ). AreSteps shared o lines t n) output_is read in
     let by_shared = subst (λ (b : Bool). AreSteps b (output_of typescript) lines t n) shared_is by_output in
     let by_lines = subst (λ (ls : List (List ℕ)). AreSteps (shares_log ls) (output_of typescript) ls t n) lines_is
     by_shared in
     subst (λ (o : Option RecordingError). IsReadScript typescript timing r o) (sym is)
-    (read_by typescript timing t n r by_lines kind (size ∙ ap size_named lines_is) theme events end)
+    (read_by typescript timing t n r by_lines kind (size ∙ ap size_named lines_is) own events end)
 
 -- words that aren't UTF-8 are no numbers
 digits_are_text : (word : List ℕ) → all_ascii_digits word ≡ true → IsUtf8 word

@@ -1,7 +1,7 @@
 -- Asciicasts, versions 2 and 3: a header, and an event a line.
 use Rattle.std.specs.Prelude.{◌≡◌, ℕ, ◌+◌, ◌==◌, ◌&&◌, ◌||◌, nat_le, Bool, true, false, List, [], ◌∷◌, ◌++◌, drop}
 use Rattle.std.specs.Prelude.{length, slice_index, Option, Some, None, is_some, option_and_then, unwrap_or}
-use Rattle.std.specs.Prelude.{if◌then◌else◌, codes, IsSomeAnd, ◌⊎◌}
+use Rattle.std.specs.Prelude.{if◌then◌else◌, codes, string_bytes, IsSomeAnd, ◌⊎◌}
 use Rattle.std.specs.Char.{is_ascii_whitespace}
 use Rattle.std.specs.List.{list_all, flat_map, before_first, after_first, position_or_len, All}
 use Rattle.std.specs.Option.{option_map}
@@ -9,10 +9,11 @@ use Rattle.std.specs.Str.{bytes_eq}
 use Rattle.serde_json.specs.Data.{Data, Items, item, no_items}
 use Rattle.serde_json.specs.Find.{as_array, as_number, as_str, as_u64, get}
 use Rattle.command_line.specs.Numbers.{size_in}
+use Rattle.recordings.specs.Details.{Details, details_of, details_said}
 use Rattle.recordings.specs.Lines.{first_line, lines_in, unmarked}
 use Rattle.recordings.specs.Recorded.{Deed, IsStateAfter, Row, deed_of, ended, marks, resizes, said, size_said}
 use Rattle.recordings.specs.Recorded.{reported, writes}
-use Rattle.recordings.specs.Themes.{theme_in, theme_reported}
+use Rattle.recordings.specs.Themes.{theme_reported}
 use Rattle.recordings.specs.Times.{json_in, time_of}
 use Rattle.recordings.specs.declared.asciicast.Entry.{Entry}
 use Rattle.recordings.specs.declared.asciicast.Entry.TheVariants as entry
@@ -21,6 +22,7 @@ use Rattle.recordings.specs.declared.error.RecordingError.{RecordingError}
 use Rattle.recordings.specs.declared.error.RecordingError.TheVariants as error
 use Rattle.recordings.specs.declared.recording.Kind.TheVariants.{Asciicast as AsAsciicast}
 use Rattle.recordings.specs.declared.recording.Recording.{Recording}
+use Rattle.recordings.specs.declared.recording.ScreenSize.{ScreenSize}
 use Rattle.recordings.specs.declared.timeline.Pace.{Pace}
 use Rattle.recordings.specs.declared.timeline.Pace.TheVariants.{FromStart, FromLast}
 use Rattle.recordings.specs.declared.timeline.Timeline.{Timeline}
@@ -52,12 +54,18 @@ header_of json = option_and_then (header_of_version json)
 abbrev pub header_in : List ℕ → Option (Pace × (ℕ × ℕ))
 header_in line = option_and_then header_of (json_in line)
 
-abbrev pub header_said : Header → Pace × (ℕ × ℕ)
-header_said h = (h.pace, size_said h.size)
+abbrev pub layout_said : Pace × ScreenSize → Pace × (ℕ × ℕ)
+layout_said layout = (layout.0, size_said layout.1)
 
--- the colours that a header has
-abbrev pub theme_said : List ℕ → Option (List ℕ)
-theme_said line = option_and_then theme_in (json_in line)
+abbrev pub header_said : Header → Pace × (ℕ × ℕ)
+header_said h = layout_said (h.pace, h.size)
+
+abbrev pub header_details : Header → Details
+header_details h = record {
+  theme = theme_reported h.theme;
+  idle = h.idle;
+  title = option_map string_bytes h.title;
+}
 
 -- ---- the events
 
@@ -113,15 +121,14 @@ AreEvents pace lines = All (λ line. is_some (rows_in pace line) ≡ true) lines
 
 -- ---- the recording
 
--- what an asciicast with this header, these colours and these lines after the header says
-pub record Says (header : Pace × (ℕ × ℕ)) (colors : Option (List ℕ)) (lines : List (List ℕ)) (r : Recording) : Type 0
-  where
-    pub kind : r.kind ≡ AsAsciicast
-    pub size : option_map size_said r.size ≡ Some header.1
-    pub theme : theme_reported r.theme ≡ colors
-    pub events : AreEvents header.0 lines
-    pub moments : said r.events.items ≡ reported header.0 0 (rows_of header.0 lines)
-    pub length : r.length ≡ ended header.0 0 (rows_of header.0 lines)
+-- what an asciicast with this header, these details of it and these lines after the header says
+pub record Says (header : Pace × (ℕ × ℕ)) (details : Details) (lines : List (List ℕ)) (r : Recording) : Type 0 where
+  pub kind : r.kind ≡ AsAsciicast
+  pub size : option_map size_said r.size ≡ Some header.1
+  pub own : details_of r ≡ details
+  pub events : AreEvents header.0 lines
+  pub moments : said r.events.items ≡ reported header.0 0 (rows_of header.0 lines)
+  pub length : r.length ≡ ended header.0 0 (rows_of header.0 lines)
 
 -- the line of the header, and the lines after it
 abbrev pub head : List ℕ → List ℕ
@@ -131,7 +138,7 @@ abbrev pub body : List ℕ → List (List ℕ)
 body text = drop 1 (lines_in (unmarked text))
 
 abbrev pub IsAsciicast : List ℕ → Recording → Type 0
-IsAsciicast text r = IsSomeAnd (header_in (head text)) (λ header. Says header (theme_said (head text)) (body text) r)
+IsAsciicast text r = IsSomeAnd (header_in (head text)) (λ header. Says header (details_said (head text)) (body text) r)
 
 -- the first line that is no event, counted from 1 for the header
 pub record IsBadLine (pace : Pace) (lines : List (List ℕ)) (n : ℕ) : Type 0 where
@@ -162,15 +169,15 @@ AreRead pace lines t None = AreEvents pace lines × IsStateAfter pace (rows_of p
 AreRead pace lines t (Some n) = (bad : IsBadLine pace lines n) × IsStateAfter pace (rows_of pace bad.before) t
 
 -- what is read of the lines after a header: with a fault what the lines before it say
-abbrev pub IsReadOf : Pace × (ℕ × ℕ) → Option (List ℕ) → List (List ℕ) → Recording → Option RecordingError → Type 0
-IsReadOf header colors lines r None = Says header colors lines r
-IsReadOf header colors lines r (Some (error.Line n)) =
-    (bad : IsBadLine header.0 lines n) × Says header colors bad.before r
-IsReadOf header colors lines r _ = ⊥
+abbrev pub IsReadOf : Pace × (ℕ × ℕ) → Details → List (List ℕ) → Recording → Option RecordingError → Type 0
+IsReadOf header details lines r None = Says header details lines r
+IsReadOf header details lines r (Some (error.Line n)) =
+    (bad : IsBadLine header.0 lines n) × Says header details bad.before r
+IsReadOf header details lines r _ = ⊥
 
 abbrev pub IsReadCast : List ℕ → Recording → Option RecordingError → Type 0
 IsReadCast text r fault =
-    IsSomeAnd (header_in (head text)) (λ header. IsReadOf header (theme_said (head text)) (body text) r fault)
+    IsSomeAnd (header_in (head text)) (λ header. IsReadOf header (details_said (head text)) (body text) r fault)
 
 -- why nothing is read
 abbrev pub IsUnreadCast : List ℕ → RecordingError → Type 0

@@ -1,7 +1,8 @@
 -- The kinds of recordings, their names, and what a file of each kind says.
-use Rattle.std.specs.Prelude.{◌≡◌, ℕ, List, [], ◌∷◌, take, Option, Some, None, if◌then◌else◌, codes, IsSomeAnd, ◌⊎◌}
+use Rattle.std.specs.Prelude.{◌≡◌, ℕ, List, [], ◌∷◌, take, Option, Some, None, if◌then◌else◌, codes, IsSomeAnd}
 use Rattle.std.specs.Str.{bytes_eq}
 use Rattle.recordings.specs.Asciicast.{IsAsciicast, IsFault, IsReadCast, IsUnreadCast, is_header}
+use Rattle.recordings.specs.Details.{details_of, no_details}
 use Rattle.recordings.specs.Recorded.{said, writes}
 use Rattle.recordings.specs.Ttyrec.{IsCut, IsReadTtyrec, IsTtyrec, begins_with_frame}
 use Rattle.recordings.specs.Typescript.{IsFaultOfStep, IsReadScript, IsTypescript}
@@ -49,7 +50,7 @@ kind_taken None None bytes = kind_guessed bytes
 pub record IsRaw (bytes : List ℕ) (r : Recording) : Type 0 where
   pub kind : r.kind ≡ Raw
   pub size : r.size ≡ None
-  pub theme : r.theme ≡ None
+  pub own : details_of r ≡ no_details
   pub moments : said r.events.items ≡ (0, writes bytes) ∷ []
   pub length : r.length ≡ 0
 

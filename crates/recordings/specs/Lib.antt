@@ -1,4 +1,5 @@
 pub mod Asciicast
+pub mod Details
 pub mod Faults
 pub mod Kinds
 pub mod Lines

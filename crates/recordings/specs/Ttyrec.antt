@@ -3,6 +3,7 @@ use Rattle.std.specs.Prelude.{◌≡◌, ℕ, ◌+◌, ◌-◌, ◌*◌, ◌<◌
 use Rattle.std.specs.Prelude.{length, Option, Some, None, ◌⊎◌}
 use Rattle.std.specs.Int.{to_le_bytes, from_le_bytes, w32}
 use Rattle.std.specs.List.{flat_map}
+use Rattle.recordings.specs.Details.{details_of, no_details}
 use Rattle.recordings.specs.Recorded.{Row, ended, said, reported, writes}
 use Rattle.recordings.specs.declared.error.RecordingError.{RecordingError}
 use Rattle.recordings.specs.declared.error.RecordingError.TheVariants as error
@@ -45,7 +46,7 @@ pub record IsTtyrec (bytes : List ℕ) (r : Recording) : Type 0 where
   pub whole : bytes ≡ stored pieces
   pub kind : r.kind ≡ AsTtyrec
   pub size : r.size ≡ None
-  pub theme : r.theme ≡ None
+  pub own : details_of r ≡ no_details
   pub moments : said r.events.items ≡ reported FromStart 0 (rows_after (start_of pieces) pieces)
   pub length : r.length ≡ ended FromStart 0 (rows_after (start_of pieces) pieces)
 

@@ -6,6 +6,7 @@ use Rattle.std.specs.List.{list_all, before_first, after_first, find}
 use Rattle.std.specs.Option.{option_map}
 use Rattle.std.specs.Str.{bytes_eq}
 use Rattle.command_line.specs.Numbers.{count_of, size_in}
+use Rattle.recordings.specs.Details.{details_of, no_details}
 use Rattle.recordings.specs.Lines.{lines_in}
 use Rattle.recordings.specs.Recorded.{IsStateAfter, Row, ended, resizes, said, size_said, reported, writes}
 use Rattle.recordings.specs.Times.{time_in}
@@ -140,7 +141,7 @@ events_of shared left (line ∷ lines) =
 pub record SaysRows (timing : List ℕ) (rows : List Row) (r : Recording) : Type 0 where
   pub kind : r.kind ≡ Script
   pub size : option_map size_said r.size ≡ size_named (lines_in timing)
-  pub theme : r.theme ≡ None
+  pub own : details_of r ≡ no_details
   pub moments : said r.events.items ≡ reported FromLast 0 rows
   pub length : r.length ≡ ended FromLast 0 rows
 

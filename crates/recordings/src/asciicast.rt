@@ -7,12 +7,13 @@ ghost use Rattle.std.specs.Option.{option_map};
 ghost use Rattle.recordings.specs.Recorded.{Row, IsStateAfter, deed_of, size_said};
 ghost use Rattle.recordings.specs.Asciicast.{AreRead, IsAsciicast, IsFault, IsReadCast, IsUnreadCast, comments};
 ghost use Rattle.recordings.specs.Asciicast.{deed_in};
-ghost use Rattle.recordings.specs.Asciicast.{entry_said, header_in, header_of as header_of_data, header_said};
+ghost use Rattle.recordings.specs.Asciicast.{entry_said, header_details, header_in, header_of as header_of_data};
+ghost use Rattle.recordings.specs.Asciicast.{header_said, layout_said};
 ghost use Rattle.recordings.specs.Asciicast.{is_header, resize_in, row_in, rows_in, side_in, sides_in, text_in};
-ghost use Rattle.recordings.specs.Asciicast.{theme_said};
 ghost use Rattle.recordings.specs.declared.error.RecordingError.TheVariants.{Line};
-ghost use Rattle.recordings.specs.Themes.{theme_in as theme_in_data, theme_reported};
+ghost use Rattle.recordings.specs.Details.{details_in, details_said};
 
+use crate::details::{idle_in, title_in};
 use crate::error::RecordingError;
 use crate::lines::{first_line, is_blank, lines_of, unmarked};
 use crate::recording::{Change, Kind, Reading, Recording, ScreenSize};
@@ -48,6 +49,8 @@ pub fn read_asciicast(alloc: Global, text: &[u8]) -> Result<Reading, RecordingEr
             kind: Kind::Asciicast,
             size: Some(header.size),
             theme: header.theme,
+            idle: header.idle,
+            title: header.title,
             events: timeline.events,
             length: timeline.time,
         },
@@ -85,38 +88,51 @@ pub(crate) fn begins_asciicast(alloc: Global, text: &[u8]) -> Result<bool, Alloc
 }
 
 /// What a header says.
-#[derive(Clone, Copy)]
+#[derive(Drop)]
 pub struct Header {
     pub(crate) pace: Pace,
     pub(crate) size: ScreenSize,
     pub(crate) theme: Option<RecordedTheme>,
+    pub(crate) idle: Option<u64>,
+    pub(crate) title: Option<String>,
 }
 
 fn parse_header(alloc: Global, line: &[u8]) -> Result<Option<Header>, AllocError>
     ensures header { IfOk result (λ header. option_map header_said header ≡ header_in line.now) }
-    ensures theme { IfOk result (λ header. IfSome header (λ h. theme_reported h.theme ≡ theme_said line.now)) }
+    ensures details { IfOk result (λ header. IfSome header (λ h. header_details h ≡ details_said line.now)) }
 {
     match parse_json(alloc, line)? {
-        Some(header) => Ok(header_of(&header)),
+        Some(header) => header_of(alloc, &header),
         None => Ok(None),
     }
 }
 
-fn header_of(header: &Value) -> Option<Header>
-    ensures header { option_map header_said result ≡ header_of_data (view header.now) }
-    ensures theme { IfSome result (λ h. theme_reported h.theme ≡ theme_in_data (view header.now)) }
+fn header_of(alloc: Global, header: &Value) -> Result<Option<Header>, AllocError>
+    ensures header { IfOk result (λ h. option_map header_said h ≡ header_of_data (view header.now)) }
+    ensures details { IfOk result (λ h. IfSome h (λ found. header_details found ≡ details_in (view header.now))) }
+{
+    let Some((pace, size)) = layout_of(header) else {
+        return Ok(None);
+    };
+    Ok(Some(Header {
+        pace,
+        size,
+        theme: theme_in(header),
+        idle: idle_in(header),
+        title: title_in(alloc, header)?,
+    }))
+}
+
+// From where times count, and the size.
+fn layout_of(header: &Value) -> Option<(Pace, ScreenSize)>
+    ensures { option_map layout_said result ≡ header_of_data (view header.now) }
 {
     match header.get("version")?.as_u64()? {
-        2 => Some(Header {
-            pace: Pace::FromStart,
-            size: size_of(header, "height", "width")?,
-            theme: theme_in(header),
-        }),
-        3 => Some(Header {
-            pace: Pace::FromLast,
-            size: size_of(header.get("term")?, "rows", "cols")?,
-            theme: theme_in(header),
-        }),
+        2 => Some((Pace::FromStart, size_of(header, "height", "width")?)),
+        3 => Some((
+            Pace::FromLast,
+            size_of(header.get("term")?, "rows", "cols")?,
+        )),
         _ => None,
     }
 }

@@ -136,6 +136,8 @@ fn raw_recording(alloc: Global, bytes: Vec<u8>) -> Result<Recording, AllocError>
         kind: Kind::Raw,
         size: None,
         theme: None,
+        idle: None,
+        title: None,
         events,
         length: 0,
     })

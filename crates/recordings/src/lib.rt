@@ -2,6 +2,7 @@
 #![tactic(auto)]
 
 mod asciicast;
+mod details;
 mod error;
 mod kind;
 mod lines;

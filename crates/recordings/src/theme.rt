@@ -38,7 +38,8 @@ fn theme_of(theme: &Value) -> Option<RecordedTheme>
     Some(RecordedTheme { colors })
 }
 
-fn text_at<'a>(object: &'a Value, name: &str) -> Option<&'a str>
+/// The text that an object has under this name, if it has one.
+pub(crate) fn text_at<'a>(object: &'a Value, name: &str) -> Option<&'a str>
     ensures { option_map (λ text. text.now) result ≡ text_of name.now (view object.now) }
 {
     object.get(name)?.as_str()

@@ -44,6 +44,8 @@ pub fn read_ttyrec(alloc: Global, bytes: &[u8]) -> Result<Reading, AllocError>
             kind: Kind::Ttyrec,
             size: None,
             theme: None,
+            idle: None,
+            title: None,
             events: timeline.events,
             length: timeline.time,
         },

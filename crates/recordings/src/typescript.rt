@@ -53,6 +53,8 @@ pub fn read_typescript(
             kind: Kind::Script,
             size: size_in(lines),
             theme: None,
+            idle: None,
+            title: None,
             events: timeline.events,
             length: timeline.time,
         },

@@ -14,4 +14,6 @@ pub struct Look {
     pub bold_is_bright: Option<bool>,
     /// Whether the cursor isn't shown.
     pub hides_cursor: bool,
+    /// The title of a whole picture, if it has one.
+    pub title: Option<String>,
 }

@@ -1,5 +1,6 @@
 -- Recordings in which the line drawing set's characters come as Unicode.
-use Rattle.std.specs.Prelude.{◌≡◌, ℕ, List, [], ◌∷◌, ◌++◌}
+use Rattle.std.specs.Prelude.{◌≡◌, ℕ, List, [], ◌∷◌, ◌++◌, string_bytes}
+use Rattle.std.specs.Option.{option_map}
 use Rattle.charset_filter.specs.Given.{given_after}
 use Rattle.recordings.specs.Recorded.{Deed, Moment, said, writes, resizes, marks}
 use Rattle.recordings.specs.declared.recording.Recording.{Recording}
@@ -25,5 +26,7 @@ pub record IsDrawn (recording drawn : Recording) : Type 0 where
   pub same_kind : drawn.kind ≡ recording.kind
   pub same_size : drawn.size ≡ recording.size
   pub same_theme : drawn.theme ≡ recording.theme
+  pub same_idle : drawn.idle ≡ recording.idle
+  pub same_title : option_map string_bytes drawn.title ≡ option_map string_bytes recording.title
   pub same_length : drawn.length ≡ recording.length
   pub moments : said drawn.events.items ≡ drawn_after [] (said recording.events.items)

@@ -3,13 +3,13 @@ use Rattle.std.specs.Prelude.{◌≡◌, ◌≤◌, ◌&&◌, ℕ, zero, suc, �
 use Rattle.std.specs.Prelude.{max, nat_lt, codes, encode_utf8, Option, Some, None, unwrap_or, if◌then◌else◌}
 use Rattle.std.specs.Prelude.{string_bytes}
 use Rattle.std.specs.Fmt.{decimal}
-use Rattle.std.specs.Option.{option_map, option_map_or}
+use Rattle.std.specs.Option.{option_map, option_map_or, option_or}
 use Rattle.std.specs.Str.{bytes_eq}
 use Rattle.vt100_cells.specs.Cell.{CellView}
 use Rattle.vt100_core.specs.Grid.{GridView, visible_row_at}
 use Rattle.screen_model.specs.Made.{made}
 use Rattle.picture_page.specs.Tags.{tag_bytes}
-use Rattle.picture_page.specs.declared.tag.Tag.TheVariants.{Newline, PageFoot, PageHead}
+use Rattle.picture_page.specs.declared.tag.Tag.TheVariants.{Newline, PageFoot}
 use Rattle.row_pictures.specs.Frames.{framed_seen}
 use Rattle.row_pictures.specs.Themes.{theme_of, xterm_theme}
 use Rattle.row_pictures.specs.declared.look.Look as pictures
@@ -30,8 +30,12 @@ use Rattle.recorded_screen.specs.Moment.{acts_until}
 use Rattle.recorded_screen.specs.Placed.{IsAround, IsSvg}
 use Rattle.recorded_screen.specs.Picture.{block_seen, font_text, page_seen, screen_text, svg_seen}
 use Rattle.recorded_screen.specs.Picture.{rows_pictured, scrolled, written_text}
+use Rattle.recorded_screen.specs.Titles.{page_head, page_title, title_line}
+use Rattle.recorded_screen.specs.declared.films.Pace.{Pace}
 use Rattle.recorded_screen.specs.declared.reel.TheConstants.{LONGEST_FILM}
+use Rattle.player_page.specs.Heads.{BeginsWith, head_bytes}
 use Rattle.player_page.specs.Rows.{ShowsRows}
+use Rattle.player_page.specs.declared.page.Play.{Play}
 use Rattle.player_page.specs.declared.page.TheConstants.{LONGEST_PLAYER}
 use Rattle.screentext_command.specs.Asked.{Manner, Wish}
 use Rattle.screentext_command.specs.declared.words.Form.{Form}
@@ -96,12 +100,17 @@ theme_shown (Some theme) recorded = theme
 theme_shown None (Some colors) = theme_of colors
 theme_shown None None = xterm_theme
 
+-- A screen stands no longer than the words say, or else the recording.
+abbrev pub pace_shown : Pace → Option ℕ → Pace
+pace_shown pace recorded = record pace { idle = option_or pace.idle recorded }
+
 -- how pictures of a recording look
 pub record IsLook (m : Manner) (r : Recording) (look : pictures.Look) : Type 0 where
   pub theme : look.theme ≡ theme_shown m.theme (theme_reported r.theme)
   pub font : option_map string_bytes look.font ≡ m.font
   pub bold_is_bright : look.bold_is_bright ≡ m.bold_is_bright
   pub hides_cursor : look.hides_cursor ≡ m.hides_cursor
+  pub title : option_map string_bytes look.title ≡ option_map string_bytes r.title
 
 -- the rows of the screen stand at their places, in the look that the words ask for
 abbrev pub HasPlaces : Manner → Recording → (pictures.Look → Type 0) → Type 0
@@ -110,14 +119,14 @@ HasPlaces m r IsPlaced = (look : pictures.Look) × IsLook m r look × IsPlaced l
 -- a text is this screen of the recording, in this form, with the newest kept rows before those of the screen
 abbrev pub IsStill : Picture → Wish → Recording → State → List ℕ → Type 0
 IsStill Text w r s text = text ≡ rows_text w.look w.history s
-IsStill Html w r s text = Shows text (screen_text w.history s)
-    × (seen text ≡ page_seen (escaped (screen_text w.history s))) × IsSafe text
-    × HasPlaces w.manner r (λ l. IsAround (tag_bytes PageHead) (tag_bytes PageFoot) l w.history s text)
+IsStill Html w r s text = Shows text (screen_text w.history s) × IsSafe text
+    × HasPlaces w.manner r (λ l. (seen text ≡ page_seen (page_title l) (escaped (screen_text w.history s)))
+    × IsAround (page_head l) (tag_bytes PageFoot) l w.history s text)
 IsStill HtmlBlock w r s text = Shows text (screen_text w.history s)
     × (seen text ≡ block_seen (escaped (screen_text w.history s)) ++ codes "\n") × IsSafe text
     × HasPlaces w.manner r (λ l. IsAround [] (tag_bytes Newline) l w.history s text)
 IsStill Svg w r s text = IsSafe text × HasPlaces w.manner r (λ l. Shows text (written_text l w.history s)
-    × (seen text ≡ framed_seen w.manner.frame (svg_seen (escaped (font_text l w.history s))))
+    × (seen text ≡ framed_seen w.manner.frame (svg_seen (title_line l) (escaped (font_text l w.history s))))
     × IsFramed w.manner.frame l.theme (rows_pictured w.history s) s.shown.width (IsSvg l w.history s) text)
 
 -- ---- what differs
@@ -169,12 +178,23 @@ pub record IsFilm (m : Manner) (size : ℕ × ℕ) (r : Recording) (moment : ℕ
   pub at_first : ScreenSize
   pub is_size : size_said at_first ≡ size
   pub shows : IsFramed m.frame look.theme (films.most_rows moment at_first r.events.items)
-      (films.most_cols moment at_first r.events.items) (films.IsFilm look at_first m.pace moment r.events.items) text
+      (films.most_cols moment at_first r.events.items)
+      (films.IsFilm look at_first (pace_shown m.pace r.idle) moment r.events.items) text
 
-abbrev pub IsPlayer : ℕ × ℕ → Recording → List ℕ → Type 0
-IsPlayer size r text = ShowsRows size.0 size.1 r.events.items text × IsSafe text × (length text ≤ LONGEST_PLAYER)
+-- how a recording is played, with the screen of this moment at first
+abbrev pub played : Manner → Recording → ℕ → Play
+played m r moment = record { length = r.length; poster = moment; pace = pace_shown m.pace r.idle }
+
+-- a page that plays a recording on a terminal of this size at first
+pub record IsPlayer (m : Manner) (size : ℕ × ℕ) (r : Recording) (moment : ℕ) (text : List ℕ) : Type 0 where
+  pub shows : ShowsRows size.0 size.1 r.events.items text
+  pub safe : IsSafe text
+  pub short : length text ≤ LONGEST_PLAYER
+  pub look : pictures.Look
+  pub is_look : IsLook m r look
+  pub head : BeginsWith (head_bytes look (played m r moment)) text
 
 abbrev pub IsAnswer : Form → Wish → ℕ × ℕ → Recording → ℕ → Option ℕ → List ℕ → Type 0
 IsAnswer (Still picture) w size r moment since text = IsScreen picture w size r moment since text
 IsAnswer Film w size r moment since text = IsFilm w.manner size r moment text
-IsAnswer Player w size r moment since text = IsPlayer size r text
+IsAnswer Player w size r moment since text = IsPlayer w.manner size r moment text

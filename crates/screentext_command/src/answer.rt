@@ -29,7 +29,6 @@ use vt100::{Parser, Screen};
 pub(crate) fn answer_of(
     alloc: Global,
     recording: &Recording,
-    title: String,
     request: Request,
     moments: Moments,
     pictures: &Pictures,
@@ -45,7 +44,7 @@ pub(crate) fn answer_of(
             screen_of(alloc, recording, size, request, picture, moments, pictures)
         }
         Form::Film => film_of(alloc, recording, size, moments.moment, pictures),
-        Form::Player => player_of(alloc, recording, title, size, moments.moment, pictures),
+        Form::Player => player_of(alloc, recording, size, moments.moment, pictures),
     }
 }
 
@@ -127,13 +126,14 @@ fn film_of(
     ensures fault { IfErr result (λ e. (e ≡ Memory) ⊎ (e ≡ LongFilm)) }
 {
     let colors = pictures.look(alloc, recording)?;
+    let pace = pictures.pace_of(recording);
     Ok(framed_film(
         alloc,
         size,
         &recording.events,
         moment,
         &colors,
-        pictures.pace,
+        pace,
         &pictures.frame,
     )?)
 }
@@ -142,20 +142,19 @@ fn film_of(
 fn player_of(
     alloc: Global,
     recording: &Recording,
-    title: String,
     size: ScreenSize,
     moment: u64,
     pictures: &Pictures,
 ) -> Result<Vec<u8>, TextError>
-    ensures player { IfOk result (λ text. IsPlayer (size_said size) recording.now text.items) }
+    ensures player { IfOk result (λ text. IsPlayer (manner_of pictures.now) (size_said size) recording.now moment
+        text.items) }
     ensures fault { IfErr result (λ e. (e ≡ Memory) ⊎ (e ≡ LongPlayer)) }
 {
     let colors = pictures.look(alloc, recording)?;
     let play = Play {
-        title,
         length: recording.length,
         poster: moment,
-        pace: pictures.pace,
+        pace: pictures.pace_of(recording),
     };
     let page = player(alloc, size, &recording.events, &colors, &play)?;
     Ok(page)

@@ -35,7 +35,7 @@ gruvbox-dark, monokai, nord, solarized-dark, solarized-light or tango
       --window <TITLE>         A picture in SVG is in a window, with this title in its bar
       --animate...             With --svg: a picture that plays the recording, 8 MiB at most
       --speed <N>              It plays N times as fast as it was recorded
-      --idle <SECONDS>         No screen stands longer than this time of the recording
+      --idle <SECONDS>         No screen stands longer than this time, in place of an asciicast's own limit
       --fps <N>                A film shows N screens a second at most, 1 to 1000: 30 without this option
       --player...              A page in HTML that plays the recording, 32 MiB at most; --at is what it shows at first
   -h, --help                   Print help

@@ -21,7 +21,6 @@ mod reading;
 mod source;
 mod streams;
 mod text;
-mod title;
 mod words;
 
 pub use commands::{command, command_with, report_fault};

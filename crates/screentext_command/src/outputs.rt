@@ -6,13 +6,14 @@ ghost use Rattle.charset_filter.specs.Given.{given_after};
 ghost use Rattle.recordings.specs.Recorded.{deed_of, said};
 ghost use Rattle.screentext_command.specs.Drawn.{IsDrawn, drawn_after, drawn_deed, written};
 
+use crate::source::owned;
 use charset_filter::CharsetFilter;
 use recordings::{Change, Event, Recording};
 use std::alloc::{AllocError, Global};
 
 /// The recording with each character that is printed from DEC's special graphics as its Unicode character.
 ///
-/// Its kind, size, times, resizes and markers are the same. Sets count from one output to the next. Fails only if an
+/// All else in it is the same. Sets count from one output to the next. Fails only if an
 /// allocation fails.
 pub(crate) fn with_lines_drawn(
     alloc: Global,
@@ -24,6 +25,8 @@ pub(crate) fn with_lines_drawn(
         kind: recording.kind,
         size: recording.size,
         theme: recording.theme,
+        idle: recording.idle,
+        title: owned(alloc, recording.title.as_deref())?,
         events: drawn_events(alloc, &recording.events)?,
         length: recording.length,
     })

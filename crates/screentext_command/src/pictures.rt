@@ -6,7 +6,7 @@ ghost use Rattle.clap.specs.Words.{found_of, rows_of};
 ghost use Rattle.recordings.specs.Themes.{theme_reported};
 ghost use Rattle.row_pictures.specs.Themes.{is_theme};
 ghost use Rattle.screentext_command.specs.Asked.{SaysManner, bold_meant, manner_of, theme_meant};
-ghost use Rattle.screentext_command.specs.Texts.{IsLook, theme_shown};
+ghost use Rattle.screentext_command.specs.Texts.{IsLook, pace_shown, theme_shown};
 ghost use Rattle.screentext_command.specs.Words.{are_pictures, is_bold};
 
 use crate::frames::frame_of;
@@ -27,7 +27,7 @@ pub(crate) struct Pictures {
     pub(crate) bold_is_bright: Option<bool>,
     /// Whether the cursor isn't shown.
     pub(crate) hides_cursor: bool,
-    /// How fast a film plays.
+    /// How fast a film plays, as far as the words say it.
     pub(crate) pace: Pace,
     /// What is around pictures in SVG, and how large they are shown.
     pub(crate) frame: Frame,
@@ -43,7 +43,20 @@ impl Pictures {
             font: owned(alloc, self.font.as_deref())?,
             bold_is_bright: self.bold_is_bright,
             hides_cursor: self.hides_cursor,
+            title: owned(alloc, recording.title.as_deref())?,
         })
+    }
+
+    /// How fast a film of a recording plays. Where the words don't say how long a screen stands at most, the recording
+    /// does.
+    pub(crate) fn pace_of(&self, recording: &Recording) -> Pace
+        ensures { result ≡ pace_shown self.now.pace recording.now.idle }
+    {
+        Pace {
+            speed: self.pace.speed,
+            idle: self.pace.idle.or(recording.idle),
+            rate: self.pace.rate,
+        }
     }
 }
 

@@ -22,7 +22,6 @@ use crate::list::list_of;
 use crate::outputs::with_lines_drawn;
 use crate::pictures::Pictures;
 use crate::source::{Source, moments_of};
-use crate::title::title_of;
 use crate::words::Request;
 use recordings::{Kind, Reading, Recording, RecordingError, read_recording};
 use std::alloc::{AllocError, Global};
@@ -50,9 +49,8 @@ pub(crate) fn answer_to<F: Files>(
     ensures fault { IfErr result (IsMissing (F.holds files.now) (F.lacks files.now) (origin_of source.now)
         (wish_of request pictures.now) bytes.items) }
 {
-    let title = title_of(alloc, &bytes)?;
     let (recording, note) = recording_of(alloc, files, bytes, source)?;
-    let text = text_of(alloc, &recording, title, request, source, pictures)?;
+    let text = text_of(alloc, &recording, request, source, pictures)?;
     Ok(Answer { text, note })
 }
 
@@ -60,7 +58,6 @@ pub(crate) fn answer_to<F: Files>(
 fn text_of(
     alloc: Global,
     recording: &Recording,
-    title: String,
     request: Request,
     source: &Source,
     pictures: &Pictures,
@@ -75,7 +72,7 @@ fn text_of(
     if source.list {
         return list_of(alloc, recording);
     }
-    answer_of(alloc, recording, title, request, moments, pictures)
+    answer_of(alloc, recording, request, moments, pictures)
 }
 
 // What is recorded, with boxes as box characters unless the words say otherwise, and what is to be said of it.

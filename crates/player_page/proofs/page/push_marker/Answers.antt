@@ -3,6 +3,6 @@ use Rattle.player_page.proofs.page.push_marker.Goals as goal
 
 pub returns : goal.returns
 returns c =
-    if_added _ _ _ _ _ c.in_ok-push_seconds.ensures
+    if_added _ _ _ _ _ c.in_ok-push_seconds.ensures.adds
     (if_added _ _ _ _ _ c.in_ok-markup.ensures.adds
     (if_added _ _ _ _ _ c.in_ok-name.ensures.adds c.markup-2.ensures.adds))

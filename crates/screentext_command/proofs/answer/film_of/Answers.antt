@@ -16,5 +16,5 @@ returns-clause-film c = record {
   is_look = c.in_ok-colors.ensures;
   at_first = c.args.size;
   is_size = refl;
-  shows = rw c.deref.ensures.value at c.in_ok-framed_film.ensures.film;
+  shows = rw (c.deref.ensures.value, c.pace_of-pace.ensures) at c.in_ok-framed_film.ensures.film;
 }

@@ -9,8 +9,11 @@ returns-in_err-page-clause-fault c =
     let is : c.from_residual-in_err-page.result ≡ Err (player_fault e) = search rules in rw is (player_faulted e)
 
 pub returns-clause-player : goal.returns-clause-player
-returns-clause-player c = (
-  rw c.deref.ensures.value at c.in_ok-page.ensures.rows,
-  c.in_ok-page.ensures.safe,
-  c.in_ok-page.ensures.short,
-)
+returns-clause-player c = record {
+  shows = rw c.deref.ensures.value at c.in_ok-page.ensures.rows;
+  safe = c.in_ok-page.ensures.safe;
+  short = c.in_ok-page.ensures.short;
+  look = c.in_ok-colors.colors;
+  is_look = c.in_ok-colors.ensures;
+  head = rw c.pace_of.ensures at c.in_ok-page.ensures.head;
+}

@@ -1,13 +1,7 @@
 use Rattle.std.proofs.Common.{◌≡◌, Err, rules}
 use Rattle.screentext_command.proofs.MissingLemmas.{text_missing}
 use Rattle.screentext_command.specs.Asked.{origin_of, wish_of}
-use Rattle.screentext_command.specs.Missing.{refused}
-use Rattle.screentext_command.specs.declared.error.TextError.TheVariants.{Memory}
 use Rattle.screentext_command.proofs.reading.answer_to.Goals as goal
-
-pub returns-in_err-title-clause-fault : goal.returns-in_err-title-clause-fault
-returns-in_err-title-clause-fault g c =
-    let is : c.from_residual.result ≡ Err Memory = search rules in rw is refused
 
 pub returns-in_err-text-clause-fault : goal.returns-in_err-text-clause-fault
 returns-in_err-text-clause-fault g c =
