@@ -88,7 +88,7 @@ fn is_out_of_memory(reply: &Reply) -> bool
     match reply {
         Reply::Refused(HubError::Memory) => true,
         Reply::Refused(HubError::Failed | HubError::UnknownClient | HubError::Write(_)) => false,
-        Reply::Done | Reply::Attached(_) | Reply::Answered(_) => false,
+        Reply::Done | Reply::Attached(_) | Reply::Answered(_) | Reply::Redrawn(_) => false,
     }
 }
 

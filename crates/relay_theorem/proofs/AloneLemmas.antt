@@ -1,6 +1,6 @@
 -- A session's own calls can be made without any others.
 use Rattle.std.proofs.Common.{◌≡◌, ◌∙◌, ℕ, false, ◌||◌, List, [], ◌∷◌, ◌++◌, map, Option, Some, None, Result, Ok, Err}
-use Rattle.std.proofs.Common.{drop, refl, sym, ap, subst, if◌then◌else◌}
+use Rattle.std.proofs.Common.{drop, refl, sym, ap, subst, append_assoc, if◌then◌else◌}
 use Rattle.std.specs.Prelude.{◌==◌, slice_get}
 use Rattle.std.specs.List.{list_any}
 use Rattle.std.specs.declared.io.Error.{Error}
@@ -16,13 +16,14 @@ use Rattle.termrelay.specs.Log.{begun}
 use Rattle.termrelay.proofs.ScriptLemmas.{taken-as-reported}
 use Rattle.relay_theorem.specs.History.{as_reported, Story, stories_after, RunsReported}
 use Rattle.relay_theorem.specs.Isolation.{is_out_of_memory, Own, Acts, Comes, Asks, Pumped, Leaves, own_then, own_of}
-use Rattle.relay_theorem.specs.Isolation.{own_calls, alone, EachSessionIsIsolated}
+use Rattle.relay_theorem.specs.Isolation.{own_since, own_calls, alone, EachSessionIsIsolated}
 use Rattle.relay_theorem.proofs.StoryLemmas.{at-key}
 use Rattle.relay_theorem.proofs.CallLemmas.{left_in}
 use Rattle.relay_theorem.proofs.HistoryLemmas.{IsKept, fed-kept, resized-kept, attached-kept, fresh-kept, run-went}
 use Rattle.relay_theorem.proofs.OwnLemmas.{Life, past, story_of, born, answer_now, client_by, lives, life_on, CanLive}
 use Rattle.relay_theorem.proofs.OwnLemmas.{CanCome, Lives}
-use Rattle.relay_theorem.proofs.OwnRunLemmas.{EndsAs, lives-run, session-found}
+use Rattle.relay_theorem.proofs.OwnRunLemmas.{EndsAs, lives-run}
+use Rattle.relay_theorem.proofs.BeginLemmas.{session-found}
 
 -- a pump with any result didn't fail for want of memory
 pump-fed : (end : Result (Unit {0}) Error) → is_out_of_memory (done (pump_answer end)) ≡ false
@@ -141,7 +142,9 @@ module _ (rows cols key : ℕ) where
     pub fed : list_any is_out_of_memory replies ≡ false
     pub run : RunsReported h [] (map (alone key) owns) replies hub stories
     pub is : slice_get stories 0 ≡ Some story
-    pub same : own_calls 0 (map (alone key) owns) replies ≡ owns
+    -- whatever lived before, and whatever was fed
+    pub same : (lived : ℕ → List Own) (acts : List Own)
+        → own_since lived acts 0 (map (alone key) owns) replies ≡ acts ++ owns
 
   starts : (acts : List Act) (owns : List Own) → IsKept (hub_at acts no_clients) [] → CanCome rows cols acts owns
       → CanStart (hub_at acts no_clients) owns
@@ -158,7 +161,9 @@ module _ (rows cols key : ℕ) where
         fed = r.fed;
         run = (g, tt, serves, r.run);
         is = r.is;
-        same = ap (λ xs. Acts (Fed bytes) ∷ xs) r.same;
+        same = λ lived past.
+            r.same (λ k. lived k ++ Acts (Fed bytes) ∷ []) (past ++ Acts (Fed bytes) ∷ [])
+            ∙ append_assoc past (Acts (Fed bytes) ∷ []) owns;
       }
   starts acts (Acts (Resized height width) ∷ owns) kept can =
       let h = hub_at acts no_clients in
@@ -174,7 +179,8 @@ module _ (rows cols key : ℕ) where
         fed = r.fed;
         run = (g, can.0, serves, r.run);
         is = r.is;
-        same = ap (λ xs. Acts act ∷ xs) r.same;
+        same = λ lived past.
+            r.same (λ k. lived k ++ Acts act ∷ []) (past ++ Acts act ∷ []) ∙ append_assoc past (Acts act ∷ []) owns;
       }
   starts acts (Comes ∷ owns) kept can =
       let h = hub_at acts no_clients in
@@ -198,7 +204,8 @@ module _ (rows cols key : ℕ) where
         fed = r.fed;
         run = (g, tt, serves, r.run);
         is = e.story;
-        same = ap (λ xs. Comes ∷ xs) r.same;
+        same = λ lived past.
+            ap (λ xs. (past ++ Comes ∷ []) ++ xs) r.same ∙ append_assoc past (Comes ∷ []) owns;
       }
   starts acts _ kept can = absurd can
 
@@ -218,5 +225,5 @@ sessions-alone rows cols calls replies n t key s fed =
         is = b.is;
       };
       fed = b.fed;
-      same = b.same;
+      same = b.same (λ k. []) [];
     }

@@ -13,8 +13,9 @@ use Rattle.termrelay.specs.declared.runs.call.Reply.{Reply}
 use Rattle.termrelay.specs.declared.runs.call.Reply.TheVariants.{Done, Attached, Answered, Refused}
 use Rattle.termrelay.specs.declared.error.HubError.{HubError}
 use Rattle.termrelay.specs.declared.error.HubError.TheVariants as hub
-use Rattle.termrelay.specs.Calls.{Call, Feed, Resize, Attach, Detach, Frame, Pump, WritesAsReported, taken_by, done}
-use Rattle.termrelay.specs.Calls.{replied, Serves}
+use Rattle.termrelay.specs.Calls.{Call, Feed, Resize, Attach, Detach, Frame, Pump, Fork, Redraw, WritesAsReported}
+use Rattle.termrelay.specs.Calls.{taken_by, done, replied, IsRedrawn, Serves}
+use Rattle.termrelay.specs.Joins.{forked, ForksFrom}
 use Rattle.termrelay.proofs.ScriptLemmas.{taken-as-reported}
 use Rattle.relay_theorem.specs.History.{as_reported}
 use Rattle.relay_theorem.proofs.StoryLemmas.{put}
@@ -61,6 +62,9 @@ pub data Does (h : HubState as_reported) : Call → Reply → HubState as_report
   pumps : (key : ℕ) (takes : List Take) (reply : Reply) (c : ClientState) → h.clients key ≡ Some c
       → CanPump takes c.owed → Does h (Pump key takes) reply (put h key (Some (left_in takes c)))
   misses : (key : ℕ) (takes : List Take) (reply : Reply) → h.clients key ≡ None → Does h (Pump key takes) reply h
+  forks : (old key : ℕ) (c : ClientState) → h.clients old ≡ Some c → h.clients key ≡ None
+      → Does h (Fork old) (Attached key) (put h key (Some (forked c)))
+  draws : (key : ℕ) (reply : Reply) → IsRedrawn h key reply → Does h (Redraw key) reply h
 
 module _ (h g : HubState as_reported) where
   pub same-hub : (k : HubState as_reported) → g.parser ≡ k.parser → g.clients ≡ k.clients → g ≡ k
@@ -132,6 +136,19 @@ module _ (h g : HubState as_reported) where
       (pumps key takes reply c at (end, n, rest, took)) puts.0
       (puts.1 ∙ ap (λ slot. with_client h.clients key slot) left)
 
+  fork-does : (old : ℕ) (o : Option ClientState) (result : Result ℕ HubError) → h.clients old ≡ o
+      → ForksFrom h o result g → Does h (Fork old) (replied Attached result) g
+  fork-does old None result at f =
+      subst (λ r. Does h (Fork old) (replied Attached r) g) (sym f.0)
+      (stays (Fork old) (Refused hub.UnknownClient) (refuses (Fork old) hub.UnknownClient tt) f.1)
+  fork-does old (Some c) (Ok key) at f =
+      becomes (Fork old) (Attached key) (put h key (Some (forked c))) (forks old key c at f.1) f.2.0 f.2.1
+  fork-does old (Some c) (Err hub.Memory) at f =
+      stays (Fork old) (Refused hub.Memory) (refuses (Fork old) hub.Memory tt) f.1
+  fork-does old (Some c) (Err hub.Failed) at f =
+      stays (Fork old) (Refused hub.Failed) (refuses (Fork old) hub.Failed tt) f.1
+  fork-does old (Some c) _ at f = absurd f
+
   pub serves-does : (call : Call) (reply : Reply) → Serves h call reply g → Does h call reply g
   serves-does (Feed bytes) reply (result, f, e) =
       subst (λ r. Does h (Feed bytes) r g) (sym e) (feed-does bytes result f)
@@ -144,6 +161,9 @@ module _ (h g : HubState as_reported) where
       subst (λ r. Does h (Frame key) r g) (sym e) (frame-does key (h.clients key) result refl f.0 f.1)
   serves-does (Pump key takes) reply (result, rest, f, e) =
       pump-does key takes rest (h.clients key) result reply refl f
+  serves-does (Fork old) reply (result, f, e) =
+      subst (λ r. Does h (Fork old) r g) (sym e) (fork-does old (h.clients old) result refl f)
+  serves-does (Redraw key) reply (f, is) = stays (Redraw key) reply (draws key reply f) is
 
 -- the hub after it, by the call and the reply
 module _ (h : HubState as_reported) where
@@ -155,6 +175,10 @@ module _ (h : HubState as_reported) where
   pumped_by key takes None = h
   pumped_by key takes (Some c) = put h key (Some (left_in takes c))
 
+  abbrev pub forked_by : ℕ → Option ClientState → HubState as_reported
+  forked_by key None = h
+  forked_by key (Some c) = put h key (Some (forked c))
+
   abbrev pub hub_after : Call → Reply → HubState as_reported
   hub_after (Feed bytes) Done = acted h (Fed bytes) h.clients
   hub_after (Feed bytes) (Refused hub.Memory) = broken h
@@ -163,6 +187,7 @@ module _ (h : HubState as_reported) where
   hub_after (Detach key) Done = put h key None
   hub_after (Frame key) (Answered answer) = answered_by key answer (h.clients key)
   hub_after (Pump key takes) reply = pumped_by key takes (h.clients key)
+  hub_after (Fork old) (Attached key) = forked_by key (h.clients old)
   hub_after call reply = h
 
   pub does-after : (call : Call) (reply : Reply) (g : HubState as_reported) → Does h call reply g → g
@@ -180,3 +205,5 @@ module _ (h : HubState as_reported) where
   does-after call reply g (declines key e can) = refl
   does-after call reply g (pumps key takes r c at can) = ap (pumped_by key takes) (sym at)
   does-after call reply g (misses key takes r free) = ap (pumped_by key takes) (sym free)
+  does-after call reply g (forks old key c at free) = ap (forked_by key) (sym at)
+  does-after call reply g (draws key r f) = refl

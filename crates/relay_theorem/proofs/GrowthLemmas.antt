@@ -1,16 +1,15 @@
 -- A session's later answers come after its earlier ones.
 use Rattle.std.proofs.Common.{◌≡◌, ◌∙◌, ℕ, zero, suc, Bool, true, false, List, [], ◌∷◌, ◌++◌, map, Some, None}
-use Rattle.std.proofs.Common.{Ok, Err, refl, sym, ap, subst, append_assoc, append-nil, if◌then◌else◌}
+use Rattle.std.proofs.Common.{refl, sym, ap, subst, append_assoc, append-nil, if◌then◌else◌}
 use Rattle.std.specs.Prelude.{slice_get}
 use Rattle.std.specs.List.{list_any}
-use Rattle.termrelay.specs.Calls.{Call, Resize, Attach, Detach, Frame, Pump}
+use Rattle.termrelay.specs.Calls.{Call, Resize, Attach, Detach, Frame, Pump, Fork}
 use Rattle.termrelay.specs.declared.runs.call.Reply.{Reply}
 use Rattle.termrelay.specs.declared.runs.call.Reply.TheVariants.{Done, Attached, Answered}
 use Rattle.termrelay.specs.Hub.{HubState, clients_in}
 use Rattle.termrelay.specs.Log.{change_last, ended, grown, bytes_taken}
 use Rattle.relay_theorem.specs.History.{as_reported, Entry, Story, is_on, with_session, with_entries}
 use Rattle.relay_theorem.specs.History.{entries_of, stories_after}
-use Rattle.relay_theorem.specs.Forks.{Deed, Called, Forked, stories_since}
 use Rattle.relay_theorem.specs.Redraws.{GrowsTo, EachStoryGrows}
 
 -- the n-th story of a list has grown
@@ -74,12 +73,8 @@ module _ (h : HubState as_reported) (t : Story) (ts : List Story) (n : ℕ) (at 
   call-grown (Pump key takes) reply =
       let bytes = bytes_taken takes (clients_in h key) in
       changed-grown (with_session (grown bytes)) (pumped-grows bytes) (is_on key) t ts n at
+  call-grown (Fork key) (Attached new) = pushed-grown t ts _ n at
   call-grown _ _ = same-grown t ts n at
-
-  deed-grown : (deed : Deed) → Grown t (stories_since h deed ts) n
-  deed-grown (Called call reply) = call-grown call reply
-  deed-grown (Forked key (Ok new)) = pushed-grown t ts _ n at
-  deed-grown (Forked key (Err e)) = same-grown t ts n at
 
 grows-on : (t u v : Story) → GrowsTo t u → GrowsTo u v → GrowsTo t v
 grows-on t u v g k = record {
@@ -89,8 +84,10 @@ grows-on t u v g k = record {
 }
 
 pub stories-grow : EachStoryGrows
-stories-grow h k ts us [] n t run at = (t, ap (λ xs. slice_get xs n) run.1 ∙ at, stays t)
-stories-grow h k ts us (deed ∷ deeds) n t (g, happens, later) at =
-    let first = deed-grown h t ts n at deed in
-    let rest = stories-grow g k (stories_since h deed ts) us deeds n first.0 later first.1 in
+stories-grow h k ts us [] [] n t run at = (t, ap (λ xs. slice_get xs n) run.1 ∙ at, stays t)
+stories-grow h k ts us [] (reply ∷ replies) n t run at = absurd run
+stories-grow h k ts us (call ∷ calls) [] n t run at = absurd run
+stories-grow h k ts us (call ∷ calls) (reply ∷ replies) n t (g, is, serves, later) at =
+    let first = call-grown h t ts n at call reply in
+    let rest = stories-grow g k (stories_after h call reply ts) us calls replies n first.0 later first.1 in
     (rest.0, rest.1, grows-on t first.0 rest.0 first.2 rest.2)

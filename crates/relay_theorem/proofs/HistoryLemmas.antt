@@ -21,7 +21,8 @@ use Rattle.termrelay.specs.declared.runs.call.Reply.{Reply}
 use Rattle.termrelay.specs.declared.error.HubError.TheVariants as hub
 use Rattle.termrelay.specs.Hub.{HubState, screen_in, size_in, shown_in, with_client, new_client, no_clients}
 use Rattle.termrelay.specs.Calls.{Call, Frame, Pump, IsCall, taken_by}
-use Rattle.termrelay.specs.Log.{change_last, begun, ended, grown, bytes_taken}
+use Rattle.termrelay.specs.Joins.{forked}
+use Rattle.termrelay.specs.Log.{change_last, last_that, begun, ended, grown, branched, bytes_owed, bytes_taken}
 use Rattle.termrelay.proofs.LogLemmas.{none-changed}
 use Rattle.relay_theorem.specs.History.{as_reported, fresh, Entry, Story, size_of_story, is_on, with_session}
 use Rattle.relay_theorem.specs.History.{with_entries, entries_of, stories_after, RunsReported}
@@ -31,9 +32,9 @@ use Rattle.relay_theorem.specs.Laws.{EachSessionIsReported, AtMostOne, EachClien
 use Rattle.relay_theorem.proofs.StoryLemmas.{all-map, all-push, all-at, any-mapped, one-mapped, none-mapped}
 use Rattle.relay_theorem.proofs.StoryLemmas.{no-one-mapped, any-pushed, one-pushed, pick, only-changed, on-live}
 use Rattle.relay_theorem.proofs.StoryLemmas.{on-key, off-key, other-key, picked-on, ends-on, ends-other, put, at-key}
-use Rattle.relay_theorem.proofs.StoryLemmas.{at-other, at-known}
+use Rattle.relay_theorem.proofs.StoryLemmas.{at-other, at-known, found}
 use Rattle.relay_theorem.proofs.CallLemmas.{acted, left_in, Does, refuses, feeds, fails, resizes, attaches, detaches}
-use Rattle.relay_theorem.proofs.CallLemmas.{answers, declines, pumps, misses, serves-does}
+use Rattle.relay_theorem.proofs.CallLemmas.{answers, declines, pumps, misses, forks, draws, serves-does}
 
 -- ---- sizes
 
@@ -408,6 +409,52 @@ attached-kept h key ts free k =
     added-kept h key new_client (record { session = begun h key; entries = [] }) ts free refl refl
     (begun-in h key k.acts) k
 
+-- a fork of a known client
+abbrev pub branch : ℕ → ClientState → Story → Story
+branch key c t = with_session (branched key c.owed) t
+
+forked-in : (h : HubState as_reported) (old key : ℕ) (c : ClientState) (t : Story) → h.clients old ≡ Some c → IsIn h t
+    → is_on old t ≡ true → IsIn (put h key (Some (forked c))) (branch key c t)
+forked-in h old key c t at k on =
+    let rows = h.parser.rows in
+    let cols = h.parser.cols in
+    let alive = on-live old t on in
+    let s = served-as rows cols h.clients old t c (on-key old t on) at (k.reported.served alive) in
+    let bytes = append-nil (t.session.pumped ++ c.owed) ∙ s.bytes in
+    record {
+      reported = record {
+        height = k.reported.height;
+        width = k.reported.width;
+        entries = k.reported.entries;
+        served = λ _. (
+          forked c,
+          at-key h.clients key (Some (forked c)),
+          record {
+            bytes = bytes;
+            read = last_text [] t.entries;
+            owed = append-nil (last_text [] t.entries);
+            base = s.base;
+          },
+        );
+        left = [];
+        prefix = bytes;
+      };
+      size = λ _. k.size alive;
+    }
+
+pub forked-kept : (h : HubState as_reported) (old key : ℕ) (c : ClientState) (ts : List Story) → h.clients old ≡ Some c
+    → h.clients key ≡ None → IsKept h ts
+    → IsKept (put h key (Some (forked c)))
+    (ts ++ map (with_session (branched key (bytes_owed (h.clients old)))) (last_that (is_on old) ts))
+forked-kept h old key c ts at free k =
+    let any : list_any (is_on old) ts ≡ true = sym (k.keys old) ∙ ap is_some at in
+    let f = found (is_on old) (IsIn h) ts k.each any in
+    let g = put h key (Some (forked c)) in
+    subst (λ o. IsKept g (ts ++ map (with_session (branched key (bytes_owed o))) (last_that (is_on old) ts))) (sym at)
+    (subst (λ xs. IsKept g (ts ++ map (branch key c) xs)) (sym f.last)
+    (added-kept h key (forked c) (branch key c f.item) ts free refl refl (forked-in h old key c f.item at f.holds f.passes)
+    k))
+
 -- the session of a known client changes, and stays on its key
 module _ (h : HubState as_reported) (key : ℕ) (c new : ClientState) (f : Story → Story) (at : h.clients key ≡ Some c)
     (same : (k : ℕ) (t : Story) → is_on k (f t) ≡ is_on k t)
@@ -498,6 +545,8 @@ module _ (h : HubState as_reported) (ts : List Story) (k : IsKept h ts) where
       let none : list_any (is_on key) ts ≡ false = sym (k.keys key) ∙ ap is_some free in
       subst (IsKept h)
       (sym (none-changed (is_on key) (with_session (grown (bytes_taken takes (h.clients key)))) ts none)) k
+  does-kept call reply g is (forks old key c at free) = forked-kept h old key c ts at free k
+  does-kept call reply g is (draws key r f) = k
 
 -- ---- runs
 
@@ -533,9 +582,11 @@ does-first h call reply g (answers key c answer at due) = (refl, refl)
 does-first h call reply g (declines key e can) = (refl, refl)
 does-first h call reply g (pumps key takes r c at can) = (refl, refl)
 does-first h call reply g (misses key takes r free) = (refl, refl)
+does-first h call reply g (forks old key c at free) = (refl, refl)
+does-first h call reply g (draws key r f) = (refl, refl)
 
 -- what is kept after it, and the first size stays
-went-kept : (h k : HubState as_reported) (ts us : List Story) (calls : List Call) (replies : List Reply)
+pub went-kept : (h k : HubState as_reported) (ts us : List Story) (calls : List Call) (replies : List Reply)
     → Went h ts calls replies k us
     → IsKept k us × (k.parser.rows ≡ h.parser.rows) × (k.parser.cols ≡ h.parser.cols)
 went-kept h k ts us calls replies (over kept) = (kept, refl, refl)

@@ -5,7 +5,8 @@ use Rattle.relay_theorem.specs.History.{as_reported, Story}
 use Rattle.relay_theorem.specs.Isolation.{Own, own_calls, AreAlike, SessionsAreIsolated, LoggedSessionsAreIsolated}
 use Rattle.relay_theorem.proofs.LoggedLemmas.{logged-story}
 use Rattle.relay_theorem.proofs.OwnLemmas.{Life, story_of}
-use Rattle.relay_theorem.proofs.OwnRunLemmas.{Found, session-found}
+use Rattle.relay_theorem.proofs.OwnRunLemmas.{Found}
+use Rattle.relay_theorem.proofs.BeginLemmas.{session-found}
 
 -- ---- two runs
 

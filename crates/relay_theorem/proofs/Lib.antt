@@ -10,13 +10,15 @@ pub mod ServesLemmas
 pub mod LoggedLemmas
 pub mod OwnLemmas
 pub mod OwnRunLemmas
+pub mod BeginLemmas
 pub mod IsolationLemmas
 pub mod AloneLemmas
 pub mod LoneLemmas
 pub mod BoundLemmas
-pub mod ForkLemmas
+pub mod DrawnLemmas
 pub mod RedrawLemmas
 pub mod GrowthLemmas
 pub mod FrameScreens
 pub mod TreeLemmas
 pub mod WholeFrames
+pub mod LoggedRedraws

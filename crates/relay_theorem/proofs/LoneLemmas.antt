@@ -1,6 +1,6 @@
 -- A run of only a session's own calls has a session that is like it.
 use Rattle.std.proofs.Common.{◌≡◌, ◌∙◌, ℕ, true, false, List, [], ◌∷◌, ◌++◌, map, Some, None, Ok, Err}
-use Rattle.std.proofs.Common.{refl, sym, ap, subst, if◌then◌else◌}
+use Rattle.std.proofs.Common.{refl, sym, ap, subst, append_assoc, if◌then◌else◌}
 use Rattle.std.specs.Prelude.{◌==◌, slice_get}
 use Rattle.std.specs.List.{list_any}
 use Rattle.std.proofs.lemmas.Bool.{eq-eqb, or_parts}
@@ -13,7 +13,7 @@ use Rattle.termrelay.specs.Calls.{Call, Feed, Resize, Attach, Detach, done, Serv
 use Rattle.termrelay.specs.Log.{SessionView, begun}
 use Rattle.relay_theorem.specs.History.{Past, as_reported, Story, stories_after, RunsReported}
 use Rattle.relay_theorem.specs.Isolation.{is_out_of_memory, Own, Acts, Comes, Asks, Pumped, Leaves, own_at, own_then}
-use Rattle.relay_theorem.specs.Isolation.{own_of}
+use Rattle.relay_theorem.specs.Isolation.{own_of, own_since}
 use Rattle.relay_theorem.specs.Isolation.{own_calls, alone, EachLoneSessionIsAlike, EachLoggedLoneSessionIsAlike}
 use Rattle.relay_theorem.proofs.StoryLemmas.{put, at-key}
 use Rattle.relay_theorem.proofs.CallLemmas.{serves-does, hub_after, does-after}
@@ -22,7 +22,8 @@ use Rattle.relay_theorem.proofs.HistoryLemmas.{run-went}
 use Rattle.relay_theorem.proofs.LoggedLemmas.{logged-story}
 use Rattle.relay_theorem.proofs.OwnLemmas.{Life, past, story_of, born, lives, life_on, CanLive, CanCome, Lives, Goes}
 use Rattle.relay_theorem.proofs.OwnLemmas.{call-goes-on}
-use Rattle.relay_theorem.proofs.OwnRunLemmas.{lives-run, session-found}
+use Rattle.relay_theorem.proofs.OwnRunLemmas.{lives-run}
+use Rattle.relay_theorem.proofs.BeginLemmas.{session-found}
 use Rattle.relay_theorem.proofs.IsolationLemmas.{sessions-isolated, logged-isolated}
 
 module _ (rows cols : ℕ) where
@@ -163,31 +164,35 @@ module _ (rows cols : ℕ) where
   lone-start : (acts : List Act) (owns : List Own) (key : ℕ) (k : HubState as_reported) (us : List Story)
       (answers : List Reply) (u : Story) → CanCome rows cols acts owns → IsKept (hub_at acts) []
       → list_any is_out_of_memory answers ≡ false → RunsReported (hub_at acts) [] (map (alone key) owns) answers k us
-      → slice_get us 0 ≡ Some u → u.session.client ≡ key → own_calls 0 (map (alone key) owns) answers ≡ owns
-  lone-start acts (Acts (Fed bytes) ∷ owns) key k us [] u can kept fed run is at = absurd run
-  lone-start acts (Acts (Fed bytes) ∷ owns) key k us (reply ∷ answers) u can kept fed (g, ok, serves, later) is at =
+      → slice_get us 0 ≡ Some u → u.session.client ≡ key → (lived : ℕ → List Own) (past : List Own)
+      → own_since lived past 0 (map (alone key) owns) answers ≡ past ++ owns
+  lone-start acts (Acts (Fed bytes) ∷ owns) key k us [] u can kept fed run is at lived past = absurd run
+  lone-start acts (Acts (Fed bytes) ∷ owns) key k us (reply ∷ answers) u can kept fed (g, ok, serves, later) is at lived past =
       let h = hub_at acts in
       let calls = map (alone key) owns in
       let each = or_parts (is_out_of_memory reply) (list_any is_out_of_memory answers) fed in
       let r = feed-done h g acts reply refl each.0 bytes serves in
       let run = goes-to acts (Feed bytes) reply Done g k us calls answers serves r later in
-      ap (λ y. own_calls 0 (Feed bytes ∷ calls) (y ∷ answers)) r
-      ∙ ap (λ xs. Acts (Fed bytes) ∷ xs) (lone-start (acts ++ Fed bytes ∷ []) owns key k us answers u can.1
-      (fed-kept h bytes [] kept) each.1 run is at)
-  lone-start acts (Acts (Resized height width) ∷ owns) key k us [] u can kept fed run is at = absurd run
+      let act = Acts (Fed bytes) in
+      ap (λ y. own_since lived past 0 (Feed bytes ∷ calls) (y ∷ answers)) r
+      ∙ lone-start (acts ++ Fed bytes ∷ []) owns key k us answers u can.1 (fed-kept h bytes [] kept) each.1 run is at
+      (λ x. lived x ++ act ∷ []) (past ++ act ∷ [])
+      ∙ append_assoc past (act ∷ []) owns
+  lone-start acts (Acts (Resized height width) ∷ owns) key k us [] u can kept fed run is at lived past = absurd run
   lone-start acts (Acts (Resized height width) ∷ owns) key k us (reply ∷ answers) u can kept fed (g, ok, serves, later)
-      is at =
+      is at lived past =
       let h = hub_at acts in
       let calls = map (alone key) owns in
       let each = or_parts (is_out_of_memory reply) (list_any is_out_of_memory answers) fed in
       let r = resize-done h g acts reply refl each.0 height width serves in
       let run = goes-to acts (Resize height width) reply Done g k us calls answers serves r later in
-      ap (λ y. own_calls 0 (Resize height width ∷ calls) (y ∷ answers)) r
-      ∙ ap (λ xs. Acts (Resized height width) ∷ xs) (lone-start (acts ++ Resized height width ∷ []) owns key k us
-      answers
-      u can.1 (resized-kept h height width [] can.0 kept) each.1 run is at)
-  lone-start acts (Comes ∷ owns) key k us [] u can kept fed run is at = absurd run
-  lone-start acts (Comes ∷ owns) key k us (reply ∷ answers) u can kept fed (g, ok, serves, later) is at =
+      let act = Acts (Resized height width) in
+      ap (λ y. own_since lived past 0 (Resize height width ∷ calls) (y ∷ answers)) r
+      ∙ lone-start (acts ++ Resized height width ∷ []) owns key k us answers u can.1
+      (resized-kept h height width [] can.0 kept) each.1 run is at (λ x. lived x ++ act ∷ []) (past ++ act ∷ [])
+      ∙ append_assoc past (act ∷ []) owns
+  lone-start acts (Comes ∷ owns) key k us [] u can kept fed run is at lived past = absurd run
+  lone-start acts (Comes ∷ owns) key k us (reply ∷ answers) u can kept fed (g, ok, serves, later) is at lived past =
       let h = hub_at acts in
       let calls = map (alone key) owns in
       let each = or_parts (is_out_of_memory reply) (list_any is_out_of_memory answers) fed in
@@ -195,10 +200,11 @@ module _ (rows cols : ℕ) where
       let run = goes-to acts Attach reply (Attached got.0) g k us calls answers serves got.1 later in
       let who : got.0 ≡ key = key-of acts got.0 k us calls answers u kept each.1 run is ∙ at in
       let here = subst (λ o. RunsReported (first_at acts o) (stories_at acts o) calls answers k us) who run in
-      ap (λ y. own_calls 0 (Attach ∷ calls) (y ∷ answers)) (got.1 ∙ ap Attached who)
-      ∙ ap (λ xs. Comes ∷ xs) (lone-on key 0 (born rows cols acts) owns (first_at acts key) k (stories_at acts key) us
+      ap (λ y. own_since lived past 0 (Attach ∷ calls) (y ∷ answers)) (got.1 ∙ ap Attached who)
+      ∙ ap (λ xs. (past ++ Comes ∷ []) ++ xs) (lone-on key 0 (born rows cols acts) owns (first_at acts key) k (stories_at acts key) us
       answers can (attached-kept h key [] refl kept) (born-lives acts key) each.1 here)
-  lone-start acts _ key k us answers u can kept fed run is at = absurd can
+      ∙ append_assoc past (Comes ∷ []) owns
+  lone-start acts _ key k us answers u can kept fed run is at lived past = absurd can
 
 -- ---- sessions
 
@@ -207,7 +213,7 @@ lone-alike rows cols calls replies answers n t u key s z fed also at =
     let owns = own_calls n calls replies in
     let found = session-found rows cols calls replies n t s fed in
     let same = lone-start rows cols [] owns key z.hub z.stories answers u found.can
-    (fresh-kept rows cols z.height z.width) also z.ran z.is at in
+    (fresh-kept rows cols z.height z.width) also z.ran z.is at (λ k. []) [] in
     let both = sessions-isolated rows cols calls (map (alone key) owns) replies answers n 0 t u s z fed also
     (sym same) in
     (both.0, both.1, same)

@@ -1,6 +1,6 @@
 -- At one moment there is only one screen.
 use Rattle.std.proofs.Common.{◌≡◌, ◌∙◌, ℕ, ◌-◌, nat_le, Bool, true, false, List, [], ◌∷◌, ◌++◌, length, Option, Some}
-use Rattle.std.proofs.Common.{None, refl, sym, ap, subst, arith, append_assoc, append-nil, length-append, if◌then◌else◌}
+use Rattle.std.proofs.Common.{map, None, refl, sym, ap, subst, arith, append_assoc, append-nil, length-append, if◌then◌else◌}
 use Rattle.std.specs.List.{AllByRecursion, list_any}
 use Rattle.std.specs.Prelude.{IfSome}
 use Rattle.terminal_model.proofs.FormTexts.{all-each}
@@ -13,15 +13,15 @@ use Rattle.termrelay.specs.declared.answer.Answer.{Answer}
 use Rattle.termrelay.specs.declared.runs.call.Reply.{Reply}
 use Rattle.termrelay.specs.Hub.{HubState, clients_in}
 use Rattle.termrelay.specs.Calls.{Call, Frame, Pump}
-use Rattle.termrelay.specs.Log.{change_last, begun, ended, grown, bytes_taken}
+use Rattle.termrelay.specs.Log.{change_last, last_that, begun, ended, grown, branched, bytes_owed, bytes_taken}
 use Rattle.relay_theorem.specs.History.{as_reported, fresh, Entry, Story, is_on, with_session, with_entries, entries_of}
 use Rattle.relay_theorem.specs.History.{stories_after, RunsReported}
 use Rattle.relay_theorem.specs.Judge.{frame_or, last_frame, whole_in}
 use Rattle.relay_theorem.specs.Laws.{IsSession}
 use Rattle.relay_theorem.specs.Headline.{resizes_made, AreAtOneMoment}
-use Rattle.relay_theorem.proofs.StoryLemmas.{all-map, all-push, all-at}
+use Rattle.relay_theorem.proofs.StoryLemmas.{all-map, all-push, all-at, all-last}
 use Rattle.relay_theorem.proofs.CallLemmas.{Does, refuses, feeds, fails, resizes, attaches, detaches, answers, declines}
-use Rattle.relay_theorem.proofs.CallLemmas.{pumps, misses, serves-does}
+use Rattle.relay_theorem.proofs.CallLemmas.{pumps, misses, forks, draws, serves-does}
 use Rattle.relay_theorem.proofs.OneHistory.{history-is-one}
 
 -- ---- prefixes of one list of acts
@@ -136,6 +136,12 @@ module _ (h : HubState as_reported) (ts : List Story) (k : AllHavePrefixes h ts)
   does-prefixes call reply g (misses key takes reply' free) =
       all-changed (HasPrefixes h.parser.acts) (is_on key) (with_session (grown (bytes_taken takes (clients_in h key))))
       (λ t i. i) ts k
+  does-prefixes call reply g (forks old key c at free) =
+      let P = HasPrefixes h.parser.acts in
+      all-joined P ts (map (with_session (branched key (bytes_owed (h.clients old)))) (last_that (is_on old) ts)) k
+      (all-map P P (with_session (branched key (bytes_owed (h.clients old)))) (λ t i. i) (last_that (is_on old) ts)
+      (all-last (is_on old) P ts k))
+  does-prefixes call reply g (draws key r f) = k
 
 run-prefixes : (h k : HubState as_reported) (ts us : List Story) (calls : List Call) (replies : List Reply)
     → AllHavePrefixes h ts → RunsReported h ts calls replies k us → AllHavePrefixes k us

@@ -18,14 +18,15 @@ use Rattle.termrelay.specs.declared.error.HubError.{HubError}
 use Rattle.termrelay.specs.declared.error.HubError.TheVariants as hub
 use Rattle.termrelay.specs.Hub.{HubState, screen_in, size_in, shown_in, new_client, CanFrame}
 use Rattle.termrelay.specs.Calls.{Call, Frame, Pump, IsCall, done}
-use Rattle.termrelay.specs.Log.{change_last, begun, ended, grown, bytes_taken}
+use Rattle.termrelay.specs.Joins.{forked}
+use Rattle.termrelay.specs.Log.{change_last, last_that, begun, ended, grown, branched, bytes_owed, bytes_taken}
 use Rattle.relay_theorem.specs.History.{Past, as_reported, Entry, Story, is_on, with_session, with_entries, entries_of}
 use Rattle.relay_theorem.specs.History.{stories_after}
 use Rattle.relay_theorem.specs.Laws.{AtMostOne}
 use Rattle.relay_theorem.specs.Isolation.{is_out_of_memory, Own, Acts, Comes, Asks, Pumped, Leaves, own_at, ends}
 use Rattle.relay_theorem.proofs.StoryLemmas.{pick, only-changed, other-key, put, at-key, at-other, at-known}
 use Rattle.relay_theorem.proofs.CallLemmas.{CanPump, left_in, Does, refuses, feeds, fails, resizes, attaches}
-use Rattle.relay_theorem.proofs.CallLemmas.{detaches, answers, declines, pumps, misses}
+use Rattle.relay_theorem.proofs.CallLemmas.{detaches, answers, declines, pumps, misses, forks, draws}
 use Rattle.relay_theorem.proofs.HistoryLemmas.{IsKept}
 
 -- ---- lists
@@ -270,6 +271,14 @@ module _ (rows cols : ℕ) where
     does-goes call reply g is (misses other takes r free) fed =
         let change = with_session (grown (bytes_taken takes (clients other))) in
         free-goes other (Pumped takes) (change_last (is_on other) change ts) free (other-changed other change)
+    does-goes call reply g is (forks old other c at free) fed =
+        let new = map (with_session (branched other (bytes_owed (clients old)))) (last_that (is_on old) ts) in
+        record {
+          parser = refl;
+          client = at-known clients other (Some (forked c)) key l.client free client;
+          story = got-prefix ts new n (story_of key false l) story;
+        }
+    does-goes call reply g is (draws other r f) fed = stays ts story
 
   pub call-goes-on : (key n : ℕ) (l : Life) (h g : HubState as_reported) (ts : List Story) (call : Call) (reply : Reply)
       → IsKept h ts → Lives key n h ts l → IsCall call → Does h call reply g → is_out_of_memory reply ≡ false

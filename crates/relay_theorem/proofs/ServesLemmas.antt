@@ -4,7 +4,9 @@ use Rattle.std.proofs.Common.{Option, Some, None, Result, Ok, Err, refl, sym, ap
 use Rattle.std.specs.Prelude.{◌==◌}
 use Rattle.std.proofs.lemmas.Bool.Decides.{nat_tests}
 use Rattle.std.proofs.lemmas.List.{map-append}
+use Rattle.std.specs.Option.{option_map}
 use Rattle.std.specs.declared.io.Error.{Error}
+use Rattle.terminal_model.specs.Term.{Size, Shown}
 use Rattle.vt100_core.specs.Picture.{grid_size}
 use Rattle.screen_model.specs.Call.{ScreenView}
 use Rattle.screen_model.specs.Shown.{shown_state}
@@ -13,6 +15,7 @@ use Rattle.vt100.specs.Memory.{some_may_allocate}
 use Rattle.vt100.specs.Parsing.{ParserView, HasRead, ParserIsAfter}
 use Rattle.byte_streams.specs.Pump.{Pumps, all, nothing, fault, some}
 use Rattle.termrelay.specs.Answers.{ClientState, answer_for, after_answer, may_allocate}
+use Rattle.termrelay.specs.Redraw.{redraw_of}
 use Rattle.termrelay.specs.Hub.{Telling, HubState, as_kept, is_failed, screen_in, clients_in, with_client, new_client}
 use Rattle.termrelay.specs.Hub.{no_clients, Puts, IsNewHub, Feeds, Resizes, Attaches, DetachesFrom, CanFrame, Framed}
 use Rattle.termrelay.specs.Hub.{pump_answer, PumpsFrom}
@@ -22,10 +25,12 @@ use Rattle.termrelay.specs.declared.error.HubError.TheVariants as hub
 use Rattle.termrelay.specs.declared.runs.call.Take.{Take}
 use Rattle.termrelay.specs.declared.runs.call.Take.TheVariants.{Bytes, Fault}
 use Rattle.termrelay.specs.declared.runs.call.Reply.{Reply}
-use Rattle.termrelay.specs.declared.runs.call.Reply.TheVariants.{Done, Attached, Answered, Refused}
-use Rattle.termrelay.specs.Calls.{Call, Feed, Resize, Attach, Detach, Frame, Pump, taken_by, WritesAsReported, Serves}
-use Rattle.termrelay.specs.Calls.{Runs, done, replied}
-use Rattle.termrelay.specs.Log.{SessionView, is_of, change_last, begun, ended, grown, bytes_taken, sessions_after}
+use Rattle.termrelay.specs.declared.runs.call.Reply.TheVariants.{Done, Attached, Answered, Redrawn, Refused}
+use Rattle.termrelay.specs.Joins.{forked, DrawsFrom, ForksFrom}
+use Rattle.termrelay.specs.Calls.{Call, Feed, Resize, Attach, Detach, Frame, Pump, Fork, Redraw, taken_by}
+use Rattle.termrelay.specs.Calls.{WritesAsReported, IsRedrawn, Serves, Runs, done, replied}
+use Rattle.termrelay.specs.Log.{SessionView, is_of, change_last, last_that, begun, ended, grown, branched, bytes_owed}
+use Rattle.termrelay.specs.Log.{bytes_taken, sessions_after}
 use Rattle.termrelay.specs.Log.{RunsLogged}
 use Rattle.std.proofs.lemmas.List.{drop_min}
 use Rattle.termrelay.proofs.ScriptLemmas.{takes-nothing, some-owed, first-none, first-fault, first-some, ok-number}
@@ -34,7 +39,7 @@ use Rattle.relay_theorem.specs.History.{as_reported, fresh, Story, is_on, with_s
 use Rattle.relay_theorem.specs.History.{stories_after, RunsReported}
 use Rattle.relay_theorem.specs.Serves.{IsPumpReply, EachPumpTakesAsReported, EachPumpIsServed, Matches}
 use Rattle.relay_theorem.specs.Serves.{EachRunHasAHistory, EachLogHasAHistory}
-use Rattle.relay_theorem.proofs.StoryLemmas.{put, shown-changed, unchanged}
+use Rattle.relay_theorem.proofs.StoryLemmas.{put, shown-changed, shown-that, unchanged}
 
 -- ---- a call on a hub, and on its history
 
@@ -171,6 +176,41 @@ module _ (h : HubState as_kept) (u : HubState as_reported) (m : Matches h u) whe
   pub client-now : (key : ℕ) → clients_in h key ≡ clients_in u key
   client-now key = ap (λ clients. clients key) m.clients
 
+  fork-follows : (o : Option ClientState) (result : Result ℕ HubError) (g : HubState as_kept) → ForksFrom h o result g
+      → (v : HubState as_reported) × ForksFrom u o result v × Matches g v
+  fork-follows None result g f = (u, (f.0, refl), unchanged-matches g f.1)
+  fork-follows (Some c) (Ok key) g f = (
+    put u key (Some (forked c)),
+    (live f.0, ap (λ clients. clients key) (sym m.clients) ∙ f.1, (refl, refl)),
+    put-matches key (Some (forked c)) g f.2,
+  )
+  fork-follows (Some c) (Err hub.Memory) g f = (u, (live f.0, refl), unchanged-matches g f.1)
+  fork-follows (Some c) (Err hub.Failed) g f = (u, (dead f.0, refl), unchanged-matches g f.1)
+  fork-follows (Some c) _ g f = absurd f
+
+  -- texts that are made of the screen at a client's last frame
+  module _ (text_of : Size → Option Shown → Option (List ℕ)) where
+    drawn-from : (o : Option ClientState) (result : Result (Option (List ℕ)) HubError) → DrawsFrom text_of h o result
+        → DrawsFrom text_of u o result
+    drawn-from None result f = f
+    drawn-from (Some c) (Ok text) f =
+        let on = live f.0 in
+        (on, f.1 ∙ ap (λ (v : ScreenView). text_of (grid_size v.state.shown) c.base) (screen-now on))
+    drawn-from (Some c) (Err hub.Memory) f = (live f.0, f.1)
+    drawn-from (Some c) (Err hub.Failed) f = dead f
+    drawn-from (Some c) _ f = absurd f
+
+    pub drawn-matches : (key : ℕ) (result : Result (Option (List ℕ)) HubError)
+        → DrawsFrom text_of h (clients_in h key) result → DrawsFrom text_of u (clients_in u key) result
+    drawn-matches key result f =
+        drawn-from (clients_in u key) result (subst (λ o. DrawsFrom text_of h o result) (client-now key) f)
+
+  -- a redraw's reply
+  redrawn-matches : (key : ℕ) (reply : Reply) → IsRedrawn h key reply → IsRedrawn u key reply
+  redrawn-matches key (Redrawn redraw) f = drawn-matches redraw_of key (Ok (option_map (λ text. text.items) redraw)) f
+  redrawn-matches key (Refused e) f = drawn-matches redraw_of key (Err e) f
+  redrawn-matches key _ f = absurd f
+
   pub call-follows : (call : Call) (reply : Reply) (g : HubState as_kept) → Serves h call reply g → Follows u call reply g
   call-follows (Feed bytes) reply g (result, f, e) =
       let x = feed-follows bytes result g f in record { after = x.0; serves = (result, x.1, e); matches = x.2 }
@@ -192,6 +232,12 @@ module _ (h : HubState as_kept) (u : HubState as_reported) (m : Matches h u) whe
       let x = pump-follows key takes rest (clients_in u key) result g
       (subst (λ o. PumpsFrom WritesAsReported h key o takes result rest g) (client-now key) f) in
       record { after = x.0; serves = (result, rest, x.1, e); matches = x.2 }
+  call-follows (Fork key) reply g (result, f, e) =
+      let x = fork-follows (clients_in u key) result g
+      (subst (λ o. ForksFrom h o result g) (client-now key) f) in
+      record { after = x.0; serves = (result, x.1, e); matches = x.2 }
+  call-follows (Redraw key) reply g (f, e) =
+      record { after = u; serves = (redrawn-matches key reply f, refl); matches = unchanged-matches g e }
 
   -- ---- sessions
 
@@ -222,6 +268,16 @@ module _ (h : HubState as_kept) (u : HubState as_reported) (m : Matches h u) whe
       → bytes_taken takes (clients_in u key) ≡ bytes_taken takes (clients_in h key)
   same-taken key takes = ap (bytes_taken takes) (sym (client-now key))
 
+  each-shown : (f : SessionView → SessionView) (ts : List Story)
+      → shown (map (with_session f) ts) ≡ map f (shown ts)
+  each-shown f [] = refl
+  each-shown f (t ∷ ts) = ap (λ ss. f t.session ∷ ss) (each-shown f ts)
+
+  branches-shown : (f : SessionView → SessionView) (ts new : List Story)
+      → shown (ts ++ map (with_session f) new) ≡ shown ts ++ map f (shown new)
+  branches-shown f ts new =
+      map-append (λ (t : Story). t.session) ts (map (with_session f) new) ∙ ap (λ ss. shown ts ++ ss) (each-shown f new)
+
   call-shown : (call : Call) (reply : Reply) (g : HubState as_kept) (ts : List Story) → Serves h call reply g
       → shown (stories_after u call reply ts) ≡ sessions_after h call reply (shown ts)
   call-shown (Resize rows cols) Done g ts s = ended-shown ts
@@ -239,6 +295,11 @@ module _ (h : HubState as_kept) (u : HubState as_reported) (m : Matches h u) whe
       shown-changed (is_on key) (is_of key) (with_session (grown bytes)) (grown bytes) (λ t. t.session) (λ t. refl)
       (λ t. refl) ts
       ∙ ap (λ bs. change_last (is_of key) (grown bs) (shown ts)) (same-taken key takes)
+  call-shown (Fork key) (Attached new) g ts s =
+      branches-shown (branched new (bytes_owed (clients_in u key))) ts (last_that (is_on key) ts)
+      ∙ ap (λ ss. shown ts ++ map (branched new (bytes_owed (clients_in u key))) ss)
+      (shown-that (is_on key) (is_of key) (λ t. t.session) (λ t. refl) ts)
+      ∙ ap (λ o. shown ts ++ map (branched new (bytes_owed o)) (last_that (is_of key) (shown ts))) (sym (client-now key))
   call-shown _ _ g ts s = refl
 
 -- ---- runs

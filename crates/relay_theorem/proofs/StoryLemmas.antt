@@ -3,13 +3,13 @@ use Rattle.std.proofs.Common.{◌≡◌, ◌∙◌, ℕ, zero, suc, Bool, true, 
 use Rattle.std.proofs.Common.{Option, Some, None, refl, sym, ap, subst, arith, if◌then◌else◌}
 use Rattle.std.specs.Prelude.{◌==◌, slice_get}
 use Rattle.std.specs.List.{list_any, AllByRecursion}
-use Rattle.std.proofs.lemmas.Bool.{eqb-true, eq-eqb, or_parts, or_from, and_parts}
+use Rattle.std.proofs.lemmas.Bool.{eqb-true, eq-eqb, or_parts, or_from, or_right, and_parts}
 use Rattle.std.proofs.Math.Bool.{or-false}
 use Rattle.std.proofs.lemmas.List.Folds.{list_any-append}
 use Rattle.std.proofs.lemmas.Bool.Decides.{nat_tests}
 use Rattle.termrelay.specs.Answers.{ClientState}
 use Rattle.termrelay.specs.Hub.{HubState, with_client}
-use Rattle.termrelay.specs.Log.{change_last, ended}
+use Rattle.termrelay.specs.Log.{change_last, last_that, ended}
 use Rattle.termrelay.proofs.LogLemmas.{of-key}
 use Rattle.relay_theorem.specs.History.{as_reported, Story, is_on, with_session}
 use Rattle.relay_theorem.specs.Laws.{AtMostOne}
@@ -45,6 +45,104 @@ pub all-at : {X : Type 0} (P : X → Type 0) (xs : List X) (n : ℕ) (x : X) →
 all-at P [] n x h e = absurd (let no : None ≡ Some x = e in cc)
 all-at P (y ∷ xs) zero x h e = let same : y ≡ x = cc in subst P same h.0
 all-at P (y ∷ xs) (suc n) x h e = all-at P xs n x h.1 e
+
+-- ---- the last one that passes a test
+
+pub record IsFound {A : Type 0} (test : A → Bool) (P : A → Type 0) (xs : List A) : Type 0 where
+  pub item : A
+  pub last : last_that test xs ≡ item ∷ []
+  pub passes : test item ≡ true
+  pub holds : P item
+
+module _ {A : Type 0} (test : A → Bool) (P : A → Type 0) where
+  found-by : (later here : Bool) (x : A) (xs : List A) → list_any test xs ≡ later → test x ≡ here → P x
+      → (list_any test xs ≡ true → IsFound test P xs) → list_any test (x ∷ xs) ≡ true → IsFound test P (x ∷ xs)
+  found-by true here x xs l e p go h =
+      let f = go l in
+      let one : List A = if test x then x ∷ [] else [] in
+      record {
+        item = f.item;
+        last = ap (λ b. if b then last_that test xs else one) l ∙ f.last;
+        passes = f.passes;
+        holds = f.holds;
+      }
+  found-by false true x xs l e p go h =
+      let one : List A = if test x then x ∷ [] else [] in
+      record {
+        item = x;
+        last = ap (λ b. if b then last_that test xs else one) l ∙ ap (λ b. if b then x ∷ [] else []) e;
+        passes = e;
+        holds = p;
+      }
+  found-by false false x xs l e p go h =
+      absurd (let no : false ≡ true = sym (or_from (test x) (list_any test xs) e l) ∙ h in cc)
+
+  pub found : (xs : List A) → AllByRecursion P xs → list_any test xs ≡ true → IsFound test P xs
+  found [] all h = absurd (let no : false ≡ true = h in cc)
+  found (x ∷ xs) all h = found-by (list_any test xs) (test x) x xs refl refl all.0 (λ l. found xs all.1 l) h
+
+  all-by : (later here : Bool) (x : A) (xs : List A) → P x → AllByRecursion P (last_that test xs)
+      → AllByRecursion P (if later then last_that test xs else if here then x ∷ [] else [])
+  all-by true here x xs p h = h
+  all-by false true x xs p h = (p, tt)
+  all-by false false x xs p h = tt
+
+  pub all-last : (xs : List A) → AllByRecursion P xs → AllByRecursion P (last_that test xs)
+  all-last [] h = tt
+  all-last (x ∷ xs) h = all-by (list_any test xs) (test x) x xs h.0 (all-last xs h.1)
+
+-- where only one can pass, it is the one at this place
+module _ {A : Type 0} (test : A → Bool) where
+  any-at : (xs : List A) (n : ℕ) (x : A) → slice_get xs n ≡ Some x → test x ≡ true → list_any test xs ≡ true
+  any-at [] n x e h = absurd (let no : None ≡ Some x = e in cc)
+  any-at (y ∷ xs) zero x e h = let same : y ≡ x = cc in ap (λ b. b || list_any test xs) (ap test same ∙ h)
+  any-at (y ∷ xs) (suc n) x e h = or_right (test y) _ (any-at xs n x e h)
+
+  one-by : (later here : Bool) (y : A) (xs : List A) (n : ℕ) (x : A) → list_any test xs ≡ later → test y ≡ here
+      → (here ≡ true → later ≡ false) → slice_get (y ∷ xs) n ≡ Some x → test x ≡ true
+      → ((m : ℕ) → slice_get xs m ≡ Some x → last_that test xs ≡ x ∷ [])
+      → (if later then last_that test xs else if here then y ∷ [] else []) ≡ x ∷ []
+  one-by later true y xs zero x l e one at h go =
+      let same : y ≡ x = cc in ap (λ b. if b then last_that test xs else y ∷ []) (one refl) ∙ ap (λ z. z ∷ []) same
+  one-by later false y xs zero x l e one at h go =
+      let same : y ≡ x = cc in absurd (let no : true ≡ false = sym h ∙ sym (ap test same) ∙ e in cc)
+  one-by true here y xs (suc n) x l e one at h go = go n at
+  one-by false here y xs (suc n) x l e one at h go =
+      absurd (let no : true ≡ false = sym (any-at xs n x at h) ∙ l in cc)
+
+  pub only-that : (xs : List A) (n : ℕ) (x : A) → AtMostOne test xs → slice_get xs n ≡ Some x → test x ≡ true
+      → last_that test xs ≡ x ∷ []
+  only-that [] n x one at h = absurd (let no : None ≡ Some x = at in cc)
+  only-that (y ∷ xs) n x one at h =
+      one-by (list_any test xs) (test y) y xs n x refl refl one.0 at h (λ m e. only-that xs m x one.1 e h)
+
+-- the last one, by what is shown of each
+module _ {X Y : Type 0} (test : X → Bool) (check : Y → Bool) (shown : X → Y) (same : (x : X) → check (shown x) ≡ test x)
+  where
+    that-by : (later later' here here' : Bool) (x : X) (xs : List X) → later' ≡ later → here' ≡ here
+        → map shown (last_that test xs) ≡ last_that check (map shown xs)
+        → map shown (if later then last_that test xs else if here then x ∷ [] else [])
+        ≡ (if later' then last_that check (map shown xs) else if here' then shown x ∷ [] else [])
+    that-by true true here here' x xs l e rest = rest
+    that-by true false here here' x xs l e rest = absurd (let no : false ≡ true = l in cc)
+    that-by false true here here' x xs l e rest = absurd (let no : true ≡ false = l in cc)
+    that-by false false true true x xs l e rest = refl
+    that-by false false true false x xs l e rest = absurd (let no : false ≡ true = e in cc)
+    that-by false false false true x xs l e rest = absurd (let no : true ≡ false = e in cc)
+    that-by false false false false x xs l e rest = refl
+
+    any-shown : (xs : List X) → list_any check (map shown xs) ≡ list_any test xs
+    any-shown [] = refl
+    any-shown (x ∷ xs) =
+        ap (λ b. b || list_any check (map shown xs)) (same x) ∙ ap (λ b. test x || b) (any-shown xs)
+
+    pub shown-that : (xs : List X) → map shown (last_that test xs) ≡ last_that check (map shown xs)
+    shown-that [] = refl
+    shown-that (x ∷ xs) =
+        that-by (list_any test xs) (list_any check (map shown xs)) (test x) (check (shown x)) x xs (any-shown xs) (same x)
+        (shown-that xs)
+
+-- ---- lists that are changed
 
 -- where f makes q of what p is
 module _ {X Y : Type 0} (p : X → Bool) (q : Y → Bool) (f : X → Y) (same : (x : X) → q (f x) ≡ p x) where

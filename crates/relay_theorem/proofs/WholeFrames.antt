@@ -16,6 +16,8 @@ use Rattle.termrelay.specs.Frame.{is_unsure, frame_text, ShowsUnless}
 use Rattle.termrelay.specs.Whole.{whole_forms, whole_text, whole_of}
 use Rattle.termrelay.specs.Answers.{is_frame, longest_frame}
 use Rattle.termrelay.proofs.WholeLemmas.{whole-leads, whole-sets_modes, whole-sent}
+use Rattle.termrelay.specs.Calls.{Call}
+use Rattle.termrelay.specs.declared.runs.call.Reply.{Reply}
 use Rattle.termview.specs.Seen.{seen}
 use Rattle.termview.specs.FormFrames.{framed}
 use Rattle.termview.proofs.KeptTerms.{streams-show}
@@ -24,8 +26,7 @@ use Rattle.termview.proofs.FramedForms.{forms-framed, frame-shows, frame-finishe
 use Rattle.relay_theorem.specs.History.{Entry, Story, size_of_story}
 use Rattle.relay_theorem.specs.Judge.{state_at, shown_at, texts, frame_or, last_frame, whole_in, last_whole, judged}
 use Rattle.relay_theorem.specs.Judge.{IsSure}
-use Rattle.relay_theorem.specs.Laws.{base_after, AreAnswered}
-use Rattle.relay_theorem.specs.Forks.{Deed, IsForkSession}
+use Rattle.relay_theorem.specs.Laws.{base_after, AreAnswered, IsSession}
 use Rattle.relay_theorem.specs.Redraws.{redrawn, redrawn_then}
 use Rattle.relay_theorem.specs.Wholes.{ReadsWhole, WholeFramesLeadFromAnything, NoWholeFrameIsTorn}
 use Rattle.relay_theorem.specs.Wholes.{EachFrameEndsAtGround}
@@ -35,7 +36,8 @@ use Rattle.relay_theorem.proofs.HeadlineLemmas.{below-limit, frame_texts, small,
 use Rattle.relay_theorem.proofs.HeadlineLemmas.{entry-known, entry-due, client_of, due-frame, entries-all}
 use Rattle.relay_theorem.proofs.HeadlineLemmas.{frames-all, frames-joined, covers, in-more, in-stops, HasRead, read-all}
 use Rattle.relay_theorem.proofs.HeadlineLemmas.{read-nothing, judged-shown, answered-whole, answered-prefix}
-use Rattle.relay_theorem.proofs.ForkLemmas.{fork-reported, later-answered, first-shows}
+use Rattle.relay_theorem.proofs.HistoryLemmas.{sessions-reported}
+use Rattle.relay_theorem.proofs.DrawnLemmas.{later-answered, first-shows}
 use Rattle.relay_theorem.proofs.FrameSteps.{text-frame}
 
 made-by : (long : Bool) (text whole : List ℕ) → (if long then None else Some text) ≡ Some whole
@@ -246,41 +248,41 @@ module _ (rows cols : ℕ) (z : Size) (height : IsSide z.rows) (width : IsSide z
 
 -- ---- sessions
 
-module _ (rows cols : ℕ) (deeds : List Deed) (n : ℕ) (past : List ℕ) (t : Story) (whole : List ℕ)
-    (first later : List Entry) (pieces : List (List ℕ)) (parsed : List ℕ) (s : IsForkSession rows cols deeds n t)
+module _ (rows cols : ℕ) (calls : List Call) (replies : List Reply) (n : ℕ) (past : List ℕ) (t : Story) (whole : List ℕ)
+    (first later : List Entry) (pieces : List (List ℕ)) (parsed : List ℕ) (s : IsSession rows cols calls replies n t)
     (ground : AtGround 1024 past) (r : ReadsWhole rows cols past t whole first later pieces parsed) where
   session-seen : seen (size_of_story t) parsed
       ≡ seen (size_of_story t) (past ++ texts (whole_in (redrawn_then whole first later) (length (concat pieces))))
   session-seen =
-      let h = fork-reported rows cols deeds n t s in
+      let h = sessions-reported rows cols calls replies n t s in
       seen-from rows cols (size_of_story t) h.height h.width past whole (base_after rows cols None first) later pieces
-      parsed r.beyond r.hold ground (later-answered rows cols deeds n t s first later r.parts) r.made r.joined r.leads
-      (last_frame None first) (first-shows rows cols deeds n t s first later r.parts)
+      parsed r.beyond r.hold ground (later-answered rows cols calls replies n t s first later r.parts) r.made r.joined r.leads
+      (last_frame None first) (first-shows rows cols calls replies n t s first later r.parts)
 
   session-judged : length whole ≤ length (concat pieces)
       → IsSure (last_whole None (redrawn_then whole first later) (length (concat pieces)))
       → shown_of (seen (size_of_story t) parsed)
       ≡ judged rows cols (last_whole None (redrawn_then whole first later) (length (concat pieces)))
   session-judged long sure =
-      let h = fork-reported rows cols deeds n t s in
+      let h = sessions-reported rows cols calls replies n t s in
       ap shown_of session-seen
       ∙ judged-from rows cols (size_of_story t) h.height h.width past whole (base_after rows cols None first) later pieces
-      parsed r.beyond r.hold ground (later-answered rows cols deeds n t s first later r.parts) r.made r.joined r.leads
-      (last_frame None first) (first-shows rows cols deeds n t s first later r.parts) long sure
+      parsed r.beyond r.hold ground (later-answered rows cols calls replies n t s first later r.parts) r.made r.joined r.leads
+      (last_frame None first) (first-shows rows cols calls replies n t s first later r.parts) long sure
 
 pub wholes-lead : WholeFramesLeadFromAnything
-wholes-lead rows cols deeds n past t whole first later pieces parsed s ground r long sure =
-    session-judged rows cols deeds n past t whole first later pieces parsed s ground r long sure
+wholes-lead rows cols calls replies n past t whole first later pieces parsed s ground r long sure =
+    session-judged rows cols calls replies n past t whole first later pieces parsed s ground r long sure
 
 pub wholes-untorn : NoWholeFrameIsTorn
-wholes-untorn rows cols deeds n past t whole first later pieces more parsed parsed' s ground r q same =
-    ap shown_of (session-seen rows cols deeds n past t whole first later (pieces ++ more) parsed' s ground q
+wholes-untorn rows cols calls replies n past t whole first later pieces more parsed parsed' s ground r q same =
+    ap shown_of (session-seen rows cols calls replies n past t whole first later (pieces ++ more) parsed' s ground q
     ∙ ap (λ es. seen (size_of_story t) (past ++ texts es)) same
-    ∙ sym (session-seen rows cols deeds n past t whole first later pieces parsed s ground r))
+    ∙ sym (session-seen rows cols calls replies n past t whole first later pieces parsed s ground r))
 
 pub frames-end : EachFrameEndsAtGround
-frames-end rows cols deeds n t prefix back s parts =
-    let h = fork-reported rows cols deeds n t s in
+frames-end rows cols calls replies n t prefix back s parts =
+    let h = sessions-reported rows cols calls replies n t s in
     let z = size_of_story t in
     (read-all rows cols z h.height h.width None prefix [] (read-nothing rows cols z h.height h.width)
     (answered-prefix rows cols z None prefix back (subst (AreAnswered rows cols z None) parts h.entries))).ground

@@ -9,8 +9,9 @@ use Rattle.termrelay.specs.Hub.{Telling, HubState, size_in, shown_in, clients_in
 use Rattle.termrelay.specs.declared.answer.Answer.{Answer}
 use Rattle.termrelay.specs.declared.runs.call.Reply.{Reply}
 use Rattle.termrelay.specs.declared.runs.call.Reply.TheVariants.{Done, Attached, Answered}
-use Rattle.termrelay.specs.Calls.{Call, Resize, Attach, Detach, Frame, Pump, RunsBeside}
-use Rattle.termrelay.specs.Log.{SessionView, is_of, change_last, begun, ended, grown, bytes_taken}
+use Rattle.termrelay.specs.Calls.{Call, Resize, Attach, Detach, Frame, Pump, Fork, RunsBeside}
+use Rattle.termrelay.specs.Log.{SessionView, is_of, change_last, last_that, begun, ended, grown, branched, bytes_owed}
+use Rattle.termrelay.specs.Log.{bytes_taken}
 
 -- ---- hubs
 
@@ -82,7 +83,8 @@ entries_of h (Some c) answer = record {
 } ∷ []
 
 -- The stories after a call on a hub h that gets this reply. Their sessions change as those of a log. An answer is added
--- to the last story of its key whose session hasn't ended.
+-- to the last story of its key whose session hasn't ended. A fork's story has the answers of the one that it was forked
+-- from.
 abbrev pub stories_after : HubState as_reported → Call → Reply → List Story → List Story
 stories_after h (Resize rows cols) Done ts = map (with_session ended) ts
 stories_after h Attach (Attached key) ts = ts ++ record { session = begun h key; entries = [] } ∷ []
@@ -91,6 +93,8 @@ stories_after h (Frame key) (Answered answer) ts =
     change_last (is_on key) (with_entries (entries_of h (clients_in h key) answer)) ts
 stories_after h (Pump key takes) reply ts =
     change_last (is_on key) (with_session (grown (bytes_taken takes (clients_in h key)))) ts
+stories_after h (Fork key) (Attached new) ts =
+    ts ++ map (with_session (branched new (bytes_owed (clients_in h key)))) (last_that (is_on key) ts)
 stories_after h call reply ts = ts
 
 -- ---- runs

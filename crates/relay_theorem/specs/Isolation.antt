@@ -5,7 +5,7 @@ use Rattle.std.specs.List.{list_any}
 use Rattle.screen_model.specs.Made.{Act, Fed, Resized}
 use Rattle.termrelay.specs.Answers.{ClientState}
 use Rattle.termrelay.specs.Hub.{clients_in}
-use Rattle.termrelay.specs.Calls.{Call, Feed, Resize, Attach, Detach, Frame, Pump}
+use Rattle.termrelay.specs.Calls.{Call, Feed, Resize, Attach, Detach, Frame, Pump, Fork}
 use Rattle.termrelay.specs.Log.{SessionView, LogView}
 use Rattle.termrelay.specs.declared.runs.call.Take.{Take}
 use Rattle.termrelay.specs.declared.runs.call.Reply.{Reply}
@@ -62,13 +62,34 @@ abbrev pub own_of : ℕ → List Call → List Reply → List Own
 own_of key (call ∷ calls) (reply ∷ replies) = own_then (own_at key call reply) (own_of key calls replies)
 own_of key calls replies = []
 
--- The own calls of the n-th session of a new hub: the feeds and resizes before its attach, then its attach, and then
--- its own calls to its end.
+-- an own call as a list; empty if there is none
+abbrev pub own_list : Option Own → List Own
+own_list None = []
+own_list (Some own) = own ∷ []
+
+-- at this key are these own calls, and the other keys are unchanged
+abbrev pub own_put : (ℕ → List Own) → ℕ → List Own → ℕ → List Own
+own_put owns key own other = if other == key then own else owns other
+
+-- The own calls of the n-th session that begins by these calls. Before them the session that lives at each key had these
+-- own calls (`owns`), and the screen these feeds and resizes (`acts`). An attach's session has the feeds and resizes
+-- before it, and then its attach. A fork's session has the own calls of the one that was forked, and then a pump that
+-- takes all that was owed.
+abbrev pub own_since : (ℕ → List Own) → List Own → ℕ → List Call → List Reply → List Own
+own_since owns acts n (Attach ∷ calls) (Attached key ∷ replies) =
+    if n == 0 then (acts ++ Comes ∷ []) ++ own_of key calls replies
+    else own_since (own_put owns key (acts ++ Comes ∷ [])) acts (n - 1) calls replies
+own_since owns acts n (Fork old ∷ calls) (Attached key ∷ replies) =
+    if n == 0 then (owns old ++ Pumped [] ∷ []) ++ own_of key calls replies
+    else own_since (own_put owns key (owns old ++ Pumped [] ∷ [])) acts (n - 1) calls replies
+own_since owns acts n (call ∷ calls) (reply ∷ replies) =
+    own_since (λ key. owns key ++ own_list (own_at key call reply)) (acts ++ map Acts (acts_of call reply)) n calls
+    replies
+own_since owns acts n calls replies = []
+
+-- the own calls of the n-th session of a new hub, to its end
 abbrev pub own_calls : ℕ → List Call → List Reply → List Own
-own_calls n (Attach ∷ calls) (Attached key ∷ replies) =
-    if n == 0 then Comes ∷ own_of key calls replies else own_calls (n - 1) calls replies
-own_calls n (call ∷ calls) (reply ∷ replies) = map Acts (acts_of call reply) ++ own_calls n calls replies
-own_calls n calls replies = []
+own_calls n calls replies = own_since (λ key. []) [] n calls replies
 
 -- the call on a hub that an own call is, for a session at this key
 abbrev pub alone : ℕ → Own → Call

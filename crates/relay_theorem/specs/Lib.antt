@@ -7,7 +7,6 @@ pub mod Serves
 pub mod Logged
 pub mod Isolation
 pub mod Bounds
-pub mod Forks
 pub mod Redraws
 pub mod Wholes
 pub mod Trees

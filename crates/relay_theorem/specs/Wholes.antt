@@ -9,12 +9,13 @@ use Rattle.termview.specs.Seen.{seen}
 use Rattle.termrelay.specs.Whole.{whole_of}
 use Rattle.termrelay.specs.Hub.{HubState, as_kept}
 use Rattle.termrelay.specs.Joins.{DrawsWhole}
+use Rattle.termrelay.specs.Calls.{Call}
+use Rattle.termrelay.specs.declared.runs.call.Reply.{Reply}
 use Rattle.termrelay.specs.declared.error.HubError.{HubError}
 use Rattle.relay_theorem.specs.History.{Entry, Story, size_of_story, as_reported}
 use Rattle.relay_theorem.specs.Judge.{texts, whole_in, IsShownRight}
-use Rattle.relay_theorem.specs.Laws.{base_after}
+use Rattle.relay_theorem.specs.Laws.{base_after, IsSession}
 use Rattle.relay_theorem.specs.Serves.{Matches}
-use Rattle.relay_theorem.specs.Forks.{Deed, IsForkSession}
 use Rattle.relay_theorem.specs.Redraws.{redrawn_then, last_redrawn}
 
 -- the whole frame after a session's first answers; none before its first frame, and none if it is too long
@@ -38,8 +39,8 @@ pub record ReadsWhole (rows cols : ℕ) (past : List ℕ) (t : Story) (whole : L
 -- the screen at the moment of the last whole one, unless that screen had U+FE0F. The whole frame counts as the last frame
 -- before it.
 abbrev pub WholeFramesLeadFromAnything : Type 0
-WholeFramesLeadFromAnything = (rows cols : ℕ) (deeds : List Deed) (n : ℕ) (past : List ℕ) (t : Story) (whole : List ℕ)
-    (first later : List Entry) (pieces : List (List ℕ)) (parsed : List ℕ) → IsForkSession rows cols deeds n t
+WholeFramesLeadFromAnything = (rows cols : ℕ) (calls : List Call) (replies : List Reply) (n : ℕ) (past : List ℕ) (t : Story) (whole : List ℕ)
+    (first later : List Entry) (pieces : List (List ℕ)) (parsed : List ℕ) → IsSession rows cols calls replies n t
     → AtGround 1024 past → ReadsWhole rows cols past t whole first later pieces parsed
     → length whole ≤ length (concat pieces)
     → IsShownRight rows cols (shown_of (seen (size_of_story t) parsed)) (last_redrawn whole first later pieces)
@@ -47,9 +48,9 @@ WholeFramesLeadFromAnything = (rows cols : ℕ) (deeds : List Deed) (n : ℕ) (p
 -- A view that reads more bytes, but no further whole frame, still shows the same. Before the whole frame has come
 -- wholly, that is what it showed before it.
 abbrev pub NoWholeFrameIsTorn : Type 0
-NoWholeFrameIsTorn = (rows cols : ℕ) (deeds : List Deed) (n : ℕ) (past : List ℕ) (t : Story) (whole : List ℕ)
+NoWholeFrameIsTorn = (rows cols : ℕ) (calls : List Call) (replies : List Reply) (n : ℕ) (past : List ℕ) (t : Story) (whole : List ℕ)
     (first later : List Entry) (pieces more : List (List ℕ)) (parsed parsed' : List ℕ)
-    → IsForkSession rows cols deeds n t → AtGround 1024 past
+    → IsSession rows cols calls replies n t → AtGround 1024 past
     → ReadsWhole rows cols past t whole first later pieces parsed
     → ReadsWhole rows cols past t whole first later (pieces ++ more) parsed'
     → whole_in (redrawn_then whole first later) (length (concat (pieces ++ more)))
@@ -58,13 +59,13 @@ NoWholeFrameIsTorn = (rows cols : ℕ) (deeds : List Deed) (n : ℕ) (past : Lis
 
 -- whole frames of any session leave nothing unfinished
 abbrev pub EachFrameEndsAtGround : Type 0
-EachFrameEndsAtGround = (rows cols : ℕ) (deeds : List Deed) (n : ℕ) (t : Story) (prefix back : List Entry)
-    → IsForkSession rows cols deeds n t → t.entries ≡ prefix ++ back → AtGround 1024 (texts prefix)
+EachFrameEndsAtGround = (rows cols : ℕ) (calls : List Call) (replies : List Reply) (n : ℕ) (t : Story) (prefix back : List Entry)
+    → IsSession rows cols calls replies n t → t.entries ≡ prefix ++ back → AtGround 1024 (texts prefix)
 
 -- what a hub answers to a request for a whole frame is the one after all answers to the client's session so far
 abbrev pub EachWholeIsReported : Type 0
-EachWholeIsReported = (rows cols : ℕ) (deeds : List Deed) (n : ℕ) (t : Story)
-    → (s : IsForkSession rows cols deeds n t) → t.session.ended ≡ false
+EachWholeIsReported = (rows cols : ℕ) (calls : List Call) (replies : List Reply) (n : ℕ) (t : Story)
+    → (s : IsSession rows cols calls replies n t) → t.session.ended ≡ false
     → (text : Option (List ℕ)) → DrawsWhole s.hub t.session.client (Ok text)
     → text ≡ whole_after rows cols t t.entries
 

@@ -1,5 +1,6 @@
 //! Facts about histories and far terminals. Each function does nothing: its contract is the fact. A history is a list
-//! of calls on a new hub, with the reply to each. A session is what happens to one client, from its attach to its end.
+//! of calls on a new hub, with the reply to each. A session is what happens to one client, from its attach or its fork to
+//! its end. A fork's session has the answers of the one that it was forked from, whose frames count as pumped to it.
 ghost use Rattle.termrelay.specs.Hub.{as_kept};
 ghost use Rattle.relay_theorem.specs.Bounds.{EachSessionIsBounded, EachFrameFitsTheHold, NoSmallFrameIsTooLong};
 ghost use Rattle.relay_theorem.specs.Examples.{EachExampleIsReported};
@@ -11,10 +12,8 @@ ghost use Rattle.relay_theorem.specs.Headline.{OneMomentShowsTheSame, OneMomentS
 ghost use Rattle.relay_theorem.specs.Serves.{EachPumpTakesAsReported, EachPumpIsServed, EachRunHasAHistory};
 ghost use Rattle.relay_theorem.specs.Serves.{EachLogHasAHistory};
 ghost use Rattle.relay_theorem.specs.Serves.{EachHistoryIsOne};
-ghost use Rattle.relay_theorem.specs.Forks.{EachSessionIsOneWithForks, EachForkIsReported, LastWholeForkedFrameIsShown};
-ghost use Rattle.relay_theorem.specs.Forks.{EachForkedRunHasAHistory};
-ghost use Rattle.relay_theorem.specs.Redraws.{EachRedrawIsReported, EachStoryGrows, EachRedrawMatches};
-ghost use Rattle.relay_theorem.specs.Redraws.{RedrawnFramesAreShown, NoRedrawIsTorn};
+ghost use Rattle.relay_theorem.specs.Redraws.{EachRedrawIsReported, EachStoryGrows, EachRunRedraws};
+ghost use Rattle.relay_theorem.specs.Redraws.{RedrawnFramesAreShown, NoRedrawIsTorn, LoggedRedrawsAreShown};
 ghost use Rattle.relay_theorem.specs.Wholes.{WholeFramesLeadFromAnything, NoWholeFrameIsTorn, EachFrameEndsAtGround};
 ghost use Rattle.relay_theorem.specs.Wholes.{EachWholeIsReported, EachWholeMatches};
 ghost use Rattle.relay_theorem.specs.Trees.{EachFedScreenIsRight, EachFedHubIsRight, TreesAreShown};
@@ -128,7 +127,9 @@ pub fn logged_frames_are_shown()
 {}
 
 /// A session depends only on its own calls. These are its attach, the feeds and resizes until it ends, also those
-/// before its attach, and the calls on its key until it ends. The scripts of its pumps are parts of these calls.
+/// before its attach, and the calls on its key until it ends. The scripts of its pumps are parts of these calls. A fork's
+/// own calls are those of the session that it was forked from, up to the fork, a pump that takes all that was owed then,
+/// and those on its own key.
 ///
 /// If two sessions have the same own calls, the same bytes are pumped to them, and they get the same answers at the
 /// same moments. They have the same size, and have both ended or both not. While they haven't ended, their clients are
@@ -172,43 +173,27 @@ pub fn whole_logged_frames_are_shown()
     ensures { WholeLoggedFramesAreShown }
 {}
 
-/// Histories in which clients are forked. A fork's session has the answers of the one that it was forked from, whose
-/// frames count as pumped to it.
-///
-/// All facts about sessions hold of a fork's session too (`reported`). A new view reads the frames of the client that
-/// was forked, and then the fork's, in any pieces. It shows the program's screen at the request for the last whole
-/// frame, or a blank screen if there is none (`shown`). This holds unless that screen showed U+FE0F. A history without
-/// forks is one of these (`plain`).
-pub fn forked_frames_are_shown()
-    ensures plain { EachSessionIsOneWithForks }
-    ensures reported { EachForkIsReported }
-    ensures shown { LastWholeForkedFrameIsShown }
-{}
-
-/// Any calls and forks of a new hub are such a history, with the same replies and results (`forks`). What the hub
-/// answers to requests for redraws, it answers by that history (`redraws`).
-pub fn forks_have_histories()
-    ensures forks { EachForkedRunHasAHistory }
-    ensures redraws { EachRedrawMatches }
-{}
-
 /// The redraw of a client whose session hasn't ended is that after all answers to the session so far (`answered`).
-/// Whatever calls and forks come later, the session's further answers come after these (`grows`).
+/// Whatever calls come later, the session's further answers come after these (`grows`). So it is for the redraws that
+/// the calls of a run are answered with (`run`).
 pub fn redraws_are_reported()
     ensures answered { EachRedrawIsReported }
     ensures grows { EachStoryGrows }
+    ensures run { EachRunRedraws }
 {}
 
 /// A new view of the session's size reads a client's redraw, and then any prefix of the client's later frames, in any
 /// pieces. It shows the program's screen at the request for the last frame that lies wholly in what it read (`shown`).
 /// The redraw counts as the client's last frame before it. If no frame lies wholly in it, the screen is blank. This
-/// holds unless the screen at that request showed U+FE0F.
+/// holds unless the screen at that request showed U+FE0F. The client may be a fork.
 ///
 /// If the view reads more bytes, but no further frame is whole, it still shows the same: neither the redraw nor a frame
-/// is shown in part (`untorn`). The client may be a fork.
+/// is shown in part (`untorn`). For a log, the redraw is one that a call of the run was answered with, and the later
+/// frames are what was pumped to the session, without what was pumped and owed at that call (`logged`).
 pub fn redrawn_frames_are_shown()
     ensures shown { RedrawnFramesAreShown }
     ensures untorn { NoRedrawIsTorn }
+    ensures logged { LoggedRedrawsAreShown }
 {}
 
 /// A whole frame is for terminals in any state. A view of the session's size has read anything, such as whole frames of

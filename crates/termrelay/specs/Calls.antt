@@ -1,15 +1,17 @@
 -- Calls on a hub, one after another: the reply to each, and the hub after it.
 use Rattle.std.specs.Prelude.{◌≡◌, ℕ, ◌+◌, ◌-◌, ◌==◌, nat_le, List, [], ◌∷◌, length, min, Result, Ok, Err}
 use Rattle.std.specs.Prelude.{if◌then◌else◌}
+use Rattle.std.specs.Option.{option_map}
 use Rattle.std.specs.declared.io.Error.{Error}
 use Rattle.screen_model.specs.Holds.{IsSide}
 use Rattle.termrelay.specs.Hub.{Telling, HubState, Feeds, Resizes, Attaches, Detaches, Frames, PumpsClient}
+use Rattle.termrelay.specs.Joins.{Redraws, Forks}
 use Rattle.termrelay.specs.declared.answer.Answer.{Answer}
 use Rattle.termrelay.specs.declared.error.HubError.{HubError}
 use Rattle.termrelay.specs.declared.runs.call.Take.{Take}
 use Rattle.termrelay.specs.declared.runs.call.Take.TheVariants.{Bytes, Fault}
 use Rattle.termrelay.specs.declared.runs.call.Reply.{Reply}
-use Rattle.termrelay.specs.declared.runs.call.Reply.TheVariants.{Done, Attached, Answered, Refused}
+use Rattle.termrelay.specs.declared.runs.call.Reply.TheVariants.{Done, Attached, Answered, Redrawn, Refused}
 use Rattle.termrelay.specs.declared.runs.call.Call.{Call as Given}
 use Rattle.termrelay.specs.declared.runs.call.Call.TheVariants as given
 
@@ -43,6 +45,9 @@ pub data Call : Type 0 where
   Frame : ℕ → Call
   -- to a scripted writer: the results of its first writes are given, and each later write takes all bytes
   Pump : ℕ → List Take → Call
+  -- these two are on the client of a key too
+  Fork : ℕ → Call
+  Redraw : ℕ → Call
 
 -- the value of a `Call` of the code
 abbrev pub call_of : Given → Call
@@ -52,6 +57,8 @@ call_of given.Attach = Attach
 call_of (given.Detach client) = Detach client
 call_of (given.Frame client) = Frame client
 call_of (given.Pump client takes) = Pump client takes.now
+call_of (given.Fork client) = Fork client
+call_of (given.Redraw client) = Redraw client
 
 -- the call's numbers fit the code's types
 abbrev pub IsCall : Call → Type 0
@@ -69,6 +76,12 @@ done result = replied (λ u. Done) result
 
 -- For each way to describe a hub:
 module _ {way : Telling} where
+  -- a request for a redraw of the client at a key is replied to so
+  abbrev pub IsRedrawn : HubState way → ℕ → Reply → Type 0
+  IsRedrawn h key (Redrawn redraw) = Redraws h key (Ok (option_map (λ text. text.items) redraw))
+  IsRedrawn h key (Refused e) = Redraws h key (Err e)
+  IsRedrawn h key reply = ⊥
+
   -- a call takes the hub h to g, with this reply
   abbrev pub Serves : HubState way → Call → Reply → HubState way → Type 0
   Serves h (Feed bytes) reply g =
@@ -83,6 +96,8 @@ module _ {way : Telling} where
   Serves h (Pump key takes) reply g =
       (result : Result (Unit {0}) HubError) × (rest : List Take)
       × PumpsClient WritesAsReported h key takes result rest g × (reply ≡ done result)
+  Serves h (Fork key) reply g = (result : Result ℕ HubError) × Forks h key result g × (reply ≡ replied Attached result)
+  Serves h (Redraw key) reply g = IsRedrawn h key reply × (g ≡ h)
 
   -- Calls, one after another, take a hub h to k, with these replies. All their numbers fit the code's types.
   abbrev pub Runs : HubState way → List Call → List Reply → HubState way → Type 0

@@ -4,14 +4,15 @@ use Rattle.std.specs.Prelude.{Option, Some, None, Result, Ok, Err, if◌then◌e
 use Rattle.std.specs.List.{list_any}
 use Rattle.termrelay.specs.Answers.{ClientState}
 use Rattle.termrelay.specs.Hub.{Telling, HubState, as_kept, size_in, clients_in}
-use Rattle.termrelay.specs.Calls.{Call, Resize, Attach, Detach, Pump, taken_by, IsCall, Serves, RunsBeside}
+use Rattle.termrelay.specs.Calls.{Call, Resize, Attach, Detach, Pump, Fork, taken_by, IsCall, Serves, RunsBeside}
 use Rattle.termrelay.specs.declared.runs.call.Take.{Take}
 use Rattle.termrelay.specs.declared.runs.call.Reply.{Reply}
 use Rattle.termrelay.specs.declared.runs.call.Reply.TheVariants.{Done, Attached}
 use Rattle.termrelay.specs.declared.error.HubError.{HubError}
 use Rattle.termrelay.specs.declared.error.HubError.TheVariants.{Memory, Failed, UnknownClient, Write}
 
--- the log of one client: its key, the screen's size at its attach, the bytes pumped to it, and whether it has ended
+-- The log of one client: its key, the screen's size at its attach, the bytes pumped to it, and whether it has ended.
+-- All frames of the client that it was forked from, up to the fork, count as pumped to a fork.
 pub record SessionView : Type 0 where
   pub client : ℕ
   pub rows : ℕ
@@ -19,7 +20,7 @@ pub record SessionView : Type 0 where
   pub pumped : List ℕ
   pub ended : Bool
 
--- a log: a reply for each call, and the sessions in the order of their attaches
+-- a log: a reply for each call, and the sessions in the order of their attaches and forks
 pub record LogView : Type 0 where
   pub replies : List Reply
   pub sessions : List SessionView
@@ -40,6 +41,14 @@ change_last test f (x ∷ xs) =
     if list_any test xs then x ∷ change_last test f xs
     else if test x then f x ∷ xs
     else x ∷ xs
+
+-- a list of the last item that passes the test; empty if there is none
+abbrev pub last_that : {A : Type 0} → (A → Bool) → List A → List A
+last_that test [] = []
+last_that test (x ∷ xs) =
+    if list_any test xs then last_that test xs
+    else if test x then x ∷ []
+    else []
 
 -- the last item that passes the test is at this index
 pub record IsLast {A : Type 0} (test : A → Bool) (xs : List A) (at : ℕ) : Type 0 where
@@ -63,18 +72,30 @@ ended s = record s { ended = true }
 abbrev pub grown : List ℕ → SessionView → SessionView
 grown bytes s = record s { pumped = s.pumped ++ bytes }
 
+-- the bytes that the client is owed; none if there is no client
+abbrev pub bytes_owed : Option ClientState → List ℕ
+bytes_owed None = []
+bytes_owed (Some c) = c.owed
+
+-- the session of a fork with this key, if its client's session was this one, and was still owed these bytes
+abbrev pub branched : ℕ → List ℕ → SessionView → SessionView
+branched key owed s = record s { client = key; pumped = s.pumped ++ owed; ended = false }
+
 -- the bytes that a scripted writer takes of those that the client is owed; none if there is no client
 abbrev pub bytes_taken : List Take → Option ClientState → List ℕ
 bytes_taken takes None = []
 bytes_taken takes (Some c) = take (taken_by takes (length c.owed)) c.owed
 
 -- The sessions after a call on a hub h that gets this reply. An attach begins a session. A detach ends the last session
--- of its key that hasn't ended, and a pump's bytes are added to that session. A resize ends all sessions.
+-- of its key that hasn't ended, a pump's bytes are added to that session, and a fork begins one by it. A resize ends all
+-- sessions.
 abbrev pub sessions_after : {way : Telling} → HubState way → Call → Reply → List SessionView → List SessionView
 sessions_after h (Resize rows cols) Done ss = map ended ss
 sessions_after h Attach (Attached key) ss = ss ++ begun h key ∷ []
 sessions_after h (Detach key) Done ss = change_last (is_of key) ended ss
 sessions_after h (Pump key takes) reply ss = change_last (is_of key) (grown (bytes_taken takes (clients_in h key))) ss
+sessions_after h (Fork key) (Attached new) ss =
+    ss ++ map (branched new (bytes_owed (clients_in h key))) (last_that (is_of key) ss)
 sessions_after h call reply ss = ss
 
 -- a call takes the hub h to g, and its log l to m

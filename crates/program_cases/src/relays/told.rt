@@ -14,6 +14,8 @@ pub enum Told {
     /// A client came, with this key.
     Attached(usize),
     Answered(Answer),
+    /// A redraw came, with so many bytes, or none because it is too long.
+    Redrawn(Option<usize>),
     /// The writer failed.
     Fault(ErrorKind),
     Unknown,
@@ -46,6 +48,8 @@ impl Told {
             Told::Done => line.push("done"),
             Told::Attached(_) => line.push("attached"),
             Told::Answered(answer) => write!(line, "{answer:?}"),
+            Told::Redrawn(Some(count)) => write!(line, "redrawn: {count}"),
+            Told::Redrawn(None) => line.push("too long"),
             Told::Fault(kind) => write!(line, "{kind:?}"),
             Told::Unknown => line.push("unknown client"),
             Told::Failed => line.push("failed"),
@@ -55,7 +59,7 @@ impl Told {
 }
 
 /// What a refusal tells.
-fn told_of(error: &HubError) -> Told {
+pub fn told_of(error: &HubError) -> Told {
     match error {
         HubError::Memory => Told::Memory,
         HubError::Failed => Told::Failed,
@@ -85,6 +89,21 @@ fn told_answered(answer: Result<Answer, HubError>) -> Told {
     }
 }
 
+fn told_redrawn(answer: Result<Option<Vec<u8>>, HubError>) -> Told {
+    match answer {
+        Ok(redraw) => Told::Redrawn(length_of(&redraw)),
+        Err(error) => told_of(&error),
+    }
+}
+
+/// How many bytes a redraw has, if there is one.
+fn length_of(redraw: &Option<Vec<u8>>) -> Option<usize> {
+    match redraw {
+        Some(text) => Some(text.len()),
+        None => None,
+    }
+}
+
 /// Makes a call on a hub. What is pumped goes to the writer.
 pub fn told_by(hub: &mut Hub, call: &Call<'_>, writer: &mut Writer<'_>) -> Told {
     match call {
@@ -94,6 +113,8 @@ pub fn told_by(hub: &mut Hub, call: &Call<'_>, writer: &mut Writer<'_>) -> Told 
         Call::Detach(client) => told_done(hub.detach(*client)),
         Call::Frame(client) => told_answered(hub.frame(*client)),
         Call::Pump(client, _) => told_done(hub.pump(*client, writer)),
+        Call::Fork(client) => told_attached(hub.fork(*client)),
+        Call::Redraw(client) => told_redrawn(hub.redraw(*client)),
     }
 }
 
@@ -103,6 +124,7 @@ pub fn told_in(reply: &Reply) -> Told {
         Reply::Done => Told::Done,
         Reply::Attached(client) => Told::Attached(client.key()),
         Reply::Answered(answer) => Told::Answered(*answer),
+        Reply::Redrawn(redraw) => Told::Redrawn(length_of(redraw)),
         Reply::Refused(error) => told_of(error),
     }
 }

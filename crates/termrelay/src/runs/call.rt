@@ -30,6 +30,10 @@ pub enum Call<'a> {
     /// Writes the bytes that the client is owed to a scripted writer. The results of its first writes are given; each
     /// later write takes all bytes.
     Pump(Client, &'a [Take]),
+    /// Asks for a new client that has what this one has once it has read all its frames.
+    Fork(Client),
+    /// Asks for what draws, on a fresh terminal, what the client shows once it has read all its frames.
+    Redraw(Client),
 }
 
 /// The reply to a call.
@@ -37,10 +41,12 @@ pub enum Call<'a> {
 pub enum Reply {
     /// The call was made: a feed, a resize, a detach, or a pump after which nothing is owed.
     Done,
-    /// The client that was attached.
+    /// The client that was attached, or the fork.
     Attached(Client),
     /// The answer to a request for a frame.
     Answered(Answer),
+    /// The redraw. None if it is too long.
+    Redrawn(Option<Vec<u8>>),
     /// The call was refused.
     Refused(HubError),
 }

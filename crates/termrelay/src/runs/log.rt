@@ -1,18 +1,18 @@
 //! Sequences of calls on a hub, and a log of them.
 ghost use Rattle.std.specs.Prelude.{◌≡◌, map, OnOk, OnErr, IfOk};
-ghost use Rattle.termrelay.specs.Calls.{Feed, Resize, Attach, Detach, Frame, Pump, Serves, IsCall, call_of};
+ghost use Rattle.termrelay.specs.Calls.{Feed, Resize, Attach, Detach, Frame, Pump, Fork, IsRedrawn, Serves, IsCall, call_of};
 ghost use Rattle.termrelay.specs.Log.{empty_log, sessions_after, ServesLogged, RunsCalls};
 
 use crate::client::Client;
 use crate::error::HubError;
 use crate::hub::Hub;
 use crate::runs::call::{Call, Reply, Take};
-use crate::runs::session::{Session, end_all, end_last, last_of, pump};
+use crate::runs::session::{Session, end_all, end_last, last_of, owed, pump};
 use std::alloc::{AllocError, Global};
 use std::marker::Model;
 use std::num::NonZeroU16;
 
-/// The log of one or more runs: the reply to each call, and a session for each client that a call attached.
+/// The log of one or more runs: the reply to each call, and a session for each client that a call attached or forked.
 #[derive(Drop)]
 pub struct Log {
     replies: Vec<Reply>,
@@ -47,7 +47,7 @@ impl Log {
         &self.replies
     }
 
-    /// A session for each client that a call attached, in the order of the attaches.
+    /// A session for each client that a call attached or forked, in the order of these calls.
     pub fn sessions(&self) -> &[Session]
         ensures { result.now ≡ self.now.sessions }
     {
@@ -89,6 +89,8 @@ fn serve(
         Call::Detach(client) => Ok(detach(hub, *client, sessions)),
         Call::Frame(client) => Ok(frame(hub, *client)),
         Call::Pump(client, takes) => pump_kept(hub, *client, takes, sessions),
+        Call::Fork(client) => fork_kept(hub, alloc, *client, sessions),
+        Call::Redraw(client) => Ok(redraw(hub, *client)),
     }
 }
 
@@ -181,9 +183,60 @@ fn pump_kept(
     }
 }
 
+/// Forks a client of a hub. The fork's session begins with what was pumped to the last session of the client that hasn't
+/// ended, and with what the client is owed. If there is none, no session begins. The memory for the session is allocated
+/// first.
+fn fork_kept(
+    hub: &mut Hub,
+    alloc: Global,
+    client: Client,
+    sessions: &mut Vec<Session>,
+) -> Result<Reply, AllocError>
+    ensures served { IfOk result (λ reply. Serves hub.old (Fork client) reply hub.new) }
+    ensures sessions { IfOk result (λ reply. sessions.new.items
+        ≡ sessions_after hub.old (Fork client) reply sessions.old.items) }
+    ensures hub { OnErr result (hub.new ≡ hub.old) }
+    ensures same { OnErr result (sessions.new.items ≡ sessions.old.items) }
+{
+    let Some(at) = last_of(sessions, client) else {
+        return Ok(fork(hub, client));
+    };
+    sessions.reserve(1)?;
+    let pumped = sessions[at].pumped_with(alloc, owed(hub, client))?;
+    match hub.fork(client) {
+        Ok(fork) => {
+            let session = sessions[at].branch(fork, pumped);
+            sessions.push_reserved(session);
+            Ok(Reply::Attached(fork))
+        }
+        Err(error) => Ok(Reply::Refused(error)),
+    }
+}
+
+/// Forks a client of a hub.
+fn fork(hub: &mut Hub, client: Client) -> Reply
+    ensures { Serves hub.old (Fork client) result hub.new }
+{
+    match hub.fork(client) {
+        Ok(fork) => Reply::Attached(fork),
+        Err(error) => Reply::Refused(error),
+    }
+}
+
+/// Asks a hub for a client's redraw.
+fn redraw(hub: &Hub, client: Client) -> Reply
+    ensures { IsRedrawn hub.now client result }
+{
+    match hub.redraw(client) {
+        Ok(redraw) => Reply::Redrawn(redraw),
+        Err(error) => Reply::Refused(error),
+    }
+}
+
 /// Makes the calls in order. The log keeps the reply to each, and the bytes that were pumped.
 ///
-/// An attach begins a session. A pump's bytes are added to the last session of its client that hasn't ended. If there
+/// An attach begins a session, and so does a fork: its session has the bytes of the last session of its client that
+/// hasn't ended, and what the client was owed. A pump's bytes are added to the last session of its client that hasn't ended. If there
 /// is none, as for a client that was attached outside the log, no session changes. A detach ends that last session, and
 /// a resize ends all sessions. A refused call is kept as its reply, and the run goes on.
 ///

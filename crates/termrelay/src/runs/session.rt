@@ -3,7 +3,7 @@ ghost use Rattle.std.specs.Prelude.{◌≡◌, ◌++◌, false, [], length, map,
 ghost use Rattle.std.specs.List.{list_any};
 ghost use Rattle.termrelay.specs.Calls.{Pump, Serves};
 ghost use Rattle.termrelay.specs.Hub.{clients_in};
-ghost use Rattle.termrelay.specs.Log.{is_of, change_last, bytes_taken, grown, ended as ended_now, IsLast};
+ghost use Rattle.termrelay.specs.Log.{is_of, change_last, bytes_taken, bytes_owed, grown, ended as ended_now, IsLast};
 
 use crate::client::Client;
 use crate::hub::Hub;
@@ -13,7 +13,7 @@ use std::alloc::{AllocError, Global};
 use std::marker::Model;
 use std::num::NonZeroU16;
 
-/// The log of one client, from its attach on: the bytes pumped to it, and whether it has ended.
+/// The log of one client, from its attach or fork on: the bytes pumped to it, and whether it has ended.
 #[derive(Drop)]
 pub struct Session {
     client: Client,
@@ -64,21 +64,22 @@ impl Session {
         self.client
     }
 
-    /// The height of the hub's screen at the attach, in rows.
+    /// The height of the hub's screen at the attach or fork, in rows.
     pub fn rows(&self) -> NonZeroU16
         ensures { result.value ≡ self.now.rows }
     {
         self.rows
     }
 
-    /// The width of the hub's screen at the attach, in columns.
+    /// The width of the hub's screen at the attach or fork, in columns.
     pub fn cols(&self) -> NonZeroU16
         ensures { result.value ≡ self.now.cols }
     {
         self.cols
     }
 
-    /// The bytes that were pumped to the client's writers, in order.
+    /// The bytes that were pumped to the client's writers, in order. Those of a fork begin with all frames, up to the
+    /// fork, of the client that it was forked from.
     pub fn pumped(&self) -> &[u8]
         ensures { result.now ≡ self.now.pumped }
     {
@@ -104,6 +105,29 @@ impl Session {
         ensures { self.new ≡ ended_now self.old }
     {
         self.ended = true;
+    }
+
+    /// The bytes that were pumped, and these behind them. Fails only if an allocation fails.
+    pub(crate) fn pumped_with(&self, alloc: Global, owed: &[u8]) -> Result<Vec<u8>, AllocError>
+        ensures { IfOk result (λ bytes. bytes.items ≡ self.now.pumped ++ owed.now) }
+    {
+        let mut bytes = Vec::new(alloc);
+        bytes.extend_from_slice(&self.pumped)?;
+        bytes.extend_from_slice(owed)?;
+        Ok(bytes)
+    }
+
+    /// The session of a fork of this one's client, with these bytes.
+    pub(crate) fn branch(&self, fork: Client, pumped: Vec<u8>) -> Self
+        ensures { result ≡ record self.now { client = fork; pumped = pumped.items; ended = false } }
+    {
+        Session {
+            client: fork,
+            rows: self.rows,
+            cols: self.cols,
+            pumped,
+            ended: false,
+        }
     }
 
     /// Pumps the session's client to a scripted writer, and keeps the bytes written. Fails only if an allocation fails;
@@ -149,6 +173,16 @@ pub(crate) fn pump(hub: &mut Hub, client: Client, takes: &[Take]) -> Reply
     match hub.pump(client, &mut ScriptedWriter::new(takes)) {
         Ok(()) => Reply::Done,
         Err(error) => Reply::Refused(error),
+    }
+}
+
+/// The bytes that the client is owed: none for an unknown client.
+pub(crate) fn owed(hub: &Hub, client: Client) -> &[u8]
+    ensures { result.now ≡ bytes_owed (clients_in hub.now client) }
+{
+    match hub.owed(client) {
+        Ok(owed) => owed,
+        Err(_) => &[],
     }
 }
 

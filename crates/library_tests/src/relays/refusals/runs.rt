@@ -17,6 +17,7 @@ fn words_of(reply: &Reply) -> &'static str {
         Reply::Answered(Answer::Difference) => "difference",
         Reply::Answered(Answer::Behind) => "behind",
         Reply::Answered(_) => "another answer",
+        Reply::Redrawn(_) => "a redraw",
         Reply::Refused(HubError::Memory) => "no memory",
         Reply::Refused(HubError::Write(_)) => "fault",
         Reply::Refused(_) => "another refusal",

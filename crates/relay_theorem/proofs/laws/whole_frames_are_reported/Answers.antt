@@ -1,4 +1,4 @@
-use Rattle.relay_theorem.proofs.ForkLemmas.{wholes-reported, wholes-match}
+use Rattle.relay_theorem.proofs.DrawnLemmas.{wholes-reported, wholes-match}
 use Rattle.relay_theorem.proofs.laws.whole_frames_are_reported.Goals as goal
 
 pub returns-clause-answered : goal.returns-clause-answered
