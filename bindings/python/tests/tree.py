@@ -1,8 +1,8 @@
 """A tree of shares: python3 -m tests.tree [BELOW TERMINALS]
 
 One share draws, and each of BELOW others has a terminal of it as its command. Each of these has TERMINALS watchers, of
-which one of ten is slow, and some are killed. Without numbers there are ten others with 100 watchers. The one at the top
-draws ten moments a second and floods the screen meanwhile. It fails where one that stayed wasn't shown the last screen.
+which one of ten is slow, and some are killed. Without numbers there are ten others with 100 watchers. The top one draws
+ten moments a second and floods the screen meanwhile. It fails where one that stayed wasn't shown the last screen.
 """
 
 from __future__ import annotations
@@ -28,7 +28,8 @@ def figures(tops: list[Shared], begun: list[float], seconds: float) -> str:
     """What parts of a core the shares took, and their memory."""
     parts = [(processor_seconds(it.run.pid) - at) / seconds for it, at in zip(tops, begun)]
     memory = max(it.memory() for it in tops) >> 20
-    return f"the top: {100 * parts[0]:.0f} % of a core, all below: {100 * sum(parts[1:]):.0f} %, memory at most {memory} MB"
+    said = f"the top: {100 * parts[0]:.0f} % of a core, all below: {100 * sum(parts[1:]):.0f} %"
+    return f"{said}, memory at most {memory} MB"
 
 
 def tree(count: int, terminals: int) -> bool:

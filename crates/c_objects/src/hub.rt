@@ -225,8 +225,8 @@ fn copy_whole_frame(hub: &Hub, client: Client, to: &mut [u8], count: &mut usize)
 }
 
 /// Copies as many as fit of the bytes of a client's whole frame, which draws what the client shows once it has read all
-/// its frames, on any terminal that has read frames. Sets `count` to how many there are. Before the client's first frame
-/// there are none, nor if they are more than a terminal buffers.
+/// its frames, on any terminal that has read frames. Sets `count` to how many there are. Before the client's first
+/// frame there are none, nor if they are more than a terminal buffers.
 pub fn whole_frame(object: &Object, client: usize, to: &mut [u8], count: &mut usize) -> i32
     ensures draws { HubSays (DrawsWhole client to.old to.new count.new) object.now result }
     ensures refused { IsRefusal result → (to.new ≡ to.old) × (count.new ≡ count.old) }

@@ -6,9 +6,10 @@ ghost use Rattle.picture_page.specs.Seen.{seen};
 ghost use Rattle.row_pictures.specs.Frames.{frame_said, framed_seen};
 ghost use Rattle.recorded_screen.specs.Film.{IsFilm, most_cols, most_rows};
 ghost use Rattle.recorded_screen.specs.Framed.{IsFramed, IsFramedTooLong};
-ghost use Rattle.recorded_screen.specs.Picture.{font_text, kept_pictured, rows_pictured, scrolled, svg_seen, written_text};
-ghost use Rattle.recorded_screen.specs.Titles.{title_line};
+ghost use Rattle.recorded_screen.specs.Picture.{font_text, kept_pictured, rows_pictured, scrolled, svg_seen};
+ghost use Rattle.recorded_screen.specs.Picture.{written_text};
 ghost use Rattle.recorded_screen.specs.Placed.{IsSvg};
+ghost use Rattle.recorded_screen.specs.Titles.{title_line};
 ghost use Rattle.recorded_screen.specs.declared.error.FilmError.TheVariants.{Memory, TooLong};
 
 use crate::error::FilmError;

@@ -71,10 +71,10 @@ own_list (Some own) = own ∷ []
 abbrev pub own_put : (ℕ → List Own) → ℕ → List Own → ℕ → List Own
 own_put owns key own other = if other == key then own else owns other
 
--- The own calls of the n-th session that begins by these calls. Before them the session that lives at each key had these
--- own calls (`owns`), and the screen these feeds and resizes (`acts`). An attach's session has the feeds and resizes
--- before it, and then its attach. A fork's session has the own calls of the one that was forked, and then a pump that
--- takes all that was owed.
+-- The own calls of the n-th session that begins by these calls. Before them the session that lives at each key had
+-- these own calls (`owns`), and the screen these feeds and resizes (`acts`). An attach's session has the feeds and
+-- resizes before it, and then its attach. A fork's session has the own calls of the one that was forked, and then a
+-- pump that takes all that was owed.
 abbrev pub own_since : (ℕ → List Own) → List Own → ℕ → List Call → List Reply → List Own
 own_since owns acts n (Attach ∷ calls) (Attached key ∷ replies) =
     if n == 0 then (acts ++ Comes ∷ []) ++ own_of key calls replies

@@ -56,8 +56,9 @@ RedrawnFramesAreShown = (rows cols : ℕ) (calls : List Call) (replies : List Re
 -- A view that reads more bytes, but no further whole frame, still shows the same, also if the last whole frame had
 -- U+FE0F.
 abbrev pub NoRedrawIsTorn : Type 0
-NoRedrawIsTorn = (rows cols : ℕ) (calls : List Call) (replies : List Reply) (n : ℕ) (t : Story) (redraw : List ℕ) (first later : List Entry)
-    (pieces more : List (List ℕ)) (parsed parsed' : List ℕ) → IsSession rows cols calls replies n t
+NoRedrawIsTorn = (rows cols : ℕ) (calls : List Call) (replies : List Reply) (n : ℕ) (t : Story) (redraw : List ℕ)
+    (first later : List Entry) (pieces more : List (List ℕ)) (parsed parsed' : List ℕ)
+    → IsSession rows cols calls replies n t
     → ReadsRedraw rows cols t redraw first later pieces parsed
     → ReadsRedraw rows cols t redraw first later (pieces ++ more) parsed'
     → whole_in (redrawn_then redraw first later) (length (concat (pieces ++ more)))
@@ -110,8 +111,8 @@ EachRunRedraws = (rows cols : ℕ) (calls : List Call) (replies : List Reply) (n
     → RedrawnIn rows cols calls replies n t redraw → IsSession rows cols calls replies n u
     → (redraw_after rows cols t t.entries ≡ Some redraw) × GrowsTo t u
 
--- The same for a log: a view of the session's size reads a redraw that a call of the run was answered with, and then the
--- bytes that were pumped to the session later, in any pieces. What the client was still owed then isn't among them.
+-- The same for a log: a view of the session's size reads a redraw that a call of the run was answered with, and then
+-- the bytes that were pumped to the session later, in any pieces. What the client was still owed then isn't among them.
 abbrev pub LoggedRedrawsAreShown : Type 0
 LoggedRedrawsAreShown = (rows cols : ℕ) (calls : List Call) (l : LogView) (n : ℕ) (s : SessionView) (t : Story)
     (redraw : List ℕ) (pieces : List (List ℕ)) (parsed : List ℕ) → IsLogged rows cols calls l n s

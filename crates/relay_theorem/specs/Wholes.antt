@@ -36,11 +36,12 @@ pub record ReadsWhole (rows cols : ℕ) (past : List ℕ) (t : Story) (whole : L
 -- ---- laws
 
 -- Whatever a view of the session's size has read, if nothing is unfinished: once it has read the whole frame, it shows
--- the screen at the moment of the last whole one, unless that screen had U+FE0F. The whole frame counts as the last frame
--- before it.
+-- the screen at the moment of the last whole one, unless that screen had U+FE0F. The whole frame counts as the last
+-- frame before it.
 abbrev pub WholeFramesLeadFromAnything : Type 0
-WholeFramesLeadFromAnything = (rows cols : ℕ) (calls : List Call) (replies : List Reply) (n : ℕ) (past : List ℕ) (t : Story) (whole : List ℕ)
-    (first later : List Entry) (pieces : List (List ℕ)) (parsed : List ℕ) → IsSession rows cols calls replies n t
+WholeFramesLeadFromAnything = (rows cols : ℕ) (calls : List Call) (replies : List Reply) (n : ℕ) (past : List ℕ)
+    (t : Story) (whole : List ℕ) (first later : List Entry) (pieces : List (List ℕ)) (parsed : List ℕ)
+    → IsSession rows cols calls replies n t
     → AtGround 1024 past → ReadsWhole rows cols past t whole first later pieces parsed
     → length whole ≤ length (concat pieces)
     → IsShownRight rows cols (shown_of (seen (size_of_story t) parsed)) (last_redrawn whole first later pieces)
@@ -48,8 +49,8 @@ WholeFramesLeadFromAnything = (rows cols : ℕ) (calls : List Call) (replies : L
 -- A view that reads more bytes, but no further whole frame, still shows the same. Before the whole frame has come
 -- wholly, that is what it showed before it.
 abbrev pub NoWholeFrameIsTorn : Type 0
-NoWholeFrameIsTorn = (rows cols : ℕ) (calls : List Call) (replies : List Reply) (n : ℕ) (past : List ℕ) (t : Story) (whole : List ℕ)
-    (first later : List Entry) (pieces more : List (List ℕ)) (parsed parsed' : List ℕ)
+NoWholeFrameIsTorn = (rows cols : ℕ) (calls : List Call) (replies : List Reply) (n : ℕ) (past : List ℕ) (t : Story)
+    (whole : List ℕ) (first later : List Entry) (pieces more : List (List ℕ)) (parsed parsed' : List ℕ)
     → IsSession rows cols calls replies n t → AtGround 1024 past
     → ReadsWhole rows cols past t whole first later pieces parsed
     → ReadsWhole rows cols past t whole first later (pieces ++ more) parsed'
@@ -59,8 +60,9 @@ NoWholeFrameIsTorn = (rows cols : ℕ) (calls : List Call) (replies : List Reply
 
 -- whole frames of any session leave nothing unfinished
 abbrev pub EachFrameEndsAtGround : Type 0
-EachFrameEndsAtGround = (rows cols : ℕ) (calls : List Call) (replies : List Reply) (n : ℕ) (t : Story) (prefix back : List Entry)
-    → IsSession rows cols calls replies n t → t.entries ≡ prefix ++ back → AtGround 1024 (texts prefix)
+EachFrameEndsAtGround = (rows cols : ℕ) (calls : List Call) (replies : List Reply) (n : ℕ) (t : Story)
+    (prefix back : List Entry) → IsSession rows cols calls replies n t → t.entries ≡ prefix ++ back
+    → AtGround 1024 (texts prefix)
 
 -- what a hub answers to a request for a whole frame is the one after all answers to the client's session so far
 abbrev pub EachWholeIsReported : Type 0

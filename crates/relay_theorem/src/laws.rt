@@ -1,6 +1,6 @@
 //! Facts about histories and far terminals. Each function does nothing: its contract is the fact. A history is a list
-//! of calls on a new hub, with the reply to each. A session is what happens to one client, from its attach or its fork to
-//! its end. A fork's session has the answers of the one that it was forked from, whose frames count as pumped to it.
+//! of calls on a new hub, with the reply to each. A session is what happens to one client, from its attach or its fork
+//! to its end. A fork's session has the answers of the one that it was forked from, whose frames count as pumped to it.
 ghost use Rattle.termrelay.specs.Hub.{as_kept};
 ghost use Rattle.relay_theorem.specs.Bounds.{EachSessionIsBounded, EachFrameFitsTheHold, NoSmallFrameIsTooLong};
 ghost use Rattle.relay_theorem.specs.Examples.{EachExampleIsReported};
@@ -127,9 +127,9 @@ pub fn logged_frames_are_shown()
 {}
 
 /// A session depends only on its own calls. These are its attach, the feeds and resizes until it ends, also those
-/// before its attach, and the calls on its key until it ends. The scripts of its pumps are parts of these calls. A fork's
-/// own calls are those of the session that it was forked from, up to the fork, a pump that takes all that was owed then,
-/// and those on its own key.
+/// before its attach, and the calls on its key until it ends. The scripts of its pumps are parts of these calls. A
+/// fork's own calls are those of the session that it was forked from, up to the fork, a pump that takes all that was
+/// owed then, and those on its own key.
 ///
 /// If two sessions have the same own calls, the same bytes are pumped to them, and they get the same answers at the
 /// same moments. They have the same size, and have both ended or both not. While they haven't ended, their clients are
@@ -229,8 +229,8 @@ pub fn fed_screens_are_right()
 /// A tree of hubs: a second hub of a session's size is fed any prefix of the session's bytes, in any pieces, and has
 /// clients of its own. A new view reads any prefix of the bytes pumped to one of these, in any pieces.
 ///
-/// It shows the program's screen at the request for a whole frame, or a blank screen. The frame is the last one that the
-/// second hub had been fed wholly when it made the last frame that the view has read wholly. This holds unless the
+/// It shows the program's screen at the request for a whole frame, or a blank screen. The frame is the last one that
+/// the second hub had been fed wholly when it made the last frame that the view has read wholly. This holds unless the
 /// program's screen showed U+FE0F then.
 pub fn trees_are_shown()
     ensures { TreesAreShown }

@@ -87,8 +87,8 @@ bytes_taken takes None = []
 bytes_taken takes (Some c) = take (taken_by takes (length c.owed)) c.owed
 
 -- The sessions after a call on a hub h that gets this reply. An attach begins a session. A detach ends the last session
--- of its key that hasn't ended, a pump's bytes are added to that session, and a fork begins one by it. A resize ends all
--- sessions.
+-- of its key that hasn't ended, a pump's bytes are added to that session, and a fork begins one by it. A resize ends
+-- all sessions.
 abbrev pub sessions_after : {way : Telling} → HubState way → Call → Reply → List SessionView → List SessionView
 sessions_after h (Resize rows cols) Done ss = map ended ss
 sessions_after h Attach (Attached key) ss = ss ++ begun h key ∷ []

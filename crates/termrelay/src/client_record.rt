@@ -247,8 +247,8 @@ impl ClientRecord {
         unsure_or(is_unsure_since(base, now), Answer::Difference)
     }
 
-    /// The answer to a request for a frame, if it needs no look at what is shown: bytes are owed, or the program is in a
-    /// synchronized update.
+    /// The answer to a request for a frame, if it needs no look at what is shown: bytes are owed, or the program is in
+    /// a synchronized update.
     pub(crate) fn waits(&self, now: &Screen) -> Option<Answer>
         ensures { MatchOption result
             ((self.now.owed ≡ []) × (now.now.state.updating ≡ false))

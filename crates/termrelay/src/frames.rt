@@ -34,8 +34,8 @@ pub(crate) enum Due {
 
 /// The frames of a screen: the latest one, and what the next one is made of.
 ///
-/// What the screen shows at a frame has a number, that of the moment. Clients whose last frames have the same number are
-/// due the same, so the frame that is made for the first of them is given to the others.
+/// What the screen shows at a frame has a number, that of the moment. Clients whose last frames have the same number
+/// are due the same, so the frame that is made for the first of them is given to the others.
 #[derive(Drop)]
 pub(crate) struct SharedFrames {
     /// The latest frame, unless the screen has changed since.
@@ -107,8 +107,8 @@ impl SharedFrames {
         }
     }
 
-    /// What is due if that is known by the latest frame: its moment, or the moment that it leads on from, is that of the
-    /// client's last frame. Fails only if an allocation fails.
+    /// What is due if that is known by the latest frame: its moment, or the moment that it leads on from, is that of
+    /// the client's last frame. Fails only if an allocation fails.
     fn shared(&self, record: &ClientRecord) -> Result<Option<Due>, HubError>
         ensures shares { IfOk result (λ due. IfSome due (SharesLatest self.now.latest record.now.last)) }
         ensures memory { OnErr result ((result ≡ Err Memory) × IsSomeAnd self.now.latest

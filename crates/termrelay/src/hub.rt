@@ -195,16 +195,16 @@ impl Hub {
         }
     }
 
-    /// A frame for a stream that several terminals read. It draws what the client shows once it has read all its frames,
-    /// on any terminal of the screen's size, whatever frames the terminal has read before. Nothing changes.
+    /// A frame for a stream that several terminals read. It draws what the client shows once it has read all its
+    /// frames, on any terminal of the screen's size, whatever frames the terminal has read before. Nothing changes.
     ///
     /// It is the client's [`redraw`](Self::redraw), with what turns off each mouse mode, encoding and cursor style
     /// behind its start mark (xterm's private modes 9, 1000, 1002, 1003, 1005 and 1006, and DECSCUSR 0). So terminals
     /// can begin with it, and those that have read the client's frames so far show the same after it. All go on with
     /// the client's later frames.
     ///
-    /// The answer is `None` if the client has had no frame, or if the bytes would be more than 2,097,150. Fails only for
-    /// an unknown client, if the hub has failed or if an allocation fails.
+    /// The answer is `None` if the client has had no frame, or if the bytes would be more than 2,097,150. Fails only
+    /// for an unknown client, if the hub has failed or if an allocation fails.
     pub fn whole_frame(&self, client: Client) -> Result<Option<Vec<u8>>, HubError>
         ensures { DrawsWhole self.now client
             (result_map_both (λ whole. option_map (λ text. text.items) whole) (λ error. error) result) }

@@ -40,9 +40,9 @@ pub fn frames_are_short()
     ensures { EachFrameIsShort }
 {}
 
-/// A whole frame makes a terminal show the screen, whatever picture, modes and cursor style it had before (`lead`). If a
-/// cell shows U+FE0F, modes and cursor style still come out right (`modes`). The body is a list of forms that the writers
-/// send (`sent`).
+/// A whole frame makes a terminal show the screen, whatever picture, modes and cursor style it had before (`lead`). If
+/// a cell shows U+FE0F, modes and cursor style still come out right (`modes`). The body is a list of forms that the
+/// writers send (`sent`).
 pub fn whole_frames_lead()
     ensures lead { EachWholeFrameLeads }
     ensures modes { EachWholeFrameSetsModes }
