@@ -263,9 +263,11 @@ static void copies(void) {
     CHECK(jeihpal_screen_look(&copy, &other) == JEIHPAL_OK && other.kept == 0);
     CHECK(jeihpal_screen_look(&screen, &look) == JEIHPAL_OK && look.kept == 1);
     CHECK(jeihpal_screen_clear_scrollback((jeihpal_screen *)&view) == JEIHPAL_OTHER_KIND);
+    CHECK(jeihpal_screen_tell((jeihpal_screen *)&view, 1, 1) == JEIHPAL_OTHER_KIND);
     jeihpal_screen_close(&screen);
     jeihpal_screen_close(&copy);
     CHECK(jeihpal_screen_clear_scrollback(&screen) == JEIHPAL_CLOSED);
+    CHECK(jeihpal_screen_tell(&screen, 1, 1) == JEIHPAL_CLOSED);
     jeihpal_view_close(&view);
 }
 
@@ -356,6 +358,15 @@ static void requests(void) {
         CHECK(jeihpal_screen_process(&screen, BYTES("\a")) == JEIHPAL_OK);
     CHECK(jeihpal_screen_request(&screen, text, sizeof text, &request) == JEIHPAL_BELL &&
           request.dropped == 2);
+    while (jeihpal_screen_request(&screen, text, sizeof text, &request) > 0)
+        ;
+    CHECK(jeihpal_screen_tell(&screen, 1, 1) == JEIHPAL_OK);
+    CHECK(jeihpal_screen_process(&screen, BYTES("\x1b[2J\x1b[H\x1b[31mone\x1b[>4:2;7\"q\n\n\n\n\n\n")) == JEIHPAL_OK);
+    CHECK(jeihpal_screen_request(&screen, text, sizeof text, &request) == JEIHPAL_UNHANDLED_CSI &&
+          request.letters == 2 && is_text(text, request.length, ">\"4:2;7q"));
+    CHECK(jeihpal_screen_request(&screen, text, sizeof text, &request) == JEIHPAL_ROW &&
+          request.letters == 0 && is_text(text, request.length, "\x1b[31mone\n"));
+    CHECK(jeihpal_screen_tell(&screen, 0, 0) == JEIHPAL_OK);
     jeihpal_screen_close(&screen);
 }
 

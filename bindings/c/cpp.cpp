@@ -51,6 +51,12 @@ static void screens() {
     CHECK(copy.cell(0, 0)->width == 1 && !copy.cell(2, 0) && copy.look().kept == 1);
     std::optional<jeihpal::request> request = screen.next_request();
     CHECK(request && request->kind == JEIHPAL_TITLE && request->text == "title" && !screen.next_request());
+    screen.tell(true, true);
+    screen.process("\x1b[?5i\x1b[1;1H\x1b[31mrow\n\n");
+    request = screen.next_request();
+    CHECK(request && request->kind == JEIHPAL_UNHANDLED_CSI && request->letters == "?" && request->text == "5i");
+    CHECK(!screen.next_request());
+    screen.process("\x1b[2J\x1b[1;1Hb\r\nc");
     jeihpal::screen moved = std::move(screen);
     CHECK(moved.contents() == "b\nc");
     try {
@@ -69,6 +75,7 @@ static void recordings() {
     CHECK(cast.look().events == 1 && cast.look().cols == 80 && cast.colors().empty());
     jeihpal::event event = cast.event(0);
     CHECK(event.kind == JEIHPAL_OUTPUT && event.time == 500000 && event.text == "hi");
+    CHECK(cast.most_cells() == 1920);
     CHECK(jeihpal::recording(std::string_view()).event(0).text.empty());
     CHECK(jeihpal::recording("began\nabc", "0.25 2\n").event(0).text == "ab");
     try {

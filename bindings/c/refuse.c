@@ -96,7 +96,9 @@ static void use_copy(jeihpal_screen *screen) {
 static void use_screen(jeihpal_screen *screen) {
     size_t length;
     jeihpal_request request;
-    noted(jeihpal_screen_process(screen, BYTES("a\r\nb\x1b]2;title\a\r\n\r\n\r\n\r\nc\r\n")));
+    CHECK(jeihpal_screen_tell(screen, 1, 1) == JEIHPAL_OK);
+    noted(jeihpal_screen_process(screen, BYTES("a\r\nb\x1b]2;title\a\x1b]9;x\a\x1b[?5;6i\r\n\r\n\r\n\r\nc\n\n\n\n")));
+    CHECK(jeihpal_screen_tell(screen, 0, 0) == JEIHPAL_OK);
     CHECK(jeihpal_screen_request(screen, to, sizeof to, &request) >= 0);
     made += (long)request.dropped; /* one that finds no memory is counted there */
     noted(jeihpal_screen_mark(screen));

@@ -147,7 +147,7 @@ type Request struct {
 }
 
 // NextRequest takes the oldest request out of the screen's queue; it is nil where none waits. A request is dropped where
-// 256 wait, where its text is longer than 1,024 bytes, and where there was no memory for it.
+// 256 wait, where its text is longer than 1,021 bytes, and where there was no memory for it.
 func (s *Screen) NextRequest() (*Request, error) {
 	var request C.jeihpal_request
 	room := make([]byte, C.JEIHPAL_MOST_REQUEST_BYTES)

@@ -323,17 +323,19 @@ int32_t jeihpal_screen_contents_between(jeihpal_screen *screen, uint16_t start_r
                                         uint16_t end_row, uint16_t end_col, uint8_t *to, size_t capacity,
                                         size_t *length);
 
-/* The escape sequences that take a terminal of this size to the picture, whatever it showed before. MEMORY. */
+/* The escape sequences that take a terminal of this size to the picture, whatever it showed before; where a kept row is
+ * shown, maybe to another one (jeihpal_screen_scroll). MEMORY. */
 int32_t jeihpal_screen_contents_formatted(jeihpal_screen *screen, uint8_t *to, size_t capacity, size_t *length);
 
-/* Those that also set its modes and its cursor's style, where these are as in a fresh terminal. MEMORY. */
+/* Those that also set its modes and its cursor's style, where these are as in a fresh terminal. Of kept rows as there.
+ * MEMORY. */
 int32_t jeihpal_screen_state(jeihpal_screen *screen, uint8_t *to, size_t capacity, size_t *length);
 
 /* Keeps a copy of the screen as it is now, its mark, in place of an earlier one. MEMORY: the earlier one stays. */
 int32_t jeihpal_screen_mark(jeihpal_screen *screen);
 
-/* The escape sequences that take a terminal from what the mark shows to what the screen shows. Without a mark they
- * are those of jeihpal_screen_state. The mark stays. MEMORY. */
+/* The escape sequences that take a terminal from what the mark shows to what the screen shows; where either shows a
+ * kept row, maybe to another picture. Without a mark they are those of jeihpal_screen_state. The mark stays. MEMORY. */
 int32_t jeihpal_screen_difference(jeihpal_screen *screen, uint8_t *to, size_t capacity, size_t *length);
 
 /* Makes a copy of the screen in `from`, and puts it into `screen`. It shows the same and keeps the same rows. It has
@@ -357,7 +359,8 @@ int32_t jeihpal_screen_input_mode_formatted(jeihpal_screen *screen, uint8_t *to,
 /* The escape sequences that set how the next character is drawn. MEMORY. */
 int32_t jeihpal_screen_attributes_formatted(jeihpal_screen *screen, uint8_t *to, size_t capacity, size_t *length);
 
-/* The escape sequences that bring the cursor to where it is, and hide or show it. MEMORY. */
+/* The escape sequences that bring the cursor to where it is, and hide or show it. Where a kept row is shown they may
+ * print a character over another one. MEMORY. */
 int32_t jeihpal_screen_cursor_state_formatted(jeihpal_screen *screen, uint8_t *to, size_t capacity, size_t *length);
 
 /* The escape sequences that draw each row on a row of default cells: `width` columns from column `start` on. They
@@ -368,8 +371,8 @@ int32_t jeihpal_screen_rows_formatted(jeihpal_screen *screen, uint16_t start, ui
                                       size_t capacity, size_t *length, size_t *lengths, size_t most, size_t *rows);
 
 /* The differences of two screens. Both are read, and neither changes; they are two words. CLOSED and OTHER_KIND
- * speak of either. The first: the escape sequences that take a terminal from the picture of `earlier` to that of
- * `screen`. MEMORY. */
+ * speak of either. Where either shows a kept row, the first two may lead to another picture. The first: the escape
+ * sequences that take a terminal from the picture of `earlier` to that of `screen`. MEMORY. */
 int32_t jeihpal_screen_contents_diff(jeihpal_screen *screen, jeihpal_screen *earlier, uint8_t *to, size_t capacity,
                                      size_t *length);
 
@@ -396,27 +399,47 @@ enum jeihpal_request_kind {
     JEIHPAL_ICON_NAME = 4,   /* the name of the window's icon (OSC 0 and 1) */
     JEIHPAL_TITLE = 5,       /* the window's title (OSC 0 and 2) */
     JEIHPAL_COPY = 6,        /* letters of clipboards, then data in base64 for them (OSC 52) */
-    JEIHPAL_PASTE = 7        /* letters of clipboards, whose data is asked for (OSC 52 with ?) */
+    JEIHPAL_PASTE = 7,       /* letters of clipboards, whose data is asked for (OSC 52 with ?) */
+
+    /* What the screen does nothing at, where jeihpal_screen_tell asks for it. An escape or control sequence has its
+     * first two intermediates at the front, a private marker among them. */
+    JEIHPAL_UNHANDLED_CHAR = 8,    /* U+FFFD, which malformed bytes give too, as UTF-8 */
+    JEIHPAL_UNHANDLED_CONTROL = 9, /* a control: its byte, also from 0x80 to 0x9F for U+0080 to U+009F */
+    JEIHPAL_UNHANDLED_ESCAPE = 10, /* intermediates, then the final byte */
+    JEIHPAL_UNHANDLED_CSI = 11,    /* intermediates, then the parameters with ; and : between them, and the final byte;
+                                      once for each group of parameters that does nothing */
+    JEIHPAL_UNHANDLED_OSC = 12,    /* the command's pieces with ; between them */
+
+    /* A row that left the screen for good, where jeihpal_screen_tell asks for it: it isn't kept, or was pushed out of
+     * the kept ones. Its text with its attributes, from the default ones on, as jeihpal_screen_contents_formatted_basic
+     * has it, and a newline where it doesn't go on in the next row. */
+    JEIHPAL_ROW = 13,
+    JEIHPAL_ALTERNATE_ROW = 14 /* one of the alternate screen */
 };
 
 typedef struct jeihpal_request {
     size_t length;   /* how many bytes of text it has */
-    size_t letters;  /* how many of these, at the front, are letters of clipboards; 0 where the kind has none */
+    size_t letters;  /* how many of these, at the front, are letters of clipboards or intermediates; else 0 */
     size_t dropped;  /* how many requests weren't queued since the screen was made */
     uint16_t rows;   /* of JEIHPAL_RESIZE, else 0 */
     uint16_t cols;   /* of JEIHPAL_RESIZE, else 0 */
     uint8_t kind;    /* enum jeihpal_request_kind */
 } jeihpal_request;
 
-/* At most so many requests wait in a screen's queue, each with a text of at most so many bytes. */
+/* At most so many requests wait in a screen's queue, each with a text of at most so many bytes. Rows wait beside them
+ * as long as there is memory, and have texts of any length. */
 #define JEIHPAL_MOST_REQUESTS 256
-#define JEIHPAL_MOST_REQUEST_BYTES 1024
+#define JEIHPAL_MOST_REQUEST_BYTES 1021
+
+/* Chooses what the queue gets from now on: what the screen does nothing at, and rows that leave it for good. Each is 0
+ * or 1. A new screen, and one that is copied or recorded, gets neither. */
+int32_t jeihpal_screen_tell(jeihpal_screen *screen, uint8_t unhandled, uint8_t rows);
 
 /* Takes the oldest request out of the screen's queue, and answers its kind; NO_REQUEST where none waits, and then
  * all of *request but `dropped` is 0. As much of the text as fits is copied into `to`; where it is longer than
  * `capacity`, the request stays the oldest of the queue. A request is dropped and counted where as many wait as can,
- * where its text is too long, and where there is no memory for its text. A text is as the program wrote it, and
- * needn't be UTF-8. */
+ * where its text is too long, and where there is no memory for its text. None is cut. A text is as the program wrote
+ * it, and needn't be UTF-8. */
 int32_t jeihpal_screen_request(jeihpal_screen *screen, uint8_t *to, size_t capacity, jeihpal_request *request);
 
 /* Closes the word: what it holds, of any kind, is freed. */
@@ -489,7 +512,8 @@ int32_t jeihpal_recording_colors(jeihpal_recording *recording, uint32_t *colors,
 
 /* Makes a screen of this size that keeps at most `scrollback` rows, as it is once the recording did to it all that it
  * does up to a time, in microseconds, and puts it into `screen`. It has no mark and no requests. What `screen` held is
- * closed, unless the call is refused. CLOSED and OTHER_KIND speak of `recording`. BAD_SIZE, MEMORY. */
+ * closed, unless the call is refused. CLOSED and OTHER_KIND speak of `recording`. BAD_SIZE, MEMORY. The recording's own
+ * sizes may be any: of a stranger's, look for NEW_SIZE events of more cells than you want to pay for. */
 int32_t jeihpal_recording_screen(jeihpal_recording *recording, jeihpal_screen *screen, uint16_t rows, uint16_t cols,
                                  size_t scrollback, uint64_t time);
 

@@ -8,6 +8,7 @@
 
 #include "jeihpal.h"
 
+#include <algorithm>
 #include <new>
 #include <optional>
 #include <stdexcept>
@@ -215,7 +216,7 @@ public:
 // What a program asked for.
 struct request {
     jeihpal_request_kind kind;
-    std::string letters; // of clipboards
+    std::string letters; // of clipboards, or intermediates
     std::string text;
     uint16_t rows;
     uint16_t cols;
@@ -285,18 +286,28 @@ public:
         return made;
     }
 
+    // What is told from now on beside requests: what the screen does nothing at, and rows that leave it for good.
+    void tell(bool unhandled, bool rows) { checked(jeihpal_screen_tell(word(), unhandled, rows)); }
+
     // The oldest request that waits, if one does.
     std::optional<request> next_request() {
         std::string room(JEIHPAL_MOST_REQUEST_BYTES, '\0');
         jeihpal_request told;
-        uint8_t *to = reinterpret_cast<uint8_t *>(&room[0]);
-        int32_t kind = checked(jeihpal_screen_request(word(), to, room.size(), &told));
+        int32_t kind = take_request(room, told);
         if (kind == JEIHPAL_NO_REQUEST) return std::nullopt;
+        if (told.length > room.size()) {
+            room.resize(told.length);
+            take_request(room, told);
+        }
         return request{static_cast<jeihpal_request_kind>(kind), room.substr(0, told.letters),
                        room.substr(told.letters, told.length - told.letters), told.rows, told.cols};
     }
 
 private:
+    int32_t take_request(std::string &room, jeihpal_request &told) {
+        uint8_t *to = reinterpret_cast<uint8_t *>(&room[0]);
+        return checked(jeihpal_screen_request(word(), to, room.size(), &told));
+    }
     std::string text(int32_t (*call)(jeihpal_screen *, uint8_t *, size_t, size_t *)) const {
         return detail::whole([&](uint8_t *to, size_t room, size_t *length) { return call(word(), to, room, length); });
     }
@@ -359,6 +370,19 @@ public:
         checked(jeihpal_recording_event_text(word(), index, to, text.size(), &length));
         return jeihpal::event{static_cast<jeihpal_event_kind>(told.kind), told.time, std::move(text), told.rows,
                               told.cols};
+    }
+
+    // How many cells its largest size has, at first or later. Who made the recording chose it, and a screen takes
+    // memory for it.
+    size_t most_cells() const {
+        jeihpal_recorded first = look();
+        size_t most = size_t{first.rows} * first.cols;
+        for (size_t index = 0; index < first.events; index++) {
+            jeihpal_event told;
+            checked(jeihpal_recording_event(word(), index, &told));
+            most = std::max(most, size_t{told.rows} * told.cols);
+        }
+        return most;
     }
 
     // A screen of this size as it is after all events up to a time, in microseconds. It has no requests.

@@ -142,6 +142,7 @@ PARAMETERS: dict[str, list[Any]] = {
     "screen_state": _TEXT,
     "screen_mark": [],
     "screen_difference": _TEXT,
+    "screen_tell": [ctypes.c_uint8, ctypes.c_uint8],
     "screen_clone": [_WORD],
     "screen_clear_scrollback": [],
     "screen_drawing": [ctypes.POINTER(RawDrawing)],

@@ -117,6 +117,17 @@ class Recording(Object):
         """The events, in order."""
         return (self[index] for index in range(self._events))
 
+    @property
+    def most_cells(self) -> int:
+        """How many cells its largest size has, at first or later; 0 where it says none.
+
+        Who made the recording chose it, and a screen takes memory for it: ask before `screen_at` of a stranger's."""
+        raw, sizes = RawEvent(), [self.size] if self.size else []
+        for index in range(self._events):
+            self._call("event", index, raw)
+            sizes.append(Size(raw.rows, raw.cols))
+        return max((size.rows * size.cols for size in sizes), default=0)
+
     def screen_at(self, time: int, size: Size | None = None) -> Screen:
         """A new screen as it is after all events up to a time, in microseconds. It begins in the size that the
         recording says, or else in this one, or in 24 rows of 80 columns."""

@@ -26,6 +26,18 @@ class RequestKind(OpenEnum):
     TITLE = 5
     COPY = 6
     PASTE = 7
+    UNHANDLED_CHAR = 8
+    """U+FFFD, which malformed bytes give too. This and what follows is told where `Screen.tell` asks for it."""
+    UNHANDLED_CONTROL = 9
+    UNHANDLED_ESCAPE = 10
+    UNHANDLED_CSI = 11
+    UNHANDLED_OSC = 12
+    ROW = 13
+    """A row left the screen for good: it isn't kept, or was pushed out of the rows that are."""
+    ALTERNATE_ROW = 14
+
+
+_ROWS = (RequestKind.ROW, RequestKind.ALTERNATE_ROW)
 
 
 class Request(NamedTuple):
@@ -33,9 +45,10 @@ class Request(NamedTuple):
 
     kind: RequestKind
     text: bytes
-    """A name, a title, or data in base64."""
+    """A name, a title, or data in base64; of a sequence what isn't its intermediates; a row with its attributes, and a
+    newline where it doesn't go on in the next one."""
     clipboards: bytes
-    """Letters of clipboards, of COPY and PASTE."""
+    """Letters of clipboards, of COPY and PASTE; intermediates, of UNHANDLED_ESCAPE and UNHANDLED_CSI."""
     rows: int
     cols: int
 
@@ -172,7 +185,8 @@ class Screen(Shown):
     # ---- what redraws it
 
     def contents_formatted(self) -> bytes:
-        """What takes a terminal of this size to the picture, whatever it showed before."""
+        """What takes a terminal of this size to the picture, whatever it showed before; where a kept row is shown, maybe
+        to another one (`scroll`)."""
         return self._text("contents_formatted")
 
     def contents_formatted_basic(self) -> bytes:
@@ -180,7 +194,8 @@ class Screen(Shown):
         return self._text("contents_formatted_basic")
 
     def state(self) -> bytes:
-        """What takes a fresh terminal of this size to the picture, the modes and the cursor's style."""
+        """What takes a fresh terminal of this size to the picture, the modes and the cursor's style; of kept rows as
+        `contents_formatted`."""
         return self._text("state")
 
     def input_mode_formatted(self) -> bytes:
@@ -192,7 +207,8 @@ class Screen(Shown):
         return self._text("attributes_formatted")
 
     def cursor_state_formatted(self) -> bytes:
-        """What brings a terminal's cursor to the screen's, and hides or shows it."""
+        """What brings a terminal's cursor to the screen's, and hides or shows it; where a kept row is shown it may print
+        a character over another one."""
         return self._text("cursor_state_formatted")
 
     def rows_formatted(self, start: int = 0, width: int | None = None) -> list[bytes]:
@@ -206,7 +222,8 @@ class Screen(Shown):
     def difference(self, earlier: Screen | None = None) -> bytes:
         """What takes a terminal from what an earlier screen shows to what this one shows.
 
-        Without one it is what the mark shows, and without a mark this is `state`.
+        Without one it is what the mark shows, and without a mark this is `state`. Where either shows a kept row, the
+        terminal may come to another picture.
         """
         return self._text("difference") if earlier is None else self._from(earlier, "state_diff")
 
@@ -246,10 +263,16 @@ class Screen(Shown):
 
     # ---- what the program asks for
 
+    def tell(self, *, unhandled: bool = False, rows: bool = False) -> None:
+        """Chooses what `requests` gives from now on beside requests: what the screen does nothing at, and rows that
+        leave it for good. A new screen and a clone tell neither."""
+        self._call("tell", unhandled, rows)
+
     def requests(self) -> Iterator[Request]:
         """Takes what the program has asked for out of the screen's queue, oldest first.
 
-        The queue holds up to 256 requests, each with a text of up to 1,024 bytes. Others are dropped.
+        The queue holds up to 256 requests, each with a text of up to 1,021 bytes. Others are dropped, and none is cut.
+        Rows wait as long as there is memory.
         """
         while True:
             self._take_requests()
@@ -281,7 +304,7 @@ class Screen(Shown):
                 request = Request(RequestKind(kind), text[raw.letters :], text[: raw.letters], raw.rows, raw.cols)
                 if request.kind in self._names:
                     self._names[request.kind] = request.text.decode(errors="replace")
-                if len(self._waiting) < _MOST_REQUESTS:
+                if len(self._waiting) < _MOST_REQUESTS or request.kind in _ROWS:
                     self._waiting.append(request)
                 else:
                     self._overfull += 1

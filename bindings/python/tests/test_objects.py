@@ -152,11 +152,44 @@ class Screens(unittest.TestCase):
 
     def test_a_queue_is_bounded(self):
         with Screen(2, 5) as screen:
-            name = b"x" * 1023  # with the number before it as many bytes as are kept
+            name = b"x" * 1021
             screen.process(b"\x1b]2;" + name + b"\a" * 258)
             self.assertEqual(next(screen.requests()).text, name)
             self.assertEqual(screen.dropped_requests, 2)
             self.assertEqual(len(list(screen.requests())), 255)
+
+    def test_no_text_is_cut(self):
+        with Screen(2, 5) as screen:
+            for count in (1021, 1022, 1023, 1024, 9999):
+                screen.process(b"\x1b]2;%s\a\x1b]52;c;%s\a" % (b"x" * count, b"y" * (count - 1)))
+            lengths = [len(request.clipboards + request.text) for request in screen.requests()]
+            self.assertEqual((lengths, screen.dropped_requests), ([1021, 1021], 8))
+
+    def test_what_is_told(self):
+        with Screen(2, 5) as screen:
+            screen.process(b"\x00\x1b[?5i")
+            self.assertEqual(list(screen.requests()), [])
+            screen.tell(unhandled=True, rows=True)
+            screen.process(b"\x00\x1b#8\x1b[?1;2:3i\x1b]9;a\a\xff\x1b[31ma\r\nb\r\n")
+            told = [(request.kind, request.clipboards, request.text) for request in screen.requests()]
+            self.assertEqual(
+                told,
+                [
+                    (RequestKind.UNHANDLED_CONTROL, b"", b"\x00"),
+                    (RequestKind.UNHANDLED_ESCAPE, b"#", b"8"),
+                    (RequestKind.UNHANDLED_CSI, b"?", b"1;2:3i"),
+                    (RequestKind.UNHANDLED_OSC, b"", b"9;a"),
+                    (RequestKind.UNHANDLED_CHAR, b"", "\ufffd".encode()),
+                    (RequestKind.ROW, b"", b"\x1b[31ma\n"),
+                ],
+            )
+
+    def test_rows_wait_without_a_bound(self):
+        with Screen(2, 5) as screen:
+            screen.tell(rows=True)
+            screen.process(b"\a" * 300 + b"\n" * 3000)
+            kinds = [request.kind for request in screen.requests()]
+            self.assertEqual((kinds.count(RequestKind.ROW), screen.dropped_requests), (2999, 44))
 
 
 class Reading(unittest.TestCase):
@@ -388,6 +421,7 @@ class Recordings(unittest.TestCase):
         with Recording(CAST) as recording:
             self.assertEqual((recording.kind, recording.size), (RecordingKind.ASCIICAST, Size(24, 80)))
             self.assertEqual((recording.length, recording.fault), (2750000, Fault(FaultKind.LINE, 6)))
+            self.assertEqual(recording.most_cells, 30 * 90)
             want = [
                 Event(500000, EventKind.OUTPUT, b"hi\r\n", None),
                 Event(750000, EventKind.RESIZE, b"", Size(30, 90)),

@@ -92,6 +92,19 @@ impl Cell {
         self.raw.attributes & 16 != 0
     }
 
+    /// How it is drawn.
+    pub(crate) fn drawing(&self) -> Drawing {
+        Drawing {
+            fgcolor: self.fgcolor(),
+            bgcolor: self.bgcolor(),
+            bold: self.bold(),
+            dim: self.dim(),
+            italic: self.italic(),
+            underline: self.underline(),
+            inverse: self.inverse(),
+        }
+    }
+
     /// All that distinguishes it.
     fn parts(&self) -> (&str, u8, u8, Color, Color) {
         (
@@ -250,7 +263,7 @@ fn named<T: Copy + Default>(names: &[T], number: u8) -> T {
 }
 
 /// How the next character is drawn.
-#[derive(Clone, Copy, Debug, Eq, Hash, PartialEq)]
+#[derive(Clone, Copy, Debug, Default, Eq, Hash, PartialEq)]
 #[non_exhaustive]
 pub struct Drawing {
     /// The text's colour.

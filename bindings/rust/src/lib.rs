@@ -32,6 +32,7 @@ mod object;
 mod raw;
 mod recording;
 mod screen;
+mod sgr;
 mod stops;
 mod view;
 pub mod vt100;

@@ -160,14 +160,30 @@ impl Recording {
         self.look.events
     }
 
-    /// An event, counted from 0; nothing where there are fewer.
-    pub fn event(&self, index: usize) -> Result<Option<Event>> {
+    /// How many cells its largest size has, at first or later; 0 where it says none. Who made the recording chose it,
+    /// and a screen takes memory for it: ask before [`screen_at`](Recording::screen_at) of a stranger's recording.
+    pub fn most_cells(&self) -> usize {
+        let cells = |rows: u16, cols: u16| usize::from(rows) * usize::from(cols);
+        let later = (0..self.look.events).filter_map(|index| self.raw_event(index).ok().flatten());
+        let later = later.map(|event| cells(event.rows, event.cols)).max();
+        cells(self.look.rows, self.look.cols).max(later.unwrap_or(0))
+    }
+
+    fn raw_event(&self, index: usize) -> Result<Option<RawEvent>> {
         let mut event = RawEvent::default();
         let code = unsafe { raw::jeihpal_recording_event(self.owned.word(), index, &mut event) };
         if code == NO_EVENT {
             return Ok(None);
         }
         answer(code)?;
+        Ok(Some(event))
+    }
+
+    /// An event, counted from 0; nothing where there are fewer.
+    pub fn event(&self, index: usize) -> Result<Option<Event>> {
+        let Some(event) = self.raw_event(index)? else {
+            return Ok(None);
+        };
         let text = self.owned.bytes(|word, to, room, length| unsafe {
             raw::jeihpal_recording_event_text(word, index, to, room, length)
         })?;

@@ -117,13 +117,15 @@ impl Screen {
         })
     }
 
-    /// What takes a terminal of this size to the picture, whatever it showed before.
+    /// What takes a terminal of this size to the picture, whatever it showed before; where a kept row is shown, maybe
+    /// to another one ([`scroll`](Screen::scroll)).
     pub fn contents_formatted(&self) -> Result<String> {
         self.object
             .whole_text(raw::jeihpal_screen_contents_formatted)
     }
 
-    /// What takes a fresh terminal of this size to the picture, the modes and the cursor's style.
+    /// What takes a fresh terminal of this size to the picture, the modes and the cursor's style; of kept rows as
+    /// [`contents_formatted`](Screen::contents_formatted).
     pub fn state_formatted(&self) -> Result<String> {
         self.object.whole_text(raw::jeihpal_screen_state)
     }
@@ -146,7 +148,8 @@ impl Screen {
             .whole_text(raw::jeihpal_screen_attributes_formatted)
     }
 
-    /// What brings a terminal's cursor to the screen's, and hides or shows it.
+    /// What brings a terminal's cursor to the screen's, and hides or shows it. Where a kept row is shown it may print a
+    /// character over another one.
     pub fn cursor_state_formatted(&self) -> Result<String> {
         self.object
             .whole_text(raw::jeihpal_screen_cursor_state_formatted)
@@ -161,7 +164,8 @@ impl Screen {
         })
     }
 
-    /// What takes a terminal from what an earlier screen shows to what this one shows.
+    /// What takes a terminal from what an earlier screen shows to what this one shows; where either shows a kept row,
+    /// maybe to another picture.
     pub fn state_diff(&self, earlier: &Screen) -> Result<String> {
         self.object
             .text_from(&earlier.object, raw::jeihpal_screen_state_diff)
@@ -225,14 +229,22 @@ impl Screen {
             .act(|word| unsafe { raw::jeihpal_screen_mark(word) })
     }
 
-    /// What takes a terminal from what the mark shows to what the screen shows. Without a mark it is
-    /// [`state_formatted`](Screen::state_formatted).
+    /// What takes a terminal from what the mark shows to what the screen shows; where either shows a kept row, maybe to
+    /// another picture. Without a mark it is [`state_formatted`](Screen::state_formatted).
     pub fn difference(&self) -> Result<String> {
         self.object.whole_text(raw::jeihpal_screen_difference)
     }
 
+    /// Chooses whether [`requests`](Screen::requests) tells from now on what the screen doesn't know, and whether it
+    /// tells the rows that leave the screen for good. A new screen and a clone tell neither.
+    pub fn tell(&mut self, unknown: bool, rows: bool) {
+        self.object
+            .act(|word| unsafe { raw::jeihpal_screen_tell(word, unknown.into(), rows.into()) })
+            .expect("it is never refused");
+    }
+
     /// Takes what the program has asked of its terminal out of the screen's queue, oldest first. The queue holds up to
-    /// 256 requests, each with a text of up to 1,024 bytes; others are dropped.
+    /// 256 requests, each with a text of up to 1,021 bytes; others are dropped. Rows wait as long as there is memory.
     ///
     /// ```
     /// # let size = std::num::NonZeroU16::new(9).unwrap();
@@ -282,6 +294,8 @@ impl io::Write for Screen {
 }
 
 /// What a program asks of its terminal beyond drawing. Texts are as it wrote them, and needn't be UTF-8.
+///
+/// Those from `UnhandledChar` on are told where [`Screen::tell`] asks for them.
 #[derive(Clone, Debug, Eq, Hash, PartialEq)]
 #[non_exhaustive]
 pub enum Request {
@@ -304,6 +318,37 @@ pub enum Request {
     },
     /// Clipboards whose data is asked for, by their letters (OSC 52 with `?`).
     Paste(Vec<u8>),
+    /// U+FFFD, which malformed bytes give too, or a control from U+0080 to U+009F.
+    UnhandledChar(char),
+    /// A control that does nothing.
+    UnhandledControl(u8),
+    /// An escape sequence that does nothing.
+    UnhandledEscape {
+        /// Its first two intermediates.
+        intermediates: Vec<u8>,
+        /// Its final byte.
+        last: u8,
+    },
+    /// A control sequence that does nothing, or a group of parameters in it that does nothing.
+    UnhandledCsi {
+        /// Its first two intermediates, a private marker among them.
+        intermediates: Vec<u8>,
+        /// Its parameters in groups: `;` is between groups, and `:` between the numbers of a group.
+        params: Vec<Vec<u16>>,
+        /// Its final byte.
+        last: char,
+    },
+    /// An operating system command that does nothing: its pieces, with `;` between them.
+    UnhandledOsc(Vec<u8>),
+    /// A row left the screen for good: it isn't kept, or was pushed out of those that are.
+    Row {
+        /// Its text with its attributes, as [`Screen::contents_formatted_basic`] has it of one row.
+        text: String,
+        /// Its text goes on in the next row.
+        wrapped: bool,
+        /// It was a row of the alternate screen.
+        alternate: bool,
+    },
     /// Another request, by its number, which this crate doesn't know.
     Other(u8),
 }
@@ -323,7 +368,49 @@ impl Request {
                 data: rest.to_vec(),
             }),
             7 => Some(Request::Paste(letters.to_vec())),
-            kind => Some(Request::Other(kind)),
+            kind => Some(Request::told(kind, letters, rest)),
         }
     }
+
+    /// One of those that are told where it is asked for.
+    fn told(kind: u8, intermediates: &[u8], rest: &[u8]) -> Request {
+        let text = || String::from_utf8_lossy(rest).into_owned();
+        match kind {
+            8 => Request::UnhandledChar(text().chars().next().unwrap_or('\u{fffd}')),
+            9 => Request::UnhandledControl(rest.first().copied().unwrap_or(0)),
+            10 => Request::UnhandledEscape {
+                intermediates: intermediates.to_vec(),
+                last: rest.first().copied().unwrap_or(0),
+            },
+            11 => {
+                let mut params = text();
+                let last = params.pop().unwrap_or('\0');
+                Request::UnhandledCsi {
+                    intermediates: intermediates.to_vec(),
+                    params: groups(&params),
+                    last,
+                }
+            }
+            12 => Request::UnhandledOsc(rest.to_vec()),
+            13 | 14 => {
+                let text = text();
+                let ended = text.strip_suffix('\n');
+                Request::Row {
+                    text: ended.unwrap_or(&text).to_string(),
+                    wrapped: ended.is_none(),
+                    alternate: kind == 14,
+                }
+            }
+            kind => Request::Other(kind),
+        }
+    }
+}
+
+/// The groups of a control sequence's parameters.
+fn groups(params: &str) -> Vec<Vec<u16>> {
+    if params.is_empty() {
+        return Vec::new();
+    }
+    let numbers = |group: &str| group.split(':').map(|it| it.parse().unwrap_or(0)).collect();
+    params.split(';').map(numbers).collect()
 }

@@ -15,17 +15,18 @@
 //!
 //! `docs/MOVING.md` lists item by item what is as there and what differs. In short:
 //!
-//! - callbacks for what isn't known (`unhandled_..`) and [`Callbacks::on_scroll`] are never called;
-//! - titles, names and clipboards are cut behind 1,024 bytes of their sequence;
-//! - direct calls of `WrappedScreen` are left out, and so is what captures rows as they leave;
 //! - [`Screen::cell`] has no cell outside of the screen's columns, also where a kept row is wider;
+//! - malformed bytes are told ([`Callbacks::unhandled_char`]) behind the byte that shows them to be such;
+//! - redraws and differences lead a terminal to the picture only where no kept row is shown, as in `vt100`;
 //! - where no memory is found a call panics. [`crate::Screen`] answers an error there.
 pub mod capture;
+mod osc;
 
 use crate::cell::{Drawing, Look};
 use crate::error::Result;
 use crate::screen::Request;
 use crate::stops::Stops;
+use capture::{BasicFormattedCaptureRange, BasicFormattedCaptureState, RowContents};
 use std::fmt;
 use std::io;
 use std::num::NonZeroU16;
@@ -117,9 +118,12 @@ impl Screen {
         (number(look.rows), number(look.cols))
     }
 
-    /// Gives it another size. Other than in `vt100` the program's synchronized update ends.
+    /// Gives it another size, without calls of [`Callbacks::on_scroll`]. Other than in `vt100` the program's
+    /// synchronized update ends.
     pub fn set_size(&mut self, rows: NonZeroU16, cols: NonZeroU16) {
-        self.changed().resize(rows, cols).unwrap();
+        let screen = self.changed();
+        screen.tell(false, false);
+        screen.resize(rows, cols).unwrap();
     }
 
     /// Shows the newest `rows` of the rows that have scrolled off, or all where there are fewer.
@@ -202,6 +206,45 @@ impl Screen {
     #[must_use]
     pub fn contents_formatted_basic(&self) -> String {
         self.lock().contents_formatted_basic().unwrap()
+    }
+
+    /// Writes rows as text with its attributes alone: those that are shown, or all from the oldest kept one on. The
+    /// only error is the writer's.
+    pub fn write_contents_formatted_basic(
+        &self,
+        writer: &mut impl fmt::Write,
+        range: BasicFormattedCaptureRange<'_>,
+    ) -> fmt::Result {
+        match range {
+            BasicFormattedCaptureRange::Visible => {
+                writer.write_str(&self.contents_formatted_basic())
+            }
+            BasicFormattedCaptureRange::Full(state) => self.write_all_rows(writer, state),
+        }
+    }
+
+    /// Writes the kept rows and those that are drawn on. A copy of the screen shows them, as many at a time as it has.
+    fn write_all_rows(
+        &self,
+        writer: &mut impl fmt::Write,
+        state: &mut BasicFormattedCaptureState,
+    ) -> fmt::Result {
+        let mut copy = self.lock().try_clone().unwrap();
+        let rows = self.look().rows;
+        let mut left = self.look().scrollback_len;
+        loop {
+            copy.scroll(left).unwrap();
+            let count = u16::try_from(left).map_or(rows, |left| rows.min(left));
+            let count = if left == 0 { rows } else { count };
+            for row in 0..count {
+                let (cells, wrapped) = whole_row(&copy, row);
+                capture::write_cells(writer, &cells, wrapped, state)?;
+            }
+            if left == 0 {
+                return Ok(());
+            }
+            left -= usize::from(count);
+        }
     }
 
     /// What draws each row: `width` columns from column `start` on.
@@ -360,6 +403,18 @@ impl Screen {
     }
 }
 
+/// The cells of a row, also those past the screen's columns, which a kept row may have.
+fn whole_row(screen: &crate::Screen, row: u16) -> Row {
+    let (mut cells, wrapped) = screen.row(row).unwrap_or_default();
+    while let Some(cell) = u16::try_from(cells.len())
+        .ok()
+        .and_then(|col| screen.cell(row, col))
+    {
+        cells.push(cell);
+    }
+    (cells, wrapped)
+}
+
 impl Clone for Screen {
     fn clone(&self) -> Screen {
         Screen::of(self.lock().try_clone().unwrap(), self.capacity)
@@ -376,13 +431,11 @@ impl fmt::Debug for Screen {
     }
 }
 
-/// What a program asks of its terminal beyond drawing. Each method does nothing unless it is written.
+/// What a program asks of its terminal beyond drawing, what the screen doesn't know, and rows that leave it for good.
+/// Each method does nothing unless it is written.
 ///
-/// A call comes with the screen as it is behind the bytes that ask. Methods whose docs say so are never called: they are
-/// here so that an implementation for `vt100` compiles.
+/// A call comes with the screen as it is behind the bytes that ask.
 pub trait Callbacks {
-    /// Whether any is written. Without that none is called.
-    const ARE_WANTED: bool = true;
     /// BEL.
     fn audible_bell(&mut self, _: &mut Screen) {}
     /// `ESC g`.
@@ -397,13 +450,15 @@ pub trait Callbacks {
     fn copy_to_clipboard(&mut self, _: &mut Screen, _ty: &[u8], _data: &[u8]) {}
     /// Clipboards whose data is asked for.
     fn paste_from_clipboard(&mut self, _: &mut Screen, _ty: &[u8]) {}
-    /// Never called.
+    /// U+FFFD, which malformed bytes give too, or a control from U+0080 to U+009F. For malformed bytes the screen has
+    /// read the byte behind them.
     fn unhandled_char(&mut self, _: &mut Screen, _c: char) {}
-    /// Never called.
+    /// A control that does nothing.
     fn unhandled_control(&mut self, _: &mut Screen, _b: u8) {}
-    /// Never called.
+    /// An escape sequence that does nothing: its first two intermediates and its final byte.
     fn unhandled_escape(&mut self, _: &mut Screen, _i1: Option<u8>, _i2: Option<u8>, _b: u8) {}
-    /// Never called.
+    /// A control sequence that does nothing, or a group of parameters in it that does nothing: its first two
+    /// intermediates, its parameters and its final byte.
     fn unhandled_csi(
         &mut self,
         _: &mut Screen,
@@ -413,12 +468,23 @@ pub trait Callbacks {
         _c: char,
     ) {
     }
-    /// Never called.
+    /// An operating system command that does nothing: its pieces.
     fn unhandled_osc(&mut self, _: &mut Screen, _params: &[&[u8]]) {}
+    /// A row left for good: it was kept and is pushed out, or it left the screen and isn't kept. So do rows where
+    /// [`Parser::set_size`] makes the screen lower.
+    fn on_scroll(&mut self, _contents: RowContents<'_>, _alternate_screen: bool) {}
+
+    /// Whether any is written. Without that none is called.
+    #[doc(hidden)]
+    fn are_wanted(&self) -> bool {
+        true
+    }
 }
 
 impl Callbacks for () {
-    const ARE_WANTED: bool = false;
+    fn are_wanted(&self) -> bool {
+        false
+    }
 }
 
 /// Makes a screen of bytes.
@@ -478,7 +544,7 @@ impl<CB: Callbacks> Parser<CB> {
 
     /// Reads the program's next bytes. They may be cut anywhere.
     pub fn process(&mut self, bytes: &[u8]) {
-        if !CB::ARE_WANTED {
+        if !self.callbacks.are_wanted() {
             return self.screen.changed().process(bytes).unwrap();
         }
         let mut rest = bytes;
@@ -486,11 +552,22 @@ impl<CB: Callbacks> Parser<CB> {
             let (piece, left) = rest.split_at(self.stops.next(rest));
             rest = left;
             let screen = self.screen.changed();
+            // A callback may have put another screen into its place.
+            screen.tell(true, true);
             screen.process(piece).unwrap();
-            let requests: Vec<Request> = screen.requests().collect();
-            for request in &requests {
-                self.call(request);
+            if let Some(command) = self.stops.command() {
+                osc::call(&mut self.callbacks, &mut self.screen, &command);
             }
+            self.call_back();
+        }
+    }
+
+    /// Calls the callbacks for what waits. Operating system commands are read whole elsewhere.
+    fn call_back(&mut self) {
+        let screen = self.screen.changed();
+        let requests: Vec<Request> = screen.requests().collect();
+        for request in &requests {
+            self.call(request);
         }
     }
 
@@ -500,19 +577,42 @@ impl<CB: Callbacks> Parser<CB> {
             Request::Bell => callbacks.audible_bell(screen),
             Request::VisualBell => callbacks.visual_bell(screen),
             Request::Resize(rows, cols) => callbacks.resize(screen, (*rows, *cols)),
-            Request::IconName(name) => callbacks.set_window_icon_name(screen, name),
-            Request::Title(title) => callbacks.set_window_title(screen, title),
-            Request::Copy { clipboards, data } => {
-                callbacks.copy_to_clipboard(screen, clipboards, data)
+            Request::UnhandledChar(c) => callbacks.unhandled_char(screen, *c),
+            Request::UnhandledControl(control) => callbacks.unhandled_control(screen, *control),
+            Request::UnhandledEscape {
+                intermediates,
+                last,
+            } => {
+                let (first, second) = first_two(intermediates);
+                callbacks.unhandled_escape(screen, first, second, *last);
             }
-            Request::Paste(clipboards) => callbacks.paste_from_clipboard(screen, clipboards),
-            Request::Other(_) => {}
+            Request::UnhandledCsi {
+                intermediates,
+                params,
+                last,
+            } => {
+                let (first, second) = first_two(intermediates);
+                let params: Vec<&[u16]> = params.iter().map(Vec::as_slice).collect();
+                callbacks.unhandled_csi(screen, first, second, &params, *last);
+            }
+            Request::Row {
+                text,
+                wrapped,
+                alternate,
+            } => callbacks.on_scroll(RowContents::new(text, *wrapped), *alternate),
+            _ => {}
         }
     }
 
-    /// Gives the screen another size.
+    /// Gives the screen another size. Rows that it pushes out are told ([`Callbacks::on_scroll`]).
     pub fn set_size(&mut self, rows: NonZeroU16, cols: NonZeroU16) {
-        self.screen.set_size(rows, cols);
+        if !self.callbacks.are_wanted() {
+            return self.screen.set_size(rows, cols);
+        }
+        let screen = self.screen.changed();
+        screen.tell(true, true);
+        screen.resize(rows, cols).unwrap();
+        self.call_back();
     }
 
     /// The screen.
@@ -541,6 +641,11 @@ impl<CB: Callbacks> Parser<CB> {
     pub fn screen_and_callbacks_mut(&mut self) -> (&mut Screen, &mut CB) {
         (&mut self.screen, &mut self.callbacks)
     }
+}
+
+fn first_two(intermediates: &[u8]) -> (Option<u8>, Option<u8>) {
+    let mut bytes = intermediates.iter().copied();
+    (bytes.next(), bytes.next())
 }
 
 impl Default for Parser {

@@ -230,7 +230,7 @@ fn copies() {
 #[test]
 fn a_queue_is_bounded() {
     let mut screen = Screen::new(size(2), size(5), 0).unwrap();
-    let name = [b'x'; 1023]; // with the number before it as many bytes as are kept
+    let name = [b'x'; 1021];
     screen.process(b"\x1b]2;").unwrap();
     screen.process(&name).unwrap();
     screen.process(&[7; 257]).unwrap(); // the first ends the title
@@ -269,6 +269,7 @@ fn recordings() {
     let recording = Recording::new(cast).unwrap();
     assert_eq!(recording.kind(), Kind::Asciicast);
     assert_eq!(recording.size(), Some((size(24), size(80))));
+    assert_eq!(recording.most_cells(), 30 * 90);
     assert_eq!(
         (recording.length(), recording.event_count()),
         (1_750_000, 3)
