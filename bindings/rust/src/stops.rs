@@ -25,11 +25,16 @@ const STRING_END: u8 = 0x9c;
 /// A piece has at most so many bytes, so that few rows leave in it.
 const MOST_BYTES: usize = 256;
 
+/// So many bytes of a control sequence are looked at.
+const MOST_PARAMETERS: usize = 64;
+
 /// Finds the bytes behind which a callback may be due. One too many costs time alone. It also keeps operating system
 /// commands, which the library cuts.
 #[derive(Clone, Debug, Default)]
 pub(crate) struct Stops {
     inside: Inside,
+    /// What stands behind ESC, or behind `ESC [`.
+    sequence: Vec<u8>,
     command: Vec<u8>,
     is_whole: bool,
 }
@@ -68,13 +73,13 @@ impl Stops {
     }
 
     fn is_stop(&mut self, byte: u8) -> bool {
-        let before = self.inside;
+        let (before, begins) = (self.inside, self.sequence.is_empty());
         self.inside = match (before, byte) {
             (_, ESCAPE) => Inside::Escape,
             (_, CANCEL | SUBSTITUTE) => Inside::Text,
-            (Inside::Escape, b'[') => Inside::Control,
-            (Inside::Escape, b']') => Inside::Command,
-            (Inside::Escape, b'P' | b'X' | b'^' | b'_') => Inside::String,
+            (Inside::Escape, b'[') if begins => Inside::Control,
+            (Inside::Escape, b']') if begins => Inside::Command,
+            (Inside::Escape, b'P' | b'X' | b'^' | b'_') if begins => Inside::String,
             (Inside::Escape, 0x30..=0x7e) | (Inside::Control, 0x40..=0x7e) => Inside::Text,
             (Inside::Command, BELL) | (Inside::String, STRING_END) => Inside::Text,
             _ => before,
@@ -82,14 +87,25 @@ impl Stops {
         match before {
             Inside::Command => self.is_end(byte),
             Inside::String => matches!(byte, CANCEL | SUBSTITUTE),
-            Inside::Escape | Inside::Control => (byte < 0x20 && byte != ESCAPE) || self.is_done(),
+            Inside::Escape | Inside::Control => self.is_stop_inside(before, byte),
             Inside::Text => is_unknown_control(byte),
         }
     }
 
-    /// Whether a sequence has come to its end, or to an operating system command.
-    fn is_done(&self) -> bool {
-        matches!(self.inside, Inside::Text | Inside::Command)
+    /// The same within a sequence: at its end, at an operating system command, and at a control.
+    fn is_stop_inside(&mut self, before: Inside, byte: u8) -> bool {
+        if self.inside == before && byte != ESCAPE {
+            if matches!(byte, 0x20..=0x7e) && self.sequence.len() < MOST_PARAMETERS {
+                self.sequence.push(byte);
+            }
+            return byte < 0x20;
+        }
+        let is_known = match before {
+            Inside::Escape => self.sequence.is_empty() && is_known_escape(byte),
+            _ => self.inside == Inside::Text && is_known_control(&self.sequence, byte),
+        };
+        self.sequence.clear();
+        !is_known
     }
 
     /// Keeps a byte of an operating system command, or says that it is at its end.
@@ -111,6 +127,54 @@ fn text_length(bytes: &[u8]) -> usize {
 /// Whether a screen does nothing at a control. It knows those from BS to SI.
 fn is_unknown_control(byte: u8) -> bool {
     !matches!(byte, 0x08..=0x0f | ESCAPE)
+}
+
+/// Whether a screen knows an escape sequence without intermediates, and calls nothing for it. Those that begin another
+/// sequence are as well.
+fn is_known_escape(last: u8) -> bool {
+    matches!(
+        last,
+        b'7' | b'8' | b'=' | b'>' | b'M' | b'c' | b'[' | b'P' | b'X' | b'^' | b'_' | ESCAPE
+    )
+}
+
+/// Whether a screen certainly knows a control sequence, and calls nothing for it.
+fn is_known_control(parameters: &[u8], last: u8) -> bool {
+    let are_plain = |byte: &u8| matches!(*byte, b'0'..=b'9' | b';');
+    if parameters.len() >= MOST_PARAMETERS || !parameters.iter().all(are_plain) {
+        return false;
+    }
+    match last {
+        b'@' | b'A'..=b'H' | b'L' | b'M' | b'P' | b'S' | b'T' | b'X' => true,
+        b'`' | b'b' | b'd' | b'f' | b'r' => true,
+        b'J' | b'K' => matches!(parameters, b"" | b"0" | b"1" | b"2"),
+        b'm' => are_known_attributes(parameters),
+        _ => false,
+    }
+}
+
+/// Whether a screen knows each number of SGR.
+fn are_known_attributes(parameters: &[u8]) -> bool {
+    let text = std::str::from_utf8(parameters).unwrap_or("x");
+    let mut numbers = text.split(';').map(|it| match it {
+        "" => Some(0),
+        it => it.parse::<u8>().ok(),
+    });
+    while let Some(number) = numbers.next() {
+        let is_known = match number {
+            Some(38 | 48) => match numbers.next() {
+                Some(Some(5)) => matches!(numbers.next(), Some(Some(_))),
+                Some(Some(2)) => (0..3).all(|_| matches!(numbers.next(), Some(Some(_)))),
+                _ => false,
+            },
+            Some(0..=4 | 7 | 22..=24 | 27 | 30..=37 | 39..=47 | 49 | 90..=97 | 100..=107) => true,
+            _ => false,
+        };
+        if !is_known {
+            return false;
+        }
+    }
+    true
 }
 
 /// Up to where a text has to be read for the first character that a screen doesn't show: U+FFFD, a control from U+0080
@@ -152,7 +216,7 @@ mod tests {
     #[test]
     fn behind_what_asks() {
         let bytes = b"ab\r\n\x07tg\x1b[8;1;2tt\x1bgg\x1b]2;title\x07t\x1b]2;t\x1b\\\x1b[31mred";
-        let want: [&[u8]; 10] = [
+        let want: [&[u8]; 9] = [
             b"ab\r\n\x07",
             b"tg\x1b[8;1;2t",
             b"t\x1bg",
@@ -161,8 +225,18 @@ mod tests {
             b"t\x1b]",
             b"2;t\x1b",
             b"\\",
-            b"\x1b[31m",
-            b"red",
+            b"\x1b[31mred",
+        ];
+        assert_eq!(pieces(bytes), want);
+        let bytes = b"\x1b7\x1b[2J\x1b[38;5;9;1ma\x1b[38;5;999mb\x1b[?1hc\x1b[4:3md\x1b(Be\x1b[3Jf\x1b[\x08Ag";
+        let want: [&[u8]; 7] = [
+            b"\x1b7\x1b[2J\x1b[38;5;9;1ma\x1b[38;5;999m",
+            b"b\x1b[?1h",
+            b"c\x1b[4:3m",
+            b"d\x1b(B",
+            b"e\x1b[3J",
+            b"f\x1b[\x08",
+            b"Ag",
         ];
         assert_eq!(pieces(bytes), want);
     }

@@ -472,7 +472,9 @@ pub trait Callbacks {
     fn unhandled_osc(&mut self, _: &mut Screen, _params: &[&[u8]]) {}
     /// A row left for good: it was kept and is pushed out, or it left the screen and isn't kept. So do rows where
     /// [`Parser::set_size`] makes the screen lower.
-    fn on_scroll(&mut self, _contents: RowContents<'_>, _alternate_screen: bool) {}
+    fn on_scroll(&mut self, contents: RowContents<'_>, _alternate_screen: bool) {
+        contents.is_unread_by(std::any::type_name::<Self>());
+    }
 
     /// Whether any is written. Without that none is called.
     #[doc(hidden)]
@@ -504,6 +506,8 @@ pub struct Parser<CB: Callbacks = ()> {
     screen: Screen,
     callbacks: CB,
     stops: Stops,
+    /// The callback for rows isn't written, as a row has shown.
+    are_rows_unread: bool,
 }
 
 impl Parser {
@@ -539,6 +543,7 @@ impl<CB: Callbacks> Parser<CB> {
             screen: Screen::of(screen, scrollback_capacity),
             callbacks,
             stops: Stops::default(),
+            are_rows_unread: false,
         }
     }
 
@@ -547,28 +552,33 @@ impl<CB: Callbacks> Parser<CB> {
         if !self.callbacks.are_wanted() {
             return self.screen.changed().process(bytes).unwrap();
         }
-        let mut rest = bytes;
+        let (mut rest, mut is_told) = (bytes, false);
         while !rest.is_empty() {
             let (piece, left) = rest.split_at(self.stops.next(rest));
             rest = left;
             let screen = self.screen.changed();
-            // A callback may have put another screen into its place.
-            screen.tell(true, true);
-            screen.process(piece).unwrap();
-            if let Some(command) = self.stops.command() {
-                osc::call(&mut self.callbacks, &mut self.screen, &command);
+            if !is_told {
+                screen.tell(true, !self.are_rows_unread);
             }
-            self.call_back();
+            screen.process(piece).unwrap();
+            let command = self.stops.command();
+            if let Some(command) = &command {
+                osc::call(&mut self.callbacks, &mut self.screen, command);
+            }
+            // A callback may put another screen into its place.
+            is_told = !self.call_back() && command.is_none();
         }
     }
 
-    /// Calls the callbacks for what waits. Operating system commands are read whole elsewhere.
-    fn call_back(&mut self) {
+    /// Calls the callbacks for what waits, and says whether something did. Operating system commands are read whole
+    /// elsewhere.
+    fn call_back(&mut self) -> bool {
         let screen = self.screen.changed();
         let requests: Vec<Request> = screen.requests().collect();
         for request in &requests {
             self.call(request);
         }
+        !requests.is_empty()
     }
 
     fn call(&mut self, request: &Request) {
@@ -599,7 +609,11 @@ impl<CB: Callbacks> Parser<CB> {
                 text,
                 wrapped,
                 alternate,
-            } => callbacks.on_scroll(RowContents::new(text, *wrapped), *alternate),
+            } => {
+                let unread_by = std::cell::Cell::new("");
+                callbacks.on_scroll(RowContents::new(text, *wrapped, &unread_by), *alternate);
+                self.are_rows_unread |= unread_by.get() == std::any::type_name::<CB>();
+            }
             _ => {}
         }
     }
@@ -610,7 +624,7 @@ impl<CB: Callbacks> Parser<CB> {
             return self.screen.set_size(rows, cols);
         }
         let screen = self.screen.changed();
-        screen.tell(true, true);
+        screen.tell(true, !self.are_rows_unread);
         screen.resize(rows, cols).unwrap();
         self.call_back();
     }

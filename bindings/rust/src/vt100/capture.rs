@@ -2,6 +2,7 @@
 //! control characters but newlines.
 use crate::cell::{Cell, Drawing};
 use crate::sgr::{self, Runs};
+use std::cell::Cell as StdCell;
 use std::fmt::{self, Write};
 use std::num::NonZeroU16;
 
@@ -48,11 +49,23 @@ pub struct RowContents<'a> {
     /// The row as a capture of its own.
     text: &'a str,
     wrapped: bool,
+    /// The type whose callback isn't written.
+    unread_by: &'a StdCell<&'static str>,
 }
 
 impl<'a> RowContents<'a> {
-    pub(crate) fn new(text: &'a str, wrapped: bool) -> Self {
-        RowContents { text, wrapped }
+    pub(crate) fn new(text: &'a str, wrapped: bool, unread_by: &'a StdCell<&'static str>) -> Self {
+        RowContents {
+            text,
+            wrapped,
+            unread_by,
+        }
+    }
+
+    /// Says that a type doesn't write the callback.
+    #[doc(hidden)]
+    pub fn is_unread_by(&self, name: &'static str) {
+        self.unread_by.set(name);
     }
 
     /// Writes the row as the next part of a capture that has got to `state`. The only error is the writer's.
