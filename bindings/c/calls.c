@@ -86,11 +86,45 @@ static void late(void) {
     jeihpal_view_close(&view);
 }
 
+/* A terminal that was left with modes on reads a whole frame, and goes on with the client's frames. What turns modes off
+ * is xterm's private modes 9, 1000, 1002, 1003, 1005 and 1006, and DECSCUSR 0. */
+static void whole(void) {
+    jeihpal_hub hub = JEIHPAL_INIT;
+    jeihpal_view view = JEIHPAL_INIT;
+    jeihpal_look look;
+    uint8_t text[1024];
+    size_t client, length = 7;
+    CHECK(jeihpal_hub_new(&hub, 1, 20) == JEIHPAL_OK && jeihpal_view_new(&view, 1, 20) == JEIHPAL_OK);
+    CHECK(jeihpal_hub_attach(&hub, &client) == JEIHPAL_OK);
+    CHECK(jeihpal_hub_whole_frame(&hub, client, text, sizeof text, &length) == JEIHPAL_OK && length == 0);
+    CHECK(jeihpal_hub_feed(&hub, BYTES("one")) == JEIHPAL_OK);
+    CHECK(jeihpal_hub_frame(&hub, client) == JEIHPAL_FULL);
+    CHECK(jeihpal_hub_whole_frame(&hub, client, text, sizeof text, &length) == JEIHPAL_OK);
+    CHECK(is_text(text, length,
+                  "\x1b[?2026h\x1b[?9l\x1b[?1000l\x1b[?1002l\x1b[?1003l\x1b[?1005l\x1b[?1006l\x1b[0 q"
+                  "\x1b[?25h\x1b[m\x1b[H\x1b[Jone\x1b>\x1b[?1l\x1b[?2004l\x1b[?2026l"));
+    CHECK(jeihpal_view_advance(&view, BYTES("\x1b[?1002h\x1b[?1006h\x1b[4 qother")) == JEIHPAL_OK);
+    CHECK(jeihpal_view_look(&view, &look) == JEIHPAL_OK && look.mouse && look.encoding && look.style == 4);
+    CHECK(jeihpal_view_advance(&view, text, length) == JEIHPAL_OK);
+    CHECK(jeihpal_view_look(&view, &look) == JEIHPAL_OK && !look.mouse && !look.encoding && !look.style);
+    CHECK(jeihpal_hub_owed(&hub, client, text, sizeof text, &length) == JEIHPAL_OK);
+    CHECK(jeihpal_hub_sent(&hub, client, length) == JEIHPAL_OK);
+    CHECK(jeihpal_hub_feed(&hub, BYTES(" two")) == JEIHPAL_OK);
+    CHECK(jeihpal_hub_frame(&hub, client) == JEIHPAL_DIFFERENCE);
+    tried_carry(&hub, client, &view, 2);
+    CHECK(jeihpal_view_row_text(&view, 0, text, sizeof text, &length) == JEIHPAL_OK);
+    CHECK(is_text(text, length, "one two"));
+    CHECK(jeihpal_hub_whole_frame(&hub, 77, text, sizeof text, &length) == JEIHPAL_UNKNOWN_CLIENT && length == 7);
+    jeihpal_hub_close(&hub);
+    jeihpal_view_close(&view);
+}
+
 static void other_answers(void) {
     jeihpal_hub hub = JEIHPAL_INIT;
     jeihpal_look look;
     char cell[64];
-    size_t client;
+    uint8_t text[64];
+    size_t client, other, length;
     CHECK(jeihpal_hub_new(&hub, 300, 300) == JEIHPAL_OK && jeihpal_hub_attach(&hub, &client) == JEIHPAL_OK);
     CHECK(jeihpal_hub_feed(&hub, BYTES("\x1b[?2026hx")) == JEIHPAL_OK);
     CHECK(jeihpal_hub_frame(&hub, client) == JEIHPAL_HELD);
@@ -103,13 +137,23 @@ static void other_answers(void) {
     CHECK(jeihpal_hub_feed(&hub, BYTES("\xe2\x9d\xa4\xef\xb8\x8f")) == JEIHPAL_OK);
     CHECK(jeihpal_hub_frame(&hub, client) == JEIHPAL_UNSURE);
     CHECK(jeihpal_hub_feed(&hub, BYTES("\x1b[H\x1b[2J")) == JEIHPAL_OK);
+    CHECK(jeihpal_hub_attach(&hub, &other) == JEIHPAL_OK);
     for (int i = 0; i < 300 * 300; i++) {
         int count = snprintf(cell, sizeof cell, "\x1b[38;2;%d;200;200;48;2;%d;100;%dmx", 100 + i % 100,
                              100 + i % 99, 100 + i % 98);
         CHECK(jeihpal_hub_feed(&hub, (const uint8_t *)cell, (size_t)count) == JEIHPAL_OK);
+        if (i % 9000) continue;
+        CHECK(jeihpal_hub_frame(&hub, other) >= JEIHPAL_FULL);
+        CHECK(jeihpal_hub_owed(&hub, other, text, sizeof text, &length) == JEIHPAL_OK);
+        CHECK(jeihpal_hub_sent(&hub, other, length) == JEIHPAL_OK);
     }
     CHECK(jeihpal_hub_attach(&hub, &client) == JEIHPAL_OK);
     CHECK(jeihpal_hub_frame(&hub, client) == JEIHPAL_TOO_LONG);
+    CHECK(jeihpal_hub_whole_frame(&hub, client, text, sizeof text, &length) == JEIHPAL_OK && length == 0);
+    /* The frames of the other client were short, but not what draws all of it. */
+    CHECK(jeihpal_hub_redraw(&hub, other, text, sizeof text, &length) == JEIHPAL_TOO_LONG && length == 0);
+    length = 7;
+    CHECK(jeihpal_hub_whole_frame(&hub, other, text, sizeof text, &length) == JEIHPAL_TOO_LONG && length == 0);
     jeihpal_hub_close(&hub);
 }
 
@@ -483,6 +527,7 @@ int main(int count, char **words) {
     codes_of_words();
     frames();
     late();
+    whole();
     other_answers();
     view_cells();
     screens();

@@ -38,6 +38,17 @@ static void late() {
     CHECK(view.row_text(0) == "one two");
 }
 
+static void whole() {
+    jeihpal::hub hub(1, 20);
+    jeihpal::view view(1, 20);
+    size_t client = hub.attach();
+    hub.feed("one");
+    CHECK(hub.whole_frame(client)->empty() && hub.frame(client) == JEIHPAL_FULL);
+    view.advance("\x1b[?1002h\x1b[4 qother");
+    view.advance(*hub.whole_frame(client));
+    CHECK(view.row_text(0) == "one" && view.look().mouse == JEIHPAL_MOUSE_NONE && view.look().style == 0);
+}
+
 static void screens() {
     jeihpal::screen screen(2, 5, 3);
     screen.process("a\r\nb\r\nc\x1b]2;title\a");
@@ -96,6 +107,7 @@ int main() {
     CHECK(jeihpal_runs_here());
     frames();
     late();
+    whole();
     screens();
     recordings();
     filters();

@@ -62,6 +62,7 @@ static void use_hub(jeihpal_hub *hub, jeihpal_view *view) {
         if (view->held) CHECK(jeihpal_view_advance(view, to, length) == JEIHPAL_OK);
         CHECK(jeihpal_hub_sent(hub, client, length) == JEIHPAL_OK);
         noted(jeihpal_hub_redraw(hub, client, to, sizeof to, &length));
+        noted(jeihpal_hub_whole_frame(hub, client, to, sizeof to, &length));
         noted(jeihpal_hub_fork(hub, client, &client));
     }
     noted(jeihpal_hub_contents(hub, to, sizeof to, &length));

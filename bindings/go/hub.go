@@ -117,6 +117,20 @@ func (h *Hub) Redraw(client Client) ([]byte, error) {
 	return text, nil
 }
 
+// WholeFrame is a frame for a stream that several terminals read. It draws what Redraw does on any terminal of the
+// screen's size, whatever frames it has read: the redraw, with what turns off the mouse's modes and encodings and the
+// cursor's style at its front. Before the client's first frame it is empty. It is nil, without an error, where it is
+// longer than a terminal buffers.
+func (h *Hub) WholeFrame(client Client) ([]byte, error) {
+	text, answer, err := h.text(func(w *word, to *C.uint8_t, capacity C.size_t, length *C.size_t) C.int32_t {
+		return C.jeihpal_hub_whole_frame(w, C.size_t(client), to, capacity, length)
+	})
+	if answer != C.JEIHPAL_OK {
+		return nil, err
+	}
+	return text, nil
+}
+
 // Sent says that the first count bytes of what the client is owed were sent. They are owed no longer.
 func (h *Hub) Sent(client Client, count int) error {
 	return h.act(func(w *word) C.int32_t { return C.jeihpal_hub_sent(w, C.size_t(client), C.size_t(count)) })

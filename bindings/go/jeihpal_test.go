@@ -75,6 +75,36 @@ func TestLateTerminalGoesOn(t *testing.T) {
 	}
 }
 
+func TestWholeFrameTurnsModesOff(t *testing.T) {
+	hub, err := NewHub(1, 20)
+	must(t, err)
+	client, err := hub.Attach()
+	must(t, err)
+	whole, err := hub.WholeFrame(client)
+	if err != nil || whole == nil || len(whole) != 0 {
+		t.Fatal(whole, err)
+	}
+	fmt.Fprint(hub, "one")
+	if answer, err := hub.Frame(client); err != nil || answer != Full {
+		t.Fatal(answer, err)
+	}
+	view, err := NewView(1, 20)
+	must(t, err)
+	fmt.Fprint(view, "\x1b[?1002h\x1b[?1006h\x1b[4 qother")
+	whole, err = hub.WholeFrame(client)
+	must(t, err)
+	view.Write(whole)
+	if text, err := view.RowText(0); err != nil || text != "one" {
+		t.Fatal(text, err)
+	}
+	if look, err := view.Look(); err != nil || look.Mouse != 0 || look.Style != 0 {
+		t.Fatal(look, err)
+	}
+	if _, err := hub.WholeFrame(77); !errors.Is(err, ErrUnknownClient) {
+		t.Fatal(err)
+	}
+}
+
 func TestCells(t *testing.T) {
 	screen, err := NewScreen(2, 4, 9)
 	must(t, err)

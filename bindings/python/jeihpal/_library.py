@@ -114,6 +114,7 @@ PARAMETERS: dict[str, list[Any]] = {
     "hub_frame": [_SIZE],
     "hub_owed": [_SIZE, *_TEXT],
     "hub_redraw": [_SIZE, *_TEXT],
+    "hub_whole_frame": [_SIZE, *_TEXT],
     "hub_sent": [_SIZE, _SIZE],
     "hub_look": _LOOK,
     "hub_cell": _CELL,

@@ -58,6 +58,29 @@ class Hubs(unittest.TestCase):
                 with self.assertRaises(UnknownClient):
                     late(fork)
 
+    def test_a_whole_frame_turns_modes_off(self):
+        with Hub(1, 20) as hub, View(1, 20) as view:
+            client = hub.attach()
+            self.assertEqual(hub.whole_frame(client), b"")
+            hub.feed(b"one")
+            hub.frame(client)
+            hub.sent(client, len(hub.owed(client)))
+            # xterm's private modes 9, 1000, 1002, 1003, 1005 and 1006, and DECSCUSR 0, behind the start mark.
+            off = b"".join(b"\x1b[?%dl" % mode for mode in (9, 1000, 1002, 1003, 1005, 1006)) + b"\x1b[0 q"
+            start, redraw = b"\x1b[?2026h", hub.redraw(client)
+            self.assertEqual(hub.whole_frame(client), start + off + redraw[len(start) :])
+            view.advance(b"\x1b[?1003h\x1b[?1005h\x1b[4 qother")
+            view.advance(hub.whole_frame(client))
+            look = view.look()
+            self.assertEqual((view.text(), look.mouse, look.encoding, look.style), ("one", 0, 0, 0))
+            hub.feed(b" two")
+            self.assertIs(hub.frame(client), Answer.DIFFERENCE)
+            carry(hub, client, view, 5)
+            self.assertEqual(view.text(), "one two")
+            hub.detach(client)
+            with self.assertRaises(UnknownClient):
+                hub.whole_frame(client)
+
     def test_a_frame_byte_for_byte(self):
         with Hub(1, 20) as hub:
             client = hub.attach()

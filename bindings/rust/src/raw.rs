@@ -135,6 +135,13 @@ extern "C" {
         capacity: usize,
         length: *mut usize,
     ) -> i32;
+    pub(crate) fn jeihpal_hub_whole_frame(
+        hub: *mut Word,
+        client: usize,
+        to: *mut u8,
+        capacity: usize,
+        length: *mut usize,
+    ) -> i32;
     pub(crate) fn jeihpal_hub_sent(hub: *mut Word, client: usize, count: usize) -> i32;
     pub(crate) fn jeihpal_hub_look(hub: *mut Word, look: *mut RawLook) -> i32;
     pub(crate) fn jeihpal_hub_cell(hub: *mut Word, row: u16, col: u16, cell: *mut RawCell) -> i32;

@@ -62,6 +62,26 @@ fn a_late_terminal_goes_on() {
     assert_eq!(hub.fork(fork), Err(Error::UnknownClient));
 }
 
+/// A terminal that was left with modes on reads a whole frame, and goes on with the client's frames.
+#[test]
+fn a_whole_frame_turns_modes_off() {
+    let (mut hub, mut view, client) = pair(1, 20);
+    assert_eq!(hub.whole_frame(client), Ok(Some(Vec::new())));
+    hub.write_all(b"one").unwrap();
+    hub.frame(client).unwrap();
+    hub.sent(client, hub.owed(client).unwrap().len()).unwrap();
+    view.advance(b"\x1b[?1002h\x1b[?1006h\x1b[4 qother");
+    view.advance(&hub.whole_frame(client).unwrap().unwrap());
+    assert_eq!(view.row_text(0).unwrap(), "one");
+    assert_eq!(view.look().mouse_protocol_mode, MouseProtocolMode::None);
+    hub.write_all(b" two").unwrap();
+    assert_eq!(hub.frame(client), Ok(Answer::Difference));
+    view.advance(&hub.owed(client).unwrap());
+    assert_eq!(view.row_text(0).unwrap(), "one two");
+    hub.detach(client).unwrap();
+    assert_eq!(hub.whole_frame(client), Err(Error::UnknownClient));
+}
+
 /// Takes so many bytes in all, and then is at fault.
 struct Narrow(usize);
 
