@@ -22,9 +22,6 @@ TOKEN_SECONDS = 10.0  # that somebody may take to say the token
 _MOST_LINE = 256  # bytes of the line in which it is said
 MOST_SENT = 16384  # bytes that a watcher may send in a second, as reports of the mouse; they are thrown away
 _LEAVES = (b"\x03", b"\x04")  # Ctrl-C and Ctrl-D
-_START = b"\x1b[?2026h"  # of a frame
-# A redraw is for a fresh terminal. It says nothing of these where they are off.
-_OFF = b"\x1b[?9;1000;1002;1003;1005;1006l\x1b[0 q"
 # Mouse, paste, keypad and cursor keys as in a fresh terminal, a visible cursor, and no colours.
 _FAREWELL = b"\x1b[?9;1000;1002;1003;1005;1006;2004;1l\x1b>\x1b[?25h\x1b[m"
 
@@ -36,7 +33,6 @@ class Watcher(Connection):
         super().__init__(loop, sock, watchers)
         self._watchers = watchers
         self._second, self._sent = 0, 0
-        self.is_fresh = True
 
     def heard(self, data: bytes) -> None:
         """Nothing that a watcher sends goes anywhere. It may leave."""
@@ -53,7 +49,7 @@ class Watcher(Connection):
 class Watchers(Crowd):
     """All terminals, at one listening socket. The frames of one client of the hub go to each that is level.
 
-    Who comes, or has fallen behind, begins with this client's redraw: it leads to where the others are.
+    Who comes, or has fallen behind, begins with this client's whole frame: it leads to where the others are.
     """
 
     def __init__(self, screen: SharedScreen, most: int, token: Token, notices: Notices) -> None:
@@ -62,7 +58,7 @@ class Watchers(Crowd):
         self._token = token
         self._tasks: set[asyncio.Task[None] | None] = set()  # of those that have still to say the token
         self._client: int | None = None
-        self._redraw = b""  # the client's, where it was wanted since its last frame
+        self._whole = b""  # the client's whole frame, where it was wanted since its last frame
         self._is_current = False  # the client was asked for a frame when the screen was shown last
         self._door: Door | None = None
         screen.add(self)
@@ -103,18 +99,18 @@ class Watchers(Crowd):
         return re.split(rb"[\r\n]", data)[0]
 
     def show(self) -> None:
-        """Sends the next frame to each that is level, and the redraw to each other that can take it."""
+        """Sends the next frame to each that is level, and the whole frame to each other that can take it."""
         self._is_current = len(self) > 0
         if not self._is_current:
             return
         self._try(self._send_frame)
         if self.is_lead_wanted:
-            self._try(self._make_redraw)
-        if self._redraw:
+            self._try(self._make_whole)
+        if self._whole:
             self.lift()
 
     def _try(self, make: Callable[[], None]) -> None:
-        """Makes a frame or a redraw, or says why there is none."""
+        """Makes a frame, or says why there is none."""
         try:
             make()
         except MemoryError:
@@ -134,17 +130,17 @@ class Watchers(Crowd):
         if answer.is_frame:
             frame = hub.owed(self._client)
             hub.sent(self._client, len(frame))
-            self._redraw = b""
+            self._whole = b""
             self.give(frame)
 
-    def _make_redraw(self) -> None:
-        """Makes what draws on a fresh terminal what the shared client has been sent. Raises OverflowError as above."""
-        if self._client is None or self._redraw:
+    def _make_whole(self) -> None:
+        """Makes what draws on any terminal what the shared client has been sent. Raises OverflowError as above."""
+        if self._client is None or self._whole:
             return
-        redraw = self._screen.hub.redraw(self._client)
-        if redraw is None:
+        whole = self._screen.hub.whole_frame(self._client)
+        if whole is None:
             raise OverflowError
-        self._redraw = redraw
+        self._whole = whole
 
     def _begin_anew(self) -> None:
         """Takes another client in place of the shared one."""
@@ -153,21 +149,18 @@ class Watchers(Crowd):
         self.detach()
 
     def lead(self, connection: Connection) -> bytes:
-        """The redraw; nothing where the shared client is behind the screen that is shown, or where there is none."""
-        assert isinstance(connection, Watcher)
+        """The whole frame; nothing where the shared client is behind the screen that is shown, or has had no frame."""
         if self._is_current:
-            self._try(self._make_redraw)
-        is_fresh, redraw = connection.is_fresh, self._redraw
-        connection.is_fresh = is_fresh and not redraw
-        return redraw if is_fresh or not redraw else _START + _OFF + redraw[len(_START) :]
+            self._try(self._make_whole)
+        return self._whole
 
     def make_lead(self) -> None:
-        """The shared client is asked for a frame when the screen is shown next, and there is a redraw of it."""
+        """The shared client is asked for a frame when the screen is shown next, and there is a whole frame of it."""
         self._screen.show_soon()
 
     def detach(self) -> None:
-        """The client ends: each watcher gets a redraw next."""
-        self._client, self._redraw = None, b""
+        """The client ends: each watcher gets a whole frame next."""
+        self._client, self._whole = None, b""
         self.fall_behind()
 
     def end(self) -> None:

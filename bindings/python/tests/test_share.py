@@ -21,7 +21,7 @@ import time
 import unittest
 
 from . import sharing
-from .sharing import START, Shared, Watching, processor_seconds, wait_for
+from .sharing import WHOLE, Shared, Watching, processor_seconds, wait_for
 
 BUSY = r"""
 import sys, time
@@ -53,7 +53,7 @@ class Watchers(unittest.TestCase):
             self.assertEqual(shared.end(), 0)
             for watcher in (quick, slow):
                 self.assertEqual(watcher.view.text().strip(), "the end")
-                self.assertTrue(watcher.data.startswith(START + b"\x1b[?25h\x1b[m\x1b[H\x1b[J"))
+                self.assertTrue(watcher.data.startswith(WHOLE + b"\x1b[?25h\x1b[m\x1b[H\x1b[J"))
             self.assertLess(slow.frames() + 30, quick.frames())  # it has skipped what came meanwhile
 
     def test_one_that_comes_back_gets_all(self):
