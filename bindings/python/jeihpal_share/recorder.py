@@ -19,6 +19,7 @@ class Recorder:
     def __init__(self, screen: SharedScreen, file: TextIO, command: list[str], notices: Notices) -> None:
         self._screen, self._file, self._notices = screen, file, notices
         self._client: int | None = None
+        self._begins = True  # the client has had no frame
         self._size, self._last = screen.size, screen.loop.time()
         rows, cols = self._size
         head: dict[str, object] = {"version": 3, "term": {"cols": cols, "rows": rows}}
@@ -39,6 +40,7 @@ class Recorder:
             self._event("o", frame.decode("utf-8", "replace"))
 
     def _frame(self) -> bytes:
+        """The next frame. A client begins with a whole one: a terminal may have modes on from the client before."""
         hub = self._screen.hub
         if self._client is None:
             self._client = hub.attach()
@@ -47,11 +49,14 @@ class Recorder:
             self._notices.say("a frame wasn't recorded: it would be longer than 2 MB")
         frame = hub.owed(self._client) if answer.is_frame else b""
         hub.sent(self._client, len(frame))
+        if frame and self._begins:
+            frame = hub.whole_frame(self._client) or frame
+            self._begins = False
         return frame
 
     def detach(self) -> None:
         """The client ends: a whole frame follows."""
-        self._client = None
+        self._client, self._begins = None, True
 
     def end(self, status: int) -> None:
         """The command has ended, and its last screen was shown."""

@@ -2,14 +2,20 @@
 
 from __future__ import annotations
 
+import asyncio
+import contextlib
+import io
 import json
 import os
 import sys
 import tempfile
 import unittest
 
-from jeihpal import Screen
+from jeihpal import Mouse, Screen
 from jeihpal.testing import Terminal
+from jeihpal_share.notices import Notices
+from jeihpal_share.recorder import Recorder
+from jeihpal_share.screen import SharedScreen
 
 from .sharing import PYTHON
 
@@ -57,6 +63,23 @@ class Recording(unittest.TestCase):
             self.assertTrue(screen.row_text(0).startswith("two"))
         self.assertTrue(any(text.startswith("one") for text in seen))
         self.assertFalse(any("half" in text for text in seen))
+
+    def test_modes_that_end_with_a_size(self):
+        """A mode that was off before it was shown so, when a client ended, is off for who plays it."""
+        with contextlib.closing(asyncio.new_event_loop()) as loop, io.StringIO() as file:
+            notices = Notices(False)
+            screen = SharedScreen(loop, (2, 20), 30.0, notices)
+            Recorder(screen, file, ["true"], notices)
+            screen.feed(b"on\x1b[?1000h\x1b[4 q")
+            screen.show()
+            screen.feed(b"\roff\x1b[?1000l\x1b[0 q")
+            screen.resize(2, 20)
+            events = [json.loads(line) for line in file.getvalue().splitlines()[1:]]
+        with Screen(2, 20) as played:
+            played.process(events[0][2].encode())
+            self.assertEqual((played.contents(), played.look().mouse, played.look().style), ("on", Mouse.PRESS_RELEASE, 4))
+            played.process(events[1][2].encode())
+            self.assertEqual((played.contents(), played.look().mouse, played.look().style), ("off", Mouse.NONE, 0))
 
     def test_a_file_that_cannot_be_made(self):
         words = [sys.executable, "-m", "jeihpal_share", "--record", "/no/such/folder/a.cast", "--", "true"]
