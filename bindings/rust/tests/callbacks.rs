@@ -191,3 +191,34 @@ fn rows_of_captures() {
     assert_eq!(rows, ["米米", "a\x1b[31m米e\u{301}", "b", "", "c"]);
     assert_eq!(basic_formatted_rows("", 4).collect::<Vec<_>>(), [""]);
 }
+
+/// Hands rows on to other callbacks, and counts them.
+struct Counted<T> {
+    rows: usize,
+    others: T,
+}
+
+impl<T: Callbacks> Callbacks for Counted<T> {
+    fn on_scroll(&mut self, contents: RowContents<'_>, alternate_screen: bool) {
+        self.rows += 1;
+        self.others.on_scroll(contents, alternate_screen);
+    }
+}
+
+struct Quiet;
+
+impl Callbacks for Quiet {}
+
+#[test]
+fn rows_are_told_though_others_do_not_read_them() {
+    let callbacks = Counted {
+        rows: 0,
+        others: Quiet,
+    };
+    let mut parser = Parser::new_with_callbacks(size(2), size(5), 0, callbacks);
+    (0..100).for_each(|_| parser.process(b"\n"));
+    assert_eq!(parser.callbacks().rows, 99);
+    let mut parser = Parser::new_with_callbacks(size(2), size(5), 0, Quiet);
+    (0..100).for_each(|_| parser.process(b"a\r\n"));
+    assert_eq!(parser.screen().contents(), "a");
+}
