@@ -86,8 +86,8 @@ static void late(void) {
     jeihpal_view_close(&view);
 }
 
-/* A terminal that was left with modes on reads a whole frame, and goes on with the client's frames. What turns modes off
- * is xterm's private modes 9, 1000, 1002, 1003, 1005 and 1006, and DECSCUSR 0. */
+/* A terminal that was left with modes on reads a whole frame, and goes on with the client's frames. What turns modes
+ * off is xterm's private modes 9, 1000, 1002, 1003, 1005 and 1006, and DECSCUSR 0. */
 static void whole(void) {
     jeihpal_hub hub = JEIHPAL_INIT;
     jeihpal_view view = JEIHPAL_INIT;

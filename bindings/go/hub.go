@@ -119,8 +119,8 @@ func (h *Hub) Redraw(client Client) ([]byte, error) {
 
 // WholeFrame is a frame for a stream that several terminals read. It draws what Redraw does on any terminal of the
 // screen's size, whatever frames it has read: the redraw, with what turns off the mouse's modes and encodings and the
-// cursor's style at its front. Before the client's first frame it is empty. It is nil, without an error, where it is
-// longer than a terminal buffers.
+// cursor's style behind its start mark. Before the client's first frame it is empty. It is nil, without an error, where
+// it is longer than a terminal buffers.
 func (h *Hub) WholeFrame(client Client) ([]byte, error) {
 	text, answer, err := h.text(func(w *word, to *C.uint8_t, capacity C.size_t, length *C.size_t) C.int32_t {
 		return C.jeihpal_hub_whole_frame(w, C.size_t(client), to, capacity, length)

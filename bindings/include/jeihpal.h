@@ -230,11 +230,11 @@ int32_t jeihpal_hub_sent(jeihpal_hub *hub, size_t client, size_t count);
 int32_t jeihpal_hub_redraw(jeihpal_hub *hub, size_t client, uint8_t *to, size_t capacity, size_t *length);
 
 /* A whole frame, for a stream that several terminals read: the bytes that draw what the client shows once it has read
- * all its frames, on any terminal of the screen's size, whatever frames it has read. They are the redraw, with what turns
- * off the mouse's modes and encodings and the cursor's style at its front. A terminal that has read the client's frames so
- * far shows the same after it. All go on with the client's later frames. Where there is none *length is 0. The answer
- * JEIHPAL_OK: the client has had no frame. JEIHPAL_TOO_LONG: there would be more than 2,097,150 bytes. UNKNOWN_CLIENT,
- * FAILED, MEMORY. */
+ * all its frames, on any terminal of the screen's size, whatever frames it has read. They are the redraw, with what
+ * turns off the mouse's modes and encodings and the cursor's style behind its start mark. A terminal that has read the
+ * client's frames so far shows the same after it. All go on with the client's later frames. Where there is none *length
+ * is 0. The answer is then JEIHPAL_OK if the client has had no frame, and JEIHPAL_TOO_LONG if there would be more than
+ * 2,097,150 bytes. UNKNOWN_CLIENT, FAILED, MEMORY. */
 int32_t jeihpal_hub_whole_frame(jeihpal_hub *hub, size_t client, uint8_t *to, size_t capacity, size_t *length);
 
 /* The size, the cursor and the modes of the program's screen. */

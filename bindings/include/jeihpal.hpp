@@ -190,8 +190,8 @@ public:
         if (answer != JEIHPAL_OK) return std::nullopt;
         return text;
     }
-    // A redraw for any terminal of this size, whatever frames it has read. Empty where the client has had no frame. None
-    // where it is longer than a terminal buffers.
+    // A redraw for any terminal of this size, whatever frames it has read. Empty where the client has had no frame.
+    // None where it is longer than a terminal buffers.
     std::optional<std::string> whole_frame(size_t client) const {
         int32_t answer = JEIHPAL_OK;
         std::string text = detail::whole([&](uint8_t *to, size_t room, size_t *length) {

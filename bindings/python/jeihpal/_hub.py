@@ -98,9 +98,9 @@ class Hub(Shown):
     def whole_frame(self, client: int) -> bytes | None:
         """What draws what the client shows, as `redraw`, on any terminal, whatever frames it has read.
 
-        It is the redraw, with what turns off the mouse's modes and encodings and the cursor's style at its front. So a
-        stream that several terminals read can have it anywhere. Before the first frame it is empty. None where it is
-        longer than a terminal buffers.
+        It is the redraw, with what turns off the mouse's modes and encodings and the cursor's style behind its start
+        mark. So a stream that several terminals read can have it anywhere. Before the first frame it is empty. None
+        where it is longer than a terminal buffers.
         """
         answer, text = self._answered("whole_frame", checked_count(client))
         return None if answer else text

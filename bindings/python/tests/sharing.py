@@ -17,8 +17,8 @@ from jeihpal import View
 PYTHON = os.path.dirname(os.path.dirname(os.path.abspath(__file__)))
 START = b"\x1b[?2026h"
 END = b"\x1b[?2026l"
-# What a whole frame begins with: behind its start mark each mouse mode and encoding is turned off, as xterm numbers them,
-# and the cursor's style (DECSCUSR).
+# What a whole frame begins with: behind its start mark each mouse mode and encoding is turned off, as xterm numbers
+# them, and the cursor's style (DECSCUSR).
 WHOLE = START + b"".join(b"\x1b[?%dl" % mode for mode in (9, 1000, 1002, 1003, 1005, 1006)) + b"\x1b[0 q"
 
 

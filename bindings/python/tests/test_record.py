@@ -76,10 +76,11 @@ class Recording(unittest.TestCase):
             screen.resize(2, 20)
             events = [json.loads(line) for line in file.getvalue().splitlines()[1:]]
         with Screen(2, 20) as played:
-            played.process(events[0][2].encode())
-            self.assertEqual((played.contents(), played.look().mouse, played.look().style), ("on", Mouse.PRESS_RELEASE, 4))
-            played.process(events[1][2].encode())
-            self.assertEqual((played.contents(), played.look().mouse, played.look().style), ("off", Mouse.NONE, 0))
+            for event, *want in zip(events, ("on", "off"), (Mouse.PRESS_RELEASE, Mouse.NONE), (4, 0)):
+                played.process(event[2].encode())
+                look = played.look()
+                self.assertEqual([played.contents(), look.mouse, look.style], want)
+            self.assertEqual(len(events), 2)
 
     def test_a_file_that_cannot_be_made(self):
         words = [sys.executable, "-m", "jeihpal_share", "--record", "/no/such/folder/a.cast", "--", "true"]

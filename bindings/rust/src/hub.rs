@@ -170,13 +170,13 @@ impl Hub {
         Ok((answer == 0).then_some(text))
     }
 
-    /// A frame for a stream that several terminals read: what draws, on any terminal of the screen's size, whatever frames
-    /// it has read, what the client shows once it has read all its frames.
+    /// A frame for a stream that several terminals read: what draws, on any terminal of the screen's size, whatever
+    /// frames it has read, what the client shows once it has read all its frames.
     ///
-    /// It is the [`redraw`](Self::redraw), with what turns off the mouse's modes and encodings and the cursor's style at its
-    /// front. A terminal that has read the client's frames so far shows the same after it. All go on with the client's
-    /// later frames. Empty where the client has had no frame: there is no whole frame then. `None` where it is longer than
-    /// a terminal buffers.
+    /// It is the [`redraw`](Self::redraw), with what turns off the mouse's modes and encodings and the cursor's style
+    /// behind its start mark. A terminal that has read the client's frames so far shows the same after it. All go on
+    /// with the client's later frames. Before the client's first frame there is none, and the text is empty. `None`
+    /// where it is longer than a terminal buffers.
     pub fn whole_frame(&self, client: Client) -> Result<Option<Vec<u8>>> {
         let mut answer = 0;
         let text = self.object.bytes(|word, to, room, length| {
