@@ -8,6 +8,7 @@ mod drawing;
 mod events;
 mod log;
 mod player;
+mod processors;
 mod runs;
 mod states;
 mod text;

@@ -101,11 +101,23 @@ impl GridStage {
         }
         if move_cursor(&mut self.grid, name, words)
             || edit(&mut self.grid, name, words, &mut self.gone)
-            || write(alloc, &self.grid, &self.earlier, name, words, answer)?
         {
             return Ok(());
         }
-        tell(&self.grid, self.gone.rows, name, words, answer);
+        self.tell(alloc, name, words, answer)
+    }
+
+    /// Takes a step that changes nothing.
+    fn tell(
+        &self,
+        alloc: Global,
+        name: &str,
+        words: &mut Words<'_>,
+        answer: &mut Answer,
+    ) -> Result<(), StepError> {
+        if !write(alloc, &self.grid, &self.earlier, name, words, answer)? {
+            tell(&self.grid, self.gone.rows, name, words, answer);
+        }
         Ok(())
     }
 }

@@ -75,7 +75,11 @@ pub fn tell_change(alloc: Global, change: &Change, answer: &mut Answer) -> Resul
 /// The attributes that are named, in the order of the words: both colours, the intensity, and whether text is in
 /// italics, underlined and inverse. What is `-` isn't named.
 pub fn named_attributes(words: &mut Words<'_>) -> term::Attrs {
-    let mut attrs = term::Attrs::default();
+    let attrs = named_colors(term::Attrs::default(), words);
+    named_switches(attrs, words)
+}
+
+fn named_colors(mut attrs: term::Attrs, words: &mut Words<'_>) -> term::Attrs {
     if let Some(word) = named(words) {
         attrs = attrs.fgcolor(color_of(words, word));
     }
@@ -85,6 +89,10 @@ pub fn named_attributes(words: &mut Words<'_>) -> term::Attrs {
     if let Some(word) = named(words) {
         attrs = attrs.intensity(intensity_of(words, word));
     }
+    attrs
+}
+
+fn named_switches(mut attrs: term::Attrs, words: &mut Words<'_>) -> term::Attrs {
     if let Some(word) = named(words) {
         attrs = attrs.italic(switch_of(words, word));
     }

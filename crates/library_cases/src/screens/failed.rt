@@ -2,6 +2,7 @@
 use crate::screens::answers::check;
 use crate::screens::copies::check_copy;
 use crate::screens::log::Log;
+use crate::screens::stage::process;
 use crate::screens::states::places;
 use case_player::StepError;
 use std::alloc::Global;
@@ -43,8 +44,8 @@ pub fn check_screen(alloc: Global, screen: &mut Screen) -> Result<(), StepError>
 pub fn check_parser(alloc: Global, parser: &mut Parser<Log>) -> Result<(), StepError> {
     let before = places(parser.screen());
     let answers = [
-        parser.process(b"\x1bc"),
-        parser.process(b""),
+        process(parser, b"\x1bc"),
+        process(parser, b""),
         parser.set_size(NonZeroU16::MIN, NonZeroU16::MIN),
     ];
     let is_same = places(parser.screen()) == before;

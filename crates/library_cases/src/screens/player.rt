@@ -28,6 +28,13 @@ impl ScreenPlayer {
         }
     }
 
+    /// A stage is made.
+    fn renew(&mut self, words: &mut Words<'_>) -> Result<(), StepError> {
+        let stage = Stage::new(self.alloc, words)?;
+        self.stage = Some(stage);
+        Ok(())
+    }
+
     /// Takes a step that needs no screen.
     fn take_alone(
         &mut self,
@@ -36,12 +43,12 @@ impl ScreenPlayer {
         answer: &mut Answer,
     ) -> Result<(), StepError> {
         match name {
-            "new" => self.stage = Some(Stage::new(self.alloc, words)?),
-            "form" => tell_form(self.alloc, words, answer)?,
+            "new" => return self.renew(words),
+            "form" => return tell_form(self.alloc, words, answer),
             "from" => self.old = attributes(words),
             "to" => {
                 let (old, new) = (self.old, attributes(words));
-                tell_change(self.alloc, &Change { old, new }, answer)?;
+                return tell_change(self.alloc, &Change { old, new }, answer);
             }
             _ => read_capture(name, words, answer),
         }
@@ -61,12 +68,23 @@ impl ScreenPlayer {
         words: &mut Words<'_>,
         answer: &mut Answer,
     ) -> Result<(), StepError> {
-        match (name, &mut self.stage) {
-            ("new" | "form" | "from" | "to" | "cut" | "plain" | "pieces", _) => {
+        match name {
+            "new" | "form" | "from" | "to" | "cut" | "plain" | "pieces" => {
                 self.take_alone(name, words, answer)
             }
-            (_, Some(stage)) => take_on_stage(self.alloc, stage, name, words, answer),
-            (_, None) => Err(StepError::Wrong("no step new stands before this step")),
+            _ => self.take_on_screen(name, words, answer),
+        }
+    }
+
+    fn take_on_screen(
+        &mut self,
+        name: &str,
+        words: &mut Words<'_>,
+        answer: &mut Answer,
+    ) -> Result<(), StepError> {
+        match &mut self.stage {
+            Some(stage) => take_on_stage(self.alloc, stage, name, words, answer),
+            None => Err(StepError::Wrong("no step new stands before this step")),
         }
     }
 }
@@ -88,6 +106,19 @@ fn take_on_stage(
         }
         "call" => stage.call(alloc, words),
         "copy" | "redraw" => stage.check(alloc, name),
+        _ => tell_on_stage(alloc, stage, name, words, answer),
+    }
+}
+
+/// Takes a step that tells of a stage.
+fn tell_on_stage(
+    alloc: Global,
+    stage: &mut Stage,
+    name: &str,
+    words: &mut Words<'_>,
+    answer: &mut Answer,
+) -> Result<(), StepError> {
+    match name {
         "calls" => tell_calls(&mut stage.parser, answer),
         "captured" => tell_capture(alloc, &stage.parser, false, answer),
         "capture" => tell_capture(alloc, &stage.parser, true, answer),

@@ -6,7 +6,7 @@ use crate::screens::log::Log;
 use crate::screens::states::{check_bounds, places};
 use case_player::{StepError, Words};
 use std::alloc::Global;
-use vt100::{Parser, Screen, ScreenError, WrappedScreen};
+use vt100::{Callbacks, Parser, Screen, ScreenError, WrappedScreen};
 
 /// The longest text of a cell: 21 bytes.
 const CELL: &str = "e\u{E0100}\u{E0100}\u{E0100}\u{E0100}\u{E0100}";
@@ -70,7 +70,7 @@ impl Stage {
     /// Feeds bytes. The screen keeps its size and its capacity where they are refused, unless a size was granted.
     fn feed(&mut self, alloc: Global, stream: &[u8]) -> Result<(), StepError> {
         let (size, _, _) = places(self.parser.screen());
-        let answer = self.parser.process(stream);
+        let answer = process(&mut self.parser, stream);
         if answer.is_err() && !self.parser.callbacks().is_resized {
             check_bounds(self.parser.screen(), size, self.capacity)?;
         }
@@ -79,7 +79,7 @@ impl Stage {
 
     /// Feeds what takes no memory.
     fn print(&mut self, stream: &[u8]) -> Result<(), StepError> {
-        let answer = self.parser.process(stream);
+        let answer = process(&mut self.parser, stream);
         check(answer.is_ok(), "memory was asked for")
     }
 
@@ -156,6 +156,11 @@ impl Stage {
     }
 }
 
+/// A parser reads bytes. A call of it is proved against all that it has read before, so all steps share this one.
+pub fn process<CB: Callbacks>(parser: &mut Parser<CB>, bytes: &[u8]) -> Result<(), ScreenError> {
+    parser.process(bytes)
+}
+
 /// A new parser draws the screen. Nothing differs then.
 fn check_redraw(alloc: Global, screen: &Screen) -> Result<(), StepError> {
     let (rows, cols) = screen.size();
@@ -165,7 +170,7 @@ fn check_redraw(alloc: Global, screen: &Screen) -> Result<(), StepError> {
 
 fn check_drawn(screen: &Screen, again: &mut Parser<()>) -> Result<(), StepError> {
     let state = screen.state_formatted().map_err(refused)?;
-    again.process(state.as_bytes()).map_err(refused)?;
+    process(again, state.as_bytes()).map_err(refused)?;
     let difference = again.screen().state_diff(screen).map_err(refused)?;
     check(difference.is_empty(), "the screen is drawn otherwise")
 }

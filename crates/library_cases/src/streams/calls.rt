@@ -4,6 +4,7 @@ ghost use Rattle.std.specs.Prelude.{⊤};
 
 use crate::streams::cuts::{Reader, tell_cut};
 use crate::streams::log::{Log, Until};
+use crate::streams::processors::{self, advance, stop};
 use case_player::{Answer, StepError, Words};
 use std::alloc::Global;
 use std::time::Duration;
@@ -42,12 +43,7 @@ fn new_processor(alloc: Global) -> Result<Processor, StepError> {
         pending: false,
         sets: 0,
     };
-    ansi::Processor::new(alloc, timeout).map_err(|_| StepError::Memory)
-}
-
-// Hands a piece to a processor. The log writes down the calls.
-fn advance(processor: &mut Processor, log: &mut Log, piece: &[u8]) {
-    processor.advance(&mut log.calls, piece);
+    processors::new_processor(alloc, timeout)
 }
 
 /// Processors, each for one stream. Where bytes are held at its end, that is written down too.
@@ -64,7 +60,7 @@ impl Reader for Processors {
 
 fn read_pieces(processor: &mut Processor, log: &mut Log, pieces: &[&[u8]]) {
     for piece in pieces {
-        advance(processor, log, piece);
+        advance(processor, &mut log.calls, piece);
     }
     if processor.sync_bytes_count() > 0 {
         log.push("(bytes are held) ");
@@ -90,7 +86,7 @@ pub fn tell_calls(
 
 fn read_bytes(processor: &mut Processor, log: &mut Log, bytes: &[u8]) {
     for byte in bytes {
-        advance(processor, log, &[*byte]);
+        advance(processor, &mut log.calls, &[*byte]);
     }
 }
 
@@ -115,7 +111,14 @@ impl Held {
         self.processor = None;
     }
 
-    /// Takes a step on the processor: `new`, `advance`, `stop`, `pending` or `sets`.
+    /// A processor is made.
+    pub fn renew(&mut self) -> Result<(), StepError> {
+        let processor = new_processor(self.alloc)?;
+        self.processor = Some(processor);
+        Ok(())
+    }
+
+    /// Takes a step on the processor: `advance`, `stop`, `pending` or `sets`.
     pub fn take(
         &mut self,
         name: &str,
@@ -123,20 +126,26 @@ impl Held {
         words: &mut Words<'_>,
         answer: &mut Answer,
     ) -> Result<(), StepError> {
-        if name == "new" {
-            self.processor = Some(new_processor(self.alloc)?);
-            return Ok(());
+        match &mut self.processor {
+            Some(processor) => take_held(processor, name, log, words, answer),
+            None => Err(StepError::Wrong("a step `new` has to come before")),
         }
-        let Some(processor) = &mut self.processor else {
-            return Err(StepError::Wrong("a step `new` has to come before"));
-        };
-        match name {
-            "pending" => tell_pending(processor, answer),
-            "sets" => tell_sets(processor, answer),
-            _ => return tell_held(processor, name, log, words, answer),
-        }
-        Ok(())
     }
+}
+
+fn take_held(
+    processor: &mut Processor,
+    name: &str,
+    log: &mut Log,
+    words: &mut Words<'_>,
+    answer: &mut Answer,
+) -> Result<(), StepError> {
+    match name {
+        "pending" => tell_pending(processor, answer),
+        "sets" => tell_sets(processor, answer),
+        _ => return tell_held(processor, name, log, words, answer),
+    }
+    Ok(())
 }
 
 // Hands the processor a piece, or stops it. Answers the calls that it makes, and how many bytes are held then.
@@ -149,9 +158,9 @@ fn tell_held(
 ) -> Result<(), StepError> {
     log.restart(Until::Never)?;
     if name == "stop" {
-        processor.stop_sync(&mut log.calls);
+        stop(processor, &mut log.calls);
     } else {
-        advance(processor, log, words.bytes());
+        advance(processor, &mut log.calls, words.bytes());
     }
     let (told, held) = (log.told(), processor.sync_bytes_count());
     writeln!(answer, "{told}\n{held} held");

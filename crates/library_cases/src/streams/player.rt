@@ -55,11 +55,24 @@ impl StreamPlayer {
             "text_after" => tell_after(alloc, words.bytes(), answer),
             "text_of_four" => tell_fours(alloc, words, answer),
             "states" => tell_states(alloc, log, words.bytes(), words.bytes(), answer),
-            "new" | "advance" | "stop" | "pending" | "sets" => {
-                self.held.take(name, log, words, answer)
+            _ => self.take_held(name, words, answer),
+        }
+    }
+
+    // Steps on updates, and on values.
+    fn take_held(
+        &mut self,
+        name: &str,
+        words: &mut Words<'_>,
+        answer: &mut Answer,
+    ) -> Result<(), StepError> {
+        match name {
+            "new" => self.held.renew(),
+            "advance" | "stop" | "pending" | "sets" => {
+                self.held.take(name, &mut self.log, words, answer)
             }
-            "flagged" => tell_flagged(alloc, words, answer),
-            "times" => tell_times(alloc, words, answer),
+            "flagged" => tell_flagged(self.alloc, words, answer),
+            "times" => tell_times(self.alloc, words, answer),
             _ => {
                 take_value(name, words, answer);
                 Ok(())

@@ -323,19 +323,31 @@ pub fn tell_states(
     answer: &mut Answer,
 ) -> Result<(), StepError> {
     let mut reading = Reading::new(alloc)?;
+    let agreed = compare_all(&mut reading, log, prefix, end, answer)?;
+    writeln!(answer, "{agreed} by the table");
+    Ok(())
+}
+
+// How many of the streams have the events of the table. Answers which don't.
+fn compare_all(
+    reading: &mut Reading,
+    log: &mut Log,
+    prefix: &[u8],
+    end: &[u8],
+    answer: &mut Answer,
+) -> Result<u64, StepError> {
     let mut agreed: u64 = 0;
     for byte in 0..=255u8 {
         let pieces: [&[u8]; 3] = [prefix, &[byte], end];
         read(&Keeping::Usual, log, &pieces)?;
-        read_by_table(&mut reading, &pieces)?;
+        read_by_table(reading, &pieces)?;
         if log.told() == reading.log.told() {
             agreed = agreed.saturating_add(1);
         } else {
             tell_difference(byte, reading.log.told(), log.told(), answer);
         }
     }
-    writeln!(answer, "{agreed} by the table");
-    Ok(())
+    Ok(agreed)
 }
 
 fn tell_difference(byte: u8, wanted: &str, told: &str, answer: &mut Answer) {

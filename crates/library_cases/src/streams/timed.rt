@@ -4,6 +4,7 @@ ghost use Rattle.std.specs.Prelude.{⊤};
 
 use super::call_log::CallLog;
 use super::log::ROOM;
+use super::processors::{advance, new_processor, stop};
 use case_player::{Answer, StepError, Words};
 use std::alloc::Global;
 use std::cell::Cell;
@@ -45,9 +46,9 @@ impl Clock for Still {
     }
 }
 
-/// Answers the calls of a processor whose timeout is a flag, and how many bytes are held after each word. A word is a
-/// piece, or it is `up` or `down`, which sets the flag, `stop`, or `times N PIECE`. After the word `watch` each call has
-/// `true` or `false` behind it: whether the flag is up. After `count` inputs are counted, and not told.
+/// Answers the calls of a processor whose timeout is a flag, and how many bytes are held after each piece. The words are
+/// `give PIECE`, `times N PIECE`, `stop`, `up` and `down`, which set the flag, and two for the log: after `watch` each
+/// call has `true` or `false` behind it, whether the flag is up, and after `count` inputs are counted, and not told.
 pub fn tell_flagged(
     alloc: Global,
     words: &mut Words<'_>,
@@ -64,49 +65,92 @@ fn play_flagged(
     words: &mut Words<'_>,
     answer: &mut Answer,
 ) -> Result<(), StepError> {
-    let mut log = CallLog::new(alloc);
-    log.restart(ROOM)?;
-    let Ok(mut processor) = Processor::new(alloc, Flagged(flag)) else {
-        return Err(StepError::Memory);
-    };
-    for _ in 0..MOST_WORDS {
-        if words.is_empty() {
-            break;
-        }
-        match words.bytes() {
-            b"up" => flag.set(true),
-            b"down" => flag.set(false),
-            b"watch" => log.flag = Some(flag),
-            b"count" => log.inputs = Some(0),
-            piece => hand(&mut processor, &mut log, piece, words, answer),
-        }
-    }
+    let mut log = new_log(alloc)?;
+    let mut processor = new_processor(alloc, Flagged(flag))?;
+    play_words(&mut processor, flag, &mut log, words, answer);
     answer.line(log.text.as_str().trim_end());
-    if log.refused {
-        return Err(StepError::Memory);
-    }
-    Ok(())
+    check(&log)
 }
 
-// Hands a piece over, or stops the processor. Answers how many bytes are held then.
-fn hand(
-    processor: &mut Processor<Flagged<'_>, Global>,
-    log: &mut CallLog<'_>,
-    piece: &[u8],
+// A log with room.
+fn new_log<'a>(alloc: Global) -> Result<CallLog<'a>, StepError> {
+    let mut log = CallLog::new(alloc);
+    log.restart(ROOM)?;
+    Ok(log)
+}
+
+// No memory was refused to the log.
+fn check(log: &CallLog<'_>) -> Result<(), StepError> {
+    if log.refused {
+        Err(StepError::Memory)
+    } else {
+        Ok(())
+    }
+}
+
+// Does what the words say.
+fn play_words<'a>(
+    processor: &mut Processor<Flagged<'a>, Global>,
+    flag: &'a Cell<bool>,
+    log: &mut CallLog<'a>,
     words: &mut Words<'_>,
     answer: &mut Answer,
 ) {
-    let (times, piece) = match piece {
-        b"times" => (words.count(), words.bytes()),
-        _ => (1, piece),
-    };
-    if piece == b"stop".as_slice() {
-        processor.stop_sync(log);
-    } else {
-        for _ in 0..times {
-            processor.advance(log, piece);
+    for _ in 0..MOST_WORDS {
+        if !words.is_empty() {
+            play_word(processor, flag, log, words, answer);
         }
     }
+}
+
+// Does what a word says: it raises or lowers the flag, has the log watch it or count inputs, or is for the processor.
+fn play_word<'a>(
+    processor: &mut Processor<Flagged<'a>, Global>,
+    flag: &'a Cell<bool>,
+    log: &mut CallLog<'a>,
+    words: &mut Words<'_>,
+    answer: &mut Answer,
+) {
+    match words.word() {
+        "up" => flag.set(true),
+        "down" => flag.set(false),
+        "watch" => log.flag = Some(flag),
+        "count" => log.inputs = Some(0),
+        name => {
+            hand(processor, log, name, words);
+            tell_held(processor, log, answer);
+        }
+    }
+}
+
+// Hands a piece over, once or so many times, or stops the processor.
+fn hand(
+    processor: &mut Processor<Flagged<'_>, Global>,
+    log: &mut CallLog<'_>,
+    name: &str,
+    words: &mut Words<'_>,
+) {
+    match name {
+        "give" => advance(processor, log, words.bytes()),
+        "times" => repeat(processor, log, words.count(), words.bytes()),
+        "stop" => stop(processor, log),
+        _ => words.want("up, down, watch, count, give, times or stop"),
+    }
+}
+
+fn repeat(
+    processor: &mut Processor<Flagged<'_>, Global>,
+    log: &mut CallLog<'_>,
+    times: usize,
+    piece: &[u8],
+) {
+    for _ in 0..times {
+        advance(processor, log, piece);
+    }
+}
+
+// Answers how many bytes are held, and how many inputs there were if they are counted.
+fn tell_held(processor: &Processor<Flagged<'_>, Global>, log: &CallLog<'_>, answer: &mut Answer) {
     answer.number(processor.sync_bytes_count() as u64);
     answer.push(" held");
     if let Some(inputs) = log.inputs {
@@ -121,27 +165,24 @@ pub fn tell_times(
     words: &mut Words<'_>,
     answer: &mut Answer,
 ) -> Result<(), StepError> {
-    let mut log = CallLog::new(alloc);
-    log.restart(ROOM)?;
+    let mut log = new_log(alloc)?;
     let timeout = StdSyncHandler::new(Still(Duration::from_secs(1)));
-    let Ok(mut processor) = Processor::new(alloc, timeout) else {
-        return Err(StepError::Memory);
-    };
+    let mut processor = new_processor(alloc, timeout)?;
     for _ in 0..MOST_WORDS {
         if words.is_empty() {
             break;
         }
-        processor.advance(&mut log, words.bytes());
-        let (held, end) = (
-            processor.sync_bytes_count(),
-            processor.sync_timeout().sync_timeout(),
-        );
-        writeln!(answer, "{held} held, {end:?}");
+        advance(&mut processor, &mut log, words.bytes());
+        tell_end(&processor, answer);
     }
-    if log.refused {
-        return Err(StepError::Memory);
-    }
-    Ok(())
+    check(&log)
+}
+
+// Answers how many bytes are held, and when the update's time is over.
+fn tell_end(processor: &Processor<StdSyncHandler<Still>, Global>, answer: &mut Answer) {
+    let held = processor.sync_bytes_count();
+    let end = processor.sync_timeout().sync_timeout();
+    writeln!(answer, "{held} held, {end:?}");
 }
 
 /// Answers when a fresh timeout is due to end and whether it is pending, then when it is set for 150 milliseconds, and
