@@ -128,8 +128,14 @@ pub enum Tag {
     RowNameEnd,
     /// The beginning of when a film shows what, before its length in seconds.
     FilmLength,
-    /// What comes after its length.
+    /// What comes between its length in seconds and how often it plays.
     FilmLengthEnd,
+    /// It plays over and over.
+    Endless,
+    /// What comes after how often it plays: it stays as it is at its end.
+    Forwards,
+    /// The end of a film, in percent.
+    AtEnd,
     /// The beginning of when a track of a film shows what, before the track's number.
     Keyframes,
     /// What comes after the number.
@@ -281,7 +287,10 @@ impl Tag {
             Tag::RowName => b"<g id=\"r",
             Tag::RowNameEnd => b"\">",
             Tag::FilmLength => b"<style>.film{animation:",
-            Tag::FilmLengthEnd => b"s steps(1,end) infinite}\n",
+            Tag::FilmLengthEnd => b"s steps(1,end) ",
+            Tag::Endless => b"infinite}\n",
+            Tag::Forwards => b" forwards}\n",
+            Tag::AtEnd => b"100",
             Tag::Keyframes => b"@keyframes t",
             Tag::KeyframesStart => b"{",
             Tag::Percent => b"%{transform:translate(-",

@@ -2,7 +2,7 @@
 use Rattle.std.proofs.Common.{◌≡◌, ◌≢◌, ◌<◌, ◌≤◌, ◌+◌, ◌*◌, ◌++◌, ℕ, zero, suc, Bool, true, false, List, [], ◌∷◌, Some}
 use Rattle.std.proofs.Common.{Vec, Global, sym, ap, ◌∙◌, subst, length, take, map, max, add-one, refl, set, length-set}
 use Rattle.std.proofs.Common.{append-nil, append_assoc, Ok, Err, Result, IfOk, IfErr, ◌-◌, ap₂, length-append, arith, drop}
-use Rattle.std.proofs.Common.{◌/◌, decimal, nat_lt, below_more, get_or, nat_le, replicate, slice_get, ◌⊎◌, inl, inr}
+use Rattle.std.proofs.Common.{Option, ◌/◌, decimal, nat_lt, below_more, get_or, nat_le, replicate, slice_get, ◌⊎◌, inl, inr}
 use Rattle.std.specs.Prelude.{if◌then◌else◌}
 use Rattle.std.specs.List.{flat_map}
 use Rattle.std.proofs.lemmas.Bool.{le-leb, ltb-false}
@@ -21,14 +21,15 @@ use Rattle.recordings.specs.declared.recording.Event.{Event}
 use Rattle.recordings.specs.declared.recording.ScreenSize.{ScreenSize}
 use Rattle.recorded_screen.specs.Film.{AreShots, IsFilm, IsFilmOf, IsTooLong, TakesShot, TakesShotIf}
 use Rattle.recorded_screen.specs.Film.{count_until, film_time}
-use Rattle.recorded_screen.specs.Film.{may_stand, most, most_cols, most_rows, paced, reached, slot_start, state_after}
+use Rattle.recorded_screen.specs.Film.{may_stand, most, most_cols, most_rows, paced, played_to, poster_time, slot_start}
+use Rattle.recorded_screen.specs.Film.{state_after}
 use Rattle.recorded_screen.specs.Film.AreShots.{none, passed, shot}
 use Rattle.recorded_screen.specs.Moment.{act_of}
 use Rattle.recorded_screen.specs.Placed.{IsSvgRow}
 use Rattle.recorded_screen.specs.Heads.{svg_head}
 use Rattle.recorded_screen.specs.Reel.{Track, changes_in, decimal_point, drawn_bytes, drawn_row, film_bytes, in_64_bits}
 use Rattle.recorded_screen.specs.Reel.{in_32_bits, keyframes, place, no_track, numbered, shot_bytes, times_bytes, track_at, track_bytes}
-use Rattle.recorded_screen.specs.Reel.{track_times}
+use Rattle.recorded_screen.specs.Reel.{end_bytes, plays_bytes, showing, track_times}
 use Rattle.recorded_screen.specs.Shots.{AddsOnly, Grows, IsAt, IsDrawn, IsLonger, IsReel, IsShot, IsShown, IsTrack}
 use Rattle.recorded_screen.specs.Shots.{IsUsed, Shows, ShowsRow, ShowsRowOf, ShowsSuch, TakesPlace, rows_of, track_of}
 use Rattle.recorded_screen.specs.Shots.{tracks_of}
@@ -38,6 +39,7 @@ use Rattle.recorded_screen.proofs.ReelLemmas.{got_last, mapped_at, other_fault}
 use Rattle.recorded_screen.specs.declared.films.Pace.{Pace}
 use Rattle.recorded_screen.specs.declared.reel.Reel.{Reel}
 use Rattle.recorded_screen.specs.declared.reel.Shot.{Shot}
+use Rattle.recorded_screen.specs.declared.reel.Showing.{Showing}
 use Rattle.recorded_screen.specs.declared.reel.Track.{Track as GrowingTrack}
 
 -- ---- what is there stays there
@@ -419,16 +421,18 @@ one_more_counts events moment i n e lt is soon before =
 
 -- ---- the film
 
-time_goes_on : (pace : Pace) (events : List Event) (i gap waited before after : ℕ)
-    → gap ≡ reached events (i + 1) - reached events i → waited ≡ paced pace gap → before ≡ film_time pace events i
+pub time_goes_on : (pace : Pace) (events : List Event) (i gap waited before after : ℕ)
+    → gap ≡ played_to pace events (i + 1) - played_to pace events i → waited ≡ paced pace gap
+    → before ≡ film_time pace events i
     → after ≡ in_64_bits (before + waited) → after ≡ film_time pace events (i + 1)
 time_goes_on pace events i gap waited before after gap_is waited_is before_is after_is =
     subst (λ (n : ℕ). after ≡ film_time pace events n) (sym (add-one i))
     (after_is ∙ ap₂ (λ (b w : ℕ). in_64_bits (b + w)) before_is
-    (waited_is ∙ ap (paced pace) (gap_is ∙ ap (λ (n : ℕ). reached events n - reached events i) (add-one i))))
+    (waited_is ∙ ap (paced pace)
+    (gap_is ∙ ap (λ (n : ℕ). played_to pace events n - played_to pace events i) (add-one i))))
 
 pub time_reached : (pace : Pace) (events : List Event) (i gap waited : ℕ) (first old : Reel)
-    → gap ≡ reached events (i + 1) - reached events i → waited ≡ paced pace gap
+    → gap ≡ played_to pace events (i + 1) - played_to pace events i → waited ≡ paced pace gap
     → old ≡ record first { time = in_64_bits (first.time + waited) } → first.time ≡ film_time pace events i
     → old.time ≡ film_time pace events (i + 1)
 time_reached pace events i gap waited first old gap_is waited_is waits before =
@@ -473,7 +477,7 @@ taken_first look size widest pace moment events old new on s rows cols empty sam
 
 pub taken_next : (look : Look) (size : ScreenSize) (pace : Pace) (moment : ℕ) (events : List Event)
     (first old new : Reel) (i gap waited : ℕ) (on : Bool) (s : State)
-    → gap ≡ reached events (i + 1) - reached events i → waited ≡ paced pace gap
+    → gap ≡ played_to pace events (i + 1) - played_to pace events i → waited ≡ paced pace gap
     → old ≡ record first { time = in_64_bits (first.time + waited) } → on ≡ may_stand pace events (i + 1)
     → s ≡ state_after size events (i + 1) → IsReel new → TakesShotIf on look s (slot_start pace old.time) old new
     → IsTaken look size pace moment events first i → IsTaken look size pace moment events new (i + 1)
@@ -503,17 +507,19 @@ tracks_counted reel is = length-map reel.tracks.items track_of ∙ is.count
 -- the film of a reel
 pub film_is : (look : Look) (size : ScreenSize) (pace : Pace) (moment : ℕ) (events : List Event) (reel : Reel) (n : ℕ)
     (bytes : List ℕ) → IsTaken look size pace moment events reel n
-    → bytes ≡ film_bytes look reel.size.rows.value reel.size.cols.value (in_64_bits (reel.time + 1000000)) (rows_of reel)
+    → bytes ≡ film_bytes look reel.size.rows.value reel.size.cols.value
+    (showing pace.plays (poster_time pace events) reel.time) (rows_of reel)
     (tracks_of reel)
     → IsFilmOf look size pace moment events n bytes
 film_is look size pace moment events reel n bytes taken is = record {
   rows = rows_of reel;
   tracks = tracks_of reel;
   is = is
-      ∙ ap₂ (λ (h w : ℕ). film_bytes look h w (in_64_bits (reel.time + 1000000)) (rows_of reel) (tracks_of reel))
+      ∙ ap₂ (λ (h w : ℕ). film_bytes look h w (showing pace.plays (poster_time pace events) reel.time)
+      (rows_of reel) (tracks_of reel))
       taken.rows taken.cols
       ∙ ap (λ (t : ℕ). film_bytes look (most_rows moment size events) (most_cols moment size events)
-      (in_64_bits (t + 1000000)) (rows_of reel) (tracks_of reel)) taken.time;
+      (showing pace.plays (poster_time pace events) t) (rows_of reel) (tracks_of reel)) taken.time;
   count = tracks_counted reel taken.is_reel ∙ taken.rows;
   shown = λ r lt. taken.shots r (subst (λ (k : ℕ). r < k) (tracks_counted reel taken.is_reel) lt);
   different = taken.is_reel.drawn.different;
@@ -529,7 +535,7 @@ pub film_of_reel : {E : Type 0} (r : Result (Vec ℕ Global) E) (look : Look) (s
     (moment : ℕ) (events : List Event) (reel : Reel) (n : ℕ) → n ≡ count_until moment events
     → IsTaken look size pace moment events reel n
     → IfOk r (λ bytes. bytes.items ≡ film_bytes look reel.size.rows.value reel.size.cols.value
-    (in_64_bits (reel.time + 1000000)) (rows_of reel) (tracks_of reel))
+    (showing pace.plays (poster_time pace events) reel.time) (rows_of reel) (tracks_of reel))
     → IfOk r (λ bytes. IsFilm look size pace moment events bytes.items)
 film_of_reel r look size pace moment events reel n all taken =
     if_ok_more r _ _ (λ bytes is. subst (λ (k : ℕ). IsFilmOf look size pace moment events k bytes.items) all
@@ -573,91 +579,96 @@ shots_within cols film_length (x ∷ xs) =
     joined_within : (a b : List ℕ) (n : ℕ) → 27 ≤ length a → 27 * n ≤ length b → 27 * suc n ≤ length (a ++ b)
     joined_within a b n first second = let both = length-append a b in omega arith
 
-keyframes_within : (cols film_length row : ℕ) (shots : List Shot)
-    → 27 * length shots ≤ length (keyframes cols film_length row shots)
-keyframes_within cols film_length row shots =
-    let shown = flat_map (shot_bytes cols film_length) shots in
-    let end = numbers_bytes ((tag.KeyframesEnd, in_32_bits row) ∷ (tag.Animation, in_32_bits row) ∷ [])
-    ++ tag_bytes tag.AnimationEnd in
+keyframes_within : (cols : ℕ) (s : Showing) (row : ℕ) (shots : List Shot)
+    → 27 * length shots ≤ length (keyframes cols s row shots)
+keyframes_within cols s row shots =
+    let shown = flat_map (shot_bytes cols s.length) shots in
+    let end = end_bytes s.plays cols shots
+    ++ (numbers_bytes ((tag.KeyframesEnd, in_32_bits row) ∷ (tag.Animation, in_32_bits row) ∷ [])
+    ++ tag_bytes tag.AnimationEnd) in
     let from_shots = shown ++ end in
     let from_start = tag_bytes tag.KeyframesStart ++ from_shots in
-    through _ _ _ (shots_within cols film_length shots)
+    through _ _ _ (shots_within cols s.length shots)
     (within_inner (numbers_bytes ((tag.Keyframes, in_32_bits row) ∷ [])) shown from_start
     (within_inner (tag_bytes tag.KeyframesStart) shown from_shots (within_first shown end)))
 
 one_less : (n k : ℕ) → 27 * n ≤ k → 27 * (n - 1) ≤ k
 one_less n k h = omega arith
 
-shots_or_none : (cols film_length row : ℕ) (shots : List Shot)
-    → 27 * (length shots - 1) ≤ length (if nat_lt 1 (length shots) then keyframes cols film_length row shots else [])
-shots_or_none cols film_length row shots = by (nat_lt 1 (length shots)) refl
+shots_or_none : (cols : ℕ) (s : Showing) (row : ℕ) (shots : List Shot)
+    → 27 * (length shots - 1) ≤ length (if nat_lt 1 (length shots) then keyframes cols s row shots else [])
+shots_or_none cols s row shots = by (nat_lt 1 (length shots)) refl
   where
     by : (many : Bool) → nat_lt 1 (length shots) ≡ many
-        → 27 * (length shots - 1) ≤ length (if many then keyframes cols film_length row shots else [])
-    by true is = one_less _ _ (keyframes_within cols film_length row shots)
+        → 27 * (length shots - 1) ≤ length (if many then keyframes cols s row shots else [])
+    by true is = one_less _ _ (keyframes_within cols s row shots)
     by false is = let few : length shots ≤ 1 = ltb-false 1 (length shots) is in omega arith
 
-changes_within : (cols film_length n : ℕ) (tracks : List Track)
-    → 27 * changes_in tracks ≤ length (numbered (track_times cols film_length) n tracks)
-changes_within cols film_length n [] = omega arith
-changes_within cols film_length n (t ∷ ts) =
-    joined_within (track_times cols film_length n t) (numbered (track_times cols film_length) (suc n) ts)
-    (length t.shots - 1) (changes_in ts) (shots_or_none cols film_length n t.shots)
-    (changes_within cols film_length (suc n) ts)
+changes_within : (cols : ℕ) (s : Showing) (n : ℕ) (tracks : List Track)
+    → 27 * changes_in tracks ≤ length (numbered (track_times cols s) n tracks)
+changes_within cols s n [] = omega arith
+changes_within cols s n (t ∷ ts) =
+    joined_within (track_times cols s n t) (numbered (track_times cols s) (suc n) ts)
+    (length t.shots - 1) (changes_in ts) (shots_or_none cols s n t.shots)
+    (changes_within cols s (suc n) ts)
   where
     joined_within : (a b : List ℕ) (k m : ℕ) → 27 * k ≤ length a → 27 * m ≤ length b → 27 * (k + m) ≤ length (a ++ b)
     joined_within a b k m first second = let both = length-append a b in omega arith
 
-times_within : (cols film_length : ℕ) (tracks : List Track)
-    → 27 * changes_in tracks ≤ length (times_bytes cols film_length tracks)
-times_within cols film_length tracks =
-    let shown = numbered (track_times cols film_length) 0 tracks in
+times_within : (cols : ℕ) (s : Showing) (tracks : List Track)
+    → 27 * changes_in tracks ≤ length (times_bytes cols s tracks)
+times_within cols s tracks =
+    let shown = numbered (track_times cols s) 0 tracks in
     let from_shots = shown ++ tag_bytes tag.Still in
-    let from_end = tag_bytes tag.FilmLengthEnd ++ from_shots in
-    let from_length = decimal_point 6 film_length ++ from_end in
-    through _ _ _ (changes_within cols film_length 0 tracks)
+    let from_plays = plays_bytes s.plays ++ from_shots in
+    let from_end = tag_bytes tag.FilmLengthEnd ++ from_plays in
+    let from_length = decimal_point 6 s.length ++ from_end in
+    through _ _ _ (changes_within cols s 0 tracks)
     (within_inner (tag_bytes tag.FilmLength) shown from_length
-    (within_inner (decimal_point 6 film_length) shown from_end
-    (within_inner (tag_bytes tag.FilmLengthEnd) shown from_shots (within_first shown (tag_bytes tag.Still)))))
+    (within_inner (decimal_point 6 s.length) shown from_end
+    (within_inner (tag_bytes tag.FilmLengthEnd) shown from_plays
+    (within_inner (plays_bytes s.plays) shown from_shots (within_first shown (tag_bytes tag.Still))))))
 
 longer_then : (most a b : ℕ) → most < a → a ≤ b → most < b
 longer_then most a b first second = omega arith
 
-film_by : (least cols film_length : ℕ) (head foot drawn a : List ℕ) (tracks : List Track) → length a ≤ length drawn
+film_by : (least cols : ℕ) (s : Showing) (head foot drawn a : List ℕ) (tracks : List Track) → length a ≤ length drawn
     → (least < length a) ⊎ (least < 27 * changes_in tracks)
-    → least < length (head ++ (times_bytes cols film_length tracks ++ (drawn ++ foot)))
-film_by least cols film_length head foot drawn a tracks part (inl long) =
+    → least < length (head ++ (times_bytes cols s tracks ++ (drawn ++ foot)))
+film_by least cols s head foot drawn a tracks part (inl long) =
     longer_then least _ _ long
-    (through _ _ _ part (drawn_within head (times_bytes cols film_length tracks) drawn foot))
-film_by least cols film_length head foot drawn a tracks part (inr long) =
-    let times = times_bytes cols film_length tracks in
+    (through _ _ _ part (drawn_within head (times_bytes cols s tracks) drawn foot))
+film_by least cols s head foot drawn a tracks part (inr long) =
+    let times = times_bytes cols s tracks in
     longer_then least _ _ long
-    (through _ _ _ (times_within cols film_length tracks)
+    (through _ _ _ (times_within cols s tracks)
     (within_inner head times (times ++ (drawn ++ foot)) (within_first times (drawn ++ foot))))
 
 -- a reel whose rows are longer than this, or that changes too often, makes a film that is longer
-pub film_longer : (most : ℕ) (look : Look) (reel : Reel) → IsReel reel
+pub film_longer : (most : ℕ) (look : Look) (plays poster : Option ℕ) (reel : Reel) → IsReel reel
     → (most < length reel.drawn_rows) ⊎ (most < 27 * changes_in (tracks_of reel))
-    → most < length (film_bytes look reel.size.rows.value reel.size.cols.value (in_64_bits (reel.time + 1000000))
+    → most < length (film_bytes look reel.size.rows.value reel.size.cols.value (showing plays poster reel.time)
     (rows_of reel) (tracks_of reel))
-film_longer most look reel is longer =
+film_longer most look plays poster reel is longer =
     let cols = reel.size.cols.value in
     let rows = numbered drawn_row 0 (rows_of reel) in
-    let tracks = numbered (track_bytes cols) 0 (tracks_of reel) in
-    film_by most cols (in_64_bits (reel.time + 1000000)) (svg_head look reel.size.rows.value cols) (tag_bytes tag.SvgFoot)
+    let tracks = numbered (track_bytes cols poster) 0 (tracks_of reel) in
+    film_by most cols (showing plays poster reel.time) (svg_head look reel.size.rows.value cols) (tag_bytes tag.SvgFoot)
     (drawn_bytes rows tracks) reel.drawn_rows (tracks_of reel)
     (subst (λ (xs : List ℕ). length xs ≤ length (drawn_bytes rows tracks)) (sym is.drawn.rows)
     (within_inner (tag_bytes tag.DefsStart) rows _ (within_first rows (tag_bytes tag.DefsEnd ++ tracks)))) longer
 
 pub is_too_long : (most : ℕ) (look : Look) (size : ScreenSize) (pace : Pace) (moment : ℕ) (events : List Event)
     (reel : Reel) (n : ℕ) → n ≤ count_until moment events → IsTaken look size pace moment events reel n
-    → most < length (film_bytes look reel.size.rows.value reel.size.cols.value (in_64_bits (reel.time + 1000000))
+    → most < length (film_bytes look reel.size.rows.value reel.size.cols.value
+    (showing pace.plays (poster_time pace events) reel.time)
     (rows_of reel) (tracks_of reel))
     → IsTooLong most look size pace moment events
 is_too_long most look size pace moment events reel n within taken long = record {
   count = n;
   within = within;
-  bytes = film_bytes look reel.size.rows.value reel.size.cols.value (in_64_bits (reel.time + 1000000)) (rows_of reel)
+  bytes = film_bytes look reel.size.rows.value reel.size.cols.value
+      (showing pace.plays (poster_time pace events) reel.time) (rows_of reel)
       (tracks_of reel);
   film = film_is look size pace moment events reel n _ taken refl;
   long = long;
@@ -667,7 +678,8 @@ pub fault_of_reel : {T : Type 0} (r : Result T FilmError) (most : ℕ) (look : L
     (moment : ℕ) (events : List Event) (reel : Reel) (n : ℕ) → n ≡ count_until moment events
     → IsTaken look size pace moment events reel n
     → IfErr r (λ e. (e ≡ Memory) ⊎ ((e ≡ TooLong) × (most < length (film_bytes look reel.size.rows.value
-    reel.size.cols.value (in_64_bits (reel.time + 1000000)) (rows_of reel) (tracks_of reel)))))
+    reel.size.cols.value
+    (showing pace.plays (poster_time pace events) reel.time) (rows_of reel) (tracks_of reel)))))
     → IfErr r (λ e. (e ≡ Memory) ⊎ ((e ≡ TooLong) × IsTooLong most look size pace moment events))
 fault_of_reel (Ok x) most look size pace moment events reel n all taken h = h
 fault_of_reel (Err e) most look size pace moment events reel n all taken h =

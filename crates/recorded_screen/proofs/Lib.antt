@@ -1,3 +1,4 @@
+mod BeginLemmas
 mod FilmLemmas
 mod FramedLemmas
 mod HeadLemmas

@@ -3,21 +3,23 @@ use Rattle.std.proofs.Common.{◌≡◌, ◌≢◌, ◌⊎◌, inl, inr, ◌<◌
 use Rattle.std.proofs.Common.{true, false, not, cond, ◌&&◌, ◌||◌, Some, sym, ap, ◌∙◌, length, map}
 use Rattle.std.proofs.Common.{subst, take, append-nil, append_assoc, refl, arith, true≢false, nat_eq, decimal}
 use Rattle.std.proofs.Common.{◌-◌, below_more, get_or, length-append, slice_get}
+use Rattle.std.proofs.Common.{drop, nat_le}
 use Rattle.std.specs.Prelude.{if◌then◌else◌}
 use Rattle.std.specs.List.{flat_map, list_any, position_or_len}
 use Rattle.std.specs.Option.{option_map}
 use Rattle.std.specs.Cmp.Lexicographic.{pointwise}
 use Rattle.std.proofs.Math.Nat.{pow-succ', one-le-pow}
-use Rattle.std.proofs.lemmas.Bool.{eq-eqb, eqb-true}
+use Rattle.std.proofs.lemmas.Bool.{eq-eqb, eqb-true, le-leb}
 use Rattle.std.proofs.lemmas.Grind.{flat_map-append}
 use Rattle.std.proofs.lemmas.List.{length-map, map-append, take_all, take_more}
+use Rattle.std.proofs.lemmas.List.Sums.{prefix_len-drop_yes}
 use Rattle.std.proofs.lemmas.Option.{slice_get-map}
 use Rattle.indexmap.specs.IndexSet.{insert_key}
 use Rattle.picture_page.specs.Page.{digit_byte}
 use Rattle.picture_page.specs.Tags.{tag_bytes}
 use Rattle.picture_page.specs.declared.tag.Tag.TheVariants as tag
 use Rattle.picture_page.proofs.PageLemmas.{joined_more}
-use Rattle.recorded_screen.specs.Reel.{Track, changes_in, decimal_point, in_32_bits, last_digits, numbered}
+use Rattle.recorded_screen.specs.Reel.{Track, changes_in, decimal_point, in_32_bits, last_digits, numbered, shots_until}
 use Rattle.recorded_screen.specs.Shots.{AddsOnly, AreDifferent, Inserts, IsLonger, TakesPlace, track_of}
 use Rattle.recorded_screen.specs.declared.reel.Shot.{Shot}
 use Rattle.recorded_screen.specs.declared.reel.Track.{Track as GrowingTrack}
@@ -346,3 +348,14 @@ film_developed empty a b d e bytes head times drawn foot nothing first second th
     is ∙ joined_more empty a e head _ first (joined_more a b e times _ second (joined_more b d e drawn foot third
     fourth))
     ∙ ap (λ (xs : List ℕ). xs ++ (head ++ (times ++ (drawn ++ foot)))) nothing
+
+-- a shot more that comes no later
+pub one_shot_counts : (shots : List Shot) (time i n : ℕ) (none : Shot) → i < length shots
+    → (get_or shots i none).time ≤ time → n ≡ i + shots_until time (drop i shots)
+    → n ≡ (i + 1) + shots_until time (drop (i + 1) shots)
+one_shot_counts shots time i n none lt soon before =
+    let test : Shot → Bool = λ y. nat_le y.time time in
+    let passes : nat_le (get_or shots i none).time time ≡ true = le-leb (get_or shots i none).time time soon in
+    let one : i + (1 + shots_until time (drop (i + 1) shots)) ≡ (i + 1) + shots_until time (drop (i + 1) shots) =
+    omega arith in
+    before ∙ ap (λ (k : ℕ). i + k) (prefix_len-drop_yes test shots i none lt passes) ∙ one

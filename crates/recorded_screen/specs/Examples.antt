@@ -14,7 +14,7 @@ three_events change =
 
 -- the recorded speed, and at most ten screens a second
 abbrev pub ten_a_second : Pace
-ten_a_second = record { speed = 1000000; idle = None; rate = 10 }
+ten_a_second = record { speed = 1000000; idle = None; rate = 10; plays = None; from = 0; poster = None }
 
 -- events after 50, 90 and 100 thousandths of a second
 abbrev pub close_events : Change → List Event
@@ -34,7 +34,8 @@ pub record EachExampleHolds : Type 0 where
   pub behind : (change : Change) → is_moment (three_events change) 2 ≡ true
   -- at twice the speed, where no screen stands for more than a second and a half
   pub faster : (change : Change)
-      → film_time (record { speed = 2000000; idle = Some 1500000; rate = 30 }) (three_events change) 3 ≡ 750000
+      → film_time (record { speed = 2000000; idle = Some 1500000; rate = 30; plays = None; from = 0; poster = None })
+      (three_events change) 3 ≡ 750000
   -- At 10 screens a second, events after 0.05 s, 0.09 s and 0.1 s are in two slots. So the first screen isn't shown, nor
   -- is the one after the first event; that after the second is shown from the beginning of its slot on.
   pub empty : (change : Change) → may_stand ten_a_second (close_events change) 0 ≡ false
@@ -43,4 +44,9 @@ pub record EachExampleHolds : Type 0 where
   pub start : (change : Change) → slot_start ten_a_second (film_time ten_a_second (close_events change) 2) ≡ 0
   pub next : (change : Change) → slot_start ten_a_second (film_time ten_a_second (close_events change) 3) ≡ 100000
   -- thirty screens a second: the fourth begins after a tenth of one
-  pub fourth : slot_start (record { speed = 1000000; idle = None; rate = 30 }) 125000 ≡ 100000
+  pub fourth : slot_start
+      (record { speed = 1000000; idle = None; rate = 30; plays = None; from = 0; poster = None }) 125000 ≡ 100000
+  -- from half a second on: what came before is there at 0, and an event after two seconds comes after one and a half
+  pub later : (change : Change)
+      → film_time (record { speed = 1000000; idle = None; rate = 30; plays = None; from = 500000; poster = None })
+      (three_events change) 3 ≡ 1500000

@@ -1,8 +1,8 @@
 -- Which screens of a recording a film shows, and when.
 use Rattle.std.specs.Prelude.{◌≡◌, ℕ, zero, suc, ◌+◌, ◌-◌, ◌*◌, ◌/◌, ◌≤◌, ◌<◌, ◌==◌, not, max, min, Bool, true, false}
-use Rattle.std.specs.Prelude.{List, [], ◌∷◌, length, map, nat_le, slice_get, take, if◌then◌else◌}
+use Rattle.std.specs.Prelude.{List, [], ◌∷◌, Option, Some, length, map, nat_le, slice_get, take, if◌then◌else◌}
 use Rattle.std.specs.List.{prefix_len}
-use Rattle.std.specs.Option.{option_map_or}
+use Rattle.std.specs.Option.{option_map, option_map_or}
 use Rattle.row_pictures.specs.declared.look.Look.{Look}
 use Rattle.screen_model.specs.Made.{made}
 use Rattle.screen_model.specs.State.{State}
@@ -12,7 +12,7 @@ use Rattle.recordings.specs.declared.recording.Event.{Event}
 use Rattle.recordings.specs.declared.recording.ScreenSize.{ScreenSize}
 use Rattle.recorded_screen.specs.Moment.{act_of}
 use Rattle.recorded_screen.specs.Placed.{IsSvgRow}
-use Rattle.recorded_screen.specs.Reel.{Track, film_bytes, in_64_bits, track_at}
+use Rattle.recorded_screen.specs.Reel.{Track, film_bytes, in_64_bits, showing, track_at}
 use Rattle.recorded_screen.specs.Shots.{AreDifferent, IsAt, IsLonger, IsShown, IsTrack, IsUsed, ShowsRowOf, rows_of}
 use Rattle.recorded_screen.specs.Shots.{tracks_of}
 use Rattle.recorded_screen.specs.declared.films.Pace.{Pace}
@@ -31,15 +31,30 @@ reached events (suc n) = option_map_or (λ e. e.time) (slice_get events n) 0
 abbrev pub paced : Pace → ℕ → ℕ
 paced pace time = in_64_bits (option_map_or (min time) pace.idle time * 1000000 / max pace.speed 1)
 
+-- the time of the recording to which a film has played after so many events: what comes before its beginning is there
+-- at once
+abbrev pub played_to : Pace → List Event → ℕ → ℕ
+played_to pace events n = max pace.from (reached events n)
+
 -- the time of the film that has been reached after so many events
 abbrev pub film_time : Pace → List Event → ℕ → ℕ
 film_time pace events zero = 0
 film_time pace events (suc n) =
-    in_64_bits (film_time pace events n + paced pace (reached events (suc n) - reached events n))
+    in_64_bits (film_time pace events n + paced pace (played_to pace events (suc n) - played_to pace events n))
 
 -- how many events there are before the first one that comes later than a time
 abbrev pub count_until : ℕ → List Event → ℕ
 count_until moment events = prefix_len (λ e. nat_le e.time moment) events
+
+-- the time of the film at a time of the recording
+abbrev pub time_in_film : Pace → List Event → ℕ → ℕ
+time_in_film pace events time =
+    let n = count_until time events in
+    in_64_bits (film_time pace events n + paced pace (max pace.from time - played_to pace events n))
+
+-- the time of what is shown where nothing plays, if the pace says it
+abbrev pub poster_time : Pace → List Event → Option ℕ
+poster_time pace events = option_map (time_in_film pace events) pace.poster
 
 -- after so many events the next one, if there is one, comes at another time
 abbrev pub is_moment : List Event → ℕ → Bool
@@ -60,6 +75,11 @@ abbrev pub may_stand : Pace → List Event → ℕ → Bool
 may_stand pace events n =
     option_map_or (λ e. not (slot pace (film_time pace events (suc n)) == slot pace (film_time pace events n)))
     (slice_get events n) true
+
+-- no screen stands in a film after which another event comes by its beginning
+abbrev pub EarlierScreensDontStand : Type 0
+EarlierScreensDontStand = (pace : Pace) (events : List Event) (n : ℕ) (e : Event) → slice_get events n ≡ Some e
+    → reached events n ≤ pace.from → e.time ≤ pace.from → may_stand pace events n ≡ false
 
 -- ---- the size
 
@@ -120,14 +140,16 @@ pub data AreShots (look : Look) (size : ScreenSize) (pace : Pace) (events : List
       → AreShots look size pace events drawn r rows (suc n) new
 
 -- A film of the first n events, at the size of all up to a time. Each row of the screen has a track, which shows that
--- row of the screens that may stand, each from its slot on, and the last one for a second. The rows that are drawn are
--- all different, and each stands in a track. Those of a track are all different too, and each is shown.
+-- row of the screens that may stand, each from its slot on, and the last one for a second. It plays as often as the
+-- pace says, and then shows its last screen. Where nothing plays, it shows what it shows at the poster's time. The rows
+-- that are drawn are all different, and each stands in a track. Those of a track are all different too, and each is
+-- shown.
 pub record IsFilmOf (look : Look) (size : ScreenSize) (pace : Pace) (moment : ℕ) (events : List Event) (n : ℕ)
     (bytes : List ℕ) : Type 0 where
   pub rows : List (List ℕ)
   pub tracks : List Track
   pub is : bytes ≡ film_bytes look (most_rows moment size events) (most_cols moment size events)
-      (in_64_bits (film_time pace events n + 1000000)) rows tracks
+      (showing pace.plays (poster_time pace events) (film_time pace events n)) rows tracks
   pub count : length tracks ≡ most_rows moment size events
   pub shown : (r : ℕ) → r < length tracks
       → AreShots look size pace events rows r (track_at tracks r).rows (suc n) (track_at tracks r).shots

@@ -6,8 +6,10 @@ ghost use Rattle.std.specs.Option.{option_map_or};
 ghost use Rattle.picture_page.specs.Page.{IsPage, IsSafe};
 ghost use Rattle.recorded_screen.specs.Film.{IsFilm, IsTooLong, TakesShot, TakesShotIf, cols_set};
 ghost use Rattle.recorded_screen.specs.Film.{film_time, may_stand as may_stand_of, slot as slot_of, slot_start};
+ghost use Rattle.recorded_screen.specs.Film.{poster_time, time_in_film};
 ghost use Rattle.recorded_screen.specs.Film.{count_until as count_until_of};
-ghost use Rattle.recorded_screen.specs.Film.{is_moment as is_moment_of, most_cols, most_rows, paced, reached, rows_set};
+ghost use Rattle.recorded_screen.specs.Film.{is_moment as is_moment_of, most_cols, most_rows, paced, played_to};
+ghost use Rattle.recorded_screen.specs.Film.{reached, rows_set};
 ghost use Rattle.recorded_screen.specs.Shots.{IsReel};
 ghost use Rattle.recorded_screen.specs.declared.error.FilmError.TheVariants.{Memory, TooLong};
 
@@ -21,7 +23,7 @@ use std::alloc::Global;
 use std::num::NonZeroU16;
 use vt100::{Parser, Screen};
 
-/// How fast a film plays.
+/// How a film plays: how fast, how often, and from when on; and what is shown where nothing plays.
 #[derive(Clone, Copy)]
 pub struct Pace {
     /// How many millionths of the recorded speed.
@@ -30,6 +32,12 @@ pub struct Pace {
     pub idle: Option<u64>,
     /// How many screens a second a film shows at most.
     pub rate: u16,
+    /// How often a film plays; 0 counts as 1. Then its last screen stays. Without a number it plays over and over.
+    pub plays: Option<u16>,
+    /// The time of the recording at which a film begins, in microseconds. What came before is there at once.
+    pub from: u64,
+    /// The time of the recording whose screen is shown where nothing plays, in microseconds, if it isn't the last one.
+    pub poster: Option<u64>,
 }
 
 impl Pace {
@@ -70,9 +78,11 @@ impl Pace {
     }
 }
 
-/// A picture in SVG that plays the events up to a moment, over and over, and needs no script. A row that occurs more than
-/// once is drawn once. The last screen stands for a second. It is shown where nothing plays, and to a reader who wants
-/// less motion.
+/// A picture in SVG that plays the events from the time on that the pace says, up to a moment, and needs no script. It
+/// begins with the screen of that time, and plays as often as the pace says. A row that occurs more than once is drawn
+/// once. The last screen stands for a second.
+///
+/// Where nothing plays, and for a reader who wants less motion, it is as at the poster's time, or else as at its end.
 pub fn film(
     alloc: Global,
     size: ScreenSize,
@@ -94,13 +104,13 @@ pub fn film(
     shoot_if(first, &mut reel, alloc, pace, terminal.screen(), look)?;
     reel.check()?;
     for i in 0..count_until(events, moment) {
-        reel.wait(pace.of_time(gap_before(events, i)));
+        reel.wait(pace.of_time(gap_before(pace, events, i)));
         act(&mut terminal, &events[i].change)?;
         let on = may_stand(pace, events, i + 1, reel.time());
         shoot_if(on, &mut reel, alloc, pace, terminal.screen(), look)?;
         reel.check()?;
     }
-    reel.develop(alloc, look)
+    reel.develop(alloc, look, pace.plays, poster_time(pace, events))
 }
 
 // Takes a shot of the screen, if it is wanted.
@@ -160,12 +170,53 @@ fn count_until(events: &[Event], moment: u64) -> usize
     events.len()
 }
 
-// The time between an event and the one before it, or the beginning.
-fn gap_before(events: &[Event], i: usize) -> u64
+// The time between an event and the one before it, or the beginning of the film. It is 0 before the film begins.
+fn gap_before(pace: Pace, events: &[Event], i: usize) -> u64
     requires { i < length events.now }
-    ensures { result ≡ reached events.now (i + 1) - reached events.now i }
+    ensures { result ≡ played_to pace events.now (i + 1) - played_to pace events.now i }
 {
-    time_after(events, i + 1).saturating_sub(time_after(events, i))
+    played_to(pace, events, i + 1).saturating_sub(played_to(pace, events, i))
+}
+
+// The time of what is shown where nothing plays, if the pace says it.
+fn poster_time(pace: Pace, events: &[Event]) -> Option<u64>
+    ensures { result ≡ poster_time pace events.now }
+{
+    match pace.poster {
+        Some(time) => Some(time_in_film(pace, events, time)),
+        None => None,
+    }
+}
+
+// The time of the film at a time of the recording.
+fn time_in_film(pace: Pace, events: &[Event], time: u64) -> u64
+    ensures { result ≡ time_in_film pace events.now time }
+{
+    let count = count_until(events, time);
+    let left = pace
+        .from
+        .max(time)
+        .saturating_sub(played_to(pace, events, count));
+    film_time(pace, events, count).saturating_add(pace.of_time(left))
+}
+
+// The time of the film that has been reached after so many events.
+fn film_time(pace: Pace, events: &[Event], count: usize) -> u64
+    requires { count ≤ length events.now }
+    ensures { result ≡ film_time pace events.now count }
+{
+    let mut time: u64 = 0;
+    for i in 0..count {
+        time = time.saturating_add(pace.of_time(gap_before(pace, events, i)));
+    }
+    time
+}
+
+// The time of the recording to which a film has played after so many events.
+fn played_to(pace: Pace, events: &[Event], count: usize) -> u64
+    ensures { result ≡ played_to pace events.now count }
+{
+    pace.from.max(time_after(events, count))
 }
 
 // The time that has been reached after so many events.
@@ -190,7 +241,7 @@ fn may_stand(pace: Pace, events: &[Event], count: usize, time: u64) -> bool
     if count >= events.len() {
         return true;
     }
-    let next = time.saturating_add(pace.of_time(gap_before(events, count)));
+    let next = time.saturating_add(pace.of_time(gap_before(pace, events, count)));
     pace.slot(next) != pace.slot(time)
 }
 

@@ -8,6 +8,8 @@ ghost use Rattle.picture_page.specs.Page.{Adds, IsPage, IsSafe};
 ghost use Rattle.row_pictures.specs.Svg.{AreSvgRuns};
 ghost use Rattle.recorded_screen.specs.Reel.{changes_in, decimal_point, drawn_bytes, drawn_row, film_bytes, in_64_bits};
 ghost use Rattle.recorded_screen.specs.Reel.{in_32_bits as in_32_bits_of, keyframes, last_place as last_place_in};
+ghost use Rattle.recorded_screen.specs.Reel.{end_bytes, last_bytes, place_at as place_at_in, plays_bytes, showing};
+ghost use Rattle.recorded_screen.specs.Reel.{shots_until as shots_until_in, still_place as still_place_in};
 ghost use Rattle.recorded_screen.specs.Reel.{no_track, numbered, place as place_in, shot_bytes};
 ghost use Rattle.recorded_screen.specs.Reel.{times_bytes, track_bytes, track_times, used_row};
 ghost use Rattle.recorded_screen.specs.Shots.{Grows, Inserts, IsAt, IsDrawn, IsReel, IsShown, IsTrack, Shows, ShowsRow};
@@ -59,6 +61,17 @@ pub(crate) struct Track {
 pub(crate) struct Shot {
     time: u64,
     place: usize,
+}
+
+/// How a film is shown.
+#[derive(Clone, Copy)]
+pub(crate) struct Showing {
+    // Its length, in microseconds.
+    length: u64,
+    // How often it plays, if not over and over.
+    plays: Option<u16>,
+    // The time of what is shown where nothing plays, if that isn't the last screen.
+    poster: Option<u64>,
 }
 
 impl Track {
@@ -187,49 +200,67 @@ impl Reel {
         check_changes(&self.tracks)
     }
 
-    /// The film.
-    pub(crate) fn develop(self, alloc: Global, look: &Look) -> Result<Vec<u8>, FilmError>
+    /// The film, which plays so often, or else over and over. Where nothing plays, it is as it is at the poster's time,
+    /// or else at its end.
+    pub(crate) fn develop(
+        self,
+        alloc: Global,
+        look: &Look,
+        plays: Option<u16>,
+        poster: Option<u64>,
+    ) -> Result<Vec<u8>, FilmError>
         requires reel { IsReel self }
         ensures film { IfOk result (λ bytes. bytes.items ≡ film_bytes look.now self.size.rows.value self.size.cols.value
-            (in_64_bits (self.time + 1000000)) (rows_of self) (tracks_of self)) }
+            (showing plays poster self.time) (rows_of self) (tracks_of self)) }
         ensures page { IfOk result (λ bytes. IsPage bytes.items) }
         ensures safe { IfOk result (λ bytes. IsSafe bytes.items) }
         ensures short { IfOk result (λ bytes. length bytes.items ≤ LONGEST_FILM) }
         ensures fault { IfErr result (λ e. (e ≡ Memory) ⊎ ((e ≡ TooLong) × (LONGEST_FILM < length (film_bytes look.now
-            self.size.rows.value self.size.cols.value (in_64_bits (self.time + 1000000)) (rows_of self)
+            self.size.rows.value self.size.cols.value (showing plays poster self.time) (rows_of self)
             (tracks_of self))))) }
     {
         let mut page = Page::new(alloc);
         push_svg_head(&mut page, self.size.rows.get(), self.size.cols.get(), look)?;
-        self.push_times(&mut page)?;
-        self.push_drawn(&mut page)?;
+        self.push_times(&mut page, self.showing(plays, poster))?;
+        self.push_drawn(&mut page, poster)?;
         page.markup(Tag::SvgFoot)?;
         check_length(&page)?;
         Ok(page.into_bytes())
     }
 
-    // Appends when what is shown.
-    fn push_times(&self, page: &mut Page) -> Result<(), AllocError>
-        ensures { OnOk result (page.new ≡ page.old ++ times_bytes self.now.size.cols.value
-            (in_64_bits (self.now.time + 1000000)) (tracks_of self.now)) }
+    // How it is shown, where the film plays so often and has such a poster.
+    fn showing(&self, plays: Option<u16>, poster: Option<u64>) -> Showing
+        ensures { result ≡ showing plays poster self.now.time }
     {
-        let length = self.time.saturating_add(LAST);
+        Showing {
+            length: self.time.saturating_add(LAST),
+            plays,
+            poster,
+        }
+    }
+
+    // Appends when what is shown.
+    fn push_times(&self, page: &mut Page, showing: Showing) -> Result<(), AllocError>
+        ensures { OnOk result (page.new ≡ page.old ++ times_bytes self.now.size.cols.value showing
+            (tracks_of self.now)) }
+    {
         page.markup(Tag::FilmLength)?;
-        push_decimal(page, length, 1_000_000)?;
+        push_decimal(page, showing.length, 1_000_000)?;
         page.markup(Tag::FilmLengthEnd)?;
-        push_all_keyframes(page, self.size.cols.get(), &self.tracks, length)?;
+        push_plays(page, showing.plays)?;
+        push_all_keyframes(page, self.size.cols.get(), &self.tracks, showing)?;
         page.markup(Tag::Still)
     }
 
     // Appends the rows that are drawn and the tracks.
-    fn push_drawn(&self, page: &mut Page) -> Result<(), AllocError>
+    fn push_drawn(&self, page: &mut Page, poster: Option<u64>) -> Result<(), AllocError>
         ensures { OnOk result (page.new ≡ page.old ++ drawn_bytes self.now.drawn_rows
-            (numbered (track_bytes self.now.size.cols.value) 0 (tracks_of self.now))) }
+            (numbered (track_bytes self.now.size.cols.value poster) 0 (tracks_of self.now))) }
     {
         page.markup(Tag::DefsStart)?;
         page.append(&self.drawn_rows)?;
         page.markup(Tag::DefsEnd)?;
-        push_tracks(page, self.size.cols.get(), &self.tracks)
+        push_tracks(page, self.size.cols.get(), poster, &self.tracks)
     }
 }
 
@@ -323,20 +354,31 @@ fn draw_row(page: &mut Page, number: usize, row: &Page) -> Result<(), AllocError
 }
 
 // Appends the tracks of a film that has so many columns.
-fn push_tracks(page: &mut Page, cols: u16, tracks: &[Track]) -> Result<(), AllocError>
-    ensures { OnOk result (page.new ≡ page.old ++ numbered (track_bytes cols) 0 (map track_of tracks.now)) }
+fn push_tracks(
+    page: &mut Page,
+    cols: u16,
+    poster: Option<u64>,
+    tracks: &[Track],
+) -> Result<(), AllocError>
+    ensures { OnOk result (page.new ≡ page.old ++ numbered (track_bytes cols poster) 0 (map track_of tracks.now)) }
 {
     for (number, track) in tracks.iter().enumerate() {
-        push_track(page, cols, number, track)?;
+        push_track(page, cols, poster, number, track)?;
     }
     Ok(())
 }
 
 // Appends a track: its rows, side by side.
-fn push_track(page: &mut Page, cols: u16, number: usize, track: &Track) -> Result<(), AllocError>
-    ensures { OnOk result (page.new ≡ page.old ++ track_bytes cols number (track_of track.now)) }
+fn push_track(
+    page: &mut Page,
+    cols: u16,
+    poster: Option<u64>,
+    number: usize,
+    track: &Track,
+) -> Result<(), AllocError>
+    ensures { OnOk result (page.new ≡ page.old ++ track_bytes cols poster number (track_of track.now)) }
 {
-    let shown = last_place(cols, &track.shots);
+    let shown = still_place(cols, poster, &track.shots);
     page.numbers(&[(Tag::Track, in_32_bits(number)), (Tag::TrackPlace, shown)])?;
     page.markup(Tag::TrackRows)?;
     use_rows(
@@ -380,17 +422,30 @@ fn use_row(page: &mut Page, cols: u16, y: u32, place: usize, row: usize) -> Resu
     page.markup(Tag::Close)
 }
 
-// Appends the key frames of each track that changes, in a film of this length.
+// Appends how often a film plays.
+fn push_plays(page: &mut Page, plays: Option<u16>) -> Result<(), AllocError>
+    ensures { OnOk result (page.new ≡ page.old ++ plays_bytes plays) }
+{
+    match plays {
+        None => page.markup(Tag::Endless),
+        Some(plays) => {
+            page.number(u32::from(plays.max(1)))?;
+            page.markup(Tag::Forwards)
+        }
+    }
+}
+
+// Appends the key frames of each track that changes, in a film that is shown so.
 fn push_all_keyframes(
     page: &mut Page,
     cols: u16,
     tracks: &[Track],
-    film_length: u64,
+    showing: Showing,
 ) -> Result<(), AllocError>
-    ensures { OnOk result (page.new ≡ page.old ++ numbered (track_times cols film_length) 0 (map track_of tracks.now)) }
+    ensures { OnOk result (page.new ≡ page.old ++ numbered (track_times cols showing) 0 (map track_of tracks.now)) }
 {
     for (number, track) in tracks.iter().enumerate() {
-        push_keyframes_if(page, cols, number, &track.shots, film_length)?;
+        push_keyframes_if(page, cols, number, &track.shots, showing)?;
     }
     Ok(())
 }
@@ -401,31 +456,32 @@ fn push_keyframes_if(
     cols: u16,
     number: usize,
     shots: &[Shot],
-    film_length: u64,
+    showing: Showing,
 ) -> Result<(), AllocError>
     ensures { OnOk result (page.new ≡ page.old
-        ++ (if nat_lt 1 (length shots.now) then keyframes cols film_length number shots.now else [])) }
+        ++ (if nat_lt 1 (length shots.now) then keyframes cols showing number shots.now else [])) }
 {
     if shots.len() > 1 {
-        push_keyframes(page, cols, number, shots, film_length)
+        push_keyframes(page, cols, number, shots, showing)
     } else {
         Ok(())
     }
 }
 
-// Appends the key frames of a track, in a film of this length.
+// Appends the key frames of a track, in a film that is shown so.
 fn push_keyframes(
     page: &mut Page,
     cols: u16,
     number: usize,
     shots: &[Shot],
-    film_length: u64,
+    showing: Showing,
 ) -> Result<(), AllocError>
-    ensures { OnOk result (page.new ≡ page.old ++ keyframes cols film_length number shots.now) }
+    ensures { OnOk result (page.new ≡ page.old ++ keyframes cols showing number shots.now) }
 {
     page.numbers(&[(Tag::Keyframes, in_32_bits(number))])?;
     page.markup(Tag::KeyframesStart)?;
-    push_shots(page, cols, shots, film_length)?;
+    push_shots(page, cols, shots, showing.length)?;
+    push_end(page, cols, shots, showing.plays)?;
     page.numbers(&[
         (Tag::KeyframesEnd, in_32_bits(number)),
         (Tag::Animation, in_32_bits(number)),
@@ -448,6 +504,30 @@ fn push_shots(
     Ok(())
 }
 
+// Appends what is shown at the end of a film that doesn't play over and over.
+fn push_end(
+    page: &mut Page,
+    cols: u16,
+    shots: &[Shot],
+    plays: Option<u16>,
+) -> Result<(), AllocError>
+    ensures { OnOk result (page.new ≡ page.old ++ end_bytes plays cols shots.now) }
+{
+    match plays {
+        None => Ok(()),
+        Some(_) => push_last(page, cols, shots),
+    }
+}
+
+// Appends that the last shot is shown at the end.
+fn push_last(page: &mut Page, cols: u16, shots: &[Shot]) -> Result<(), AllocError>
+    ensures { OnOk result (page.new ≡ page.old ++ last_bytes cols shots.now) }
+{
+    page.markup(Tag::AtEnd)?;
+    page.numbers(&[(Tag::Percent, last_place(cols, shots))])?;
+    page.markup(Tag::PercentEnd)
+}
+
 // Appends when a shot begins in a film of this length, and what is shown then.
 fn push_time(page: &mut Page, cols: u16, shot: Shot, film_length: u64) -> Result<(), AllocError>
     ensures { OnOk result (page.new ≡ page.old ++ shot_bytes cols film_length shot) }
@@ -463,6 +543,39 @@ fn place_of(cols: u16, place: usize) -> u32
 {
     let width = u64::from(cols) * u64::from(COL_WIDTH);
     u32::try_from((place as u64).saturating_mul(width)).unwrap_or(u32::MAX)
+}
+
+// Where the row stands that is shown where nothing plays, in pixels from the left.
+fn still_place(cols: u16, poster: Option<u64>, shots: &[Shot]) -> u32
+    ensures { result ≡ still_place_in cols poster shots.now }
+{
+    match poster {
+        None => last_place(cols, shots),
+        Some(time) => place_at(cols, time, shots),
+    }
+}
+
+// Where the row stands that is shown at a time, in pixels from the left.
+fn place_at(cols: u16, time: u64, shots: &[Shot]) -> u32
+    ensures { result ≡ place_at_in cols time shots.now }
+{
+    match shots.get(shots_until(shots, time).saturating_sub(1)) {
+        Some(shown) => place_of(cols, shown.place),
+        None => 0,
+    }
+}
+
+// How many shots there are before the first one that comes later than a time.
+fn shots_until(shots: &[Shot], time: u64) -> usize
+    ensures count { result ≡ shots_until_in time shots.now }
+    ensures within { result ≤ length shots.now }
+{
+    for (i, shot) in shots.iter().enumerate() {
+        if shot.time > time {
+            return i;
+        }
+    }
+    shots.len()
 }
 
 // Where the row stands that is shown last, in pixels from the left.

@@ -1,6 +1,6 @@
 -- Why no text of a recording is printed.
 use Rattle.std.proofs.Common.{◌≡◌, ◌⊎◌, ◌∙◌, ℕ, List, Option, Some, Ok, Err, Result, IfErr, inl, inr, true, false}
-use Rattle.std.proofs.Common.{ap, refl, subst, sym}
+use Rattle.std.proofs.Common.{refl, subst, sym}
 use Rattle.player_page.specs.declared.error.PlayerError.{PlayerError}
 use Rattle.player_page.specs.declared.error.PlayerError.TheVariants as player
 use Rattle.recorded_screen.specs.declared.error.FilmError.{FilmError}
@@ -13,13 +13,15 @@ use Rattle.recordings.specs.declared.recording.Recording.{Recording}
 use Rattle.screentext_command.specs.Asked.{Origin, Wish}
 use Rattle.screentext_command.specs.Faults.{film_fault, player_fault, recording_fault}
 use Rattle.screentext_command.specs.Limits.{are_within}
-use Rattle.screentext_command.specs.Missing.{HasNoText, IsMissing, IsNoMoment, IsUnreadAs, cut, large, long, no_file}
-use Rattle.screentext_command.specs.Missing.{no_moment, no_text, refused, too_long, unread}
+use Rattle.screentext_command.specs.Missing.{HasNoText, IsMissing, IsNoMoment, IsUnfit, IsUnreadAs, cut, large}
+use Rattle.screentext_command.specs.Missing.{no_file, no_moment, no_text, refused, unfit, unread}
 use Rattle.screentext_command.specs.Moments.{AreMoments}
 use Rattle.screentext_command.specs.Reads.{IsPart, IsRead, IsShown, IsTiming}
 use Rattle.screentext_command.specs.declared.error.TextError.{TextError}
 use Rattle.screentext_command.specs.declared.error.TextError.TheVariants as error
+use Rattle.screentext_command.specs.declared.source.Moments.{Moments}
 use Rattle.screentext_command.specs.declared.words.Form.{Form}
+use Rattle.screentext_command.specs.declared.words.Form.TheVariants as form
 
 module _ (holds : List ℕ → List ℕ → Type 0) (lacks : List ℕ → Type 0) (o : Origin) (w : Wish) (bytes : List ℕ) where
   -- the timing file can't be read
@@ -58,17 +60,26 @@ module _ (holds : List ℕ → List ℕ → Type 0) (lacks : List ℕ → Type 0
 module _ (o : Origin) (w : Wish) (r : Recording) where
   -- a word means no moment of it
   pub no_moment_text : (e : TextError) → IsNoMoment (said r.events.items) o.moment e
-      ⊎ IsNoMoment (said r.events.items) o.since e → (e ≡ error.Memory) ⊎ HasNoText o w r e
+      ⊎ (IsNoMoment (said r.events.items) o.since e
+      ⊎ (IsNoMoment (said r.events.items) o.from e ⊎ IsNoMoment (said r.events.items) o.poster e))
+      → (e ≡ error.Memory) ⊎ HasNoText o w r e
   no_moment_text e (inl (inl memory)) = inl memory
   no_moment_text e (inl (inr fault)) = inr (subst (HasNoText o w r) (sym fault.0) (no_moment (inl fault.1)))
-  no_moment_text e (inr (inl memory)) = inl memory
-  no_moment_text e (inr (inr fault)) = inr (subst (HasNoText o w r) (sym fault.0) (no_moment (inr fault.1)))
+  no_moment_text e (inr (inl (inl memory))) = inl memory
+  no_moment_text e (inr (inl (inr fault))) =
+      inr (subst (HasNoText o w r) (sym fault.0) (no_moment (inr (inl fault.1))))
+  no_moment_text e (inr (inr (inl (inl memory)))) = inl memory
+  no_moment_text e (inr (inr (inl (inr fault)))) =
+      inr (subst (HasNoText o w r) (sym fault.0) (no_moment (inr (inr (inl fault.1)))))
+  no_moment_text e (inr (inr (inr (inl memory)))) = inl memory
+  no_moment_text e (inr (inr (inr (inr fault)))) =
+      inr (subst (HasNoText o w r) (sym fault.0) (no_moment (inr (inr (inr fault.1)))))
 
-  -- the film or the page would be too long
-  pub long_text : (e : TextError) (moment : ℕ) (since : Option ℕ) → AreMoments (said r.events.items) o moment since
-      → o.list ≡ false → (e ≡ error.Memory) ⊎ (too_long w.form ≡ Some e) → (e ≡ error.Memory) ⊎ HasNoText o w r e
-  long_text e moment since meant shown (inl memory) = inl memory
-  long_text e moment since meant shown (inr fault) = inr (long e moment since meant shown fault)
+  -- the film or the page would be too long, or the film would begin after its end
+  pub unfit_text : (e : TextError) (m : Moments) → AreMoments (said r.events.items) o m → o.list ≡ false
+      → (e ≡ error.Memory) ⊎ IsUnfit w.form r m e → (e ≡ error.Memory) ⊎ HasNoText o w r e
+  unfit_text e m meant shown (inl memory) = inl memory
+  unfit_text e m meant shown (inr fault) = inr (unfit e m meant shown fault)
 
 -- there is no text of the recording that is shown
 pub text_missing : (holds : List ℕ → List ℕ → Type 0) (lacks : List ℕ → Type 0) (o : Origin) (w : Wish)
@@ -84,16 +95,17 @@ err_goes (Err e) p f = f e p
 
 -- ---- films and pages
 
-pub film_faulted : (e : FilmError) → (film_fault e ≡ error.Memory) ⊎ (film_fault e ≡ error.Film)
-film_faulted film.Memory = inl refl
-film_faulted film.TooLong = inr refl
+pub film_faulted : (r : Recording) (m : Moments) (e : FilmError) → (film_fault e ≡ error.Memory)
+    ⊎ IsUnfit form.Film r m (film_fault e)
+film_faulted r m film.Memory = inl refl
+film_faulted r m film.TooLong = inr (inl refl)
 
 pub player_faulted : (e : PlayerError) → (player_fault e ≡ error.Memory) ⊎ (player_fault e ≡ error.Player)
 player_faulted player.Memory = inl refl
 player_faulted player.TooLong = inr refl
 
 -- the fault of a form, by what it is
-pub long_form : (form : Form) (e fault : TextError) → too_long form ≡ Some fault → (e ≡ error.Memory) ⊎ (e ≡ fault)
-    → (e ≡ error.Memory) ⊎ (too_long form ≡ Some e)
-long_form form e fault is (inl memory) = inl memory
-long_form form e fault is (inr same) = inr (is ∙ ap Some (sym same))
+pub unfit_form : (f g : Form) (r : Recording) (m : Moments) (e : TextError) → f ≡ g
+    → (e ≡ error.Memory) ⊎ IsUnfit g r m e → (e ≡ error.Memory) ⊎ IsUnfit f r m e
+unfit_form f g r m e is (inl memory) = inl memory
+unfit_form f g r m e is (inr fault) = inr (subst (λ (x : Form). IsUnfit x r m e) (sym is) fault)

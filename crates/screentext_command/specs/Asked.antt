@@ -38,6 +38,9 @@ pub record Origin : Type 0 where
   -- the words for the moment and for the earlier one
   pub moment : Option Text
   pub since : Option Text
+  -- the words for the moment at which a film begins, and for the one that is shown where nothing plays
+  pub from : Option Text
+  pub poster : Option Text
   -- whether the recording is described, in place of a screen
   pub list : Bool
   pub draws_lines : Bool
@@ -73,6 +76,8 @@ origin_of s = record {
   timing = option_map string_bytes s.timing;
   moment = option_map string_bytes s.moment;
   since = option_map string_bytes s.since;
+  from = option_map string_bytes s.from;
+  poster = option_map string_bytes s.poster;
   list = s.list;
   draws_lines = s.draws_lines;
   strict = s.strict;
@@ -165,6 +170,11 @@ abbrev pub rate_meant : Option Text → Option ℕ
 rate_meant None = Some 30
 rate_meant (Some word) = rate_in word
 
+-- how often a film plays, where a word says it: 1 to 65,535
+abbrev pub plays_meant : Option Text → Option (Option ℕ)
+plays_meant None = Some None
+plays_meant (Some word) = option_map (λ n. Some n) (size_in word)
+
 abbrev pub has : Text → List Row → Bool
 has name rows = nat_lt 0 (count_of name rows)
 
@@ -174,16 +184,19 @@ pub record SaysOrigin (rows : List Row) (o : Origin) : Type 0 where
   pub timing : o.timing ≡ first_of (codes "timing") rows
   pub moment : o.moment ≡ first_of (codes "at") rows
   pub since : o.since ≡ first_of (codes "diff") rows
+  pub from : o.from ≡ first_of (codes "from") rows
+  pub poster : o.poster ≡ first_of (codes "poster") rows
   pub list : o.list ≡ has (codes "list") rows
   pub draws_lines : o.draws_lines ≡ nat_eq (count_of (codes "no-line-drawing") rows) 0
   pub strict : o.strict ≡ has (codes "strict") rows
   pub most_cells : cells_meant (first_of (codes "max-cells") rows) ≡ Some o.most_cells
 
--- they say how fast a film plays
+-- they say how fast a film plays, and how often
 pub record SaysPace (rows : List Row) (pace : Pace) : Type 0 where
   pub speed : speed_meant (first_of (codes "speed") rows) ≡ Some pace.speed
   pub idle : idle_meant (first_of (codes "idle") rows) ≡ Some pace.idle
   pub rate : rate_meant (first_of (codes "fps") rows) ≡ Some pace.rate
+  pub plays : plays_meant (first_of (codes "loop") rows) ≡ Some pace.plays
 
 -- they say how pictures look, what is around them, and how fast a film plays
 pub record SaysManner (rows : List Row) (m : Manner) : Type 0 where

@@ -11,7 +11,7 @@ use Rattle.recordings.specs.Faults.{fault_text as recording_fault_text}
 use Rattle.recordings.specs.declared.error.RecordingError.{RecordingError}
 use Rattle.recordings.specs.declared.error.RecordingError.TheVariants as recording
 use Rattle.screentext_command.specs.declared.error.TextError.{TextError}
-use Rattle.screentext_command.specs.declared.error.TextError.TheVariants.{Cells, Cut, File, Film, Guessed, Marker}
+use Rattle.screentext_command.specs.declared.error.TextError.TheVariants.{Cells, Cut, File, Film, Guessed, Late, Marker}
 use Rattle.screentext_command.specs.declared.error.TextError.TheVariants.{Memory}
 use Rattle.screentext_command.specs.declared.error.TextError.TheVariants.{Player, Read, Recording, Write}
 
@@ -42,6 +42,7 @@ fault_text Memory = codes "memory"
 fault_text File = codes "the timing file can't be read"
 fault_text Marker = codes "no such marker"
 fault_text Film = codes "the film has more than 8 MiB"
+fault_text Late = codes "--from is later than the end of the film"
 fault_text Player = codes "the page has more than 32 MiB"
 fault_text (Cells most) =
     codes "a size in the recording has more than " ++ (decimal most ++ codes " cells: --max-cells N allows more")

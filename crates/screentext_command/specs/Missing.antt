@@ -8,10 +8,11 @@ use Rattle.recordings.specs.declared.recording.Reading.{Reading}
 use Rattle.recordings.specs.declared.recording.Recording.{Recording}
 use Rattle.screentext_command.specs.Asked.{Origin, Wish}
 use Rattle.screentext_command.specs.Limits.{are_within}
-use Rattle.screentext_command.specs.Moments.{AreMoments, time_meant}
+use Rattle.screentext_command.specs.Moments.{AreMoments, is_late, time_meant}
 use Rattle.screentext_command.specs.Reads.{IsPart, IsRead, IsShown, IsTiming}
 use Rattle.screentext_command.specs.declared.error.TextError.{TextError}
 use Rattle.screentext_command.specs.declared.error.TextError.TheVariants as error
+use Rattle.screentext_command.specs.declared.source.Moments.{Moments}
 use Rattle.screentext_command.specs.declared.words.Form.{Form}
 use Rattle.screentext_command.specs.declared.words.Form.TheVariants.{Film, Player, Still}
 
@@ -30,20 +31,22 @@ MeansNone moments (Some word) = time_meant moments word ≡ None
 abbrev pub IsNoMoment : List Moment → Option (List ℕ) → TextError → Type 0
 IsNoMoment moments word e = (e ≡ error.Memory) ⊎ ((e ≡ error.Marker) × MeansNone moments word)
 
--- the fault of a text in this form that would be too long
-abbrev pub too_long : Form → Option TextError
-too_long (Still picture) = None
-too_long Film = Some error.Film
-too_long Player = Some error.Player
+-- why there is no text in this form, but for memory: it would be too long, or a film would begin after its end
+abbrev pub IsUnfit : Form → Recording → Moments → TextError → Type 0
+IsUnfit (Still picture) r m e = ⊥
+IsUnfit Film r m e = (e ≡ error.Film) ⊎ ((e ≡ error.Late) × (is_late r m ≡ true))
+IsUnfit Player r m e = e ≡ error.Player
 
 -- Why there is no text of a recording that is shown, but for memory.
 pub data HasNoText (o : Origin) (w : Wish) (r : Recording) : TextError → Type 0 where
   -- a word means no moment of it
-  no_moment : MeansNone (said r.events.items) o.moment ⊎ MeansNone (said r.events.items) o.since
+  no_moment : MeansNone (said r.events.items) o.moment
+      ⊎ (MeansNone (said r.events.items) o.since
+      ⊎ (MeansNone (said r.events.items) o.from ⊎ MeansNone (said r.events.items) o.poster))
       → HasNoText o w r error.Marker
-  -- the film or the page would be too long
-  long : (e : TextError) (moment : ℕ) (since : Option ℕ) → AreMoments (said r.events.items) o moment since
-      → o.list ≡ false → too_long w.form ≡ Some e → HasNoText o w r e
+  -- the film or the page would be too long, or the film would begin after its end
+  unfit : (e : TextError) (m : Moments) → AreMoments (said r.events.items) o m → o.list ≡ false
+      → IsUnfit w.form r m e → HasNoText o w r e
 
 -- Why no text of these bytes is printed: memory was refused, or this is the first reason that holds.
 pub data IsMissing (holds : List ℕ → List ℕ → Type 0) (lacks : List ℕ → Type 0) (o : Origin) (w : Wish)

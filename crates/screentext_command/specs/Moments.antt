@@ -1,10 +1,13 @@
 -- The moments that words mean.
-use Rattle.std.specs.Prelude.{◌≡◌, ℕ, ◌-◌, ◌^◌, Bool, false, List, [], ◌∷◌, Option, Some, None, if◌then◌else◌}
-use Rattle.std.specs.Option.{option_or}
+use Rattle.std.specs.Prelude.{◌≡◌, ℕ, ◌-◌, ◌^◌, min, nat_lt, Bool, false, List, [], ◌∷◌, Option, Some, None}
+use Rattle.std.specs.Prelude.{if◌then◌else◌}
+use Rattle.std.specs.Option.{option_map_or, option_or}
 use Rattle.std.specs.Str.{bytes_eq}
 use Rattle.recordings.specs.Recorded.{Deed, Moment, marks, resizes, writes}
 use Rattle.recordings.specs.Times.{time_in}
+use Rattle.recordings.specs.declared.recording.Recording.{Recording}
 use Rattle.screentext_command.specs.Asked.{Origin}
+use Rattle.screentext_command.specs.declared.source.Moments.{Moments}
 
 -- a marker of this name
 abbrev pub is_marker : List ℕ → Deed → Bool
@@ -26,13 +29,19 @@ abbrev pub IsMoment : List Moment → Option (List ℕ) → ℕ → Type 0
 IsMoment moments None time = time ≡ 2 ^ 64 - 1
 IsMoment moments (Some word) time = time_meant moments word ≡ Some time
 
--- the moment from which on changes are wanted, if there is one
-abbrev pub IsEarlierMoment : List Moment → Option (List ℕ) → Option ℕ → Type 0
-IsEarlierMoment moments None since = since ≡ None
-IsEarlierMoment moments (Some word) None = ⊥
-IsEarlierMoment moments (Some word) (Some time) = time_meant moments word ≡ Some time
+-- another moment that a word means, if there is a word
+abbrev pub IsOtherMoment : List Moment → Option (List ℕ) → Option ℕ → Type 0
+IsOtherMoment moments None since = since ≡ None
+IsOtherMoment moments (Some word) None = ⊥
+IsOtherMoment moments (Some word) (Some time) = time_meant moments word ≡ Some time
 
 -- the moments that the words for a recording mean
-pub record AreMoments (moments : List Moment) (o : Origin) (moment : ℕ) (since : Option ℕ) : Type 0 where
-  pub moment_is : IsMoment moments o.moment moment
-  pub since_is : IsEarlierMoment moments o.since since
+pub record AreMoments (moments : List Moment) (o : Origin) (m : Moments) : Type 0 where
+  pub moment_is : IsMoment moments o.moment m.moment
+  pub since_is : IsOtherMoment moments o.since m.since
+  pub from_is : IsOtherMoment moments o.from m.from
+  pub poster_is : IsOtherMoment moments o.poster m.poster
+
+-- a film would begin after its end
+abbrev pub is_late : Recording → Moments → Bool
+is_late r m = option_map_or (nat_lt (min m.moment r.length)) m.from false

@@ -18,6 +18,7 @@ use Rattle.screentext_command.specs.Moments.{AreMoments}
 use Rattle.screentext_command.specs.Texts.{IsAnswer, size_at_first}
 use Rattle.screentext_command.specs.declared.error.TextError.{TextError}
 use Rattle.screentext_command.specs.declared.error.TextError.TheVariants.{Cut, Guessed}
+use Rattle.screentext_command.specs.declared.source.Moments.{Moments}
 
 -- the bytes of the timing file that the words name, if they name one
 abbrev pub IsTiming : (List ℕ → List ℕ → Type 0) → Option (List ℕ) → Option (List ℕ) → Type 0
@@ -73,12 +74,12 @@ pub record IsShown (holds : List ℕ → List ℕ → Type 0) (o : Origin) (byte
   pub within : are_within o.most_cells read ≡ true
   pub drawn : IsDrawnSo o.draws_lines read shown
 
--- this text is printed of a recording: a screen at the moment that the words mean, in the form that they say
+-- this text is printed of a recording: a screen or a film, at the moments that the words mean, in the form that they
+-- say
 pub record IsScreenText (o : Origin) (w : Wish) (r : Recording) (text : List ℕ) : Type 0 where
-  pub moment : ℕ
-  pub since : Option ℕ
-  pub meant : AreMoments (said r.events.items) o moment since
-  pub prints : IsAnswer w.form w (size_at_first w.size (option_map size_said r.size)) r moment since text
+  pub moments : Moments
+  pub meant : AreMoments (said r.events.items) o moments
+  pub prints : IsAnswer w.form w (size_at_first w.size (option_map size_said r.size)) r moments text
 
 -- this text is printed of the bytes, and this is said of them
 pub record IsAnswerTo (holds : List ℕ → List ℕ → Type 0) (o : Origin)

@@ -38,6 +38,7 @@ use Rattle.player_page.specs.Rows.{ShowsRows}
 use Rattle.player_page.specs.declared.page.Play.{Play}
 use Rattle.player_page.specs.declared.page.TheConstants.{LONGEST_PLAYER}
 use Rattle.screentext_command.specs.Asked.{Manner, Wish}
+use Rattle.screentext_command.specs.declared.source.Moments.{Moments}
 use Rattle.screentext_command.specs.declared.words.Form.{Form}
 use Rattle.screentext_command.specs.declared.words.Form.TheVariants.{Film, Player, Still}
 use Rattle.screentext_command.specs.declared.words.Picture.{Picture}
@@ -100,9 +101,11 @@ theme_shown (Some theme) recorded = theme
 theme_shown None (Some colors) = theme_of colors
 theme_shown None None = xterm_theme
 
--- A screen stands no longer than the words say, or else the recording.
-abbrev pub pace_shown : Pace → Option ℕ → Pace
-pace_shown pace recorded = record pace { idle = option_or pace.idle recorded }
+-- How a film of a recording plays: at the pace of the words, where a screen stands no longer than the recording says,
+-- unless the words say it, from the moment on that the words mean, and with the poster that they mean.
+abbrev pub pace_shown : Pace → Recording → Moments → Pace
+pace_shown pace r m =
+    record pace { idle = option_or pace.idle r.idle; from = unwrap_or m.from 0; poster = m.poster }
 
 -- how pictures of a recording look
 pub record IsLook (m : Manner) (r : Recording) (look : pictures.Look) : Type 0 where
@@ -168,33 +171,33 @@ IsScreen picture w size r moment None text = IsStill picture w r (screen_at size
 IsScreen picture w size r moment (Some since) text =
     text ≡ changes_text w.look (screen_at size 0 r since).shown (screen_at size w.history r moment).shown
 
--- a film of a terminal of this size at first up to a moment, in the look, at the pace and in the frame that the words
--- ask for
-pub record IsFilm (m : Manner) (size : ℕ × ℕ) (r : Recording) (moment : ℕ) (text : List ℕ) : Type 0 where
+-- a film of a terminal of this size at first, from one moment to another, in the look, at the pace and in the frame of
+-- the words
+pub record IsFilm (m : Manner) (size : ℕ × ℕ) (r : Recording) (moments : Moments) (text : List ℕ) : Type 0 where
   pub safe : IsSafe text
   pub short : length text ≤ LONGEST_FILM
   pub look : pictures.Look
   pub is_look : IsLook m r look
   pub at_first : ScreenSize
   pub is_size : size_said at_first ≡ size
-  pub shows : IsFramed m.frame look.theme (films.most_rows moment at_first r.events.items)
-      (films.most_cols moment at_first r.events.items)
-      (films.IsFilm look at_first (pace_shown m.pace r.idle) moment r.events.items) text
+  pub shows : IsFramed m.frame look.theme (films.most_rows moments.moment at_first r.events.items)
+      (films.most_cols moments.moment at_first r.events.items)
+      (films.IsFilm look at_first (pace_shown m.pace r moments) moments.moment r.events.items) text
 
--- how a recording is played, with the screen of this moment at first
-abbrev pub played : Manner → Recording → ℕ → Play
-played m r moment = record { length = r.length; poster = moment; pace = pace_shown m.pace r.idle }
+-- how a recording is played, with the screen of a moment at first
+abbrev pub played : Manner → Recording → Moments → Play
+played m r moments = record { length = r.length; poster = moments.moment; pace = pace_shown m.pace r moments }
 
 -- a page that plays a recording on a terminal of this size at first
-pub record IsPlayer (m : Manner) (size : ℕ × ℕ) (r : Recording) (moment : ℕ) (text : List ℕ) : Type 0 where
+pub record IsPlayer (m : Manner) (size : ℕ × ℕ) (r : Recording) (moments : Moments) (text : List ℕ) : Type 0 where
   pub shows : ShowsRows size.0 size.1 r.events.items text
   pub safe : IsSafe text
   pub short : length text ≤ LONGEST_PLAYER
   pub look : pictures.Look
   pub is_look : IsLook m r look
-  pub head : BeginsWith (head_bytes look (played m r moment)) text
+  pub head : BeginsWith (head_bytes look (played m r moments)) text
 
-abbrev pub IsAnswer : Form → Wish → ℕ × ℕ → Recording → ℕ → Option ℕ → List ℕ → Type 0
-IsAnswer (Still picture) w size r moment since text = IsScreen picture w size r moment since text
-IsAnswer Film w size r moment since text = IsFilm w.manner size r moment text
-IsAnswer Player w size r moment since text = IsPlayer w.manner size r moment text
+abbrev pub IsAnswer : Form → Wish → ℕ × ℕ → Recording → Moments → List ℕ → Type 0
+IsAnswer (Still picture) w size r m text = IsScreen picture w size r m.moment m.since text
+IsAnswer Film w size r m text = IsFilm w.manner size r m text
+IsAnswer Player w size r m text = IsPlayer w.manner size r m text

@@ -67,14 +67,18 @@ abbrev pub with_windows : App → App
 with_windows a = with_rule (with_rule (with_rule a (value_rule (codes "padding"))) (value_rule (codes "font-size")))
     (value_rule (codes "window"))
 
+abbrev pub with_plays : App → App
+with_plays a = with_rule (with_rule (with_rule a (value_rule (codes "loop"))) (value_rule (codes "from")))
+    (value_rule (codes "poster"))
+
 -- the description for `clap` of
 -- `[ROWS COLS] [--at TIME] [--diff TIME] [--history N] [--joined] [--colours] [--html | --svg]
 -- [--list] [--kind NAME] [--timing FILE] [--no-line-drawing] [--strict] [--max-cells N] [--html-block] [--theme NAME]
 -- [--font NAME] [--bold-is-bright | --bold-is-plain] [--animate] [--speed N] [--idle SECONDS] [--fps N] [--player]
--- [--no-cursor] [--padding N] [--font-size N] [--window TITLE]`
+-- [--no-cursor] [--padding N] [--font-size N] [--window TITLE] [--loop N] [--from TIME] [--poster TIME]`
 abbrev pub known : App
-known = with_windows
-    (with_frames (with_player (with_films (with_pictures (with_sources (with_flags (with_values program)))))))
+known = with_plays (with_windows (with_frames (with_player (with_films (with_pictures (with_sources (with_flags
+    (with_values program))))))))
 
 -- both are numbers of rows and columns, or there is neither
 abbrev pub is_screen : Option Text → Option Text → Bool
@@ -89,6 +93,12 @@ is_time json = option_map_or (λ value. not (is_some (as_number value)) || is_so
 abbrev pub is_moment : Option Text → Bool
 is_moment word = option_map_or (λ text. is_time (json_in text)) word true
 
+-- the words for moments
+abbrev pub are_moments : List Row → Bool
+are_moments rows = is_moment (first_of (codes "at") rows)
+    && (is_moment (first_of (codes "diff") rows) && (is_moment (first_of (codes "from") rows)
+    && is_moment (first_of (codes "poster") rows)))
+
 -- one form at most, and a film in SVG alone
 abbrev pub is_form : Bool → Bool → Bool → Bool → Bool → Bool
 is_form false false svg film false = svg || not film
@@ -100,11 +110,10 @@ is_form _ _ _ _ _ = false
 -- the values of the words that `clap` takes
 abbrev pub are_values : List Row → Bool
 are_values rows = is_screen (first_of (codes "ROWS") rows) (first_of (codes "COLS") rows)
-    && (is_moment (first_of (codes "at") rows) && (is_moment (first_of (codes "diff") rows)
-    && (option_map_or is_count (first_of (codes "history") rows) true
+    && (are_moments rows && (option_map_or is_count (first_of (codes "history") rows) true
     && is_form (nat_lt 0 (count_of (codes "html") rows)) (nat_lt 0 (count_of (codes "html-block") rows))
     (nat_lt 0 (count_of (codes "svg") rows)) (nat_lt 0 (count_of (codes "animate") rows))
-    (nat_lt 0 (count_of (codes "player") rows)))))
+    (nat_lt 0 (count_of (codes "player") rows))))
 
 abbrev pub are_sources : List Row → Bool
 are_sources rows = option_map_or (λ word. is_some (kind_named word)) (first_of (codes "kind") rows) true
@@ -125,7 +134,8 @@ is_rate word = option_map_or (λ n. nat_le n 1000) (size_in word) false
 abbrev pub are_paces : List Row → Bool
 are_paces rows = option_map_or is_speed (first_of (codes "speed") rows) true
     && (option_map_or (λ word. is_some (time_in word)) (first_of (codes "idle") rows) true
-    && option_map_or is_rate (first_of (codes "fps") rows) true)
+    && (option_map_or is_rate (first_of (codes "fps") rows) true
+    && option_map_or (λ word. is_some (size_in word)) (first_of (codes "loop") rows) true))
 
 abbrev pub are_pictures : List Row → Bool
 are_pictures rows = option_map_or is_theme (first_of (codes "theme") rows) true
@@ -151,7 +161,7 @@ is_invocation words = is_invocation_of (fault_of known words) (matches_of known 
 
 -- what is printed for words that aren't understood
 abbrev pub usage_line : List ℕ
-usage_line = codes "usage: screentext [ROWS COLS] [--at SECONDS] [--diff SECONDS] [--history N] [--joined] [--colours] [--html | --html-block | --player | --svg [--animate]] [--speed N] [--idle SECONDS] [--fps N] [--theme NAME] [--font NAME] [--bold-is-bright | --bold-is-plain] [--no-cursor] [--padding N] [--font-size N] [--window TITLE] [--list] [--kind NAME] [--timing FILE] [--no-line-drawing] [--strict] [--max-cells N]; screentext --help says what they do"
+usage_line = codes "usage: screentext [ROWS COLS] [--at SECONDS] [--diff SECONDS] [--history N] [--joined] [--colours] [--html | --html-block | --player | --svg [--animate]] [--speed N] [--idle SECONDS] [--fps N] [--loop N] [--from SECONDS] [--poster SECONDS] [--theme NAME] [--font NAME] [--bold-is-bright | --bold-is-plain] [--no-cursor] [--padding N] [--font-size N] [--window TITLE] [--list] [--kind NAME] [--timing FILE] [--no-line-drawing] [--strict] [--max-cells N]; screentext --help says what they do"
     ++ 0x0A ∷ []
 
 -- what is printed where memory is refused

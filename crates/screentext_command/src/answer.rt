@@ -1,14 +1,16 @@
 //! What is printed of a recording.
 
-ghost use Rattle.std.specs.Prelude.{◌≡◌, ◌⊎◌, IfErr, IfOk, Some, false};
+ghost use Rattle.std.specs.Prelude.{◌≡◌, ◌⊎◌, IfErr, IfOk, false};
 ghost use Rattle.std.specs.Option.{option_map};
 ghost use Rattle.recordings.specs.Recorded.{size_said};
 ghost use Rattle.screentext_command.specs.Asked.{manner_of, wish_of};
-ghost use Rattle.screentext_command.specs.Missing.{too_long};
+ghost use Rattle.screentext_command.specs.Missing.{IsUnfit};
+ghost use Rattle.screentext_command.specs.Moments.{is_late};
 ghost use Rattle.screentext_command.specs.Texts.{IsAnswer, IsFilm, IsPlayer, IsScreen, IsStill, changes_text};
 ghost use Rattle.screentext_command.specs.Texts.{rows_text, screen_at, size_at_first};
-ghost use Rattle.screentext_command.specs.declared.error.TextError.TheVariants.{Film as LongFilm, Memory};
+ghost use Rattle.screentext_command.specs.declared.error.TextError.TheVariants.{Memory};
 ghost use Rattle.screentext_command.specs.declared.error.TextError.TheVariants.{Player as LongPlayer};
+ghost use Rattle.screentext_command.specs.declared.words.Form.TheVariants.{Film as AFilm};
 
 use crate::changes::push_changes;
 use crate::error::TextError;
@@ -35,16 +37,16 @@ pub(crate) fn answer_of(
 ) -> Result<Vec<u8>, TextError>
     ensures text { IfOk result (λ text. IsAnswer request.form (wish_of request pictures.now)
         (size_at_first (option_map size_said request.size) (option_map size_said recording.now.size)) recording.now
-        moments.moment moments.since text.items) }
-    ensures fault { IfErr result (λ e. (e ≡ Memory) ⊎ (too_long request.form ≡ Some e)) }
+        moments text.items) }
+    ensures fault { IfErr result (λ e. (e ≡ Memory) ⊎ IsUnfit request.form recording.now moments e) }
 {
     let size = size_of(recording, request.size);
     match request.form {
         Form::Still(picture) => {
             screen_of(alloc, recording, size, request, picture, moments, pictures)
         }
-        Form::Film => film_of(alloc, recording, size, moments.moment, pictures),
-        Form::Player => player_of(alloc, recording, size, moments.moment, pictures),
+        Form::Film => film_of(alloc, recording, size, moments, pictures),
+        Form::Player => player_of(alloc, recording, size, moments, pictures),
     }
 }
 
@@ -113,29 +115,42 @@ fn terminal_of(
     Ok(terminal)
 }
 
-// The film of what happens until a moment.
+// The film of what happens from one moment to another.
 fn film_of(
     alloc: Global,
     recording: &Recording,
     size: ScreenSize,
-    moment: u64,
+    moments: Moments,
     pictures: &Pictures,
 ) -> Result<Vec<u8>, TextError>
-    ensures film { IfOk result (λ text. IsFilm (manner_of pictures.now) (size_said size) recording.now moment
+    ensures film { IfOk result (λ text. IsFilm (manner_of pictures.now) (size_said size) recording.now moments
         text.items) }
-    ensures fault { IfErr result (λ e. (e ≡ Memory) ⊎ (e ≡ LongFilm)) }
+    ensures fault { IfErr result (λ e. (e ≡ Memory) ⊎ IsUnfit AFilm recording.now moments e) }
 {
+    if is_late(recording, moments) {
+        return Err(TextError::Late);
+    }
     let colors = pictures.look(alloc, recording)?;
-    let pace = pictures.pace_of(recording);
+    let pace = pictures.pace_of(recording, moments);
     Ok(framed_film(
         alloc,
         size,
         &recording.events,
-        moment,
+        moments.moment,
         &colors,
         pace,
         &pictures.frame,
     )?)
+}
+
+// Whether a film would begin after its end.
+fn is_late(recording: &Recording, moments: Moments) -> bool
+    ensures { result ≡ is_late recording.now moments }
+{
+    match moments.from {
+        Some(from) => from > moments.moment.min(recording.length),
+        None => false,
+    }
 }
 
 // The page that plays the recording, with the screen at a moment on it.
@@ -143,18 +158,18 @@ fn player_of(
     alloc: Global,
     recording: &Recording,
     size: ScreenSize,
-    moment: u64,
+    moments: Moments,
     pictures: &Pictures,
 ) -> Result<Vec<u8>, TextError>
-    ensures player { IfOk result (λ text. IsPlayer (manner_of pictures.now) (size_said size) recording.now moment
+    ensures player { IfOk result (λ text. IsPlayer (manner_of pictures.now) (size_said size) recording.now moments
         text.items) }
     ensures fault { IfErr result (λ e. (e ≡ Memory) ⊎ (e ≡ LongPlayer)) }
 {
     let colors = pictures.look(alloc, recording)?;
     let play = Play {
         length: recording.length,
-        poster: moment,
-        pace: pictures.pace_of(recording),
+        poster: moments.moment,
+        pace: pictures.pace_of(recording, moments),
     };
     let page = player(alloc, size, &recording.events, &colors, &play)?;
     Ok(page)

@@ -30,7 +30,8 @@ const MEMORY_LINE: &[u8] = b"screentext: memory\n";
 const USAGE_LINE: &[u8] =
     b"usage: screentext [ROWS COLS] [--at SECONDS] [--diff SECONDS] [--history N] [--joined] \
 [--colours] [--html | --html-block | --player | --svg [--animate]] [--speed N] \
-[--idle SECONDS] [--fps N] [--theme NAME] [--font NAME] [--bold-is-bright | --bold-is-plain] [--no-cursor] \
+[--idle SECONDS] [--fps N] [--loop N] [--from SECONDS] \
+[--poster SECONDS] [--theme NAME] [--font NAME] [--bold-is-bright | --bold-is-plain] [--no-cursor] \
 [--padding N] [--font-size N] [--window TITLE] \
 [--list] [--kind NAME] [--timing FILE] [--no-line-drawing] [--strict] [--max-cells N]; \
 screentext --help says what they do\n";

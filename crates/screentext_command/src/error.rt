@@ -28,6 +28,8 @@ pub enum TextError {
     Marker,
     /// The film would be longer than the longest one.
     Film,
+    /// The film would begin after its end.
+    Late,
     /// The page that plays would be longer than the longest one.
     Player,
     /// A size in the recording has more cells than this.
@@ -54,6 +56,7 @@ impl fmt::Display for TextError {
             TextError::File => write!(f, "the timing file can't be read"),
             TextError::Marker => write!(f, "no such marker"),
             TextError::Film => write!(f, "the film has more than 8 MiB"),
+            TextError::Late => write!(f, "--from is later than the end of the film"),
             TextError::Player => write!(f, "the page has more than 32 MiB"),
             TextError::Cells(most) => {
                 write!(

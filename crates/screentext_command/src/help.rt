@@ -37,6 +37,9 @@ gruvbox-dark, monokai, nord, solarized-dark, solarized-light or tango
       --speed <N>              It plays N times as fast as it was recorded
       --idle <SECONDS>         No screen stands longer than this time, in place of an asciicast's own limit
       --fps <N>                A film shows N screens a second at most, 1 to 1000: 30 without this option
+      --loop <N>               A film plays N times, and then its last screen stays: over and over without it
+      --from <SECONDS|MARKER>  A film begins with the screen at this time of the recording, or at this marker
+      --poster <TIME>          Where nothing plays, a film shows the screen at this time or marker, not the last one
       --player...              A page in HTML that plays the recording, 32 MiB at most; --at is what it shows at first
   -h, --help                   Print help
   -V, --version                Print version

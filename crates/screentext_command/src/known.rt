@@ -5,6 +5,7 @@ ghost use Rattle.clap.specs.Words.{app_of, new_rule, rule_of, with_rule};
 ghost use Rattle.screentext_command.specs.Words.{colors_rule, flag_rule, known, program as program_app, value_rule};
 ghost use Rattle.screentext_command.specs.Words.{with_flags as with_flags_on, with_films as with_films_on};
 ghost use Rattle.screentext_command.specs.Words.{with_frames as with_frames_on, with_windows as with_windows_on};
+ghost use Rattle.screentext_command.specs.Words.{with_plays as with_plays_on};
 ghost use Rattle.screentext_command.specs.Words.{with_pictures as with_pictures_on, with_values as with_values_on};
 ghost use Rattle.screentext_command.specs.Words.{with_player as with_player_on, with_sources as with_sources_on};
 
@@ -17,8 +18,9 @@ pub(crate) fn known_words<'a>(alloc: Global) -> Result<Command<'a>, AllocError>
 {
     let with_words = with_flags(alloc, with_values(alloc, program(alloc))?)?;
     let with_looks = with_pictures(alloc, with_sources(alloc, with_words)?)?;
-    let with_plays = with_player(alloc, with_films(alloc, with_looks)?)?;
-    with_windows(alloc, with_frames(alloc, with_plays)?)
+    let with_moving = with_player(alloc, with_films(alloc, with_looks)?)?;
+    let with_bars = with_windows(alloc, with_frames(alloc, with_moving)?)?;
+    with_plays(alloc, with_bars)
 }
 
 fn with_windows<'a>(alloc: Global, command: Command<'a>) -> Result<Command<'a>, AllocError>
@@ -29,6 +31,17 @@ fn with_windows<'a>(alloc: Global, command: Command<'a>) -> Result<Command<'a>, 
             .arg(value(alloc, "padding"))?
             .arg(value(alloc, "font-size"))?
             .arg(value(alloc, "window"))?,
+    )
+}
+
+fn with_plays<'a>(alloc: Global, command: Command<'a>) -> Result<Command<'a>, AllocError>
+    ensures { IfOk result (λ c. app_of c ≡ with_plays_on (app_of command.entry)) }
+{
+    Ok(
+        command
+            .arg(value(alloc, "loop"))?
+            .arg(value(alloc, "from"))?
+            .arg(value(alloc, "poster"))?,
     )
 }
 

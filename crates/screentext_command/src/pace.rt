@@ -3,8 +3,9 @@
 ghost use Rattle.std.specs.Prelude.{◌≡◌, ◌&&◌, is_some, true, nat_le, nat_lt, IfOk, IfSome, Some};
 ghost use Rattle.std.specs.Option.{option_map, option_map_or};
 ghost use Rattle.clap.specs.Words.{found_of, rows_of};
+ghost use Rattle.command_line.specs.Numbers.{size_in};
 ghost use Rattle.recordings.specs.Times.{time_in};
-ghost use Rattle.screentext_command.specs.Asked.{SaysPace, idle_meant, rate_meant, speed_meant};
+ghost use Rattle.screentext_command.specs.Asked.{SaysPace, idle_meant, plays_meant, rate_meant, speed_meant};
 ghost use Rattle.screentext_command.specs.Words.{are_paces, is_rate, is_speed};
 
 use clap::ArgMatches;
@@ -27,18 +28,40 @@ pub(crate) fn pace_of(alloc: Global, matches: &ArgMatches<'_>) -> Result<Option<
     let speed = speed_of(alloc, matches.get_str("speed"))?;
     let idle = idle_of(alloc, matches.get_str("idle"))?;
     let rate = rate_of(matches.get_str("fps"));
-    Ok(new_pace(speed, idle, rate))
+    let plays = plays_of(matches.get_str("loop"));
+    Ok(new_pace(speed, idle, rate, plays))
 }
 
-fn new_pace(speed: Option<u64>, idle: Option<Option<u64>>, rate: Option<u16>) -> Option<Pace>
-    ensures pace { is_some result ≡ (is_some speed && (is_some idle && is_some rate)) }
-    ensures found { IfSome result (λ p. (speed ≡ Some p.speed) × (idle ≡ Some p.idle) × (rate ≡ Some p.rate)) }
+fn new_pace(
+    speed: Option<u64>,
+    idle: Option<Option<u64>>,
+    rate: Option<u16>,
+    plays: Option<Option<u16>>,
+) -> Option<Pace>
+    ensures pace { is_some result ≡ (is_some speed && (is_some idle && (is_some rate && is_some plays))) }
+    ensures found { IfSome result (λ p. (speed ≡ Some p.speed) × (idle ≡ Some p.idle) × (rate ≡ Some p.rate)
+        × (plays ≡ Some p.plays)) }
 {
     Some(Pace {
         speed: speed?,
         idle: idle?,
         rate: rate?,
+        plays: plays?,
+        from: 0,
+        poster: None,
     })
+}
+
+// How often a film plays, or none where there is no word: it plays over and over then.
+fn plays_of(word: Option<&str>) -> Option<Option<u16>>
+    ensures plays { is_some result ≡ option_map_or (λ w. is_some (size_in w)) (option_map (λ w. w.now) word.entry)
+        true }
+    ensures value { result ≡ plays_meant (option_map (λ w. w.now) word.entry) }
+{
+    match word {
+        None => Some(None),
+        Some(word) => Some(Some(parse_size(word)?.get())),
+    }
 }
 
 // How many millionths of the recorded speed a film has: a million where there is no word.

@@ -11,7 +11,7 @@ ghost use Rattle.screentext_command.specs.Words.{are_pictures, is_bold};
 
 use crate::frames::frame_of;
 use crate::pace::pace_of;
-use crate::source::owned;
+use crate::source::{Moments, owned};
 use clap::ArgMatches;
 use recorded_screen::{Frame, Look, Pace, Recording, Theme};
 use std::alloc::{AllocError, Global};
@@ -49,13 +49,16 @@ impl Pictures {
 
     /// How fast a film of a recording plays. Where the words don't say how long a screen stands at most, the recording
     /// does.
-    pub(crate) fn pace_of(&self, recording: &Recording) -> Pace
-        ensures { result ≡ pace_shown self.now.pace recording.now.idle }
+    pub(crate) fn pace_of(&self, recording: &Recording, moments: Moments) -> Pace
+        ensures { result ≡ pace_shown self.now.pace recording.now moments }
     {
         Pace {
             speed: self.pace.speed,
             idle: self.pace.idle.or(recording.idle),
             rate: self.pace.rate,
+            plays: self.pace.plays,
+            from: moments.from.unwrap_or(0),
+            poster: moments.poster,
         }
     }
 }

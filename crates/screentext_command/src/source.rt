@@ -8,7 +8,7 @@ ghost use Rattle.recordings.specs.Kinds.{kind_named};
 ghost use Rattle.recordings.specs.Recorded.{deed_of, said};
 ghost use Rattle.screentext_command.specs.Asked.{SaysOrigin, cells_meant, kind_meant, origin_of};
 ghost use Rattle.screentext_command.specs.Missing.{IsNoMoment};
-ghost use Rattle.screentext_command.specs.Moments.{AreMoments, IsEarlierMoment, IsMoment, is_marker, marker_time};
+ghost use Rattle.screentext_command.specs.Moments.{AreMoments, IsOtherMoment, IsMoment, is_marker, marker_time};
 ghost use Rattle.screentext_command.specs.Moments.{time_meant};
 ghost use Rattle.screentext_command.specs.Words.{are_sources};
 
@@ -30,6 +30,9 @@ pub(crate) struct Source {
     /// The words for the moment and for the other one: times, or names of markers.
     pub(crate) moment: Option<String>,
     pub(crate) since: Option<String>,
+    /// The words for the moment at which a film begins, and for the one that is shown where nothing plays.
+    pub(crate) from: Option<String>,
+    pub(crate) poster: Option<String>,
     /// Whether the recording is described, in place of a screen.
     pub(crate) list: bool,
     /// Whether what programs draw with the line drawing set comes as box characters.
@@ -57,8 +60,11 @@ pub(crate) fn source_of(
     let draws_lines = matches.get_count("no-line-drawing") == 0;
     let strict = matches.get_count("strict") > 0;
     let most_cells = most_cells_of(matches.get_str("max-cells"));
+    let from = owned(alloc, matches.get_str("from"))?;
+    let poster = owned(alloc, matches.get_str("poster"))?;
+    let moments = (moment, since, from, poster);
     let limits = (strict, most_cells);
-    Ok(new_source(kind, timing, moment, since, list, draws_lines, limits))
+    Ok(new_source(kind, timing, moments, list, draws_lines, limits))
 }
 
 // How many cells a size has at most: 4,000,000 where there is no word.
@@ -75,22 +81,29 @@ fn most_cells_of(word: Option<&str>) -> Option<usize>
 fn new_source(
     kind: Option<Option<Kind>>,
     timing: Option<String>,
-    moment: Option<String>,
-    since: Option<String>,
+    moments: (
+        Option<String>,
+        Option<String>,
+        Option<String>,
+        Option<String>,
+    ),
     list: bool,
     draws_lines: bool,
     limits: (bool, Option<usize>),
 ) -> Option<Source>
     ensures source { is_some result ≡ (is_some kind && is_some limits.1) }
     ensures found { IfSome result (λ s. (kind ≡ Some s.kind) × (limits.1 ≡ Some s.most_cells)) }
-    ensures words { IfSome result (λ s. (s.timing ≡ timing) × (s.moment ≡ moment) × (s.since ≡ since)) }
+    ensures words { IfSome result (λ s. (s.timing ≡ timing) × (s.moment ≡ moments.0) × (s.since ≡ moments.1)
+        × (s.from ≡ moments.2) × (s.poster ≡ moments.3)) }
     ensures flags { IfSome result (λ s. (s.list ≡ list) × (s.draws_lines ≡ draws_lines) × (s.strict ≡ limits.0)) }
 {
     Some(Source {
         kind: kind?,
         timing,
-        moment,
-        since,
+        moment: moments.0,
+        since: moments.1,
+        from: moments.2,
+        poster: moments.3,
         list,
         draws_lines,
         strict: limits.0,
@@ -120,11 +133,17 @@ pub(crate) fn owned(alloc: Global, word: Option<&str>) -> Result<Option<String>,
     }
 }
 
-/// The moment that is shown, and the earlier one, where what changed from it on is wanted. Both are in microseconds.
+/// Moments of a recording, in microseconds.
 #[derive(Clone, Copy)]
 pub(crate) struct Moments {
+    /// The moment that is shown, or the end of a film.
     pub(crate) moment: u64,
+    /// The earlier one, where what changed from it on is wanted.
     pub(crate) since: Option<u64>,
+    /// The moment at which a film begins.
+    pub(crate) from: Option<u64>,
+    /// The moment whose screen a film shows where nothing plays.
+    pub(crate) poster: Option<u64>,
 }
 
 /// The moments that the words say.
@@ -133,14 +152,17 @@ pub(crate) fn moments_of(
     recording: &Recording,
     source: &Source,
 ) -> Result<Moments, TextError>
-    ensures moments { IfOk result (λ m. AreMoments (said recording.now.events.items) (origin_of source.now)
-        m.moment m.since) }
+    ensures moments { IfOk result (AreMoments (said recording.now.events.items) (origin_of source.now)) }
     ensures fault { IfErr result (λ e. IsNoMoment (said recording.now.events.items) (origin_of source.now).moment e
-        ⊎ IsNoMoment (said recording.now.events.items) (origin_of source.now).since e) }
+        ⊎ (IsNoMoment (said recording.now.events.items) (origin_of source.now).since e
+        ⊎ (IsNoMoment (said recording.now.events.items) (origin_of source.now).from e
+        ⊎ IsNoMoment (said recording.now.events.items) (origin_of source.now).poster e))) }
 {
     Ok(Moments {
         moment: moment_of(alloc, recording, &source.moment)?,
-        since: since_of(alloc, recording, &source.since)?,
+        since: other_of(alloc, recording, &source.since)?,
+        from: other_of(alloc, recording, &source.from)?,
+        poster: other_of(alloc, recording, &source.poster)?,
     })
 }
 
@@ -156,12 +178,12 @@ fn moment_of(alloc: Global, recording: &Recording, word: &Option<String>) -> Res
 }
 
 // The moment that a word says, if there is one.
-fn since_of(
+fn other_of(
     alloc: Global,
     recording: &Recording,
     word: &Option<String>,
 ) -> Result<Option<u64>, TextError>
-    ensures moment { IfOk result (IsEarlierMoment (said recording.now.events.items)
+    ensures moment { IfOk result (IsOtherMoment (said recording.now.events.items)
         (option_map string_bytes word.now)) }
     ensures fault { IfErr result (IsNoMoment (said recording.now.events.items) (option_map string_bytes word.now)) }
 {

@@ -11,8 +11,8 @@ ghost use Rattle.screentext_command.specs.Asked.{IsMadeOf, IsMeant, IsRequested,
 ghost use Rattle.screentext_command.specs.Asked.{form_meant, history_meant, manner_of, screen_meant, wish_of};
 ghost use Rattle.screentext_command.specs.declared.error.TextError.TheVariants.{Memory};
 ghost use Rattle.screentext_command.specs.declared.pictures.Pictures.{Pictures as Shown};
-ghost use Rattle.screentext_command.specs.Words.{are_values, are_words, is_form, is_moment, is_invocation, is_request};
-ghost use Rattle.screentext_command.specs.Words.{is_screen, is_time};
+ghost use Rattle.screentext_command.specs.Words.{are_moments, are_values, are_words, is_form, is_moment};
+ghost use Rattle.screentext_command.specs.Words.{is_invocation, is_request, is_screen, is_time};
 
 use crate::error::TextError;
 use crate::known::known_words;
@@ -129,8 +129,7 @@ fn request_of(alloc: Global, matches: &ArgMatches<'_>) -> Result<Option<Request>
         → SaysWish (rows_of (found_of matches.now)) (wish_of request pictures))) }
 {
     let size = size_of(matches.get_str("ROWS"), matches.get_str("COLS"));
-    let moment = is_moment(alloc, matches.get_str("at"))?;
-    let since = is_moment(alloc, matches.get_str("diff"))?;
+    let times = are_moments(alloc, matches)?;
     let history = history_of(matches.get_str("history"));
     let form = form_of(
         matches.get_count("html") > 0,
@@ -143,22 +142,40 @@ fn request_of(alloc: Global, matches: &ArgMatches<'_>) -> Result<Option<Request>
         joined: matches.get_count("joined") > 0,
         colors: matches.get_count("colours") > 0,
     };
-    Ok(new_request(size, (moment, since), history, form, look))
+    Ok(new_request(size, times, history, form, look))
 }
 
-// There is one if both times are such.
+// Whether each word for a moment says one.
+fn are_moments(alloc: Global, matches: &ArgMatches<'_>) -> Result<bool, TextError>
+    ensures fault { IfErr result (λ e. e ≡ Memory) }
+    ensures moments { IfOk result (λ t. t ≡ are_moments (rows_of (found_of matches.now))) }
+{
+    let moment = is_moment(alloc, matches.get_str("at"))?;
+    let since = is_moment(alloc, matches.get_str("diff"))?;
+    let from = is_moment(alloc, matches.get_str("from"))?;
+    let poster = is_moment(alloc, matches.get_str("poster"))?;
+    Ok(are_all(moment, since, from, poster))
+}
+
+fn are_all(moment: bool, since: bool, from: bool, poster: bool) -> bool
+    ensures { result ≡ (moment && (since && (from && poster))) }
+{
+    moment && since && from && poster
+}
+
+// There is one if the times are such.
 fn new_request(
     size: Option<Option<ScreenSize>>,
-    times: (bool, bool),
+    times: bool,
     history: Option<usize>,
     form: Option<Form>,
     look: Look,
 ) -> Option<Request>
-    ensures request { is_some result ≡ (is_some size && (times.0 && (times.1 && (is_some history && is_some form)))) }
+    ensures request { is_some result ≡ (is_some size && (times && (is_some history && is_some form))) }
     ensures found { IfSome result (λ r. (size ≡ Some r.size) × (history ≡ Some r.history) × (form ≡ Some r.form)) }
     ensures look { IfSome result (λ r. r.look ≡ look) }
 {
-    if !times.0 || !times.1 {
+    if !times {
         return None;
     }
     Some(Request {

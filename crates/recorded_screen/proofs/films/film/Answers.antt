@@ -8,6 +8,7 @@ use Rattle.recorded_screen.specs.Moment.{act_of}
 use Rattle.recorded_screen.proofs.FilmLemmas.{acts_more, fault_of_reel, film_longer, film_of_reel, is_too_long}
 use Rattle.recorded_screen.proofs.FilmLemmas.{reel_waits, state_is}
 use Rattle.recorded_screen.proofs.FilmLemmas.{taken_first, taken_next, time_reached}
+use Rattle.recorded_screen.specs.Film.{poster_time}
 use Rattle.recorded_screen.specs.declared.error.FilmError.TheVariants.{Memory}
 use Rattle.recorded_screen.specs.declared.reel.TheConstants.{LONGEST_FILM}
 use Rattle.recorded_screen.proofs.films.film.Goals as goal
@@ -60,7 +61,8 @@ returns-clause-film c =
     let bound = c.count_until-i-end.ensures.count in
     let end : c.loop-i.i ≡ c.count_until-i-end.result = omega arith in
     film_of_reel c.develop.result c.args.look.now c.args.size c.args.pace c.args.moment c.args.events.now c.loop-i.reel
-    c.loop-i.i (end ∙ bound) c.loop-i.invariant.taken c.develop.ensures.film
+    c.loop-i.i (end ∙ bound) c.loop-i.invariant.taken
+    (rw c.poster_time.ensures at c.develop.ensures.film)
 
 pub returns-in_err-check-clause-fault : goal.returns-in_err-check-clause-fault
 returns-in_err-check-clause-fault c =
@@ -78,7 +80,9 @@ returns-in_err-check-clause-fault c =
       c.in_err-check.ensures.0,
       is_too_long LONGEST_FILM c.args.look.now c.args.size c.args.pace c.args.moment
           c.args.events.now c.shoot_if.new.reel 0 (omega arith) taken
-          (film_longer LONGEST_FILM c.args.look.now c.shoot_if.new.reel taken.is_reel c.in_err-check.ensures.1),
+          (film_longer LONGEST_FILM c.args.look.now c.args.pace.plays
+          (poster_time c.args.pace c.args.events.now)
+          c.shoot_if.new.reel taken.is_reel c.in_err-check.ensures.1),
     ))
 
 pub returns-in_err-shoot_if-clause-fault : goal.returns-in_err-shoot_if-clause-fault
@@ -141,7 +145,9 @@ returns-in_err-check-2-clause-fault c =
       c.in_err-check-2.ensures.0,
       is_too_long LONGEST_FILM c.args.look.now size c.args.pace c.args.moment
           events c.shoot_if-in-loop-i.new.reel (i + 1) (omega arith) taken
-          (film_longer LONGEST_FILM c.args.look.now c.shoot_if-in-loop-i.new.reel taken.is_reel c.in_err-check-2.ensures.1),
+          (film_longer LONGEST_FILM c.args.look.now c.args.pace.plays
+          (poster_time c.args.pace c.args.events.now)
+          c.shoot_if-in-loop-i.new.reel taken.is_reel c.in_err-check-2.ensures.1),
     ))
 
 pub returns-clause-fault : goal.returns-clause-fault
@@ -149,4 +155,5 @@ returns-clause-fault c =
     let bound = c.count_until-i-end.ensures.count in
     let end : c.loop-i.i ≡ c.count_until-i-end.result = omega arith in
     fault_of_reel c.develop.result LONGEST_FILM c.args.look.now c.args.size c.args.pace c.args.moment c.args.events.now
-    c.loop-i.reel c.loop-i.i (end ∙ bound) c.loop-i.invariant.taken c.develop.ensures.fault
+    c.loop-i.reel c.loop-i.i (end ∙ bound) c.loop-i.invariant.taken
+    (rw c.poster_time.ensures at c.develop.ensures.fault)

@@ -18,4 +18,5 @@ returns c = record {
   start = λ change. refl;
   next = λ change. refl;
   fourth = refl;
+  later = λ change. refl;
 }

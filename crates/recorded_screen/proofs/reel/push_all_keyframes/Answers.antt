@@ -7,10 +7,10 @@ use Rattle.recorded_screen.proofs.reel.push_all_keyframes.Goals as goal
 pub loop-number-preserved : goal.loop-number-preserved
 loop-number-preserved c =
     let cols = c.args.cols in
-    let film_length = c.args.film_length in
-    tracks_more (track_times cols film_length) _ _ _ c.args.tracks.now c.loop-number.number
+    let showing = c.args.showing in
+    tracks_more (track_times cols showing) _ _ _ c.args.tracks.now c.loop-number.number
     c.index-tracks-number.result c.loop-number-test.true c.index-tracks-number.is c.loop-number.invariant
     (c.in_ok-push_keyframes_if.ensures
     ∙ ap (λ shots. c.loop-number.page
-    ++ (if nat_lt 1 (length shots) then keyframes cols film_length c.loop-number.number shots else []))
+    ++ (if nat_lt 1 (length shots) then keyframes cols showing c.loop-number.number shots else []))
     c.deref.ensures.value)

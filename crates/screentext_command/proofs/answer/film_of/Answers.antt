@@ -6,7 +6,8 @@ use Rattle.screentext_command.proofs.answer.film_of.Goals as goal
 pub returns-in_err-framed_film-clause-fault : goal.returns-in_err-framed_film-clause-fault
 returns-in_err-framed_film-clause-fault c =
     let e = c.in_err-framed_film.field-0.0 in
-    let is : c.from_residual-in_err-framed_film.result ≡ Err (film_fault e) = search rules in rw is (film_faulted e)
+    let is : c.from_residual-in_err-framed_film.result ≡ Err (film_fault e) = search rules in
+    rw is (film_faulted c.args.recording.now c.args.moments e)
 
 pub returns-clause-film : goal.returns-clause-film
 returns-clause-film c = record {

@@ -1,5 +1,5 @@
 use Rattle.std.proofs.Common.{◌≡◌, Err, rules}
-use Rattle.screentext_command.proofs.MissingLemmas.{err_goes, long_text, no_moment_text}
+use Rattle.screentext_command.proofs.MissingLemmas.{err_goes, no_moment_text, unfit_text}
 use Rattle.screentext_command.specs.Asked.{origin_of, wish_of}
 use Rattle.screentext_command.proofs.reading.text_of.Goals as goal
 
@@ -12,6 +12,6 @@ returns-in_err-moments-clause-fault c =
 
 pub returns-clause-fault : goal.returns-clause-fault
 returns-clause-fault c =
-    err_goes c.answer_of.result c.answer_of.ensures.fault (λ e fault. long_text (origin_of c.args.source.now)
-    (wish_of c.args.request c.args.pictures.now) c.args.recording.now e c.in_ok-moments.moments.moment
-    c.in_ok-moments.moments.since c.in_ok-moments.ensures.moments c.if-source.false fault)
+    err_goes c.answer_of.result c.answer_of.ensures.fault (λ e fault. unfit_text (origin_of c.args.source.now)
+    (wish_of c.args.request c.args.pictures.now) c.args.recording.now e c.in_ok-moments.moments
+    c.in_ok-moments.ensures.moments c.if-source.false fault)

@@ -31,6 +31,10 @@ returns-clause-says c =
           ∙ first_value-rows f (codes "at");
       since = ap (option_map string_bytes) words.2 ∙ c.in_ok-since.ensures ∙ c.get_str-4.ensures
           ∙ first_value-rows f (codes "diff");
+      from = ap (option_map string_bytes) words.3 ∙ c.in_ok-from.ensures ∙ c.get_str-6.ensures
+          ∙ first_value-rows f (codes "from");
+      poster = ap (option_map string_bytes) words.4 ∙ c.in_ok-poster.ensures ∙ c.get_str-7.ensures
+          ∙ first_value-rows f (codes "poster");
       list = flags.0 ∙ ap (λ n. nat_lt 0 n) c.get_count-list.ensures.value;
       draws_lines = flags.1 ∙ ap (λ n. nat_eq n 0) c.get_count-draws_lines.ensures.value;
       strict = flags.2 ∙ ap (λ n. nat_lt 0 n) c.get_count-strict.ensures.value;
