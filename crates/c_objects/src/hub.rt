@@ -6,8 +6,8 @@ ghost use Rattle.c_objects.specs.Cells.{HubHasCells};
 ghost use Rattle.c_objects.specs.Codes.{IsRefusal};
 ghost use Rattle.c_objects.specs.Objects.{HubDoes, HubSays};
 ghost use Rattle.c_objects.specs.Hubs.{IsNewHubOf, IsNoObjectCode, Feeds, Resizes, Attaches, Detaches, Frames, Sends};
-ghost use Rattle.c_objects.specs.Hubs.{Forks, Owes, Redraws, DrawsWhole, Looks, HasCell, HasRow, HasContents, ShowsCell};
-ghost use Rattle.c_objects.specs.Hubs.{ShowsRow, ShowsContents};
+ghost use Rattle.c_objects.specs.Hubs.{Forks, Owes, Redraws, DrawsWhole, Looks, HasCell, HasRow, HasContents};
+ghost use Rattle.c_objects.specs.Hubs.{ShowsCell, ShowsRow, ShowsContents};
 
 use crate::cells::copy_screen_cells;
 use crate::code::{
@@ -224,9 +224,9 @@ fn copy_whole_frame(hub: &Hub, client: Client, to: &mut [u8], count: &mut usize)
     }
 }
 
-/// Copies as many as fit of the bytes of a client's whole frame, which draws what the client shows once it has read all
-/// its frames, on any terminal that has read frames. Sets `count` to how many there are. Before the client's first
-/// frame there are none, nor if they are more than a terminal buffers.
+/// Copies as many as fit of the bytes of a client's whole frame, and sets `count` to how many there are. They draw what
+/// the client shows once it has read all its frames, on any terminal that has read frames. There are none before the
+/// client's first frame, nor if they are more than a terminal buffers.
 pub fn whole_frame(object: &Object, client: usize, to: &mut [u8], count: &mut usize) -> i32
     ensures draws { HubSays (DrawsWhole client to.old to.new count.new) object.now result }
     ensures refused { IsRefusal result → (to.new ≡ to.old) × (count.new ≡ count.old) }
