@@ -1,10 +1,11 @@
 //! Steps that tell of hubs and change nothing.
 
 use crate::relays::hubs::Hubs;
-use crate::relays::told::{Told, told_in};
+use crate::relays::seats::Side;
+use crate::relays::told::{Told, told_in, told_of};
 use crate::relays::wordings::push_text;
 use case_player::{Answer, StepError, Words};
-use termrelay::Screen;
+use termrelay::{HubError, Screen};
 
 impl Hubs {
     /// Takes a step that changes nothing.
@@ -21,6 +22,8 @@ impl Hubs {
             "color" => self.push_color(words.place(), words.place(), answer),
             "session" => self.push_session(words.count(), answer),
             "replies" => self.push_replies(answer),
+            "redraw_text" => self.push_redraw(words.count(), answer)?,
+            "whole" => self.push_whole(words.count(), answer)?,
             _ => return Err(StepError::Unknown),
         }
         Ok(())
@@ -58,6 +61,18 @@ impl Hubs {
         }
     }
 
+    // What draws a client's screen on a fresh terminal.
+    fn push_redraw(&self, index: usize, answer: &mut Answer) -> Result<(), StepError> {
+        let client = self.seat(index).client(Side::Called);
+        push_made(self.hub.redraw(client), answer)
+    }
+
+    // What draws it on any terminal.
+    fn push_whole(&self, index: usize, answer: &mut Answer) -> Result<(), StepError> {
+        let client = self.seat(index).client(Side::Called);
+        push_made(self.hub.whole_frame(client), answer)
+    }
+
     // What the log replied, but for calls that were refused memory.
     fn push_replies(&self, answer: &mut Answer) {
         for reply in self.log.replies() {
@@ -68,6 +83,23 @@ impl Hubs {
             }
         }
     }
+}
+
+// Appends a text that was made, if there is one, or the refusal.
+fn push_made(
+    made: Result<Option<Vec<u8>>, HubError>,
+    answer: &mut Answer,
+) -> Result<(), StepError> {
+    match made {
+        Ok(Some(text)) => push_text(answer, &text),
+        Ok(None) => answer.push("none"),
+        Err(HubError::Memory) => return Err(StepError::Memory),
+        Err(error) => {
+            let told = told_of(&error);
+            told.push(answer);
+        }
+    }
+    Ok(())
 }
 
 // The text of a screen.

@@ -35,6 +35,8 @@ pub enum Deed {
     Detach(usize),
     Frame(usize),
     Pump(Pumping),
+    Fork(usize),
+    Redraw(usize),
 }
 
 impl Deed {
@@ -42,7 +44,10 @@ impl Deed {
     pub fn client(self) -> usize {
         match self {
             Deed::Feed(_) | Deed::Resize(..) | Deed::Attach => usize::MAX,
-            Deed::Detach(client) | Deed::Frame(client) => client,
+            Deed::Detach(client)
+            | Deed::Frame(client)
+            | Deed::Fork(client)
+            | Deed::Redraw(client) => client,
             Deed::Pump(pumping) => pumping.client,
         }
     }
@@ -141,6 +146,8 @@ impl Calls {
             Deed::Detach(_) => Call::Detach(client),
             Deed::Frame(_) => Call::Frame(client),
             Deed::Pump(_) => Call::Pump(client, self.takes_of(deed)),
+            Deed::Fork(_) => Call::Fork(client),
+            Deed::Redraw(_) => Call::Redraw(client),
         }
     }
 }

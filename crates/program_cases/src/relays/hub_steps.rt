@@ -35,6 +35,8 @@ impl Hubs {
                 Ok(())
             }
             "frame" => self.frame(words.count(), answer),
+            "fork" => self.fork(words.count()),
+            "redraw" => self.redraw(words.count(), answer),
             "pump" => self.pump(alloc, words, answer),
             "attach_many" => self.attach_many(words),
             "frame_all" => self.frame_all(answer),
@@ -51,6 +53,27 @@ impl Hubs {
         };
         let logged = logged_client(&self.log, self.seats.len());
         self.seats.push(Seat::new(Client::from_key(key), logged))?;
+        Ok(())
+    }
+
+    // A client is forked. The fork has been sent all that this one was sent and is owed.
+    fn fork(&mut self, index: usize) -> Result<(), StepError> {
+        self.seats.reserve(1)?;
+        let Told::Attached(key) = self.make(Deed::Fork(index))? else {
+            return Err(StepError::Wrong("no fork comes"));
+        };
+        let logged = logged_client(&self.log, self.seats.len());
+        let mut seat = Seat::new(Client::from_key(key), logged);
+        seat.pumped = self.seat(index).pumped.after(self.owed(index));
+        self.seats.push(seat)?;
+        Ok(())
+    }
+
+    // A client's redraw is asked for.
+    fn redraw(&mut self, index: usize, answer: &mut Answer) -> Result<(), StepError> {
+        let told = self.make(Deed::Redraw(index))?;
+        told.push(answer);
+        answer.end_line();
         Ok(())
     }
 
