@@ -22,7 +22,9 @@ class Scripted:
             before, _, after = page.partition(f"const {name} = ")
             page = f"{before}const {name} = {milliseconds};{after.partition(';')[2]}"
         self.page, self.asked = page.encode(), 0
-        self._events: queue.Queue[bytes | None] = queue.Queue()
+        self._lock = threading.Lock()
+        self._connections: list[queue.Queue[bytes | None]] = []  # the oldest first
+        self._waiting: list[bytes] = []  # what is sent while there is none
         handler = type("Handler", (_Handler,), {"scripted": self})
         self._server = http.server.ThreadingHTTPServer(("127.0.0.1", 0), handler)
         self._server.daemon_threads = True
@@ -31,25 +33,43 @@ class Scripted:
 
     def send(self, message: dict[str, Any]) -> None:
         """Sends a message."""
-        self._events.put(b"data: %s\n\n" % json.dumps(message).encode())
+        self._send(b"data: %s\n\n" % json.dumps(message).encode())
 
     def send_ended(self, status: int) -> None:
         """Tells the end."""
-        self._events.put(b"event: ended\ndata: %d\n\n" % status)
+        self._send(b"event: ended\ndata: %d\n\n" % status)
+
+    def _send(self, data: bytes) -> None:
+        """Sends it on the newest connection, or else on the next one."""
+        with self._lock:
+            if self._connections:
+                self._connections[-1].put(data)
+            else:
+                self._waiting.append(data)
 
     def cut(self) -> None:
-        """Ends the connection."""
-        self._events.put(None)
+        """Ends the oldest connection."""
+        with self._lock:
+            if self._connections:
+                self._connections.pop(0).put(None)
 
-    def next(self) -> bytes | None:
-        """What is sent next."""
-        return self._events.get()
+    def connect(self) -> queue.Queue[bytes | None]:
+        """A new connection: what is sent on it, and nothing more where it ends."""
+        events: queue.Queue[bytes | None] = queue.Queue()
+        with self._lock:
+            for data in self._waiting:
+                events.put(data)
+            self._waiting.clear()
+            self._connections.append(events)
+            self.asked += 1
+        return events
 
     def __enter__(self) -> Scripted:
         return self
 
     def __exit__(self, *_: object) -> None:
-        self.cut()
+        while self._connections:
+            self.cut()
         self._server.shutdown()
         self._server.server_close()
 
@@ -66,9 +86,9 @@ class _Handler(http.server.BaseHTTPRequestHandler):
         if is_page:
             self.wfile.write(self.scripted.page)
             return
-        self.scripted.asked += 1
+        events = self.scripted.connect()
         self.wfile.write(b"retry: 100\n\n")
-        while (data := self.scripted.next()) is not None:
+        while (data := events.get()) is not None:
             self.wfile.write(data)
 
     def log_message(self, *_: Any) -> None:
