@@ -38,6 +38,10 @@ UNKNOWN = {
 }
 
 
+# What the filter gives otherwise, or gives something behind: DEC's special graphics, and what a screen doesn't know.
+DRAWN = rb"\x1b(?:[()*+]0|[DE]|\[[0-9;]*:[0-9;:]*m|\[[su]|\[!p|\[[0-9;]*r|\[\?[0-9;]*104[78][hl])"
+
+
 def is_there():
     """Whether all programs that this takes are installed."""
     return all(shutil.which(name) for name in ("xterm", "Xvfb", "xwd"))
@@ -155,8 +159,9 @@ def unkept(session):
                 taken = []
             if number in ATTRIBUTES:
                 names.add(ATTRIBUTES[number])
-            elif number == 4 and b":" in group:
+            elif group in (b"4:0", b"4:1", b"4:2", b"4:3", b"4:4", b"4:5"):
                 names.add("kinds of underlines")
+                left.append(b"24" if group == b"4:0" else b"4")
             else:
                 left += [group, *taken]
         return b"\x1b[%sm" % b";".join(left) if left else b""
@@ -205,7 +210,7 @@ def compared(display, session, relayed, filtered, rows, cols):
     """How xterm shows a session, frames of it, and frames of it with its lines drawn, and whether that is explained."""
     shown, plain, drawn = (picture(display, it, rows, cols) for it in (session, relayed, filtered))
     cells, left = (different_cells(shown, it, rows, cols) for it in (plain, drawn))
-    if plain != drawn and not re.search(rb"\x1b[()*+]0", session):
+    if plain != drawn and not re.search(DRAWN, session):
         return f"in xterm {len(cells)} cells differ, and with lines drawn {len(left)}, though it draws none", False
     if not cells and not left:
         return "xterm shows the same pixels", True
