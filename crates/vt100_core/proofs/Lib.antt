@@ -25,3 +25,4 @@ pub mod PictureWriters
 pub mod ShortLists
 pub mod FormLists
 pub mod CopyLemmas
+pub mod VisibleLemmas

@@ -1,7 +1,8 @@
-//! Copies and comparisons of what is drawn on, without the kept rows.
-ghost use Rattle.std.specs.Prelude.{◌≡◌, ◌↔◌, IsTrue, IfOk};
+//! Copies of what is drawn on and of what is shown, and comparisons of what is drawn on, without the kept rows.
+ghost use Rattle.std.specs.Prelude.{◌≡◌, ◌<◌, ◌↔◌, length, IsTrue, IfOk};
+ghost use Rattle.vt100_rows.specs.Sheet.{IsSheet};
 ghost use Rattle.vt100_core.specs.Grid.{IsAllocated};
-ghost use Rattle.vt100_core.specs.Copy.{nothing_kept, without_kept, AreDrawnAlike};
+ghost use Rattle.vt100_core.specs.Copy.{nothing_kept, without_kept, fitted_row, visible_as_drawn, AreDrawnAlike};
 ghost use Rattle.vt100_core.specs.KeptFields.{kept_of};
 
 use crate::grid::Grid;
@@ -11,6 +12,7 @@ use std::collections::VecDeque;
 use vt100_forms::GridError;
 use vt100_rows::rows_copy::{copy_rows, have_same_rows};
 use vt100_rows::rows_edit::clone_rows;
+use vt100_rows::{Cell, Row};
 
 impl Grid {
     /// A grid with the same rows, cursor and scroll region, which keeps no rows.
@@ -20,7 +22,44 @@ impl Grid {
     {
         let alloc = *self.rows.allocator();
         let rows = clone_rows(alloc, &self.rows)?;
-        Ok(Grid {
+        Ok(self.with_rows(rows))
+    }
+
+    /// A grid that draws on copies of the rows that are shown, with the same cursor and scroll region, which keeps no
+    /// rows. Each copy is as wide as the screen: of a wider row a wide character that the edge cuts is blank, and the
+    /// row goes on in the next one only if its last column shows something. The last row goes on in none.
+    pub fn clone_visible(&self) -> Result<Self, GridError>
+        requires { IsAllocated self.now }
+        ensures { IfOk result (λ g. g ≡ visible_as_drawn self.now) }
+    {
+        let rows = self.clone_shown_rows()?;
+        Ok(self.with_rows(rows))
+    }
+
+    /// Copies of the rows that are shown, each as wide as the screen.
+    fn clone_shown_rows(&self) -> Result<Vec<Row>, GridError>
+        requires { IsAllocated self.now }
+        ensures rows { IfOk result (λ rows. rows.items ≡ (visible_as_drawn self.now).rows) }
+        ensures sheet { IfOk result (λ rows. IsSheet self.now.height self.now.width rows.items) }
+        ensures some { IfOk result (λ rows. 0 < length rows.items) }
+    {
+        let height = self.size.rows();
+        let mut rows = Vec::with_capacity(*self.rows.allocator(), usize::from(height))?;
+        for r in 0..height {
+            let followed = r + 1 < height;
+            rows.push(clone_fitted(self.shown_row(r), self.size.cols(), followed)?)?;
+        }
+        Ok(rows)
+    }
+
+    /// A grid with these rows and the same cursor and scroll region, which keeps no rows.
+    fn with_rows(&self, rows: Vec<Row>) -> Self
+        requires sheet { IsSheet self.now.height self.now.width rows.items }
+        requires some { 0 < length rows.items }
+        ensures { result ≡ record (without_kept self.now) { rows = rows.items } }
+    {
+        let alloc = *rows.allocator();
+        Grid {
             size: self.size,
             pos: self.pos,
             saved_pos: self.saved_pos,
@@ -30,7 +69,7 @@ impl Grid {
             origin_mode: self.origin_mode,
             saved_origin_mode: self.saved_origin_mode,
             scrollback: nothing_kept(alloc),
-        })
+        }
     }
 
     /// Makes the grid what [`clone_drawn`](Self::clone_drawn) makes of another one of its size. It keeps the memory of
@@ -66,6 +105,17 @@ impl Grid {
         }
         have_same_rows(&self.rows, &other.rows)
     }
+}
+
+/// A copy of a row that has so many columns. It goes on in the next row if the row does, one follows, and its last
+/// column shows something.
+fn clone_fitted(row: &Row, width: u16, followed: bool) -> Result<Row, GridError>
+    ensures { IfOk result (λ copy. copy ≡ fitted_row row.now width followed) }
+{
+    let mut copy = row.clone()?;
+    copy.resize(width, Cell::new())?;
+    copy.wrap(row.wrapped() && followed);
+    Ok(copy)
 }
 
 /// What a grid keeps that keeps no rows.
