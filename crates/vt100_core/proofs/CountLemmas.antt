@@ -87,7 +87,7 @@ counts-same k h = record {
   quiet = λ _ _ _ _. refl;
 }
 
-length-kept : (k : KeptPart) (left : List RowView) (height width : ℕ) → length k.rows ≤ k.capacity
+pub length-kept : (k : KeptPart) (left : List RowView) (height width : ℕ) → length k.rows ≤ k.capacity
     → length (widened (kept_after k left) height width).rows ≤ k.capacity
 length-kept k left height width h =
     let m = kept_after k left in

@@ -26,3 +26,4 @@ pub mod ShortLists
 pub mod FormLists
 pub mod CopyLemmas
 pub mod VisibleLemmas
+pub mod RepeatLemmas

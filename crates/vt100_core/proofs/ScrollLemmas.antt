@@ -39,7 +39,7 @@ count-same : (g : GridView) (count end n : ℕ) → g.top ≡ 0 → end ≡ g.bo
     → n ≡ up_count g count
 count-same g count end n t e f = omega arith
 
-scrolls-off : (g : GridView) (count end n width height : ℕ) (rows : List RowView) (k : KeptPart) → g.top ≡ 0
+pub scrolls-off : (g : GridView) (count end n width height : ℕ) (rows : List RowView) (k : KeptPart) → g.top ≡ 0
     → g.kept.keeps ≡ true → end ≡ g.bottom + 1 → n ≡ min count end → width ≡ g.width → height ≡ g.height
     → rows ≡ rows_by_position (length g.rows) (moved_up g.rows 0 end n width)
     → k ≡ widened (kept_after g.kept (take n g.rows)) height width
@@ -72,14 +72,14 @@ unkept g e = ap (λ b. (g.top == 0) && b) e ∙ and-false (g.top == 0)
 pub unkept-below : (g : GridView) → 0 < g.top → is_kept_from g ≡ false
 unkept-below g h = grind (arith, nat_tests)
 
-closes : (g : GridView) (count : ℕ) → is_kept_from g ≡ false → lines_closed g g.top count ≡ (scrolled_up g count).grid
+pub closes : (g : GridView) (count : ℕ) → is_kept_from g ≡ false → lines_closed g g.top count ≡ (scrolled_up g count).grid
 unfolding scrolled_up
 closes g count k =
     let kept : g.kept ≡ cond (is_kept_from g) (widened (kept_after g.kept (left_rows g count)) g.height g.width)
     g.kept = sym (cond-false (is_kept_from g) _ g.kept k) in
     λ i. record (lines_closed g g.top count) { kept = kept i }
 
-sunk-kept : (g : GridView) (count end n : ℕ) → g.top ≡ 0 → g.kept.keeps ≡ true → end ≡ g.bottom + 1
+pub sunk-kept : (g : GridView) (count end n : ℕ) → g.top ≡ 0 → g.kept.keeps ≡ true → end ≡ g.bottom + 1
     → n ≡ min count end → pushed_out g.kept (take n g.rows) ≡ (scrolled_up g count).sunk
 unfolding scrolled_up
 sunk-kept g count end n t keeps ee en =
@@ -87,7 +87,7 @@ sunk-kept g count end n t keeps ee en =
     let left : take n g.rows ≡ left_rows g count = λ i. take (c i) (drop (sym t i) g.rows) in
     rw (eq-eqb g.top 0 t, keeps) (ap (λ (xs : List RowView). pushed_out g.kept xs) left)
 
-sunk-unkept : (g : GridView) (count end n : ℕ) → g.top ≡ 0 → g.kept.keeps ≡ false → end ≡ g.bottom + 1
+pub sunk-unkept : (g : GridView) (count end n : ℕ) → g.top ≡ 0 → g.kept.keeps ≡ false → end ≡ g.bottom + 1
     → n ≡ min count end → take n g.rows ≡ (scrolled_up g count).sunk
 unfolding scrolled_up
 sunk-unkept g count end n t keeps ee en =
@@ -95,7 +95,7 @@ sunk-unkept g count end n t keeps ee en =
     let left : take n g.rows ≡ left_rows g count = λ i. take (c i) (drop (sym t i) g.rows) in
     rw (eq-eqb g.top 0 t, keeps) left
 
-sunk-below : (g : GridView) (count : ℕ) → 0 < g.top → [] ≡ (scrolled_up g count).sunk
+pub sunk-below : (g : GridView) (count : ℕ) → 0 < g.top → [] ≡ (scrolled_up g count).sunk
 unfolding scrolled_up
 sunk-below g count h = rw (ne_eqb g.top 0 (λ e. absurd (omega (arith, h, e))))
 

@@ -112,7 +112,7 @@ scrolls-nothing {takes = takes} {s} g n e i a = record {
 
 -- ---- a line feed above the region's last row
 
-feeds : (g : GridView) (n : ℕ) → is_in_region g ≡ true
+pub feeds : (g : GridView) (n : ℕ) → is_in_region g ≡ true
     → scrolled_up (moved_rows_down g n) (rows_past_bottom g n) ≡ fed g n
 unfolding fed
 feeds g n e = sym (cond-true (is_in_region g) _ _ e)

@@ -10,6 +10,7 @@ pub mod Lines
 pub mod Resize
 pub mod Scroll
 pub mod Text
+pub mod Repeat
 pub mod Picture
 pub mod Writers
 pub mod WriterLaws
