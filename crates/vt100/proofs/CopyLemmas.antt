@@ -16,11 +16,12 @@ use Rattle.vt100_rows.proofs.SheetLemmas.{rows_equal}
 use Rattle.vt100_rows.proofs.CopyLemmas.{same-row}
 use Rattle.std.proofs.lemmas.Bool.{false≢true, and_parts, and_from, eq-eqb}
 use Rattle.vt100_forms.proofs.AttrsLemmas.{default-proper}
-use Rattle.vt100_core.specs.Grid.{GridView, new_grid}
-use Rattle.vt100_core.specs.Copy.{without_kept, AreDrawnAlike}
+use Rattle.vt100_core.specs.Grid.{GridView, IsGrid, IsAllocated, new_grid}
+use Rattle.vt100_core.specs.Copy.{without_kept, visible_as_drawn, AreDrawnAlike}
 use Rattle.vt100_core.specs.Picture.{visible_lines, visible_wraps}
 use Rattle.vt100_core.specs.declared.scrollback.Scrollback.TheVariants.{Disabled}
 use Rattle.vt100_core.proofs.CopyLemmas.{IsGrid-without_kept, IsGrid-new, widths-same}
+use Rattle.vt100_core.proofs.VisibleLemmas.{fitted-proper}
 use Rattle.vt100_core.proofs.PictureLemmas.{visible_lines-drawn, visible_wraps-drawn}
 use Rattle.screen_model.specs.State.{State, IsState, IsProperSheet}
 use Rattle.screen_model.specs.Call.{ScreenView}
@@ -28,7 +29,7 @@ use Rattle.screen_model.specs.Shown.{shown_state}
 use Rattle.screen_model.proofs.ProperSheets.{proper_new}
 use Rattle.vt100.specs.WriterLaws.{IsUnscrolled}
 use Rattle.vt100.specs.ScreenFields.{IsInside}
-use Rattle.vt100.specs.Copies.{shown_alone, copy_of, same_modes, same_extras, ShowTheSame}
+use Rattle.vt100.specs.Copies.{with_sheet, shown_alone, same_modes, same_extras, ShowTheSame}
 use Rattle.vt100.specs.Copies.{EachCopyShowsTheSame}
 use Rattle.vt100.specs.declared.screen.Screen.TheInside.{Inside}
 
@@ -37,30 +38,40 @@ use Rattle.vt100.specs.declared.screen.Screen.TheInside.{Inside}
 proper-without_kept : (g : GridView) → IsProperSheet g → IsProperSheet (without_kept g)
 proper-without_kept g p = record { drawn = p.drawn; kept = λ r k. default-proper }
 
--- of a sheet of a screen
-pub copied_screen : (s t : Inside) → IsInside s → t.grid ≡ without_kept s.grid
+pub proper-visible : (g : GridView) → IsGrid g → IsAllocated g → IsProperSheet g → IsProperSheet (visible_as_drawn g)
+proper-visible g i some p = record { drawn = fitted-proper g i some p.drawn p.kept; kept = λ r k. default-proper }
+
+-- with another sheet in place of the shown one
+pub copied_screen : (s t : Inside) → IsInside s → IsAllocated t.grid → t.grid.kept.keeps ≡ true
+    → (s.failed ≡ false → IsProperSheet t.grid)
     → t.other_grid ≡ new_grid t.grid.height t.grid.width Disabled → t.alternate_screen ≡ false → t.attrs ≡ s.attrs
     → t.saved_attrs ≡ s.saved_attrs → t.failed ≡ s.failed → IsInside t
-copied_screen s t i is other main attrs saved failed = record {
-  shown = rw is i.shown;
+copied_screen s t i drawn keeps proper other main attrs saved failed = record {
+  shown = drawn;
   main = λ e. absurd (false≢true (sym main ∙ e));
   height = λ _. rw other refl;
   width = λ _. rw other refl;
-  shown_keeps = rw (is, main) refl;
+  shown_keeps = rw (keeps, main) refl;
   other_keeps = rw (other, main) refl;
   attrs = rw attrs i.attrs;
   saved_attrs = rw saved i.saved_attrs;
-  proper = λ live. rw is (proper-without_kept s.grid (i.proper (sym failed ∙ live)));
+  proper = λ live. proper (sym failed ∙ live);
   other_proper = λ live. rw other (proper_new t.grid.height t.grid.width Disabled);
 }
 
-pub copied-parts : (v : ScreenView) (g h : GridView) → g ≡ without_kept v.state.shown
-    → h ≡ new_grid g.height g.width Disabled
-    → record v { state = record (v.state) { shown = g; other = h; alternate = false } } ≡ copy_of v
-copied-parts v g h e f =
-    let new : h ≡ new_grid v.state.shown.height v.state.shown.width Disabled =
-    f ∙ (λ j. new_grid (e j).height (e j).width Disabled) in
-    λ j. record v { state = record (v.state) { shown = e j; other = new j; alternate = false } }
+pub copied-parts : (v : ScreenView) (g h : GridView) → h ≡ new_grid g.height g.width Disabled
+    → record v { state = record (v.state) { shown = g; other = h; alternate = false } }
+    ≡ record v { state = with_sheet v.state g }
+copied-parts v g h f = λ j. record v { state = record (v.state) { shown = g; other = f j; alternate = false } }
+
+-- the sheets that copies draw on
+pub drawn-proper : (s : Inside) (g : GridView) → IsInside s → g ≡ without_kept s.grid → s.failed ≡ false
+    → IsProperSheet g
+drawn-proper s g i e live = rw e (proper-without_kept s.grid (i.proper live))
+
+pub visible-proper : (s : Inside) (g : GridView) → IsInside s → IsGrid s.grid → g ≡ visible_as_drawn s.grid
+    → s.failed ≡ false → IsProperSheet g
+visible-proper s g i grid e live = rw e (proper-visible s.grid grid i.shown (i.proper live))
 
 -- ---- a copy shows the same
 

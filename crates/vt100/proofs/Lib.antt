@@ -16,5 +16,6 @@ pub mod ShortLists
 pub mod RefusedWrites
 pub mod RenewLemmas
 pub mod CopyLemmas
+pub mod VisibleCopies
 mod LendTwo
 mod ParserParts

@@ -1,7 +1,8 @@
 //! Laws of what events and bytes make of a screen, each the contract of a function that does nothing.
 ghost use Rattle.vt100.specs.Laws.{PlaysEvents, FeedsMake, FeedsJoin, FeedsNothing, ActsFollow};
 ghost use Rattle.vt100.specs.Laws.{ResizedScreensArePutIn};
-ghost use Rattle.vt100.specs.Copies.{EachCopyShowsTheSame};
+ghost use Rattle.vt100.specs.Copies.{EachCopyShowsTheSame, EachVisibleCopyShowsTheSame};
+ghost use Rattle.vt100.specs.Copies.{EachVisibleRedrawLeads, EachVisibleDifferenceLeads};
 ghost use Rattle.vt100.specs.WriterLaws.{EachRedrawIsOfShown, EachDifferenceIsOfShown, EachScreenIsDrawable};
 ghost use Rattle.vt100.specs.WriterLaws.{EachRedrawLeads, EachDifferenceLeads, EachRowTextLeads};
 ghost use Rattle.vt100.specs.WriterLaws.{EachRowDifferenceLeads};
@@ -34,6 +35,22 @@ pub fn screens_are_put_in()
 /// size and shows the same.
 pub fn copies_show_the_same()
     ensures { EachCopyShowsTheSame }
+{}
+
+/// The copy that [`clone_visible`](crate::Screen::clone_visible) makes of a live screen has its size, and shows what the
+/// screen shows, as a terminal can show it: without a wide character that the right edge cuts, with a wrapped row only
+/// where the last column shows something, and never wrapped in the last row. So it shows the same if none of these
+/// stands there. If no kept row is shown, [`clone_shown`](crate::Screen::clone_shown) makes the same copy.
+pub fn visible_copies_show_the_same()
+    ensures { EachVisibleCopyShowsTheSame }
+{}
+
+/// Whether a screen shows kept rows or not, a terminal of its size that reads a redraw of such a copy shows what the
+/// screen shows; and a terminal that shows what an earlier screen showed, and reads the difference of both copies,
+/// shows what the later one shows. No cell may show U+FE0F.
+pub fn visible_copies_lead()
+    ensures redraws { EachVisibleRedrawLeads }
+    ensures differences { EachVisibleDifferenceLeads }
 {}
 
 /// Where a live screen shows no kept row, the forms that [`Screen`](crate::Screen) writes of itself are those of what

@@ -1,9 +1,11 @@
 //! Copies of what a screen shows, and whether two screens show the same.
-ghost use Rattle.std.specs.Prelude.{◌≡◌, ◌↔◌, IsTrue, IsOk, IfOk, OnOk, OnErr, Err};
-ghost use Rattle.vt100_core.specs.Copy.{without_kept};
+ghost use Rattle.std.specs.Prelude.{◌≡◌, ◌↔◌, true, false, IsTrue, IsOk, IfOk, OnOk, OnErr, Err};
+ghost use Rattle.vt100_core.specs.Grid.{IsAllocated};
 ghost use Rattle.vt100_core.specs.Picture.{grid_size};
 ghost use Rattle.vt100_forms.specs.Attrs.{attrs_eq};
-ghost use Rattle.vt100.specs.Copies.{copy_of, same_modes, same_extras, DrawTheSame, ShowTheSame};
+ghost use Rattle.screen_model.specs.State.{IsProperSheet};
+ghost use Rattle.vt100.specs.Copies.{with_sheet, copy_of, visible_copy_of, same_modes, same_extras};
+ghost use Rattle.vt100.specs.Copies.{DrawTheSame, ShowTheSame};
 ghost use Rattle.vt100.specs.WriterLaws.{IsUnscrolled};
 ghost use Rattle.vt100.specs.declared.error.ScreenError.TheVariants.{Memory};
 
@@ -13,7 +15,8 @@ use vt100_core::{Grid, Scrollback};
 
 impl Screen {
     /// A screen of one sheet, which is a copy of the sheet that is shown. It has the same cursor, attributes and modes,
-    /// but no kept rows, and no copy of the sheet that is hidden. If the screen shows no kept row, both show the same.
+    /// but no kept rows, and no copy of the sheet that is hidden. If the screen shows no kept row, both show the same;
+    /// [`clone_visible`](Self::clone_visible) copies what is shown where kept rows are.
     pub fn clone_shown(&self) -> Result<Screen, ScreenError>
         ensures screen { IfOk result (λ screen. screen ≡ copy_of self.now) }
         ensures memory { OnErr result (result ≡ Err Memory) }
@@ -45,10 +48,27 @@ impl Screen {
         Ok(())
     }
 
+    /// A screen of one sheet, which draws on copies of the rows that are shown, kept ones too. It has the same cursor,
+    /// attributes and modes, but no kept rows. So its redraws and differences lead a terminal to what the screen
+    /// shows, whether kept rows are shown or not.
+    ///
+    /// A kept row can be wider than the screen. Of such a row a wide character that the right edge cuts is blank, and
+    /// the row is wrapped only if its last column shows something. The last row isn't wrapped. All else is the same.
+    pub fn clone_visible(&self) -> Result<Screen, ScreenError>
+        ensures screen { IfOk result (λ screen. screen ≡ visible_copy_of self.now) }
+        ensures memory { OnErr result (result ≡ Err Memory) }
+    {
+        prove!(self.grid.is_allocated());
+        let grid = self.grid.clone_visible()?;
+        Ok(self.with_sheet(grid))
+    }
+
     /// A screen with this sheet in place of the one that is shown, and without the other one.
     fn with_sheet(&self, grid: Grid) -> Screen
-        requires { grid ≡ without_kept self.now.state.shown }
-        ensures { result ≡ copy_of self.now }
+        requires drawn { IsAllocated grid }
+        requires keeps { grid.kept.keeps ≡ true }
+        requires proper { self.now.failed ≡ false → IsProperSheet grid }
+        ensures { result ≡ record self.now { state = with_sheet self.now.state grid } }
     {
         let other_grid = Grid::new(self.alloc, grid.size(), Scrollback::Disabled);
         Screen {

@@ -30,6 +30,9 @@ impl Screen {
     /// mouse mode and encoding and its cursor's style are as they are at first:
     /// [`contents_formatted`](Self::contents_formatted), and [`input_mode_formatted`](Self::input_mode_formatted)
     /// after it. They are at most 1,024 bytes for each cell of the screen, and 1,008 more (`short`).
+    ///
+    /// Where kept rows are shown, a terminal may come to another picture. A copy by
+    /// [`clone_visible`](Self::clone_visible) leads it to what is shown.
     pub fn state_formatted(&self) -> Result<String, ScreenError>
         ensures { GivesRedraw state_formatted picture.state_formatted 1008 self.now.state result }
     {
@@ -59,6 +62,9 @@ impl Screen {
     /// Where neither shows a kept row and no cell shows U+FE0F, they touch local cells alone: those that differ, and,
     /// in rows that differ and right below them, empty ones and those of the first and the last column; each with its
     /// other half. Where the cursor waits at the end of a row, they may also touch the last cell of one row (`local`).
+    ///
+    /// Where either shows kept rows, a terminal may come to another picture. Copies by
+    /// [`clone_visible`](Self::clone_visible) of both lead it to what is shown.
     pub fn state_diff(&self, prev: &Self) -> Result<String, ScreenError>
         ensures { GivesDifference state_diff picture.state_diff 1008 prev.now.state self.now.state result }
     {
@@ -83,6 +89,9 @@ impl Screen {
     /// whether the cursor is hidden, the rows, the cursor, and the attributes that are drawn with. Rows are drawn as
     /// they are shown; the cursor is that of the rows that are drawn on. They are at most 1,024 bytes for each cell of
     /// the screen, and 512 more (`short`).
+    ///
+    /// Where kept rows are shown, [`clone_visible`](Self::clone_visible) is the way, as
+    /// [`state_formatted`](Self::state_formatted) says.
     pub fn contents_formatted(&self) -> Result<String, ScreenError>
         ensures { GivesRedraw contents_formatted picture.contents_formatted 512 self.now.state result }
     {
@@ -108,7 +117,8 @@ impl Screen {
     ///
     /// Before each row the cursor is brought to the row's column `start`, and the attributes are the default ones.
     /// Where whole rows are asked for, a row that goes on from the one above is drawn with the cursor at the end of
-    /// that one.
+    /// that one. Of a kept row that is wider than the screen, [`clone_visible`](Self::clone_visible) gives the screen's
+    /// columns.
     pub fn rows_formatted(&self, start: u16, width: u16) -> RowsFormatted<'_>
         ensures { result ≡ rows_formatted self.now.state.shown start width }
     {
@@ -123,7 +133,8 @@ impl Screen {
     /// are compared.
     ///
     /// They are at most 1,024 bytes for each cell of the screen, and 512 more (`short`), and touch the cells that
-    /// [`state_diff`](Self::state_diff) says (`local`).
+    /// [`state_diff`](Self::state_diff) says (`local`). Where either shows kept rows,
+    /// [`clone_visible`](Self::clone_visible) is the way, as it says too.
     pub fn contents_diff(&self, prev: &Self) -> Result<String, ScreenError>
         ensures { GivesDifference contents_diff picture.contents_diff 512 prev.now.state self.now.state result }
     {
@@ -263,7 +274,7 @@ impl Screen {
 
     /// The escape sequences that bring a terminal's cursor, which may stand anywhere, to the screen's, and hide or
     /// show it. The terminal shows the rows that are drawn on, and draws with the default attributes, before and
-    /// afterwards.
+    /// afterwards. Where it shows kept rows, those of a [`clone_visible`](Self::clone_visible) are the way.
     pub fn cursor_state_formatted(&self) -> Result<String, ScreenError>
         ensures text { IfOk result (λ contents. string_bytes contents
             ≡ bytes_of (cursor_state_formatted self.now.state)) }
