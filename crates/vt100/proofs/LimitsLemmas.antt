@@ -95,7 +95,3 @@ bounds_back s t u p q = record {
 
 pub capacity_typed : (c : ℕ) (s : State) → (typed c s).state.shown.kept.capacity ≡ s.shown.kept.capacity
 capacity_typed c s = (limits-typed c s).kept.capacity
-
-pub capacity_times : (n c : ℕ) (s : State) → (typed_times n c s).state.shown.kept.capacity ≡ s.shown.kept.capacity
-capacity_times zero c s = refl
-capacity_times (suc n) c s = (limits-typed c (typed_times n c s).state).kept.capacity ∙ capacity_times n c s

@@ -1,130 +1,70 @@
 -- A character that is printed again and again.
-use Rattle.std.proofs.Common.{◌≡◌, ◌∙◌, ◌<◌, ◌^◌, ◌++◌, ℕ, zero, suc, Bool, false, List, [], Ok, Err}
-use Rattle.std.proofs.Common.{refl, ap, sym, arith, append_assoc, append-nil, inl, inr}
-use Rattle.std.proofs.lemmas.Bool.{cases_lt, false≢true}
+use Rattle.std.proofs.Common.{◌≡◌, ◌∙◌, ◌+◌, ◌++◌, ℕ, zero, suc, Bool, Result, List, [], ◌∷◌, Option, Some, replicate, refl, ap, sym}
+use Rattle.std.proofs.Common.{arith, append-nil}
+use Rattle.std.proofs.lemmas.List.{replicate_more}
 use Rattle.vt100_rows.specs.Row.{RowView}
-use Rattle.vt100_core.specs.Scroll.{ScrollsNoneOff}
-use Rattle.vt100_core.proofs.CountLemmas.{CountsOn, CountsOn-trans, counts-printed}
+use Rattle.vt100_core.specs.declared.printed.Printed.{Printed}
+use Rattle.vt100_core.specs.declared.printed.Printed.TheVariants.{Nothing, Spacing, Joined}
+use Rattle.vt100_core.specs.Scroll.{Scrolled}
+use Rattle.vt100_core.specs.Text.{printed, printed_all}
+use Rattle.vt100_core.proofs.RunLemmas.{printed_all-append}
 use Rattle.screen_model.specs.State.{State}
-use Rattle.screen_model.specs.Step.{Report, typed, typed_times}
-use Rattle.screen_model.specs.Call.{ScreenView, Receives}
-use Rattle.vt100.specs.Tries.{MayScroll, ReceivesPrefix}
+use Rattle.screen_model.specs.Step.{Report, Stepped, reports_of, typed, typed_times, repeated, repeated_last, last_after}
+use Rattle.vt100.specs.Tries.{MayScroll}
 use Rattle.vt100.specs.declared.error.ScreenError.{ScreenError}
 use Rattle.vt100.specs.declared.screen.wrapped.WrappedScreen.{WrappedScreen}
-use Rattle.vt100.proofs.EventLemmas.{is_alive}
-use Rattle.vt100.proofs.ReceiveLemmas.{receives_append, tries_ok}
-use Rattle.vt100.proofs.LimitsLemmas.{bounds_same, bounds_trans, capacity_times}
+use Rattle.vt100.proofs.ReceiveLemmas.{scroll_as}
+use Rattle.vt100.proofs.RunLemmas.{drawn_as, reports-append}
 
--- of n times, the reports of the first i, those of the next one, and others
-times_more : (n i ch : ℕ) (s : State) → i < n → (more : List Report) × ((typed_times n ch s).reports
-    ≡ (typed_times i ch s).reports ++ ((typed ch (typed_times i ch s).state).reports ++ more))
-times_more zero i ch s h = absurd (omega (arith, h))
-times_more (suc n) i ch s h =
-    let last = (typed ch (typed_times n ch s).state).reports in
-    elim (cases_lt i n) [
-      | inl l ↦
-          let o = times_more n i ch s l in
-          (o.0 ++ last, rw o.1 (simp append_assoc))
-      | inr l ↦
-          let is : i ≡ n = omega arith in
-          rw is ([], ap (λ (xs : List Report). (typed_times n ch s).reports ++ xs) (sym (append-nil last)))
-    ]
+-- a character on the shown sheet, so many times
+abbrev pub again_drawn : ℕ → ℕ → State → Stepped
+again_drawn n c s =
+    let d = printed_all s.shown (replicate n c) s.attrs in
+    drawn_as s d.grid s.last d.sunk
 
--- ---- how many rows have scrolled off
+last-same : (p : Printed) (c : ℕ) (last : Option ℕ) → last ≡ Some c → last_after p c last ≡ last
+last-same Nothing c last e = refl
+last-same Spacing c last e = sym e
+last-same Joined c last e = refl
 
-counts_times : (n ch : ℕ) (s : State) → s.shown.kept.scrolled_off < 2 ^ 64
-    → CountsOn s.shown.kept (typed_times n ch s).state.shown.kept
-counts_times zero ch s h = record { more = omega arith; bounded = h }
-counts_times (suc n) ch s h =
-    let t = (typed_times n ch s).state in
-    let c = counts_times n ch s h in
-    CountsOn-trans s.shown.kept t.shown.kept (typed ch t).state.shown.kept c
-    (counts-printed t.shown ch t.attrs c.bounded).on
-
--- of n times, after the first i and one more
-counts_more : (n i ch : ℕ) (s : State) → i < n → s.shown.kept.scrolled_off < 2 ^ 64
-    → CountsOn (typed_times (suc i) ch s).state.shown.kept (typed_times n ch s).state.shown.kept
-counts_more zero i ch s l h = absurd (omega (arith, l))
-counts_more (suc n) i ch s within h =
-    let t = (typed_times n ch s).state in
-    let u = (typed_times (suc i) ch s).state in
-    let c = counts_times n ch s h in
-    elim (cases_lt i n) [
-      | inl l ↦ CountsOn-trans u.shown.kept t.shown.kept (typed ch t).state.shown.kept
-          (counts_more n i ch s l h) (counts-printed t.shown ch t.attrs c.bounded).on
-      | inr l ↦
-          let is : i ≡ n = omega arith in
-          rw is (let whole = counts_times (suc n) ch s h in record { more = omega arith; bounded = whole.bounded })
-    ]
-
--- where no row scrolls off by all of them none does by one
-none_once_more : (n i ch : ℕ) (s : State) → i < n → ScrollsNoneOff s.shown (typed_times n ch s).state.shown
-    → ScrollsNoneOff (typed_times i ch s).state.shown (typed_times (suc i) ch s).state.shown
-none_once_more n i ch s l none =
-    let t = (typed_times i ch s).state in
-    let first = counts_times i ch s (omega (arith, none.0)) in
-    let next = (counts-printed t.shown ch t.attrs first.bounded).on in
-    let last = counts_more n i ch s l (omega (arith, none.0)) in (
-      omega (arith, none.0, none.1, first.more, next.more, last.more),
-      omega (arith, none.1, first.more, next.more, last.more),
+-- once more on a sheet
+printed-more : (n c : ℕ) (s : State) → printed_all s.shown (replicate (suc n) c) s.attrs ≡ (
+    let d = printed_all s.shown (replicate n c) s.attrs in
+    let p = printed d.grid c s.attrs in
+    let o : Scrolled = record { grid = p.grid; sunk = d.sunk ++ p.sunk } in
+    o
     )
+printed-more n c s =
+    let d = printed_all s.shown (replicate n c) s.attrs in
+    let p = printed d.grid c s.attrs in
+    let one : suc n ≡ n + 1 = omega arith in
+    ap (λ m. printed_all s.shown (replicate m c) s.attrs) one
+    ∙ ap (λ xs. printed_all s.shown xs s.attrs) (sym (replicate_more n c))
+    ∙ printed_all-append (replicate n c) (c ∷ []) s.shown s.attrs
+    ∙ ap (λ (rows : List RowView). let o : Scrolled = record { grid = p.grid; sunk = d.sunk ++ rows } in o)
+    (append-nil p.sunk)
 
-module _ {C : Type 0} (scrolls : C → RowView → Bool → C → Type 0) where
-  pub scroll_none : (ch : ℕ) (p : WrappedScreen C) → p.screen.failed ≡ false
-      → MayScroll scrolls (typed_times 0 ch) p (Ok tt) p
-  scroll_none ch p live = record {
-    tries = tries_ok scrolls (typed_times 0 ch) p.screen p.callbacks tt p.screen p.callbacks live
-        (is_alive p.screen live) refl;
-    bounds = bounds_same p.screen.state;
-    keeps_none = λ _ _. refl;
-    stays = λ _ _. refl;
-  }
+times-drawn : (n c : ℕ) (s : State) → s.last ≡ Some c → typed_times n c s ≡ again_drawn n c s
+times-drawn zero c s e = refl
+times-drawn (suc n) c s e =
+    let d = printed_all s.shown (replicate n c) s.attrs in
+    let p = printed d.grid c s.attrs in
+    let more : Stepped → Stepped = λ t. record {
+      state = (typed c t.state).state;
+      reports = t.reports ++ (typed c t.state).reports;
+    } in
+    ap more (times-drawn n c s e)
+    ∙ (λ j. record {
+      state = record s { shown = p.grid; last = last-same p.printed c s.last e j };
+      reports = reports-append s.alternate d.sunk p.sunk j;
+    })
+    ∙ sym (ap (λ (o : Scrolled). drawn_as s o.grid s.last o.sunk) (printed-more n c s))
 
-  -- once more
-  pub scroll_more : {p m q : WrappedScreen C} (i ch : ℕ) → MayScroll scrolls (typed_times i ch) p (Ok tt) m
-      → MayScroll scrolls (typed ch) m (Ok tt) q → MayScroll scrolls (typed_times (suc i) ch) p (Ok tt) q
-  scroll_more {p} {m} {q} i ch x y =
-      let t = typed_times i ch p.screen.state in
-      record {
-        tries = tries_ok scrolls (typed_times (suc i) ch) p.screen p.callbacks tt q.screen q.callbacks x.tries.live
-            (rw x.tries.screen at y.tries.screen)
-            (receives_append scrolls p.callbacks t.reports (typed ch t.state).reports m.callbacks q.callbacks
-            x.tries.receives
-            (rw x.tries.screen at y.tries.receives));
-        bounds = bounds_trans p.screen.state m.screen.state q.screen.state x.bounds y.bounds;
-        keeps_none = λ _ _. refl;
-        stays = λ _ _. refl;
-      }
+repeated-drawn : (n c : ℕ) (s : State) → s.last ≡ Some c → again_drawn n c s ≡ repeated n s
+repeated-drawn n c s e = sym (times-drawn n c s e) ∙ ap (λ (o : Option ℕ). repeated_last o n s) (sym e)
 
-  -- the first of the rows of a part, after all that were before it
-  prefix_after : (all first next more : List Report) (c b d : C) → all ≡ first ++ (next ++ more)
-      → Receives scrolls c first b → ReceivesPrefix scrolls b next d → ReceivesPrefix scrolls c all d
-  prefix_after all first next more c b d e heard h =
-      (first ++ h.0, h.1 ++ more, rw e (rw h.2 (simp append_assoc)), receives_append scrolls c first h.0 b d heard h.3)
-
-  -- or not any more
-  pub scroll_stops : {p m q : WrappedScreen C} {e : ScreenError} (n i ch : ℕ) → i < n
-      → MayScroll scrolls (typed_times i ch) p (Ok tt) m → MayScroll scrolls (typed ch) m (Err e) q
-      → MayScroll scrolls (typed_times n ch) p (Err e) q
-  scroll_stops {p} {m} {q} n i ch within x y =
-      let s = p.screen.state in
-      let t = typed_times i ch s in
-      let o = times_more n i ch s within in
-      let is = x.tries.screen in
-      record {
-        tries = record {
-          live = tt;
-          screen = tt;
-          receives = tt;
-          memory = y.tries.memory;
-          reported = λ h. prefix_after (typed_times n ch s).reports t.reports (typed ch t.state).reports o.0 p.callbacks
-              m.callbacks q.callbacks o.1 x.tries.receives (rw is at (y.tries.reported h));
-          refused = λ h. absurd (false≢true (sym (ap (λ (v : ScreenView). v.failed) is) ∙ y.tries.refused h));
-          dead = λ h. absurd (false≢true (sym x.tries.live ∙ h));
-        };
-        bounds = bounds_trans s m.screen.state q.screen.state x.bounds y.bounds;
-        keeps_none = λ _ none. y.keeps_none (ap (λ (v : ScreenView). v.failed) is)
-            (ap (λ (v : ScreenView). v.state.shown.kept.capacity) is ∙ capacity_times i ch s ∙ none);
-        stays = λ _ none. y.stays (ap (λ (v : ScreenView). v.failed) is)
-            (rw is (none_once_more n i ch s within none));
-      }
+-- printing it on the sheet is repeating it (REP)
+pub repeated-scrolls : {C : Type 0} (scrolls : C → RowView → Bool → C → Type 0) {p q : WrappedScreen C}
+    {result : Result (Unit {0}) ScreenError} (n c : ℕ) → p.screen.state.last ≡ Some c
+    → MayScroll scrolls (again_drawn n c) p result q → MayScroll scrolls (repeated n) p result q
+repeated-scrolls scrolls {p} n c last x = scroll_as scrolls (repeated n) (repeated-drawn n c p.screen.state last) x

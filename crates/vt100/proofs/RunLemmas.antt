@@ -97,7 +97,7 @@ typed-spacing c s p =
     ap (λ (q : Printed). drawn_as s d.grid (last_after q c s.last) d.sunk)
     (ap (λ (x : PrintedGrid). x.printed) (printed-spacing s.shown c s.attrs p))
 
-reports-append : (b : Bool) (xs ys : List RowView) → reports_of b xs ++ reports_of b ys ≡ reports_of b (xs ++ ys)
+pub reports-append : (b : Bool) (xs ys : List RowView) → reports_of b xs ++ reports_of b ys ≡ reports_of b (xs ++ ys)
 reports-append b [] ys = refl
 reports-append b (x ∷ xs) ys =
     ap (λ (rs : List Report). record { row = x; alternate = b } ∷ rs) (reports-append b xs ys)

@@ -1,5 +1,5 @@
 //! Calls on a sheet that report the rows that leave it to callbacks.
-ghost use Rattle.std.specs.Prelude.{◌≡◌, ◌⊎◌, ◌≤◌, ◌++◌, OnOk, OnErr, IfOk, IsOk, All, map, true, false};
+ghost use Rattle.std.specs.Prelude.{◌≡◌, ◌⊎◌, ◌≤◌, ◌++◌, OnOk, OnErr, IfOk, IsOk, All, map, replicate, true, false};
 ghost use Rattle.vt100_core.specs.Grid.{IsGrid, IsAllocated};
 ghost use Rattle.vt100_core.specs.Scroll.{fed, scrolled_up, scrollback_erased};
 ghost use Rattle.vt100_core.specs.Text.{printed, printed_all};
@@ -63,6 +63,21 @@ pub(super) fn print_run<G: Glyph, const COLUMNS: usize, CB: Callbacks>(
         grid.new reporter.new }
 {
     grid.print_run::<G, COLUMNS, _>(text, attrs, reporter)
+}
+
+/// Prints a character on a sheet so many times, and gives the reporter the rows that leave it.
+pub(super) fn print_times<CB: Callbacks>(
+    grid: &mut Grid,
+    reporter: &mut Reporter<'_, CB>,
+    c: char,
+    count: u16,
+    attrs: &PackedAttrs,
+) -> Result<(), GridError>
+    requires { IsAllocated grid.old }
+    ensures { Draws CB.scrolls (printed_all grid.old (replicate count c) attrs.now) grid.old reporter.old result
+        grid.new reporter.new }
+{
+    grid.print_times(c, count, attrs, reporter)
 }
 
 /// Moves the cursor of a sheet a row down, and gives the reporter the rows that leave it.

@@ -7,7 +7,7 @@ ghost use Rattle.vt100.specs.declared.error.ScreenError.TheVariants.{Memory};
 
 use crate::callbacks::Callbacks;
 use crate::error::ScreenError;
-use crate::screen::reported::{Reporter, feed_line, print, print_run, scroll_up};
+use crate::screen::reported::{Reporter, feed_line, print, print_run, print_times, scroll_up};
 use crate::screen::{Screen, note_failure};
 use vt100_cells::Glyph;
 use vt100_core::Printed;
@@ -130,9 +130,18 @@ impl<CB: Callbacks> WrappedScreen<CB> {
             return Err(ScreenError::Failed);
         }
         if let Some(c) = self.screen.last_char {
-            for _i in 0..count {
-                self.text(c)?;
-            }
+            let mut reporter = Reporter {
+                callbacks: &mut self.callbacks,
+                alternate_screen: self.screen.alternate_screen,
+            };
+            let drawn = print_times(
+                &mut self.screen.grid,
+                &mut reporter,
+                c,
+                count,
+                &self.screen.attrs,
+            );
+            note_failure(&mut self.screen.failed, drawn)?;
         }
         Ok(())
     }
