@@ -132,3 +132,12 @@ module _ {S : Type 0} {step : S → Event → S → Type 0} {terminated : S → 
   on_text bs (suc i) k ground text one still more =
       on_more bs (suc i) k text (λ a goes_on. asked_run bs (suc i) goes_on text one)
       (λ a goes_on. still a (omega arith)) more
+
+  -- no text, and then others
+  pub on_other : (bs : List ℕ) (k : ℕ) → p.state ≡ Ground → Reads step n p old bs 0 mid between
+      → ReadsOn step terminated asks n mid between bs k r new → ReadsOn step terminated asks n p old bs k r new
+  on_other bs k ground text more =
+      let read = on_text bs 0 k ground text (λ some. absurd (omega (arith, some)))
+      (λ asking some. absurd (omega (arith, some))) (rw (whole_rest bs 0) more) in
+      let all : 0 + k ≡ k = omega arith in
+      rw all at read

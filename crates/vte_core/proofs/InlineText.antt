@@ -1,6 +1,7 @@
 -- Inline text, after whole characters.
 use Rattle.std.proofs.Common.{◌≡◌, ◌∙◌, ℕ, zero, suc, ◌<◌, ◌≤◌, true, false, List, [], ◌∷◌, length, take, drop, get_or}
 use Rattle.std.proofs.Common.{ap, arith, inl, inr, refl, sym}
+use Rattle.std.proofs.lemmas.Bool.Decides.{nat_tests}
 use Rattle.vte_core.specs.Bytes.{is_esc}
 use Rattle.vte_core.specs.Event.{Event, Performs}
 use Rattle.vte_core.specs.Pending.{Pending, InText}
@@ -12,7 +13,7 @@ use Rattle.vte_core.specs.declared.parser.Parser.{Parser}
 use Rattle.vte_core.specs.declared.parser.State.TheVariants.{Ground}
 use Rattle.vte_core.proofs.Characters.{bool_cases}
 use Rattle.vte_core.proofs.GroundTextLemmas.{text_is}
-use Rattle.vte_core.proofs.Runs.{no_esc-before, run-at, run-events, take-before}
+use Rattle.vte_core.proofs.Runs.{before-ends, no_esc-before, run-at, run-events, take-before}
 use Rattle.vte_core.proofs.StopLemmas.{is_text-at}
 
 pub inline-no_esc : (bs : List ℕ) (k : ℕ) → (0 < k → k ≡ length (before is_esc bs)) → has_no_esc (take k bs) ≡ true
@@ -24,6 +25,12 @@ not-esc : (bs : List ℕ) → 0 < length (before is_esc bs) → is_esc (get_or b
 not-esc [] h = absurd (omega (arith, h))
 not-esc (b ∷ s) h = elim (bool_cases (is_esc b))
     [ inl e ↦ let g = rw e at h in absurd (omega (arith, g)) | inr e ↦ e ]
+
+-- the byte after the text
+pub esc_after : (bs : List ℕ) (k : ℕ) → k < length bs → k ≡ length (before is_esc bs) → get_or bs k 0 ≡ 0x1B
+esc_after bs k less len =
+    let ends : is_esc (get_or bs k 0) ≡ true = rw len (before-ends bs (rw (← len) less)) in
+    grind (arith, nat_tests, ends)
 
 -- nothing is pending
 whole_text : (n : ℕ) (p : Parser n) (q : Pending) → p.state ≡ Ground → p.unfinished ≡ [] → IsAt n p q → q ≡ InText []

@@ -21,10 +21,11 @@ pub fn is_numeric(byte: u8) -> bool
 pub struct Numbers {
     /// The whole numbers, in their groups.
     pub params: Params,
+    /// The last number, at most 65,535.
+    // Before the flags, so that one store clears all three.
+    pub number: u16,
     /// The last group isn't whole.
     pub is_open: bool,
-    /// The last number, at most 65,535.
-    pub number: u16,
     /// A number was begun or ended past the 32 that are kept.
     pub many: bool,
     ghost some: { IsTrue is_open → 0 < length params },
@@ -41,8 +42,8 @@ impl Numbers {
     {
         Numbers {
             params: Params::new(),
-            is_open: false,
             number: 0,
+            is_open: false,
             many: false,
         }
     }
@@ -52,8 +53,8 @@ impl Numbers {
         ensures { ReadsNumbers self.new [] }
     {
         self.params.clear();
-        self.is_open = false;
         self.number = 0;
+        self.is_open = false;
         self.many = false;
     }
 

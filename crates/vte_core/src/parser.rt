@@ -376,13 +376,24 @@ impl<const N: usize> Parser<N> {
     }
 
     /// Reads what has no event, and the byte after it, if there is one. Returns how many bytes it read. It is called
-    /// where a sequence goes on behind ESC and the byte after it.
-    #[inline(always)]
-    fn read_inside<P: Perform>(&mut self, performer: &mut P, bytes: &[u8]) -> usize
+    /// where a sequence goes on behind ESC and the byte after it. Where the performer isn't asked, a device control
+    /// string's data is read at once.
+    // Never inlined, since it is rare beside `read_escape`, which one comparison then tells from it.
+    #[inline(never)]
+    fn read_inside<P: Perform, const ASKED: bool>(
+        &mut self,
+        performer: &mut P,
+        bytes: &[u8],
+    ) -> usize
         requires some { 0 < length bytes.now }
         requires inside { state_is_text self.old.state ≡ false }
-        ensures { ReadsStep P.step N self.old performer.old bytes.now result self.new performer.new }
+        ensures { ReadsOn P.step P.is_terminated ASKED N self.old performer.old bytes.now result
+            self.new performer.new }
     {
+        match self.state {
+            State::DcsPassthrough if !ASKED => return self.read_data(performer, bytes),
+            _ => {}
+        }
         let quiet = self.read_quiet(bytes);
         if quiet == bytes.len() {
             return quiet;
@@ -464,13 +475,13 @@ impl<const N: usize> Parser<N> {
         let [_, byte, ..] = bytes else {
             return 0;
         };
-        if is_intermediate(*byte) && bytes.len() > 2 && is_escape_final(bytes[2]) {
-            performer.esc_dispatch(&[*byte], false, bytes[2]);
-            return 3;
-        }
         if is_escape_final(*byte) && !opens_sequence(*byte) {
             performer.esc_dispatch(&[], false, *byte);
             return 2;
+        }
+        if is_intermediate(*byte) && bytes.len() > 2 && is_escape_final(bytes[2]) {
+            performer.esc_dispatch(&[*byte], false, bytes[2]);
+            return 3;
         }
         0
     }
@@ -543,6 +554,7 @@ impl<const N: usize> Parser<N> {
         requires whole { self.old.unfinished ≡ [] }
         ensures reads { Reads P.step N self.old performer.old bytes.now result self.new performer.new }
         ensures within { result < length bytes.now }
+        ensures ended { 0 < result → slice_index bytes.now result ≡ 0x1B }
         ensures state { self.new.state ≡ State.Ground }
         ensures whole { self.new.unfinished ≡ [] }
         ensures is_step { 0 < result → (q : Pending) → IsAt N self.old q
@@ -603,13 +615,13 @@ impl<const N: usize> Parser<N> {
             self.new performer.new }
     {
         let text = self.read_inline_text(performer, bytes);
+        if text == 0 && bytes[0] != 0x1B {
+            return self.read_through::<P, ASKED>(performer, bytes);
+        }
         if ASKED && text > 0 && performer.terminated() {
             return text;
         }
-        if bytes[text] == 0x1B {
-            return text + self.read_sequence(performer, &bytes[text..]);
-        }
-        text + self.read_through::<P, ASKED>(performer, &bytes[text..])
+        text + self.read_sequence(performer, &bytes[text..])
     }
 
     /// Reads a device control string's data, of which each byte has an event, and the byte after it, if there is one.
@@ -628,8 +640,8 @@ impl<const N: usize> Parser<N> {
         data + 1
     }
 
-    /// Reads some bytes of a sequence, up to the first that has an event, and with it. Where the performer isn't asked,
-    /// a device control string's data is read at once. Returns how many bytes it read.
+    /// Reads some bytes of a sequence, up to the first that has an event, and with it, or a device control string's
+    /// data. Returns how many bytes it read.
     #[inline(always)]
     fn read_apart<P: Perform, const ASKED: bool>(
         &mut self,
@@ -642,9 +654,8 @@ impl<const N: usize> Parser<N> {
             self.new performer.new }
     {
         match self.state {
-            State::DcsPassthrough if !ASKED => self.read_data(performer, bytes),
             State::Escape => self.read_escape(performer, bytes),
-            _ => self.read_inside(performer, bytes),
+            _ => self.read_inside::<P, ASKED>(performer, bytes),
         }
     }
 
@@ -736,7 +747,8 @@ impl<const N: usize> Parser<N> {
 }
 
 /// How many bytes at the start are ESC, of which the first one is.
-#[inline(always)]
+// Never inlined: in `read_begun` the loop would take more instructions.
+#[inline(never)]
 fn esc_len(bytes: &[u8]) -> usize
     requires { BeginsWithEsc bytes.now }
     ensures some { 0 < result }

@@ -1,5 +1,5 @@
 use Rattle.std.proofs.Common.{arith}
-use Rattle.vte_core.proofs.InlineText.{inline-no_esc, inline_reads, inline_step}
+use Rattle.vte_core.proofs.InlineText.{esc_after, inline-no_esc, inline_reads, inline_step}
 use Rattle.vte_core.proofs.parser.Parser.read_inline_text.Goals as goal
 
 pub returns-clause-reads : goal.returns-clause-reads
@@ -16,3 +16,9 @@ returns-clause-is_step g c = λ more q at.
     inline_step g.row.N c.args.self.now c.args.bytes.now c.read_inline.result q c.requires.ground
     (omega (arith, some)) more
     (c.read_inline.ensures.len more) at
+
+pub returns-clause-ended : goal.returns-clause-ended
+returns-clause-ended g c = λ more.
+    let bs = c.args.bytes.now in
+    let inline = c.read_inline.ensures in
+    esc_after bs c.read_inline.result inline.within (inline.len more)
