@@ -34,13 +34,14 @@ impl Grid {
         requires { IsAllocated self.old }
         ensures { PrintsAll S.takes sink.old sink.new self.old self.new result (replicate count c) attrs.now }
     {
-        let count = usize::from(count);
-        if let Some(columns) = columns(c) {
-            if columns > 0 && columns <= self.size.cols() {
-                return self.print_over(c, columns, count, attrs, sink);
+        if count > self.size.rows() {
+            if let Some(columns) = columns(c) {
+                if columns > 0 && columns <= self.size.cols() {
+                    return self.print_over(c, columns, usize::from(count), attrs, sink);
+                }
             }
         }
-        self.print_each(c, count, attrs, sink)
+        self.print_each(c, usize::from(count), attrs, sink)
     }
 
     /// Prints a character `count` times, one by one.
@@ -75,7 +76,10 @@ impl Grid {
         requires fits { columns ≤ self.old.width }
         ensures { PrintsAll S.takes sink.old sink.new self.old self.new result (replicate count c) attrs.now }
     {
-        let first = count.min(self.screenful(columns));
+        let first = self.screenful(columns);
+        if count <= first {
+            return self.print_each(c, count, attrs, sink);
+        }
         self.print_each(c, first, attrs, sink)?;
         self.print_on(c, columns, count - first, attrs, sink)
     }
