@@ -5,6 +5,7 @@ from __future__ import annotations
 import ctypes
 import enum
 import functools
+import operator
 import struct
 from typing import NamedTuple, TypeVar, Union
 
@@ -198,21 +199,72 @@ class _Cells(dict[bytes, Cell]):
         return cell
 
 
+class _Groups(dict[bytes, "tuple[Cell, ...]"]):
+    """Some cells by the bytes of the library's structs, one behind the other."""
+
+    def __missing__(self, data: bytes) -> tuple[Cell, ...]:
+        if len(self) >= _MOST_CELLS:
+            self.clear()
+        cells = self[data] = tuple([_known[data[at : at + CELL_SIZE]] for at in range(0, len(data), CELL_SIZE)])
+        return cells
+
+
+class _Style(dict[int, Cell]):
+    """The cells of one style, by a text of one byte, or by 0 for none."""
+
+    def __init__(self, style: bytes) -> None:
+        super().__init__()
+        self.none = bytearray(bytes(_LENGTH) + b"\0\1" + style)  # the library's struct without a text
+
+    def __missing__(self, byte: int) -> Cell:
+        data = self.none.copy()
+        data[0], data[_LENGTH] = byte, byte > 0
+        cell = self[byte] = _known[bytes(data)]
+        return cell
+
+
 _MOST_CELLS = 8192
+_GROUP = 4  # a screen has so many cells again and again
 CELL_SIZE = ctypes.sizeof(RawCell)
+_LENGTH = RawCell.length.offset  # the texts lie before it, and the widths behind it
+_STYLE = RawCell.attributes.offset  # attributes and colours lie from there on
+_LENGTHS = bytes([0, *[1] * 255])  # of texts of one byte, or none
 _known = _Cells()
+_groups = _Groups()
+_style = functools.lru_cache(maxsize=256)(_Style)
 
 
 @functools.lru_cache(maxsize=64)
 def _struct_of(cols: int) -> struct.Struct:
-    """So many of the library's structs, and a byte."""
-    return struct.Struct(f"{CELL_SIZE}s" * cols + "B")
+    """So many of the library's structs, in groups, and a byte."""
+    groups, left = divmod(cols, _GROUP)
+    return struct.Struct(f"{_GROUP * CELL_SIZE}s" * groups + f"{left * CELL_SIZE}sB")
+
+
+def _plain_cells(data: bytes) -> tuple[Cell, ...] | None:
+    """The cells of a row, if all have the first one's style and a text of at most one byte."""
+    style = data[_STYLE:CELL_SIZE]
+    if style != data[-1 - len(style) : -1]:
+        return None
+    known, texts = _style(style), data[:-1:CELL_SIZE]
+    row = known.none * len(texts)
+    row[::CELL_SIZE] = texts
+    row[_LENGTH::CELL_SIZE] = texts.translate(_LENGTHS)
+    return operator.itemgetter(0, *texts)(known)[1:] if data.startswith(row) else None
+
+
+def _any_cells(data: bytes) -> tuple[Cell, ...]:
+    """The cells of a row."""
+    *groups, _ = _struct_of(len(data) // CELL_SIZE).unpack(data)
+    cells: list[Cell] = []
+    for group in groups:
+        cells += _groups[group]
+    return tuple(cells)
 
 
 def row_of(data: bytes) -> Row:
     """The row that the library's structs say, one behind the other, and then a byte: whether it goes on in the next."""
-    *cells, wrapped = _struct_of(len(data) // CELL_SIZE).unpack(data)
-    return Row(tuple(map(_known.__getitem__, cells)), wrapped != 0)
+    return Row(_plain_cells(data) or _any_cells(data), data[-1] != 0)
 
 
 def drawing_of(raw: RawDrawing) -> Drawing:

@@ -1,19 +1,25 @@
-"""What is read of a screen here, and with pyte, in one run: milliseconds of the processor, the best of some rounds."""
+"""What is read of a screen here, and with pyte, in one run: milliseconds of the processor, the best of some rounds.
 
+cells is the whole screen, each row made anew. unseen is the same of random words, which were not read before. again is
+a screen whose rows have stayed. times is how many times as long as cells pyte takes for each cell of its buffer."""
+
+import random
+import string
 import time
 
 import pyte
 
 import jeihpal
 
-SIZES = ((24, 80), (60, 250), (100, 400))
-ROUNDS = 15
+SIZES = ((24, 80), (50, 200), (100, 400))
+ROUNDS = 25
 
 
-def best(work):
+def best(work, prepare=lambda: None):
     """The least time that the work takes, in milliseconds."""
     times = []
     for _ in range(ROUNDS):
+        prepare()
         begun = time.process_time()
         work()
         times.append(time.process_time() - begun)
@@ -29,33 +35,45 @@ def drawn(rows, cols):
     return "".join(lines).encode()
 
 
+def written(rows, cols):
+    """A screen of random words, as bytes."""
+    letters = string.ascii_letters + string.digits + "    "
+    lines = ("".join(random.choices(letters, k=random.randrange(cols))) for _ in range(rows))
+    return b"\x1b[m\x1b[H\x1b[J" + "\r\n".join(lines).encode()
+
+
 def read_pyte(screen):
     """Each cell of pyte's buffer."""
     buffer = screen.buffer
     return [[buffer[row][col] for col in range(screen.columns)] for row in range(screen.lines)]
 
 
+def compared(ours, theirs):
+    """The texts of all cells are the same; an empty cell of pyte's is a space."""
+    for row, cells in zip(ours.cells(), read_pyte(theirs)):
+        assert [cell.text or " " for cell in row.cells] == [cell.data for cell in cells]
+
+
 def main():
-    print(f"{'size':>9} {'cells':>8} {'changed':>8} {'pyte':>8} {'display':>8} {'pyte':>8} {'dirty':>8}")
+    names = ("cells", "unseen", "again", "pyte", "display", "pyte", "dirty")
+    print(f"{'size':>9} " + " ".join(f"{name:>8}" for name in (*names, "times")))
     for rows, cols in SIZES:
         data = drawn(rows, cols)
         theirs = pyte.Screen(cols, rows)
         pyte.ByteStream(theirs).feed(data)
-        with jeihpal.Screen(rows, cols) as ours:
+        with jeihpal.Screen(rows, cols) as ours, jeihpal.Screen(rows, cols) as other:
             ours.process(data)
-            assert [[cell.text for cell in row.cells] for row in ours.cells()] == [
-                [cell.data if cell.data != " " or ours.cell(r, c).text else "" for c, cell in enumerate(row)]
-                for r, row in enumerate(read_pyte(theirs))
-            ]
+            compared(ours, theirs)
 
             def anew():
                 ours._known_rows = {}
                 ours.cells()
 
             ours.clean()
-            times = [best(anew), best(ours.cells), best(lambda: read_pyte(theirs))]
-            times += [best(lambda: ours.display), best(lambda: theirs.display), best(lambda: ours.dirty)]
-        print(f"{rows:>4}x{cols:<4} " + " ".join(f"{it:8.3f}" for it in times))
+            times = [best(anew), best(other.cells, lambda: other.process(written(rows, cols))), best(ours.cells)]
+            times += [best(lambda: read_pyte(theirs)), best(lambda: ours.display), best(lambda: theirs.display)]
+            times += [best(lambda: ours.dirty)]
+        print(f"{rows:>4}x{cols:<4} " + " ".join(f"{it:8.3f}" for it in times) + f" {times[3] / times[0]:8.2f}")
 
 
 if __name__ == "__main__":

@@ -232,6 +232,15 @@ class Reading(unittest.TestCase):
                 with self.assertRaises(IndexError):
                     screen.row(row)
 
+    def test_each_cell_of_rows(self):
+        """Rows of one style and of several, whose texts are one byte and more."""
+        lines = ["", "plain", "\x1b[1;7;34mbold", "a\x1b[31mb\x1b[m", "米", "e\u0301 ", "x\x1b[48;2;1;2;3m\x1b[K"]
+        for cols in (1, 3, 4, 5, 11):
+            with Screen(2 * len(lines), cols) as screen:
+                screen.process("".join(f"\x1b[{2 * row + 1}H\x1b[m{line}" for row, line in enumerate(lines)).encode())
+                for number, row in enumerate(screen.cells()):
+                    self.assertEqual(row.cells, tuple(screen.cell(number, col) for col in range(cols)))
+
     def test_rows_of_hubs_and_views(self):
         with Hub(2, 5) as hub, View(2, 5) as view:
             for read in (hub.feed, view.advance):
