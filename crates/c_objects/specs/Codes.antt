@@ -36,7 +36,7 @@ not_owed = negsuc 6
 abbrev pub no_cell : ℤ
 no_cell = negsuc 7
 
--- and -10 to -12
+-- and -10 to -13
 abbrev pub no_header : ℤ
 no_header = negsuc 9
 
@@ -45,6 +45,9 @@ compressed = negsuc 10
 
 abbrev pub no_event : ℤ
 no_event = negsuc 11
+
+abbrev pub too_large : ℤ
+too_large = negsuc 12
 
 -- the number of a refusal is less than 0
 abbrev pub IsRefusal : ℤ → Type 0

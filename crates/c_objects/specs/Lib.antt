@@ -3,6 +3,7 @@ pub mod Codes
 pub mod Copied
 pub mod Filters
 pub mod Hubs
+pub mod Limits
 pub mod Looks
 pub mod Objects
 pub mod Played

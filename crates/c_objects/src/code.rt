@@ -47,6 +47,9 @@ pub(crate) const COMPRESSED: i32 = -11;
 /// A recording has fewer events.
 pub(crate) const NO_EVENT: i32 = -12;
 
+/// The size has more cells than the caller allows.
+pub const TOO_LARGE: i32 = -13;
+
 /// The number for a hub's error.
 pub(crate) fn refusal_code(error: HubError) -> i32
     ensures { result ≡ refusal_code error }

@@ -8,17 +8,19 @@ ghost use Rattle.c_objects.specs.Objects.{HubDoes, HubSays};
 ghost use Rattle.c_objects.specs.Hubs.{IsNewHubOf, IsNoObjectCode, Feeds, Resizes, Attaches, Detaches, Frames, Sends};
 ghost use Rattle.c_objects.specs.Hubs.{Forks, Owes, Redraws, DrawsWhole, Looks, HasCell, HasRow, HasContents};
 ghost use Rattle.c_objects.specs.Hubs.{ShowsCell, ShowsRow, ShowsContents};
+ghost use Rattle.c_objects.specs.Limits.{Within};
 
 use crate::cells::copy_screen_cells;
 use crate::code::{
-    BAD_SIZE, MEMORY, NO_CELL, NOT_OWED, OK, OTHER_KIND, TOO_LONG, UNKNOWN_CLIENT, code_of,
-    frame_code, refusal_code,
+    BAD_SIZE, MEMORY, NO_CELL, NOT_OWED, OK, OTHER_KIND, TOO_LARGE, TOO_LONG, UNKNOWN_CLIENT,
+    code_of, frame_code, refusal_code,
 };
 use crate::copy::{copy_prefix, copy_text};
 use crate::look::{cell_of, screen_look};
 use crate::object::Object;
 use crate::plain::{CCell, CLook};
 use crate::sent::SoMany;
+use crate::size::is_within;
 use std::alloc::Global;
 use std::num::NonZeroU16;
 use termrelay::{Client, Hub, HubError};
@@ -68,6 +70,26 @@ pub fn resize(object: &mut Object, rows: u16, cols: u16) -> i32
 {
     match object {
         Object::Hub(hub) => resize_hub(hub, rows, cols),
+        _ => OTHER_KIND,
+    }
+}
+
+fn resize_hub_within(hub: &mut Hub, rows: u16, cols: u16, most_cells: usize) -> i32
+    ensures { Within most_cells rows cols (Resizes rows cols) hub.old result hub.new }
+{
+    if is_within(rows, cols, most_cells) {
+        resize_hub(hub, rows, cols)
+    } else {
+        TOO_LARGE
+    }
+}
+
+/// Gives a hub's screen another size of so many cells at most. All clients end.
+pub fn resize_within(object: &mut Object, rows: u16, cols: u16, most_cells: usize) -> i32
+    ensures { HubDoes (Within most_cells rows cols (Resizes rows cols)) object.old result object.new }
+{
+    match object {
+        Object::Hub(hub) => resize_hub_within(hub, rows, cols, most_cells),
         _ => OTHER_KIND,
     }
 }

@@ -19,10 +19,12 @@ mod requests;
 pub mod rows;
 pub mod screen;
 mod sent;
+mod size;
 mod told;
 pub mod view;
 
-pub use code::{CLOSED, OK};
+pub use code::{CLOSED, OK, TOO_LARGE};
 pub use object::{Marked, Object};
 pub use plain::{CCell, CColor, CDrawing, CEvent, CLook, CRecording, CRequest};
 pub use requests::{Request, Requests};
+pub use size::is_within;

@@ -3,6 +3,7 @@ ghost use Rattle.std.specs.Prelude.{◌≡◌, IfOk, IfErr};
 ghost use Rattle.c_objects.specs.Cells.{ScreenHasCells};
 ghost use Rattle.c_objects.specs.Codes.{IsRefusal};
 ghost use Rattle.c_objects.specs.Hubs.{IsNoObjectCode};
+ghost use Rattle.c_objects.specs.Limits.{Within};
 ghost use Rattle.c_objects.specs.Objects.{ScreenDoes, ScreenSays};
 ghost use Rattle.c_objects.specs.Screens.{IsNewScreenOf, Processes, ResizesTo, ResizesMarked, ScrollsMarked, Marks};
 ghost use Rattle.c_objects.specs.Screens.{Tells, TellsOldest};
@@ -10,13 +11,14 @@ ghost use Rattle.c_objects.specs.Screens.{Looks, HasCell, HasRow, HasContents, H
 ghost use Rattle.c_objects.specs.Screens.{HasFormatted, HasState, HasDifference};
 
 use crate::cells::copy_screen_cells;
-use crate::code::{BAD_SIZE, MEMORY, OK, OTHER_KIND, screen_code, screen_refusal};
+use crate::code::{BAD_SIZE, MEMORY, OK, OTHER_KIND, TOO_LARGE, screen_code, screen_refusal};
 use crate::copy::copy_text;
 use crate::hub::{copy_cell, copy_contents, copy_row};
 use crate::look::screen_look;
 use crate::object::{Marked, Object};
 use crate::plain::{CCell, CLook, CRequest};
 use crate::requests::Requests;
+use crate::size::is_within;
 use std::alloc::Global;
 use std::num::NonZeroU16;
 use vt100::Parser;
@@ -91,6 +93,26 @@ pub fn resize(object: &mut Object, rows: u16, cols: u16) -> i32
 {
     match object {
         Object::Screen(marked) => resize_marked(marked, rows, cols),
+        _ => OTHER_KIND,
+    }
+}
+
+fn resize_marked_within(marked: &mut Marked, rows: u16, cols: u16, most_cells: usize) -> i32
+    ensures { Within most_cells rows cols (ResizesMarked rows cols) marked.old result marked.new }
+{
+    if is_within(rows, cols, most_cells) {
+        resize_marked(marked, rows, cols)
+    } else {
+        TOO_LARGE
+    }
+}
+
+/// Gives a screen another size of so many cells at most, and drops the mark if that succeeds.
+pub fn resize_within(object: &mut Object, rows: u16, cols: u16, most_cells: usize) -> i32
+    ensures { ScreenDoes (Within most_cells rows cols (ResizesMarked rows cols)) object.old result object.new }
+{
+    match object {
+        Object::Screen(marked) => resize_marked_within(marked, rows, cols, most_cells),
         _ => OTHER_KIND,
     }
 }
