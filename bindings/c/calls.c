@@ -370,6 +370,39 @@ static void scrollback(void) {
     jeihpal_screen_close(&screen);
 }
 
+/* Sizes of 20 cells at most: 4 by 5 is one, 3 by 7 isn't. The largest size takes no memory before it is refused. */
+static void limits(void) {
+    jeihpal_hub hub = JEIHPAL_INIT;
+    jeihpal_view view = JEIHPAL_INIT;
+    jeihpal_screen screen = JEIHPAL_INIT;
+    jeihpal_look look;
+    uint8_t text[64];
+    size_t client, length;
+    CHECK(jeihpal_hub_new_within(&hub, 65535, 65535, 20) == JEIHPAL_TOO_LARGE && !hub.held);
+    CHECK(jeihpal_view_new_within(&view, 65535, 65535, 20) == JEIHPAL_TOO_LARGE && !view.held);
+    CHECK(jeihpal_screen_new_within(&screen, 65535, 65535, 0, 4294836224) == JEIHPAL_TOO_LARGE && !screen.held);
+    CHECK(jeihpal_hub_resize_within(&hub, 65535, 65535, 20) == JEIHPAL_CLOSED);
+    CHECK(jeihpal_hub_new_within(&hub, 0, 7, 0) == JEIHPAL_BAD_SIZE && !hub.held);
+    CHECK(jeihpal_hub_new_within(&hub, 4, 5, 20) == JEIHPAL_OK);
+    CHECK(jeihpal_view_new_within(&view, 4, 5, 20) == JEIHPAL_OK);
+    CHECK(jeihpal_screen_new_within(&screen, 4, 5, 1000, 20) == JEIHPAL_OK);
+    CHECK(jeihpal_screen_resize_within((jeihpal_screen *)&view, 9, 9, 20) == JEIHPAL_OTHER_KIND);
+    CHECK(jeihpal_view_new_within(&view, 3, 7, 20) == JEIHPAL_TOO_LARGE && !view.held); /* what it held is closed */
+    CHECK(jeihpal_hub_attach(&hub, &client) == JEIHPAL_OK && jeihpal_hub_feed(&hub, BYTES("x")) == JEIHPAL_OK);
+    CHECK(jeihpal_hub_resize_within(&hub, 3, 7, 20) == JEIHPAL_TOO_LARGE);
+    CHECK(jeihpal_hub_frame(&hub, client) == JEIHPAL_FULL); /* the client is still there */
+    CHECK(jeihpal_hub_resize_within(&hub, 0, 7, 20) == JEIHPAL_BAD_SIZE);
+    CHECK(jeihpal_hub_resize_within(&hub, 2, 10, 20) == JEIHPAL_OK);
+    CHECK(jeihpal_hub_frame(&hub, client) == JEIHPAL_UNKNOWN_CLIENT);
+    CHECK(jeihpal_screen_mark(&screen) == JEIHPAL_OK && jeihpal_screen_process(&screen, BYTES("x")) == JEIHPAL_OK);
+    CHECK(jeihpal_screen_resize_within(&screen, 3, 7, 20) == JEIHPAL_TOO_LARGE);
+    CHECK(jeihpal_screen_difference(&screen, text, sizeof text, &length) == JEIHPAL_OK && is_text(text, length, "x"));
+    CHECK(jeihpal_screen_resize_within(&screen, 20, 1, 20) == JEIHPAL_OK);
+    CHECK(jeihpal_screen_look(&screen, &look) == JEIHPAL_OK && look.rows == 20 && look.cols == 1);
+    jeihpal_hub_close(&hub);
+    jeihpal_screen_close(&screen);
+}
+
 static void requests(void) {
     jeihpal_screen screen = JEIHPAL_INIT;
     jeihpal_request request;
@@ -535,6 +568,7 @@ int main(int count, char **words) {
     copies();
     parts();
     scrollback();
+    limits();
     requests();
     recordings();
     filters();

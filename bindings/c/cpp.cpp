@@ -49,6 +49,30 @@ static void whole() {
     CHECK(view.row_text(0) == "one" && view.look().mouse == JEIHPAL_MOUSE_NONE && view.look().style == 0);
 }
 
+// Whether the work is refused for a size of too many cells.
+template <class Work> static bool is_too_large(Work work) {
+    try {
+        work();
+    } catch (const jeihpal::error &error) {
+        return error.code() == JEIHPAL_TOO_LARGE;
+    }
+    return false;
+}
+
+static void limits() {
+    CHECK(is_too_large([] { jeihpal::hub(65535, 65535, 20); }));
+    CHECK(is_too_large([] { jeihpal::view(3, 7, 20); }));
+    CHECK(is_too_large([] { jeihpal::screen(3, 7, 0, 20); }));
+    jeihpal::hub hub(4, 5, 20);
+    jeihpal::screen screen(4, 5, 9, 20), other(9, 9), copy = screen;
+    hub.resize(2, 10);
+    CHECK(is_too_large([&] { hub.resize(3, 7); }) && hub.look().cols == 10);
+    CHECK(is_too_large([&] { screen.resize(3, 7); }) && is_too_large([&] { copy.resize(3, 7); }));
+    other.resize(10, 10);
+    other = std::move(copy);
+    CHECK(is_too_large([&] { other.resize(3, 7); }) && other.look().cols == 5);
+}
+
 static void screens() {
     jeihpal::screen screen(2, 5, 3);
     screen.process("a\r\nb\r\nc\x1b]2;title\a");
@@ -108,6 +132,7 @@ int main() {
     frames();
     late();
     whole();
+    limits();
     screens();
     recordings();
     filters();

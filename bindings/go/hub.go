@@ -27,7 +27,10 @@ const (
 func (a Answer) IsFrame() bool { return a >= Full }
 
 // Hub is one program's screen, and clients that are sent frames of it.
-type Hub struct{ shown }
+type Hub struct {
+	shown
+	mostCells uint
+}
 
 var hubReads = reads{
 	look: func(w *word, look *C.jeihpal_look) C.int32_t { return C.jeihpal_hub_look(w, look) },
@@ -43,10 +46,14 @@ var hubReads = reads{
 }
 
 // NewHub makes a hub with a blank screen of this size, and without clients.
-func NewHub(rows, cols uint16) (*Hub, error) {
-	hub := &Hub{shown{reads: hubReads}}
+func NewHub(rows, cols uint16) (*Hub, error) { return NewHubWithin(rows, cols, AnySize) }
+
+// NewHubWithin makes a hub for sizes that strangers choose: one of more than mostCells cells is refused with
+// ErrTooLarge, here and by Resize.
+func NewHubWithin(rows, cols uint16, mostCells uint) (*Hub, error) {
+	hub := &Hub{shown{reads: hubReads}, mostCells}
 	err := hub.made(func(w *word) { C.jeihpal_hub_close(w) }, func(w *word) C.int32_t {
-		return C.jeihpal_hub_new(w, C.uint16_t(rows), C.uint16_t(cols))
+		return C.jeihpal_hub_new_within(w, C.uint16_t(rows), C.uint16_t(cols), C.size_t(mostCells))
 	})
 	if err != nil {
 		return nil, err
@@ -66,7 +73,9 @@ func (h *Hub) Write(bytes []byte) (int, error) {
 
 // Resize gives the screen another size, or the same, and ends the program's synchronized update. Every client ends.
 func (h *Hub) Resize(rows, cols uint16) error {
-	return h.act(func(w *word) C.int32_t { return C.jeihpal_hub_resize(w, C.uint16_t(rows), C.uint16_t(cols)) })
+	return h.act(func(w *word) C.int32_t {
+		return C.jeihpal_hub_resize_within(w, C.uint16_t(rows), C.uint16_t(cols), C.size_t(h.mostCells))
+	})
 }
 
 // Attach is a new client, which has had no frame.

@@ -18,7 +18,11 @@ import "C"
 import (
 	"errors"
 	"fmt"
+	"math"
 )
+
+// AnySize is a limit of cells that each size keeps.
+const AnySize uint = math.MaxUint
 
 // What a call is refused for.
 var (
@@ -32,6 +36,7 @@ var (
 	ErrNoHeader      = errors.New("jeihpal: the recording's first line is no header")
 	ErrCompressed    = errors.New("jeihpal: the recording is a compressed file")
 	ErrNoEvent       = errors.New("jeihpal: the recording has fewer events")
+	ErrTooLarge      = errors.New("jeihpal: the size has more cells than is allowed")
 )
 
 var refusals = map[C.int32_t]error{
@@ -45,6 +50,7 @@ var refusals = map[C.int32_t]error{
 	C.JEIHPAL_NO_HEADER:      ErrNoHeader,
 	C.JEIHPAL_COMPRESSED:     ErrCompressed,
 	C.JEIHPAL_NO_EVENT:       ErrNoEvent,
+	C.JEIHPAL_TOO_LARGE:      ErrTooLarge,
 }
 
 // refusal is the error of an answer, or nil where it is none.

@@ -105,6 +105,31 @@ func TestWholeFrameTurnsModesOff(t *testing.T) {
 	}
 }
 
+func TestSizesHaveALimit(t *testing.T) {
+	if _, err := NewHubWithin(65535, 65535, 20); !errors.Is(err, ErrTooLarge) {
+		t.Fatal(err)
+	}
+	if _, err := NewViewWithin(3, 7, 20); !errors.Is(err, ErrTooLarge) {
+		t.Fatal(err)
+	}
+	hub, err := NewHubWithin(4, 5, 20)
+	must(t, err)
+	if err := hub.Resize(3, 7); !errors.Is(err, ErrTooLarge) {
+		t.Fatal(err)
+	}
+	must(t, hub.Resize(2, 10))
+	screen, err := NewScreenWithin(4, 5, 9, 20)
+	must(t, err)
+	clone, err := screen.Clone()
+	must(t, err)
+	for _, it := range []*Screen{screen, clone} {
+		if err := it.Resize(3, 7); !errors.Is(err, ErrTooLarge) {
+			t.Fatal(err)
+		}
+		must(t, it.Resize(20, 1))
+	}
+}
+
 func TestCells(t *testing.T) {
 	screen, err := NewScreen(2, 4, 9)
 	must(t, err)

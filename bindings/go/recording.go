@@ -115,7 +115,7 @@ func (r *Recording) Event(index int) (Event, error) {
 // ScreenAt is a screen of this size that keeps up to scrollback rows, as it is after all events up to a time. It has no
 // requests.
 func (r *Recording) ScreenAt(time time.Duration, rows, cols uint16, scrollback uint) (*Screen, error) {
-	screen := &Screen{shown: shown{reads: screenReads}}
+	screen := &Screen{shown: shown{reads: screenReads}, mostCells: AnySize}
 	err := screen.made(closeScreen, func(w *word) C.int32_t {
 		r.lock.Lock()
 		defer r.lock.Unlock()

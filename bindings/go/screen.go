@@ -8,7 +8,8 @@ import "C"
 // Screen is a terminal's screen from bytes, with the rows that scroll off, and what redraws it.
 type Screen struct {
 	shown
-	dropped int
+	dropped   int
+	mostCells uint
 }
 
 var screenReads = reads{
@@ -26,9 +27,16 @@ var screenReads = reads{
 
 // NewScreen makes a blank screen of this size that keeps up to scrollback rows that scroll off.
 func NewScreen(rows, cols uint16, scrollback uint) (*Screen, error) {
-	screen := &Screen{shown: shown{reads: screenReads}}
+	return NewScreenWithin(rows, cols, scrollback, AnySize)
+}
+
+// NewScreenWithin makes a screen for sizes that strangers choose: one of more than mostCells cells is refused with
+// ErrTooLarge, here and by Resize, also of a clone. Kept rows don't count.
+func NewScreenWithin(rows, cols uint16, scrollback, mostCells uint) (*Screen, error) {
+	screen := &Screen{shown: shown{reads: screenReads}, mostCells: mostCells}
 	err := screen.made(closeScreen, func(w *word) C.int32_t {
-		return C.jeihpal_screen_new(screenOf(w), C.uint16_t(rows), C.uint16_t(cols), C.size_t(scrollback))
+		size, most := C.size_t(scrollback), C.size_t(mostCells)
+		return C.jeihpal_screen_new_within(screenOf(w), C.uint16_t(rows), C.uint16_t(cols), size, most)
 	})
 	if err != nil {
 		return nil, err
@@ -41,7 +49,7 @@ func closeScreen(w *word) { C.jeihpal_screen_close(screenOf(w)) }
 // Clone is a screen that shows the same and keeps the same rows. It has no requests, and has read nothing of a character
 // or a sequence.
 func (s *Screen) Clone() (*Screen, error) {
-	clone := &Screen{shown: shown{reads: screenReads}}
+	clone := &Screen{shown: shown{reads: screenReads}, mostCells: s.mostCells}
 	err := clone.made(closeScreen, func(w *word) C.int32_t {
 		s.lock.Lock()
 		defer s.lock.Unlock()
@@ -68,7 +76,7 @@ func (s *Screen) Write(bytes []byte) (int, error) {
 // Resize gives the screen another size, or the same, and ends the program's synchronized update.
 func (s *Screen) Resize(rows, cols uint16) error {
 	return s.act(func(w *word) C.int32_t {
-		return C.jeihpal_screen_resize(screenOf(w), C.uint16_t(rows), C.uint16_t(cols))
+		return C.jeihpal_screen_resize_within(screenOf(w), C.uint16_t(rows), C.uint16_t(cols), C.size_t(s.mostCells))
 	})
 }
 

@@ -22,10 +22,14 @@ var viewReads = reads{
 }
 
 // NewView makes a view of this size that shows nothing.
-func NewView(rows, cols uint16) (*View, error) {
+func NewView(rows, cols uint16) (*View, error) { return NewViewWithin(rows, cols, AnySize) }
+
+// NewViewWithin makes a view of a size that a stranger chooses: one of more than mostCells cells is refused with
+// ErrTooLarge.
+func NewViewWithin(rows, cols uint16, mostCells uint) (*View, error) {
 	view := &View{shown{reads: viewReads}}
 	err := view.made(func(w *word) { C.jeihpal_view_close(viewOf(w)) }, func(w *word) C.int32_t {
-		return C.jeihpal_view_new(viewOf(w), C.uint16_t(rows), C.uint16_t(cols))
+		return C.jeihpal_view_new_within(viewOf(w), C.uint16_t(rows), C.uint16_t(cols), C.size_t(mostCells))
 	})
 	if err != nil {
 		return nil, err

@@ -25,7 +25,8 @@
  * call says: neither the object, nor what the pointers point to. Every call on a word but _new, _open and _close can
  * answer JEIHPAL_CLOSED and JEIHPAL_OTHER_KIND, and says what else it can answer.
  *
- * Rows, columns and places are counted from 0; sizes are 1 to 65,535.
+ * Rows, columns and places are counted from 0; sizes are 1 to 65,535. An object takes memory for each of its cells. The
+ * calls that end in _within are for sizes that strangers choose: they refuse one of more than `most_cells` cells.
  */
 #ifndef JEIHPAL_H
 #define JEIHPAL_H
@@ -66,7 +67,8 @@ enum jeihpal_code {
     JEIHPAL_NO_CELL = -8,        /* the place is outside the screen */
     JEIHPAL_NO_HEADER = -10,     /* a recording's first line is no header */
     JEIHPAL_COMPRESSED = -11,    /* a recording is a file of gzip, bzip2, xz or zstd: unpack it first */
-    JEIHPAL_NO_EVENT = -12       /* a recording has fewer events */
+    JEIHPAL_NO_EVENT = -12,      /* a recording has fewer events */
+    JEIHPAL_TOO_LARGE = -13      /* the size has more cells than the caller allows */
 };
 
 /* What jeihpal_hub_frame answers. From JEIHPAL_FULL on the client is owed a new frame. */
@@ -191,6 +193,9 @@ typedef struct jeihpal_look {
  * is refused. BAD_SIZE, MEMORY: the word holds nothing. */
 int32_t jeihpal_hub_new(jeihpal_hub *hub, uint16_t rows, uint16_t cols);
 
+/* The same with a limit. TOO_LARGE too: the size has more than `most_cells` cells, and the word holds nothing. */
+int32_t jeihpal_hub_new_within(jeihpal_hub *hub, uint16_t rows, uint16_t cols, size_t most_cells);
+
 /* Gives the program's next bytes to the screen. They may be cut anywhere. MEMORY: the hub has failed; no frame is
  * made any more, but what is owed can be sent. FAILED: it had failed before. */
 int32_t jeihpal_hub_feed(jeihpal_hub *hub, const uint8_t *bytes, size_t count);
@@ -198,6 +203,9 @@ int32_t jeihpal_hub_feed(jeihpal_hub *hub, const uint8_t *bytes, size_t count);
 /* Gives the screen another size, or the same, and ends the program's synchronized update. Every client ends.
  * BAD_SIZE, MEMORY, FAILED. */
 int32_t jeihpal_hub_resize(jeihpal_hub *hub, uint16_t rows, uint16_t cols);
+
+/* The same with a limit. TOO_LARGE too: the size has more than `most_cells` cells, and nothing has changed. */
+int32_t jeihpal_hub_resize_within(jeihpal_hub *hub, uint16_t rows, uint16_t cols, size_t most_cells);
 
 /* A new client, which has had no frame. Its key goes to *client; the key of a client that has ended may be given
  * again. MEMORY, FAILED. */
@@ -263,6 +271,9 @@ void jeihpal_hub_close(jeihpal_hub *hub);
  * takes all the memory that the view needs, but for texts. BAD_SIZE, MEMORY: the word holds nothing. */
 int32_t jeihpal_view_new(jeihpal_view *view, uint16_t rows, uint16_t cols);
 
+/* The same with a limit. TOO_LARGE too: the size has more than `most_cells` cells, and the word holds nothing. */
+int32_t jeihpal_view_new_within(jeihpal_view *view, uint16_t rows, uint16_t cols, size_t most_cells);
+
 /* Reads the next bytes. They may be cut anywhere. What a frame changes is shown once its last byte was read. */
 int32_t jeihpal_view_advance(jeihpal_view *view, const uint8_t *bytes, size_t count);
 
@@ -294,6 +305,11 @@ void jeihpal_view_close(jeihpal_view *view);
  * also where the call is refused. BAD_SIZE, MEMORY: the word holds nothing. */
 int32_t jeihpal_screen_new(jeihpal_screen *screen, uint16_t rows, uint16_t cols, size_t scrollback);
 
+/* The same with a limit, which counts no kept rows. TOO_LARGE too: the size has more than `most_cells` cells, and the
+ * word holds nothing. */
+int32_t jeihpal_screen_new_within(jeihpal_screen *screen, uint16_t rows, uint16_t cols, size_t scrollback,
+                                  size_t most_cells);
+
 /* Reads the program's next bytes. They may be cut anywhere. MEMORY: the screen has failed; it can still be read, but
  * no bytes change it any more. FAILED: it had failed before. */
 int32_t jeihpal_screen_process(jeihpal_screen *screen, const uint8_t *bytes, size_t count);
@@ -301,6 +317,9 @@ int32_t jeihpal_screen_process(jeihpal_screen *screen, const uint8_t *bytes, siz
 /* Gives the screen another size, or the same, ends the program's synchronized update, and forgets the mark. BAD_SIZE,
  * FAILED: nothing has changed. MEMORY: the screen has failed. */
 int32_t jeihpal_screen_resize(jeihpal_screen *screen, uint16_t rows, uint16_t cols);
+
+/* The same with a limit. TOO_LARGE too: the size has more than `most_cells` cells, and nothing has changed. */
+int32_t jeihpal_screen_resize_within(jeihpal_screen *screen, uint16_t rows, uint16_t cols, size_t most_cells);
 
 /* Shows the newest `rows` of the kept rows above the others, or all of them where there are fewer. What the calls
  * below say of cells and texts is read there. Redraws and differences draw these rows too, but bring the cursor to where

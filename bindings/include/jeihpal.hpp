@@ -9,6 +9,7 @@
 #include "jeihpal.h"
 
 #include <algorithm>
+#include <cstdint>
 #include <new>
 #include <optional>
 #include <stdexcept>
@@ -40,6 +41,7 @@ public:
         case JEIHPAL_NO_HEADER: return "jeihpal: the recording has no header";
         case JEIHPAL_COMPRESSED: return "jeihpal: the recording is a compressed file";
         case JEIHPAL_NO_EVENT: return "jeihpal: the recording has fewer events";
+        case JEIHPAL_TOO_LARGE: return "jeihpal: the size has more cells than is allowed";
         default: return "jeihpal: a refused call";
         }
     }
@@ -54,6 +56,9 @@ inline int32_t checked(int32_t code) {
     if (code < 0) throw error(code);
     return code;
 }
+
+// How many cells any size has at most.
+inline constexpr size_t any_size = SIZE_MAX;
 
 // A row of a screen: its cells, and whether its text goes on in the next row.
 struct row {
@@ -156,10 +161,13 @@ using screen_base = object<jeihpal_screen, jeihpal_screen_close, jeihpal_screen_
 
 class hub : public detail::hub_base {
 public:
-    hub(uint16_t rows, uint16_t cols) { checked(jeihpal_hub_new(word(), rows, cols)); }
+    // A size of more than `most_cells` cells is refused, here and in `resize`.
+    hub(uint16_t rows, uint16_t cols, size_t most_cells = any_size) : most_cells_(most_cells) {
+        checked(jeihpal_hub_new_within(word(), rows, cols, most_cells));
+    }
 
     void feed(std::string_view bytes) { checked(jeihpal_hub_feed(word(), detail::bytes_of(bytes), bytes.size())); }
-    void resize(uint16_t rows, uint16_t cols) { checked(jeihpal_hub_resize(word(), rows, cols)); }
+    void resize(uint16_t rows, uint16_t cols) { checked(jeihpal_hub_resize_within(word(), rows, cols, most_cells_)); }
     size_t attach() {
         size_t client = 0;
         checked(jeihpal_hub_attach(word(), &client));
@@ -206,11 +214,17 @@ public:
             return jeihpal_hub_contents(word(), to, room, length);
         });
     }
+
+private:
+    size_t most_cells_;
 };
 
 class view : public detail::view_base {
 public:
-    view(uint16_t rows, uint16_t cols) { checked(jeihpal_view_new(word(), rows, cols)); }
+    // A size of more than `most_cells` cells is refused.
+    view(uint16_t rows, uint16_t cols, size_t most_cells = any_size) {
+        checked(jeihpal_view_new_within(word(), rows, cols, most_cells));
+    }
 
     void advance(std::string_view bytes) {
         checked(jeihpal_view_advance(word(), detail::bytes_of(bytes), bytes.size()));
@@ -234,20 +248,27 @@ struct request {
 
 class screen : public detail::screen_base {
 public:
-    screen(uint16_t rows, uint16_t cols, size_t scrollback = 0) {
-        checked(jeihpal_screen_new(word(), rows, cols, scrollback));
+    // A size of more than `most_cells` cells is refused, here and in `resize`, also of a copy.
+    screen(uint16_t rows, uint16_t cols, size_t scrollback = 0, size_t most_cells = any_size)
+        : most_cells_(most_cells) {
+        checked(jeihpal_screen_new_within(word(), rows, cols, scrollback, most_cells));
     }
-    screen(const screen &other) { checked(jeihpal_screen_clone(word(), other.word())); }
+    screen(const screen &other) : most_cells_(other.most_cells_) {
+        checked(jeihpal_screen_clone(word(), other.word()));
+    }
     screen(screen &&) noexcept = default;
     screen &operator=(screen other) noexcept {
         std::swap(*word(), *other.word());
+        std::swap(most_cells_, other.most_cells_);
         return *this;
     }
 
     void process(std::string_view bytes) {
         checked(jeihpal_screen_process(word(), detail::bytes_of(bytes), bytes.size()));
     }
-    void resize(uint16_t rows, uint16_t cols) { checked(jeihpal_screen_resize(word(), rows, cols)); }
+    void resize(uint16_t rows, uint16_t cols) {
+        checked(jeihpal_screen_resize_within(word(), rows, cols, most_cells_));
+    }
     void scroll(size_t rows) { checked(jeihpal_screen_scroll(word(), rows)); }
     void clear_scrollback() { checked(jeihpal_screen_clear_scrollback(word())); }
     void mark() { checked(jeihpal_screen_mark(word())); }
@@ -328,6 +349,8 @@ private:
             return call(word(), earlier.word(), to, room, length);
         });
     }
+
+    size_t most_cells_;
 };
 
 // Draws a program's lines, on the way to a hub or a screen.

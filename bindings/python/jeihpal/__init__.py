@@ -19,7 +19,7 @@ from 0. A refused call raises an exception, and has changed nothing unless its d
 """
 
 from ._cells import Attributes, Cell, Color, Cursor, Drawing, Encoding, Look, Modes, Mouse, Rgb, Row, Size
-from ._errors import Failed, JeihpalError, NoRecording, NotOwed, UnknownClient
+from ._errors import Failed, JeihpalError, NoRecording, NotOwed, TooLarge, UnknownClient
 from ._filter import Filter
 from ._hub import Answer, Hub
 from ._recording import Event, EventKind, Fault, FaultKind, Recording, RecordingKind
@@ -56,6 +56,7 @@ __all__ = [
     "Row",
     "Screen",
     "Size",
+    "TooLarge",
     "UnknownClient",
     "View",
 ]

@@ -19,6 +19,10 @@ class NotOwed(JeihpalError, ValueError):
     """Fewer bytes are owed."""
 
 
+class TooLarge(JeihpalError, ValueError):
+    """The size has more cells than the object may have."""
+
+
 class NoRecording(JeihpalError, ValueError):
     """A recording has no header, or is a compressed file."""
 
@@ -37,5 +41,6 @@ def refusal(code: int) -> Exception:
         -10: NoRecording("the recording has no header"),
         -11: NoRecording("the recording is a compressed file"),
         -12: IndexError("the recording has fewer events"),
+        -13: TooLarge("the size has more cells than is allowed"),
     }
     return known.get(code) or JeihpalError(f"the library answered {code}")

@@ -38,13 +38,14 @@ class Hub(Shown):
 
     _kind = "hub"
 
-    def __init__(self, rows: int, cols: int, *, draws_lines: bool = False) -> None:
+    def __init__(self, rows: int, cols: int, *, draws_lines: bool = False, most_cells: int | None = None) -> None:
         """A blank screen of this size, without clients.
 
-        Where it draws lines, what the program writes passes a `Filter` first.
+        Where it draws lines, what the program writes passes a `Filter` first. A size of more than `most_cells` cells
+        raises TooLarge, here and in `resize`.
         """
         self._filter = Filter() if draws_lines else None
-        super().__init__(checked_size(rows), checked_size(cols))
+        super().__init__(checked_size(rows), checked_size(cols), most_cells=most_cells)
 
     def feed(self, data: bytes) -> None:
         """Gives the program's next bytes to the screen. They may be cut anywhere.
@@ -56,7 +57,7 @@ class Hub(Shown):
 
     def resize(self, rows: int, cols: int) -> None:
         """Gives the screen another size, or the same, and ends the program's synchronized update. Every client ends."""
-        self._call("resize", checked_size(rows), checked_size(cols))
+        self._size("resize", checked_size(rows), checked_size(cols))
 
     def attach(self) -> int:
         """A new client, by its key. The key of one that has ended may be given again."""

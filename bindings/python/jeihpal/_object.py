@@ -52,10 +52,12 @@ class Object:
     """
 
     _kind: ClassVar[str] = ""
+    _most_cells: int | None = None
 
-    def __init__(self, *arguments: Any) -> None:
+    def __init__(self, *arguments: Any, most_cells: int | None = None) -> None:
         self._begin()
-        self._call("new", *arguments)
+        self._most_cells = None if most_cells is None else checked_count(most_cells)
+        self._size("new", *arguments)
 
     def _begin(self) -> None:
         """What all objects have, before the library fills the word."""
@@ -74,6 +76,13 @@ class Object:
         if code < 0:
             raise refusal(code)
         return code
+
+    def _size(self, name: str, *arguments: Any) -> None:
+        """Calls a function that gives the object a size; where it has a limit of cells, with that."""
+        if self._most_cells is None:
+            self._call(name, *arguments)
+        else:
+            self._call(f"{name}_within", *arguments, self._most_cells)
 
     def _give(self, name: str, data: bytes) -> None:
         """Calls a function that reads bytes."""

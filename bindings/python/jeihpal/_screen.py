@@ -61,13 +61,17 @@ class Screen(Shown):
     dropped_requests: int
     """How many requests had been dropped when `requests` last looked."""
 
-    def __init__(self, rows: int, cols: int, scrollback: int = 0, *, draws_lines: bool = False) -> None:
+    def __init__(
+        self, rows: int, cols: int, scrollback: int = 0, *, draws_lines: bool = False, most_cells: int | None = None
+    ) -> None:
         """A blank screen of this size that keeps up to `scrollback` rows that scroll off.
 
-        Where it draws lines, what the program writes passes a `Filter` first.
+        Where it draws lines, what the program writes passes a `Filter` first. A size of more than `most_cells` cells
+        raises TooLarge, here and in `resize`, also of a clone. Kept rows don't count.
         """
         self._prepare(draws_lines)
-        super().__init__(checked_size(rows), checked_size(cols), checked_count(scrollback))
+        size = checked_size(rows), checked_size(cols)
+        super().__init__(*size, checked_count(scrollback), most_cells=most_cells)
 
     def _prepare(self, draws_lines: bool = False) -> None:
         self._filter = Filter() if draws_lines else None
@@ -85,6 +89,7 @@ class Screen(Shown):
         copy = type(self).__new__(type(self))
         copy._prepare(self._filter is not None)
         copy._begin()
+        copy._most_cells = self._most_cells
         with self._lock:
             copy._call("clone", self._word)
             copy._names, copy._clean = dict(self._names), self._clean
@@ -126,7 +131,7 @@ class Screen(Shown):
 
     def resize(self, rows: int, cols: int) -> None:
         """Gives the screen another size, or the same, ends the program's synchronized update, and forgets the mark."""
-        self._call("resize", checked_size(rows), checked_size(cols))
+        self._size("resize", checked_size(rows), checked_size(cols))
 
     def scroll(self, rows: int) -> None:
         """Shows the newest `rows` of the kept rows above the others, or all where there are fewer.

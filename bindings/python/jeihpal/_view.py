@@ -12,9 +12,12 @@ class View(Shown):
 
     _kind = "view"
 
-    def __init__(self, rows: int, cols: int) -> None:
-        """A view of this size that shows nothing. It takes all the memory that it needs, but for texts."""
-        super().__init__(checked_size(rows), checked_size(cols))
+    def __init__(self, rows: int, cols: int, *, most_cells: int | None = None) -> None:
+        """A view of this size that shows nothing. It takes all the memory that it needs, but for texts.
+
+        A size of more than `most_cells` cells raises TooLarge.
+        """
+        super().__init__(checked_size(rows), checked_size(cols), most_cells=most_cells)
         self._rows = rows
 
     def advance(self, data: bytes) -> None:

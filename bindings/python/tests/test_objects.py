@@ -12,8 +12,8 @@ import unittest
 
 import jeihpal
 from jeihpal import Answer, Attributes, Encoding, Event, EventKind, Fault, FaultKind, Filter, Hub, Mouse
-from jeihpal import NoRecording, NotOwed, Recording, RecordingKind, RequestKind, Rgb, Screen, Size, UnknownClient, View
-from jeihpal import _library
+from jeihpal import NoRecording, NotOwed, Recording, RecordingKind, RequestKind, Rgb, Screen, Size, TooLarge
+from jeihpal import UnknownClient, View, _library
 
 EXAMPLES = pathlib.Path(__file__).resolve().parents[3] / "examples"
 
@@ -97,6 +97,23 @@ class Hubs(unittest.TestCase):
             self.assertTrue(hub.look().updating)
             hub.resize(2, 9)
             self.assertIs(hub.frame(hub.attach()), Answer.FULL)
+
+    def test_sizes_have_a_limit(self):
+        for make in (Hub, View, Screen):
+            with self.assertRaises(TooLarge):
+                make(65535, 65535, most_cells=20)
+            with self.assertRaises(TooLarge):
+                make(3, 7, most_cells=20)
+            with self.assertRaises(ValueError):
+                make(3, 7, most_cells=-1)
+        View(4, 5, most_cells=20).close()
+        with Hub(4, 5, most_cells=20) as hub, Screen(4, 5, 1000, most_cells=20) as screen, screen.clone() as clone:
+            for it in (hub, screen, clone):
+                with self.assertRaises(TooLarge):
+                    it.resize(3, 7)
+                self.assertEqual(it.size, (4, 5))
+                it.resize(20, 1)
+                self.assertEqual(it.size, (20, 1))
 
     def test_a_large_frame(self):
         with Hub(200, 200) as hub, View(200, 200) as view:

@@ -17,6 +17,8 @@ pub enum Error {
     NoHeader,
     /// A recording is a file of gzip, bzip2, xz or zstd: unpack it first.
     Compressed,
+    /// The size has more cells than the object may have.
+    TooLarge,
     /// Another code of the library, which this crate doesn't know.
     Other(i32),
 }
@@ -33,6 +35,7 @@ impl fmt::Display for Error {
             Error::NotOwed => "fewer bytes are owed",
             Error::NoHeader => "the recording has no header",
             Error::Compressed => "the recording is a compressed file",
+            Error::TooLarge => "the size has more cells than is allowed",
             Error::Other(code) => return write!(f, "the library answered {code}"),
         };
         f.write_str(text)
@@ -60,6 +63,7 @@ pub(crate) fn answer(code: i32) -> Result<i32> {
         -7 => Err(Error::NotOwed),
         -10 => Err(Error::NoHeader),
         -11 => Err(Error::Compressed),
+        -13 => Err(Error::TooLarge),
         // A word here is never closed nor of another kind, and has a size; places and events are looked at where they
         // are used.
         _ => Err(Error::Other(code)),

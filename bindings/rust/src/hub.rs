@@ -80,6 +80,7 @@ impl Answer {
 /// ```
 pub struct Hub {
     object: Object,
+    most_cells: Option<usize>,
 }
 
 // SAFETY: nothing that a hub's word holds is shared with another object or tied to a thread, so the library lets it go
@@ -93,6 +94,18 @@ impl Hub {
         let fill = |word| unsafe { raw::jeihpal_hub_new(word, rows.get(), cols.get()) };
         Ok(Hub {
             object: Object::new(&FUNCTIONS, fill)?,
+            most_cells: None,
+        })
+    }
+
+    /// The same for sizes that strangers choose: one of more than `most_cells` cells is refused, here and in
+    /// [`resize`](Self::resize), by [`Error::TooLarge`](crate::Error::TooLarge).
+    pub fn new_within(rows: NonZeroU16, cols: NonZeroU16, most_cells: usize) -> Result<Hub> {
+        let fill =
+            |word| unsafe { raw::jeihpal_hub_new_within(word, rows.get(), cols.get(), most_cells) };
+        Ok(Hub {
+            object: Object::new(&FUNCTIONS, fill)?,
+            most_cells: Some(most_cells),
         })
     }
 
@@ -106,8 +119,13 @@ impl Hub {
 
     /// Gives the screen another size, or the same, and ends the program's synchronized update. Every client ends.
     pub fn resize(&mut self, rows: NonZeroU16, cols: NonZeroU16) -> Result<()> {
-        self.object
-            .act(|word| unsafe { raw::jeihpal_hub_resize(word, rows.get(), cols.get()) })
+        let (rows, cols, most_cells) = (rows.get(), cols.get(), self.most_cells);
+        self.object.act(|word| unsafe {
+            match most_cells {
+                Some(most) => raw::jeihpal_hub_resize_within(word, rows, cols, most),
+                None => raw::jeihpal_hub_resize(word, rows, cols),
+            }
+        })
     }
 
     /// A new client, which has had no frame.

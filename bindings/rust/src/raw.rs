@@ -115,8 +115,20 @@ pub(crate) type Give = unsafe extern "C" fn(*mut Word, *const u8, usize) -> i32;
 extern "C" {
     pub(crate) fn jeihpal_abi() -> u32;
     pub(crate) fn jeihpal_hub_new(hub: *mut Word, rows: u16, cols: u16) -> i32;
+    pub(crate) fn jeihpal_hub_new_within(
+        hub: *mut Word,
+        rows: u16,
+        cols: u16,
+        most_cells: usize,
+    ) -> i32;
     pub(crate) fn jeihpal_hub_feed(hub: *mut Word, bytes: *const u8, count: usize) -> i32;
     pub(crate) fn jeihpal_hub_resize(hub: *mut Word, rows: u16, cols: u16) -> i32;
+    pub(crate) fn jeihpal_hub_resize_within(
+        hub: *mut Word,
+        rows: u16,
+        cols: u16,
+        most_cells: usize,
+    ) -> i32;
     pub(crate) fn jeihpal_hub_attach(hub: *mut Word, client: *mut usize) -> i32;
     pub(crate) fn jeihpal_hub_fork(hub: *mut Word, client: usize, fork: *mut usize) -> i32;
     pub(crate) fn jeihpal_hub_detach(hub: *mut Word, client: usize) -> i32;
@@ -169,6 +181,12 @@ extern "C" {
     pub(crate) fn jeihpal_hub_close(hub: *mut Word);
 
     pub(crate) fn jeihpal_view_new(view: *mut Word, rows: u16, cols: u16) -> i32;
+    pub(crate) fn jeihpal_view_new_within(
+        view: *mut Word,
+        rows: u16,
+        cols: u16,
+        most_cells: usize,
+    ) -> i32;
     pub(crate) fn jeihpal_view_advance(view: *mut Word, bytes: *const u8, count: usize) -> i32;
     pub(crate) fn jeihpal_view_stop(view: *mut Word) -> i32;
     pub(crate) fn jeihpal_view_held(view: *mut Word, count: *mut usize) -> i32;
@@ -208,8 +226,21 @@ extern "C" {
         cols: u16,
         scrollback: usize,
     ) -> i32;
+    pub(crate) fn jeihpal_screen_new_within(
+        screen: *mut Word,
+        rows: u16,
+        cols: u16,
+        scrollback: usize,
+        most_cells: usize,
+    ) -> i32;
     pub(crate) fn jeihpal_screen_process(screen: *mut Word, bytes: *const u8, count: usize) -> i32;
     pub(crate) fn jeihpal_screen_resize(screen: *mut Word, rows: u16, cols: u16) -> i32;
+    pub(crate) fn jeihpal_screen_resize_within(
+        screen: *mut Word,
+        rows: u16,
+        cols: u16,
+        most_cells: usize,
+    ) -> i32;
     pub(crate) fn jeihpal_screen_scroll(screen: *mut Word, rows: usize) -> i32;
     pub(crate) fn jeihpal_screen_look(screen: *mut Word, look: *mut RawLook) -> i32;
     pub(crate) fn jeihpal_screen_cell(

@@ -34,6 +34,7 @@ static FUNCTIONS: Functions = Functions {
 pub struct Screen {
     object: Object,
     dropped: usize,
+    most_cells: Option<usize>,
 }
 
 // SAFETY: nothing that a screen's word holds is shared with another object or tied to a thread, so the library lets it
@@ -49,11 +50,28 @@ impl Screen {
         })
     }
 
+    /// The same for sizes that strangers choose: one of more than `most_cells` cells is refused, here and in
+    /// [`resize`](Self::resize), also of a copy, by [`Error::TooLarge`](crate::Error::TooLarge). Kept rows don't count.
+    pub fn new_within(
+        rows: NonZeroU16,
+        cols: NonZeroU16,
+        scrollback: usize,
+        most_cells: usize,
+    ) -> Result<Screen> {
+        let (rows, cols) = (rows.get(), cols.get());
+        let mut screen = Screen::filled(|word| unsafe {
+            raw::jeihpal_screen_new_within(word, rows, cols, scrollback, most_cells)
+        })?;
+        screen.most_cells = Some(most_cells);
+        Ok(screen)
+    }
+
     /// What a call puts into a word.
     pub(crate) fn filled(fill: impl FnOnce(*mut Word) -> i32) -> Result<Screen> {
         Ok(Screen {
             object: Object::new(&FUNCTIONS, fill)?,
             dropped: 0,
+            most_cells: None,
         })
     }
 
@@ -62,7 +80,9 @@ impl Screen {
     pub fn try_clone(&self) -> Result<Screen> {
         let from = self.object.word();
         // SAFETY: the new word is null, and another one than that of this screen.
-        Screen::filled(|word| unsafe { raw::jeihpal_screen_clone(word, from) })
+        let mut copy = Screen::filled(|word| unsafe { raw::jeihpal_screen_clone(word, from) })?;
+        copy.most_cells = self.most_cells;
+        Ok(copy)
     }
 
     /// Reads the program's next bytes. They may be cut anywhere. After [`Error::Memory`] the screen has failed: it can
@@ -75,8 +95,13 @@ impl Screen {
 
     /// Gives the screen another size, or the same, ends the program's synchronized update, and forgets the mark.
     pub fn resize(&mut self, rows: NonZeroU16, cols: NonZeroU16) -> Result<()> {
-        self.object
-            .act(|word| unsafe { raw::jeihpal_screen_resize(word, rows.get(), cols.get()) })
+        let (rows, cols, most_cells) = (rows.get(), cols.get(), self.most_cells);
+        self.object.act(|word| unsafe {
+            match most_cells {
+                Some(most) => raw::jeihpal_screen_resize_within(word, rows, cols, most),
+                None => raw::jeihpal_screen_resize(word, rows, cols),
+            }
+        })
     }
 
     /// Shows the newest `rows` of the kept rows above the others, or all where there are fewer. Redraws and differences

@@ -41,6 +41,17 @@ impl View {
         })
     }
 
+    /// The same for a size that a stranger chooses: one of more than `most_cells` cells is refused by
+    /// [`Error::TooLarge`](crate::Error::TooLarge).
+    pub fn new_within(rows: NonZeroU16, cols: NonZeroU16, most_cells: usize) -> Result<View> {
+        let fill = |word| unsafe {
+            raw::jeihpal_view_new_within(word, rows.get(), cols.get(), most_cells)
+        };
+        Ok(View {
+            object: Object::new(&FUNCTIONS, fill)?,
+        })
+    }
+
     /// Reads the next bytes. What a frame changes is shown once its last byte was read.
     pub fn advance(&mut self, bytes: &[u8]) {
         self.object

@@ -129,6 +129,35 @@ fn updates_are_held() {
 }
 
 #[test]
+fn sizes_have_a_limit() {
+    let most = size(u16::MAX);
+    assert_eq!(Hub::new_within(most, most, 20).err(), Some(Error::TooLarge));
+    assert_eq!(
+        View::new_within(size(3), size(7), 20).err(),
+        Some(Error::TooLarge)
+    );
+    assert!(View::new_within(size(4), size(5), 20).is_ok());
+    let mut hub = Hub::new_within(size(4), size(5), 20).unwrap();
+    let client = hub.attach().unwrap();
+    assert_eq!(hub.resize(size(3), size(7)), Err(Error::TooLarge));
+    assert!(hub.frame(client).unwrap().is_frame());
+    hub.resize(size(2), size(10)).unwrap();
+    assert_eq!(hub.frame(client), Err(Error::UnknownClient));
+    let mut screen = Screen::new_within(size(4), size(5), 1000, 20).unwrap();
+    let mut copy = screen.try_clone().unwrap();
+    for it in [&mut screen, &mut copy] {
+        assert_eq!(it.resize(size(3), size(7)), Err(Error::TooLarge));
+        assert_eq!((it.look().rows, it.look().cols), (4, 5));
+        it.resize(size(20), size(1)).unwrap();
+    }
+    let refused = Screen::new_within(size(3), size(7), 0, 20).err();
+    assert_eq!(
+        refused.unwrap().to_string(),
+        "the size has more cells than is allowed"
+    );
+}
+
+#[test]
 fn sessions() {
     for (name, rows) in [("build", 12), ("editor", 8)] {
         let examples = concat!(env!("CARGO_MANIFEST_DIR"), "/../../examples");
