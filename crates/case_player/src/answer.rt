@@ -1,6 +1,5 @@
 //! What a step answers.
 
-use crate::escapes::push_escaped;
 use std::alloc::{AllocError, Global};
 use std::fmt::Display;
 
@@ -54,9 +53,9 @@ impl Answer {
         write!(self, "{number}");
     }
 
-    /// Appends bytes with escapes: as a quoted word of a step, but without its quotes.
-    pub fn escaped(&mut self, bytes: &[u8]) {
-        self.refused |= push_escaped(&mut self.text, bytes).is_err();
+    /// Appends a character as it is.
+    pub(crate) fn push_char(&mut self, c: char) {
+        self.refused |= self.text.push(c).is_err();
     }
 
     /// Appends bytes as a quoted word.

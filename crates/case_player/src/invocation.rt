@@ -5,44 +5,67 @@ use command_line::parse_count;
 /// What a player is asked to do.
 #[derive(Clone, Copy)]
 pub(crate) struct Invocation<'a> {
+    /// How cases are played.
+    pub options: Options,
+    /// The names of the files.
+    pub files: &'a [&'a str],
+}
+
+/// How cases are played.
+#[derive(Clone, Copy)]
+pub(crate) struct Options {
     /// Whether a step that memory was refused to is taken once more.
     pub may_refuse: bool,
     /// Whether cases are listed, and none is played.
     pub lists: bool,
     /// The number of the one case that is played: the first one has the number 1.
     pub only: Option<usize>,
-    /// The names of the files.
-    pub files: &'a [&'a str],
 }
 
 /// Reads `[--may-refuse] [--list] [--case N] FILE..`.
 pub(crate) fn parse<'a>(words: &'a [&'a str]) -> Option<Invocation<'a>> {
-    let mut invocation = Invocation {
+    let mut options = Options {
         may_refuse: false,
         lists: false,
         only: None,
-        files: words,
     };
+    let mut taken: usize = 0;
     for _ in 0..words.len() {
-        match invocation.files {
-            ["--may-refuse", rest @ ..] => {
-                invocation.may_refuse = true;
-                invocation.files = rest;
+        let next = word_at(words, taken.saturating_add(1));
+        taken = taken.saturating_add(options.read(word_at(words, taken), next));
+    }
+    let files = words.get(taken..)?;
+    if word_at(files, 0).starts_with('-') {
+        return None;
+    }
+    Some(Invocation { options, files })
+}
+
+impl Options {
+    // Reads an option, whose first words are these. Answers how many words it has: none if it isn't one.
+    fn read(&mut self, word: &str, next: &str) -> usize {
+        match word {
+            "--may-refuse" => {
+                self.may_refuse = true;
+                1
             }
-            ["--list", rest @ ..] => {
-                invocation.lists = true;
-                invocation.files = rest;
+            "--list" => {
+                self.lists = true;
+                1
             }
-            ["--case", number, rest @ ..] => {
-                invocation.only = Some(parse_count(number)?);
-                invocation.files = rest;
+            "--case" => {
+                self.only = parse_count(next);
+                if self.only.is_some() { 2 } else { 0 }
             }
-            _ => break,
+            _ => 0,
         }
     }
-    match invocation.files {
-        [] => None,
-        [first, ..] if first.starts_with('-') => None,
-        _ => Some(invocation),
+}
+
+// A word, which is `-` behind the last one.
+fn word_at<'a>(words: &[&'a str], index: usize) -> &'a str {
+    match words.get(index) {
+        Some(word) => word,
+        None => "-",
     }
 }

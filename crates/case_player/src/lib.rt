@@ -11,6 +11,7 @@ mod invocation;
 mod lines;
 mod player;
 mod playing;
+mod reading;
 mod report;
 mod running;
 mod words;

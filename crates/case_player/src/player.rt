@@ -15,12 +15,7 @@ pub trait Player {
     /// Takes a step, and appends to the answer a line for each thing that it answers.
     ///
     /// The words are those behind the step's name. All of them have to be taken.
-    fn take(
-        &mut self,
-        name: &str,
-        words: &mut Words<'_>,
-        answer: &mut Answer,
-    ) -> Result<(), StepError>;
+    fn take(&mut self, name: &str, words: &Words, answer: &mut Answer) -> Result<(), StepError>;
 }
 
 /// Why a step isn't done.

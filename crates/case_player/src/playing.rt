@@ -1,11 +1,11 @@
 //! Plays the lines of files.
 
 use crate::answer::Answer;
-use crate::invocation::Invocation;
+use crate::invocation::Options;
 use crate::lines::{Line, parse_line};
 use crate::player::{Player, StepError};
 use crate::report::{Fault, Place, push_fault, push_listed};
-use crate::words::LineWords;
+use crate::words::Words;
 use std::alloc::{AllocError, Global};
 
 /// What becomes of the next line.
@@ -26,11 +26,9 @@ enum Stage {
 /// What was played so far.
 #[derive(Drop)]
 pub(crate) struct Play {
-    may_refuse: bool,
-    lists: bool,
-    only: Option<usize>,
+    options: Options,
     stage: Stage,
-    words: LineWords,
+    words: Words,
     answer: Answer,
     /// How many cases have begun, also those that aren't played.
     begun: usize,
@@ -46,13 +44,11 @@ pub(crate) struct Play {
 
 impl Play {
     /// Nothing is played yet.
-    pub fn new(alloc: Global, invocation: Invocation<'_>) -> Result<Play, AllocError> {
+    pub fn new(alloc: Global, options: Options) -> Result<Play, AllocError> {
         Ok(Play {
-            may_refuse: invocation.may_refuse,
-            lists: invocation.lists,
-            only: invocation.only,
+            options,
             stage: Stage::Outside,
-            words: LineWords::new(alloc)?,
+            words: Words::new(alloc)?,
             answer: Answer::new(alloc)?,
             begun: 0,
             cases: 0,
@@ -88,30 +84,15 @@ impl Play {
     ) {
         match line {
             Line::Nothing => {}
+            Line::Wanted(wanted) => self.compare(&place.at(number), wanted),
             Line::Case(title) => {
                 self.end_step(place);
-                *place = Place {
-                    line: number,
-                    title,
-                    step: ("", ""),
-                    ..*place
-                };
+                *place = place.of_case(number, title);
                 self.begin(player, place);
             }
-            Line::Wanted(wanted) => self.compare(
-                &Place {
-                    line: number,
-                    ..*place
-                },
-                wanted,
-            ),
             Line::Step(name, words) => {
                 self.end_step(place);
-                *place = Place {
-                    line: number,
-                    step: (name, words),
-                    ..*place
-                };
+                *place = place.of_step(number, (name, words));
                 self.take(player, place);
             }
         }
@@ -127,10 +108,10 @@ impl Play {
     fn begin<P: Player>(&mut self, player: &mut P, place: &Place<'_>) {
         self.begun = self.begun.saturating_add(1);
         self.stage = Stage::Passed;
-        if self.lists {
+        if self.options.lists {
             return push_listed(&mut self.report, self.begun, place);
         }
-        match self.only {
+        match self.options.only {
             Some(only) if only != self.begun => return,
             _ => {}
         }
@@ -141,17 +122,23 @@ impl Play {
 
     fn take<P: Player>(&mut self, player: &mut P, place: &Place<'_>) {
         match self.stage {
-            Stage::Outside => return self.fault(place, Fault::Stray),
-            Stage::Passed => return,
-            Stage::Begun | Stage::Answered | Stage::Undone => {}
+            Stage::Outside => self.fault(place, Fault::Stray),
+            Stage::Passed => {}
+            Stage::Begun | Stage::Answered | Stage::Undone => {
+                let outcome = self.taken(player, place.step);
+                self.end_taking(place, outcome);
+            }
         }
+    }
+
+    fn end_taking(&mut self, place: &Place<'_>, outcome: Result<(), StepError>) {
         self.stage = Stage::Undone;
-        match self.taken(player, place.step) {
+        match outcome {
             Ok(()) => {
                 self.stage = Stage::Answered;
                 self.steps = self.steps.saturating_add(1);
             }
-            Err(StepError::Ended) if self.may_refuse => self.stage = Stage::Passed,
+            Err(StepError::Ended) if self.options.may_refuse => self.stage = Stage::Passed,
             Err(error) => self.fault(place, Fault::Step(error)),
         }
     }
@@ -159,34 +146,30 @@ impl Play {
     // The next line of the answer is to be this one.
     fn compare(&mut self, place: &Place<'_>, wanted: &str) {
         match self.stage {
-            Stage::Outside | Stage::Begun => return self.fault(place, Fault::Stray),
-            Stage::Passed | Stage::Undone => return,
-            Stage::Answered => {}
+            Stage::Outside | Stage::Begun => self.fault(place, Fault::Stray),
+            Stage::Passed | Stage::Undone => {}
+            Stage::Answered => self.compare_next(place, Some(wanted)),
         }
-        let fault = match self.answer.next_line() {
-            Some(answered) if answered == wanted => return,
-            Some(answered) => Fault::Other { wanted, answered },
-            None => Fault::Missing(wanted),
-        };
-        self.faults = self.faults.saturating_add(1);
-        push_fault(&mut self.report, place, fault);
     }
 
     // Nothing more of the step before is wanted.
     fn end_step(&mut self, place: &Place<'_>) {
-        match (self.stage, self.answer.next_line()) {
-            (Stage::Answered, Some(line)) => {
-                self.faults = self.faults.saturating_add(1);
-                push_fault(&mut self.report, place, Fault::Unwanted(line));
-            }
-            _ => {}
+        if let Stage::Answered = self.stage {
+            self.compare_next(place, None);
+        }
+    }
+
+    fn compare_next(&mut self, place: &Place<'_>, wanted: Option<&str>) {
+        if let Some(fault) = fault_of(self.answer.next_line(), wanted) {
+            self.faults = self.faults.saturating_add(1);
+            push_fault(&mut self.report, place, fault);
         }
     }
 
     // Takes a step, once more where memory was refused and may be.
     fn taken<P: Player>(&mut self, player: &mut P, step: (&str, &str)) -> Result<(), StepError> {
         match self.take_once(player, step) {
-            Err(StepError::Memory) if self.may_refuse => self.take_once(player, step),
+            Err(StepError::Memory) if self.options.may_refuse => self.take_once(player, step),
             outcome => outcome,
         }
     }
@@ -196,16 +179,36 @@ impl Play {
         player: &mut P,
         (name, words): (&str, &str),
     ) -> Result<(), StepError> {
-        self.words.read(words)?;
+        self.words.read(words);
         self.answer.clear();
-        let mut words = self.words.words();
-        let outcome = player.take(name, &mut words, &mut self.answer);
-        words.check()?;
-        outcome?;
-        if self.answer.is_refused() {
-            return Err(StepError::Memory);
+        let outcome = if self.words.error().is_none() {
+            player.take(name, &self.words, &mut self.answer)
+        } else {
+            Ok(())
+        };
+        self.outcome(outcome)
+    }
+
+    // What a step's outcome is, when its words and its answer are looked at too.
+    fn outcome(&self, outcome: Result<(), StepError>) -> Result<(), StepError> {
+        match self.words.error() {
+            Some(error) => Err(error),
+            None if outcome.is_err() => outcome,
+            None if self.answer.is_refused() => Err(StepError::Memory),
+            None if !self.words.is_empty() => Err(StepError::Word("no further word")),
+            None => Ok(()),
         }
-        words.end()
+    }
+}
+
+// Whether the next line isn't as wanted.
+fn fault_of<'a>(answered: Option<&'a str>, wanted: Option<&'a str>) -> Option<Fault<'a>> {
+    match (answered, wanted) {
+        (None, None) => None,
+        (None, Some(wanted)) => Some(Fault::Missing(wanted)),
+        (Some(answered), None) => Some(Fault::Unwanted(answered)),
+        (Some(answered), Some(wanted)) if answered == wanted => None,
+        (Some(answered), Some(wanted)) => Some(Fault::Other { wanted, answered }),
     }
 }
 

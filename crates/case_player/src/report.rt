@@ -16,6 +16,32 @@ pub(crate) struct Place<'a> {
     pub step: (&'a str, &'a str),
 }
 
+impl<'a> Place<'a> {
+    /// Another line of the same step.
+    pub fn at(&self, line: usize) -> Place<'a> {
+        Place { line, ..*self }
+    }
+
+    /// Where a case begins.
+    pub fn of_case(&self, line: usize, title: &'a str) -> Place<'a> {
+        Place {
+            line,
+            title,
+            step: ("", ""),
+            ..*self
+        }
+    }
+
+    /// Where a step of the case is taken.
+    pub fn of_step(&self, line: usize, step: (&'a str, &'a str)) -> Place<'a> {
+        Place {
+            line,
+            step,
+            ..*self
+        }
+    }
+}
+
 /// What isn't as wanted.
 #[derive(Clone, Copy)]
 pub(crate) enum Fault<'a> {

@@ -46,7 +46,7 @@ fn run_cases<F: Files, P: Player, W: ByteSink>(
         report(output, USAGE_LINE);
         return USAGE;
     };
-    match Play::new(alloc, invocation) {
+    match Play::new(alloc, invocation.options) {
         Ok(mut play) => play_files(&mut play, invocation, files, player, output),
         Err(_) => NO_MEMORY,
     }
@@ -70,7 +70,7 @@ fn play_files<F: Files, P: Player, W: ByteSink>(
         }
         tell(play, output);
     }
-    if invocation.lists {
+    if invocation.options.lists {
         return SUCCESS;
     }
     push_summary(play);
