@@ -47,12 +47,7 @@ impl Player for Stage {
         self.screens.begin();
     }
 
-    fn take(
-        &mut self,
-        name: &str,
-        words: &mut Words<'_>,
-        answer: &mut Answer,
-    ) -> Result<(), StepError> {
+    fn take(&mut self, name: &str, words: &Words, answer: &mut Answer) -> Result<(), StepError> {
         match self.subject {
             Subject::Streams => self.streams.take(name, words, answer),
             Subject::Grids => self.grids.take(name, words, answer),

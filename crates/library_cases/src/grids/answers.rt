@@ -1,7 +1,7 @@
 //! Rows, cells and texts in answers.
 use case_player::Answer;
 use vt100_core::attrs::Attrs;
-use vt100_core::{Cell, Color, Row};
+use vt100_core::{Cell, Color, Pos, Row};
 
 /// A cell's text: `.` for an empty one, and `_` for the second half of a wide one.
 fn text_of(cell: &Cell) -> &str {
@@ -28,30 +28,35 @@ pub fn push_row(answer: &mut Answer, row: &Row) {
 fn push_color(answer: &mut Answer, name: &str, color: Color) {
     match color {
         Color::Default => {}
-        Color::Idx(index) => write!(answer, " {name} idx {index}"),
-        Color::Rgb(red, green, blue) => write!(answer, " {name} rgb {red} {green} {blue}"),
+        Color::Idx(index) => push_numbers(answer, name, " idx", &[index]),
+        Color::Rgb(red, green, blue) => push_numbers(answer, name, " rgb", &[red, green, blue]),
     }
 }
 
-/// Appends each word that applies.
-fn push_words(answer: &mut Answer, words: &[(bool, &str)]) {
-    for (applies, word) in words {
-        if *applies {
-            answer.push(word);
-        }
+/// Appends two words, and numbers.
+fn push_numbers(answer: &mut Answer, name: &str, kind: &str, numbers: &[u8]) {
+    answer.push(name);
+    answer.push(kind);
+    for number in numbers {
+        answer.push(" ");
+        answer.number(u64::from(*number));
+    }
+}
+
+/// Appends a word that applies.
+fn push_word(answer: &mut Answer, applies: bool, word: &str) {
+    if applies {
+        answer.push(word);
     }
 }
 
 /// Appends the modes that a cell is drawn in.
 fn push_modes(answer: &mut Answer, cell: &Cell) {
-    let words = [
-        (cell.bold(), " bold"),
-        (cell.dim(), " dim"),
-        (cell.italic(), " italic"),
-        (cell.underline(), " underline"),
-        (cell.inverse(), " inverse"),
-    ];
-    push_words(answer, &words);
+    push_word(answer, cell.bold(), " bold");
+    push_word(answer, cell.dim(), " dim");
+    push_word(answer, cell.italic(), " italic");
+    push_word(answer, cell.underline(), " underline");
+    push_word(answer, cell.inverse(), " inverse");
 }
 
 /// The attributes that the single calls tell.
@@ -76,15 +81,22 @@ fn told_attrs(cell: &Cell) -> Attrs {
 /// Appends a cell's text, whether it is wide, and its attributes where they aren't the default ones.
 pub fn push_cell(answer: &mut Answer, cell: &Cell) {
     answer.escaped(text_of(cell).as_bytes());
-    push_words(answer, &[(cell.is_wide(), " wide")]);
-    push_color(answer, "fg", cell.fgcolor());
-    push_color(answer, "bg", cell.bgcolor());
+    push_word(answer, cell.is_wide(), " wide");
+    push_color(answer, " fg", cell.fgcolor());
+    push_color(answer, " bg", cell.bgcolor());
     push_modes(answer, cell);
     answer.end_line();
     answer.check(
         cell.attrs() == told_attrs(cell),
         "attrs() tells other attributes than the single calls",
     );
+}
+
+/// Appends a row and a column.
+pub fn push_pos(answer: &mut Answer, pos: Pos) {
+    answer.number(u64::from(pos.row));
+    answer.push(" ");
+    answer.number(u64::from(pos.col));
 }
 
 /// Appends a text as a quoted line.

@@ -10,7 +10,6 @@ mod writers;
 use calls::{parse_call, take_call};
 use case_player::{Answer, StepError, Words};
 use edits::edit;
-use moves::move_cursor;
 use reports::tell;
 use std::alloc::Global;
 use std::mem;
@@ -64,11 +63,16 @@ impl GridStage {
     fn copy(&mut self) -> Result<(), StepError> {
         match self.grid.clone() {
             Ok(copy) => {
-                self.earlier = Some(mem::replace(&mut self.grid, copy));
+                self.replace(copy);
                 Ok(())
             }
             Err(_) => Err(refused_whole(&self.grid)),
         }
+    }
+
+    /// The grid is the earlier one, and another takes its place.
+    fn replace(&mut self, other: Grid) {
+        self.earlier = Some(mem::replace(&mut self.grid, other));
     }
 
     /// The grid is the earlier one, and the earlier one the grid.
@@ -85,39 +89,43 @@ impl GridStage {
         &mut self,
         alloc: Global,
         name: &str,
-        words: &mut Words<'_>,
+        words: &Words,
+        answer: &mut Answer,
+    ) -> Result<(), StepError> {
+        match name {
+            "copy" => self.copy(),
+            "exchange" => self.exchange(),
+            "write_contents"
+            | "write_contents_formatted"
+            | "write_contents_diff"
+            | "write_cursor_position_formatted" => {
+                write(alloc, &self.grid, &self.earlier, name, words, answer)
+            }
+            "rows" | "cursor" | "kept" | "capacity" | "visible_cell" | "whole" => {
+                tell(&self.grid, self.gone.rows, name, words, answer);
+                Ok(())
+            }
+            _ => self.change(alloc, name, words, answer),
+        }
+    }
+
+    /// Takes a step that changes the grid.
+    fn change(
+        &mut self,
+        alloc: Global,
+        name: &str,
+        words: &Words,
         answer: &mut Answer,
     ) -> Result<(), StepError> {
         if !self.grid.is_allocated() {
             return Err(StepError::Wrong("the grid has no rows"));
         }
-        match name {
-            "copy" => return self.copy(),
-            "exchange" => return self.exchange(),
-            _ => {}
+        match parse_call(name, words) {
+            Some(call) => take_call(alloc, &mut self.grid, call, &mut self.gone, answer),
+            None => {
+                edit(&mut self.grid, name, words, &mut self.gone);
+                Ok(())
+            }
         }
-        if let Some(call) = parse_call(name, words) {
-            return take_call(alloc, &mut self.grid, call, &mut self.gone, answer);
-        }
-        if move_cursor(&mut self.grid, name, words)
-            || edit(&mut self.grid, name, words, &mut self.gone)
-        {
-            return Ok(());
-        }
-        self.tell(alloc, name, words, answer)
-    }
-
-    /// Takes a step that changes nothing.
-    fn tell(
-        &self,
-        alloc: Global,
-        name: &str,
-        words: &mut Words<'_>,
-        answer: &mut Answer,
-    ) -> Result<(), StepError> {
-        if !write(alloc, &self.grid, &self.earlier, name, words, answer)? {
-            tell(&self.grid, self.gone.rows, name, words, answer);
-        }
-        Ok(())
     }
 }

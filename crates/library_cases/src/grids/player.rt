@@ -31,7 +31,7 @@ impl GridPlayer {
     }
 
     /// Makes a row, and prints a text on it. The row before it is the earlier one then.
-    fn make_row(&mut self, words: &mut Words<'_>) -> Result<(), StepError> {
+    fn make_row(&mut self, words: &Words) -> Result<(), StepError> {
         let cols = words.place();
         let text = words.text();
         let mut stage = RowStage::new(self.alloc, cols, text)?;
@@ -43,7 +43,7 @@ impl GridPlayer {
     }
 
     /// Makes a grid. The grid before it is the earlier one then.
-    fn make_grid(&mut self, words: &mut Words<'_>) -> Result<(), StepError> {
+    fn make_grid(&mut self, words: &Words) -> Result<(), StepError> {
         let size = size(words);
         let scrollback = match optional_count(words) {
             Some(capacity) => Scrollback::Enabled { capacity },
@@ -66,7 +66,7 @@ impl GridPlayer {
     pub fn take(
         &mut self,
         name: &str,
-        words: &mut Words<'_>,
+        words: &Words,
         answer: &mut Answer,
     ) -> Result<(), StepError> {
         match name {

@@ -1,4 +1,5 @@
 //! Calls that find no memory.
+use crate::grids::forms::{Form, Left};
 use case_player::StepError;
 use std::alloc::{AllocError, Global};
 use vt100_core::GridError;
@@ -60,28 +61,28 @@ impl From<AppendError> for StepError {
     }
 }
 
-/// What a call appends to a text that holds something before, and its answer.
-pub fn appended<T: Drop, F: Fn(&mut String) -> Result<T, GridError>>(
-    alloc: Global,
-    append: F,
-) -> Result<(AppendedText, T), AppendError>
-    requires { F.IsAlwaysCallable append }
-{
+/// What a call appends to a text that holds something before, and what it leaves.
+pub fn appended(alloc: Global, form: Form<'_>) -> Result<(AppendedText, Left), AppendError> {
     let mut text = AppendedText::begun(alloc)?;
-    match append(&mut text.0) {
-        Ok(told) if text.0.as_str().starts_with(BEGUN) => Ok((text, told)),
+    match form.append(&mut text.0) {
+        Ok(left) if text.0.as_str().starts_with(BEGUN) => Ok((text, left)),
         Ok(_) => Err(AppendError::Lost),
-        Err(_) => {
-            let mut again = AppendedText::begun(alloc)?;
-            match append(&mut again.0) {
-                Ok(_) => Err(part_of(text.0.as_str(), again.0.as_str())),
-                Err(_) => Err(AppendError::Memory),
-            }
-        }
+        Err(_) => Err(refused_append(alloc, form, text.0.as_str())),
     }
 }
 
-/// The error of a call that was refused when it had appended a part, where it appends the whole the next time.
+/// The error of a call that was refused when it had appended a part.
+fn refused_append(alloc: Global, form: Form<'_>, part: &str) -> AppendError {
+    let Ok(mut again) = AppendedText::begun(alloc) else {
+        return AppendError::Memory;
+    };
+    match form.append(&mut again.0) {
+        Ok(_) => part_of(part, again.0.as_str()),
+        Err(_) => AppendError::Memory,
+    }
+}
+
+/// The same, where the call appends the whole the next time.
 fn part_of(part: &str, whole: &str) -> AppendError {
     if !part.starts_with(BEGUN) {
         AppendError::Lost

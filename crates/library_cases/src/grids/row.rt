@@ -5,9 +5,9 @@ mod reports;
 
 use crate::grids::refused::refused;
 use case_player::{Answer, StepError, Words};
-use edits::{edit_cells, edit_row, lengthen};
+use edits::{change, lengthen};
 use printing::{print, print_at, set_pen};
-use reports::{tell, tell_difference};
+use reports::{tell, write};
 use std::alloc::Global;
 use std::mem;
 use vt100_core::Row;
@@ -64,41 +64,31 @@ impl RowStage {
         &mut self,
         alloc: Global,
         name: &str,
-        words: &mut Words<'_>,
+        words: &Words,
         answer: &mut Answer,
     ) -> Result<(), StepError> {
         match name {
             "copy" => self.copy(),
             "exchange" => self.exchange(),
-            "pen" => {
-                set_pen(&mut self.pen, words);
+            "grow" | "resize" => lengthen(&mut self.row, name, words),
+            "write_contents" | "write_contents_formatted" | "write_contents_diff" => {
+                write(alloc, &self.row, &self.earlier, name, words, answer)
+            }
+            _ => {
+                self.change_or_tell(name, words, answer);
                 Ok(())
             }
-            "write_contents_diff" => tell_difference(
-                alloc,
-                &self.row,
-                &self.earlier,
-                words,
-                answer,
-            ),
-            _ => self.edit_or_tell(alloc, name, words, answer),
         }
     }
 
-    fn edit_or_tell(
-        &mut self,
-        alloc: Global,
-        name: &str,
-        words: &mut Words<'_>,
-        answer: &mut Answer,
-    ) -> Result<(), StepError> {
-        if edit_row(&mut self.row, self.pen, name, words)
-            || edit_cells(&mut self.row, self.pen, name, words)
-            || print_at(&mut self.row, self.pen, name, words, answer)
-            || lengthen(&mut self.row, name, words)?
-        {
-            return Ok(());
+    fn change_or_tell(&mut self, name: &str, words: &Words, answer: &mut Answer) {
+        match name {
+            "pen" => set_pen(&mut self.pen, words),
+            "print" | "put" | "join" => print_at(&mut self.row, self.pen, name, words, answer),
+            "shown" | "counts" | "cell" | "same_cell" => {
+                tell(&self.row, &self.earlier, name, words, answer);
+            }
+            _ => change(&mut self.row, self.pen, name, words),
         }
-        tell(alloc, &self.row, &self.earlier, name, words, answer)
     }
 }

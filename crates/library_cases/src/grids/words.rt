@@ -3,12 +3,12 @@ use case_player::Words;
 use vt100_core::{Color, Pos, Size};
 
 /// Two numbers.
-pub fn two(words: &mut Words<'_>) -> (u16, u16) {
+pub fn two(words: &Words) -> (u16, u16) {
     (words.place(), words.place())
 }
 
 /// A count, or none.
-pub fn optional_count(words: &mut Words<'_>) -> Option<usize> {
+pub fn optional_count(words: &Words) -> Option<usize> {
     if words.is_empty() {
         None
     } else {
@@ -17,7 +17,7 @@ pub fn optional_count(words: &mut Words<'_>) -> Option<usize> {
 }
 
 /// A row and a column, or none.
-pub fn optional_pos(words: &mut Words<'_>) -> Option<Pos> {
+pub fn optional_pos(words: &Words) -> Option<Pos> {
     if words.is_empty() {
         None
     } else {
@@ -26,7 +26,7 @@ pub fn optional_pos(words: &mut Words<'_>) -> Option<Pos> {
 }
 
 /// A row and a column.
-pub fn pos(words: &mut Words<'_>) -> Pos {
+pub fn pos(words: &Words) -> Pos {
     Pos {
         row: words.place(),
         col: words.place(),
@@ -34,7 +34,7 @@ pub fn pos(words: &mut Words<'_>) -> Pos {
 }
 
 /// How many rows and columns.
-pub fn size(words: &mut Words<'_>) -> Size {
+pub fn size(words: &Words) -> Size {
     Size {
         rows: words.size(),
         cols: words.size(),
@@ -42,7 +42,7 @@ pub fn size(words: &mut Words<'_>) -> Size {
 }
 
 /// The words `on` and `off`.
-pub fn flag(words: &mut Words<'_>) -> bool {
+pub fn flag(words: &Words) -> bool {
     match words.word() {
         "on" => true,
         "off" => false,
@@ -54,7 +54,7 @@ pub fn flag(words: &mut Words<'_>) -> bool {
 }
 
 /// A text of one character.
-pub fn character(words: &mut Words<'_>) -> char {
+pub fn character(words: &Words) -> char {
     let mut chars = words.text().chars();
     match (chars.next(), chars.next()) {
         (Some(c), None) => c,
@@ -66,13 +66,13 @@ pub fn character(words: &mut Words<'_>) -> char {
 }
 
 /// A number from 0 to 255.
-fn byte(words: &mut Words<'_>) -> u8 {
+fn byte(words: &Words) -> u8 {
     let number = words.word().parse::<u8>().ok();
     words.named(number, "a number up to 255", 0)
 }
 
 /// A colour: `-` for the terminal's own, `idx N`, or `rgb R G B`.
-pub fn color(words: &mut Words<'_>) -> Color {
+pub fn color(words: &Words) -> Color {
     match words.word() {
         "-" => Color::Default,
         "idx" => Color::Idx(byte(words)),

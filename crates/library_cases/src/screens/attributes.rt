@@ -1,6 +1,6 @@
 //! The words of attributes, and the changes from some to others.
-use crate::screens::answers::{BEGUN, appended, tell_text};
-use crate::screens::limited::{Limited, check_writes};
+use crate::screens::answers::{BEGUN, appended};
+use crate::screens::limited::{Limited, tell_written};
 use crate::screens::modes::switch_of;
 use case_player::{Answer, StepError, Words};
 use std::alloc::Global;
@@ -13,31 +13,40 @@ const COLOR: &str = "a colour: default, an index, or red;green;blue";
 
 /// The colour that a text says, if it is one.
 fn parse_color(word: &str) -> Option<Color> {
-    if word == "default" {
-        return Some(Color::Default);
+    match word.split_once(';') {
+        _ if word == "default" => Some(Color::Default),
+        Some((red, rest)) => parse_rgb(red, rest),
+        None => parse_index(word),
     }
-    let Some((red, rest)) = word.split_once(';') else {
-        return Some(Color::Idx(word.parse::<u8>().ok()?));
-    };
-    let (green, blue) = rest.split_once(';')?;
-    Some(Color::Rgb(
-        red.parse::<u8>().ok()?,
-        green.parse::<u8>().ok()?,
-        blue.parse::<u8>().ok()?,
-    ))
 }
 
-fn color_of(words: &mut Words<'_>, word: &str) -> Color {
+fn parse_index(word: &str) -> Option<Color> {
+    match word.parse::<u8>() {
+        Ok(index) => Some(Color::Idx(index)),
+        Err(_) => None,
+    }
+}
+
+/// A colour of three parts. The second and the third one stand together.
+fn parse_rgb(red: &str, others: &str) -> Option<Color> {
+    let (green, blue) = others.split_once(';')?;
+    match (red.parse::<u8>(), green.parse::<u8>(), blue.parse::<u8>()) {
+        (Ok(red), Ok(green), Ok(blue)) => Some(Color::Rgb(red, green, blue)),
+        _ => None,
+    }
+}
+
+fn color_of(words: &Words, word: &str) -> Color {
     words.named(parse_color(word), COLOR, Color::Default)
 }
 
-fn color(words: &mut Words<'_>) -> Color {
+fn color(words: &Words) -> Color {
     let word = words.word();
     color_of(words, word)
 }
 
 /// Attributes: the colours of the text and behind it, and the bits of the mode.
-pub fn attributes(words: &mut Words<'_>) -> Attrs {
+pub fn attributes(words: &Words) -> Attrs {
     let (fgcolor, bgcolor) = (color(words), color(words));
     let mode = words.word().parse::<u8>().ok();
     Attrs {
@@ -62,24 +71,26 @@ impl Change {
     }
 }
 
-/// Tells a change. A writer gets it in one call, or in no call if it is empty.
+/// Tells a change.
 pub fn tell_change(alloc: Global, change: &Change, answer: &mut Answer) -> Result<(), StepError> {
     let mut text = String::from_str(alloc, BEGUN)?;
     let written = change.new.write_escape_code_diff(&mut text, &change.old);
-    let form = appended(text.as_str(), written)?;
-    check_writes(alloc, form, |writer| change.write(writer))?;
-    tell_text(answer, form);
-    Ok(())
+    tell_written(
+        alloc,
+        appended(text.as_str(), written)?,
+        |writer| change.write(writer),
+        answer,
+    )
 }
 
 /// The attributes that are named, in the order of the words: both colours, the intensity, and whether text is in
 /// italics, underlined and inverse. What is `-` isn't named.
-pub fn named_attributes(words: &mut Words<'_>) -> term::Attrs {
+pub fn named_attributes(words: &Words) -> term::Attrs {
     let attrs = named_colors(term::Attrs::default(), words);
     named_switches(attrs, words)
 }
 
-fn named_colors(mut attrs: term::Attrs, words: &mut Words<'_>) -> term::Attrs {
+fn named_colors(mut attrs: term::Attrs, words: &Words) -> term::Attrs {
     if let Some(word) = named(words) {
         attrs = attrs.fgcolor(color_of(words, word));
     }
@@ -92,7 +103,7 @@ fn named_colors(mut attrs: term::Attrs, words: &mut Words<'_>) -> term::Attrs {
     attrs
 }
 
-fn named_switches(mut attrs: term::Attrs, words: &mut Words<'_>) -> term::Attrs {
+fn named_switches(mut attrs: term::Attrs, words: &Words) -> term::Attrs {
     if let Some(word) = named(words) {
         attrs = attrs.italic(switch_of(words, word));
     }
@@ -105,14 +116,14 @@ fn named_switches(mut attrs: term::Attrs, words: &mut Words<'_>) -> term::Attrs 
     attrs
 }
 
-fn named<'a>(words: &mut Words<'a>) -> Option<&'a str> {
+fn named(words: &Words) -> Option<&str> {
     match words.word() {
         "-" => None,
         word => Some(word),
     }
 }
 
-fn intensity_of(words: &mut Words<'_>, word: &str) -> Intensity {
+fn intensity_of(words: &Words, word: &str) -> Intensity {
     match word {
         "normal" => Intensity::Normal,
         "bold" => Intensity::Bold,

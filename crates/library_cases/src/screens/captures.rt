@@ -3,11 +3,11 @@ use crate::screens::answers::{tell_lines, tell_text, written};
 use crate::screens::log::Log;
 use case_player::{Answer, StepError, Words};
 use std::alloc::Global;
-use vt100::Parser;
 use vt100::capture::{
     BasicFormattedCaptureRange, basic_formatted_rows, basic_formatted_to_plain,
     basic_formatted_to_plain_indexed,
 };
+use vt100::{Parser, Screen};
 
 /// Tells the calls that the callbacks got since they were last told. From now on they are told.
 pub fn tell_calls(parser: &mut Parser<Log>, answer: &mut Answer) -> Result<(), StepError> {
@@ -31,19 +31,34 @@ pub fn tell_capture(
     if log.is_cut {
         return Err(StepError::Ended);
     }
-    let mut text = String::from_str(alloc, log.capture.as_str())?;
     if whole {
-        let mut state = log.state.clone()?;
-        let range = BasicFormattedCaptureRange::Full(&mut state);
-        let screen = parser.screen();
-        written(screen.write_contents_formatted_basic(&mut text, range))?;
+        return tell_whole(alloc, log, parser.screen(), answer);
     }
+    tell_text(answer, log.capture.as_str());
+    Ok(())
+}
+
+fn tell_whole(
+    alloc: Global,
+    log: &Log,
+    screen: &Screen,
+    answer: &mut Answer,
+) -> Result<(), StepError> {
+    let mut text = String::from_str(alloc, log.capture.as_str())?;
+    push_rest(log, screen, &mut text)?;
     tell_text(answer, text.as_str());
     Ok(())
 }
 
+/// Appends the capture of all that is left.
+fn push_rest(log: &Log, screen: &Screen, text: &mut String) -> Result<(), StepError> {
+    let mut state = log.state.clone()?;
+    let range = BasicFormattedCaptureRange::Full(&mut state);
+    written(screen.write_contents_formatted_basic(text, range))
+}
+
 /// Reads a capture: its rows, its plain pieces, or these with their places.
-pub fn read_capture(name: &str, words: &mut Words<'_>, answer: &mut Answer) {
+pub fn read_capture(name: &str, words: &Words, answer: &mut Answer) {
     let capture = words.text();
     match name {
         "cut" => tell_cut(capture, words.place(), answer),

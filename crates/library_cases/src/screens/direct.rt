@@ -3,7 +3,7 @@ use case_player::Words;
 use vt100::{ScreenError, WrappedScreen};
 
 /// Makes the call that the words say, and tells its answer. A call that answers nothing is never refused.
-pub fn call(wrapped: &mut WrappedScreen<()>, words: &mut Words<'_>) -> Result<(), ScreenError> {
+pub fn call(wrapped: &mut WrappedScreen<()>, words: &Words) -> Result<(), ScreenError> {
     match words.word() {
         "text" => return wrapped.text(character(words)),
         "lf" => return wrapped.lf(),
@@ -21,7 +21,7 @@ pub fn call(wrapped: &mut WrappedScreen<()>, words: &mut Words<'_>) -> Result<()
     Ok(())
 }
 
-fn character(words: &mut Words<'_>) -> char {
+fn character(words: &Words) -> char {
     let first = words.text().chars().next();
     words.named(first, "a character", ' ')
 }

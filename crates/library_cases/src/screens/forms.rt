@@ -1,29 +1,27 @@
 //! The forms that are sent to a terminal.
-use crate::screens::answers::{BEGUN, appended, tell_text};
+use crate::screens::answers::{BEGUN, appended};
 use crate::screens::attributes::named_attributes;
-use crate::screens::limited::check_writes;
+use crate::screens::limited::tell_written;
 use crate::screens::modes::{cursor_style, mouse_encoding, mouse_mode, switch};
 use case_player::{Answer, StepError, Words};
 use std::alloc::Global;
 use vt100_forms::Pos;
 use vt100_forms::term::{self, BufWrite};
 
-/// Tells a form. A writer gets it in one call, or in no call if it is empty; where it lacks room that is told.
+/// Tells a form.
 fn tell<B: BufWrite>(alloc: Global, form: &B, answer: &mut Answer) -> Result<(), StepError> {
     let mut text = String::from_str(alloc, BEGUN)?;
     let written = form.write_buf(&mut text);
-    let form_text = appended(text.as_str(), written)?;
-    check_writes(alloc, form_text, |writer| form.write_fmt(writer))?;
-    tell_text(answer, form_text);
-    Ok(())
+    tell_written(
+        alloc,
+        appended(text.as_str(), written)?,
+        |writer| form.write_fmt(writer),
+        answer,
+    )
 }
 
 /// Tells the form that the words say. One without the words that it may have is the default one.
-pub fn tell_form(
-    alloc: Global,
-    words: &mut Words<'_>,
-    answer: &mut Answer,
-) -> Result<(), StepError> {
+pub fn tell_form(alloc: Global, words: &Words, answer: &mut Answer) -> Result<(), StepError> {
     match words.word() {
         "clear_screen" => tell(alloc, &term::ClearScreen, answer),
         "clear_row_forward" => tell(alloc, &term::ClearRowForward, answer),
@@ -41,7 +39,7 @@ pub fn tell_form(
 fn tell_default(
     alloc: Global,
     name: &str,
-    words: &mut Words<'_>,
+    words: &Words,
     answer: &mut Answer,
 ) -> Result<(), StepError> {
     match name {
@@ -62,7 +60,7 @@ fn tell_default(
     }
 }
 
-fn place(words: &mut Words<'_>) -> Pos {
+fn place(words: &Words) -> Pos {
     Pos {
         row: words.place(),
         col: words.place(),
@@ -72,7 +70,7 @@ fn place(words: &mut Words<'_>) -> Pos {
 fn tell_moving(
     alloc: Global,
     name: &str,
-    words: &mut Words<'_>,
+    words: &Words,
     answer: &mut Answer,
 ) -> Result<(), StepError> {
     match name {
@@ -90,7 +88,7 @@ fn tell_moving(
 fn tell_mode(
     alloc: Global,
     name: &str,
-    words: &mut Words<'_>,
+    words: &Words,
     answer: &mut Answer,
 ) -> Result<(), StepError> {
     match name {
@@ -112,7 +110,7 @@ fn tell_mode(
 fn tell_choice(
     alloc: Global,
     name: &str,
-    words: &mut Words<'_>,
+    words: &Words,
     answer: &mut Answer,
 ) -> Result<(), StepError> {
     match name {

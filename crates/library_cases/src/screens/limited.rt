@@ -1,6 +1,6 @@
 //! A writer that has only so much room.
-use crate::screens::answers::check;
-use case_player::StepError;
+use crate::screens::answers::{check, tell_text};
+use case_player::{Answer, StepError};
 use std::alloc::Global;
 use std::fmt;
 
@@ -26,9 +26,31 @@ impl fmt::Write for Limited {
     }
 }
 
+impl Limited {
+    /// Whether it has taken this text in one call, or in no call if it is empty.
+    fn has_taken(&self, text: &str) -> bool {
+        let wanted_calls = if text.is_empty() { 0 } else { 1 };
+        self.calls == wanted_calls && self.taken.as_str() == text
+    }
+}
+
+/// Tells a text that is also written to a writer.
+pub fn tell_written<F: Fn(&mut Limited) -> fmt::Result>(
+    alloc: Global,
+    text: &str,
+    write: F,
+    answer: &mut Answer,
+) -> Result<(), StepError>
+    requires { F.IsAlwaysCallable write }
+{
+    check_writes(alloc, text, write)?;
+    tell_text(answer, text);
+    Ok(())
+}
+
 /// A writer with room for this text gets it in one call, or in no call if it is empty. A second time it refuses the
 /// text, and that is told.
-pub fn check_writes<F: Fn(&mut Limited) -> fmt::Result>(
+fn check_writes<F: Fn(&mut Limited) -> fmt::Result>(
     alloc: Global,
     text: &str,
     write: F,
@@ -40,12 +62,10 @@ pub fn check_writes<F: Fn(&mut Limited) -> fmt::Result>(
         room: text.len(),
         calls: 0,
     };
-    let is_taken = write(&mut writer).is_ok() && writer.taken.as_str() == text;
-    let wanted_calls = if text.is_empty() { 0 } else { 1 };
-    let is_at_once = writer.calls == wanted_calls;
+    let is_taken = write(&mut writer).is_ok() && writer.has_taken(text);
     let is_refused = write(&mut writer).is_err();
     check(
-        is_taken && is_at_once && is_refused != text.is_empty(),
+        is_taken && is_refused != text.is_empty(),
         "a writer doesn't get the text in one call, or its refusal isn't told",
     )
 }

@@ -3,13 +3,13 @@ use case_player::Words;
 use vt100_forms::{CursorStyle, MouseProtocolEncoding, MouseProtocolMode};
 
 /// Whether a mode is on.
-pub fn switch(words: &mut Words<'_>) -> bool {
+pub fn switch(words: &Words) -> bool {
     let word = words.word();
     switch_of(words, word)
 }
 
 /// What a word says: on or off.
-pub fn switch_of(words: &mut Words<'_>, word: &str) -> bool {
+pub fn switch_of(words: &Words, word: &str) -> bool {
     match word {
         "on" => true,
         "off" => false,
@@ -20,49 +20,64 @@ pub fn switch_of(words: &mut Words<'_>, word: &str) -> bool {
     }
 }
 
-/// A mouse mode.
-pub fn mouse_mode(words: &mut Words<'_>) -> MouseProtocolMode {
-    let mode = match words.word() {
-        "none" => Some(MouseProtocolMode::None),
-        "press" => Some(MouseProtocolMode::Press),
-        "press_release" => Some(MouseProtocolMode::PressRelease),
-        "button_motion" => Some(MouseProtocolMode::ButtonMotion),
-        "any_motion" => Some(MouseProtocolMode::AnyMotion),
-        _ => None,
-    };
-    words.named(mode, "a mouse mode, as any_motion", MouseProtocolMode::None)
+/// What has this name in a table.
+pub fn found_in<T: Copy>(table: &[(&str, T)], name: &str) -> Option<T> {
+    for (known, value) in table {
+        if *known == name {
+            return Some(*value);
+        }
+    }
+    None
 }
 
+/// What a word names in a table. If it names nothing, another word is wanted, and this default is taken.
+fn named_in<T: Copy>(words: &Words, table: &[(&str, T)], wanted: &'static str, default: T) -> T {
+    words.named(found_in(table, words.word()), wanted, default)
+}
+
+const MOUSE_MODES: &[(&str, MouseProtocolMode)] = &[
+    ("none", MouseProtocolMode::None),
+    ("press", MouseProtocolMode::Press),
+    ("press_release", MouseProtocolMode::PressRelease),
+    ("button_motion", MouseProtocolMode::ButtonMotion),
+    ("any_motion", MouseProtocolMode::AnyMotion),
+];
+
+/// A mouse mode.
+pub fn mouse_mode(words: &Words) -> MouseProtocolMode {
+    let wanted = "a mouse mode, as any_motion";
+    named_in(words, MOUSE_MODES, wanted, MouseProtocolMode::None)
+}
+
+const MOUSE_ENCODINGS: &[(&str, MouseProtocolEncoding)] = &[
+    ("default", MouseProtocolEncoding::Default),
+    ("utf8", MouseProtocolEncoding::Utf8),
+    ("sgr", MouseProtocolEncoding::Sgr),
+];
+
 /// An encoding of the mouse's reports.
-pub fn mouse_encoding(words: &mut Words<'_>) -> MouseProtocolEncoding {
-    let encoding = match words.word() {
-        "default" => Some(MouseProtocolEncoding::Default),
-        "utf8" => Some(MouseProtocolEncoding::Utf8),
-        "sgr" => Some(MouseProtocolEncoding::Sgr),
-        _ => None,
-    };
-    words.named(
-        encoding,
-        "default, utf8 or sgr",
+pub fn mouse_encoding(words: &Words) -> MouseProtocolEncoding {
+    let wanted = "default, utf8 or sgr";
+    named_in(
+        words,
+        MOUSE_ENCODINGS,
+        wanted,
         MouseProtocolEncoding::Default,
     )
 }
 
+const CURSOR_STYLES: &[(&str, CursorStyle)] = &[
+    ("default", CursorStyle::Default),
+    ("blink_block", CursorStyle::BlinkBlock),
+    ("steady_block", CursorStyle::SteadyBlock),
+    ("blink_underline", CursorStyle::BlinkUnderline),
+    ("steady_underline", CursorStyle::SteadyUnderline),
+    ("blink_vertical_bar", CursorStyle::BlinkVerticalBar),
+    ("steady_vertical_bar", CursorStyle::SteadyVerticalBar),
+];
+
 /// A style of the cursor.
-pub fn cursor_style(words: &mut Words<'_>) -> CursorStyle {
-    let style = match words.word() {
-        "default" => Some(CursorStyle::Default),
-        "blink_block" => Some(CursorStyle::BlinkBlock),
-        "steady_block" => Some(CursorStyle::SteadyBlock),
-        "blink_underline" => Some(CursorStyle::BlinkUnderline),
-        "steady_underline" => Some(CursorStyle::SteadyUnderline),
-        "blink_vertical_bar" => Some(CursorStyle::BlinkVerticalBar),
-        "steady_vertical_bar" => Some(CursorStyle::SteadyVerticalBar),
-        _ => None,
-    };
-    words.named(
-        style,
-        "a cursor's style, as steady_block",
-        CursorStyle::Default,
-    )
+pub fn cursor_style(words: &Words) -> CursorStyle {
+    let wanted = "a cursor's style, as steady_block";
+    named_in(words, CURSOR_STYLES, wanted, CursorStyle::Default)
 }

@@ -29,7 +29,7 @@ impl ScreenPlayer {
     }
 
     /// A stage is made.
-    fn renew(&mut self, words: &mut Words<'_>) -> Result<(), StepError> {
+    fn renew(&mut self, words: &Words) -> Result<(), StepError> {
         let stage = Stage::new(self.alloc, words)?;
         self.stage = Some(stage);
         Ok(())
@@ -39,7 +39,7 @@ impl ScreenPlayer {
     fn take_alone(
         &mut self,
         name: &str,
-        words: &mut Words<'_>,
+        words: &Words,
         answer: &mut Answer,
     ) -> Result<(), StepError> {
         match name {
@@ -65,7 +65,7 @@ impl ScreenPlayer {
     pub fn take(
         &mut self,
         name: &str,
-        words: &mut Words<'_>,
+        words: &Words,
         answer: &mut Answer,
     ) -> Result<(), StepError> {
         match name {
@@ -79,7 +79,7 @@ impl ScreenPlayer {
     fn take_on_screen(
         &mut self,
         name: &str,
-        words: &mut Words<'_>,
+        words: &Words,
         answer: &mut Answer,
     ) -> Result<(), StepError> {
         match &mut self.stage {
@@ -94,7 +94,7 @@ fn take_on_stage(
     alloc: Global,
     stage: &mut Stage,
     name: &str,
-    words: &mut Words<'_>,
+    words: &Words,
     answer: &mut Answer,
 ) -> Result<(), StepError> {
     match name {
@@ -115,7 +115,7 @@ fn tell_on_stage(
     alloc: Global,
     stage: &mut Stage,
     name: &str,
-    words: &mut Words<'_>,
+    words: &Words,
     answer: &mut Answer,
 ) -> Result<(), StepError> {
     match name {

@@ -12,7 +12,7 @@ pub fn ask(
     alloc: Global,
     stage: &Stage,
     name: &str,
-    words: &mut Words<'_>,
+    words: &Words,
     answer: &mut Answer,
 ) -> Result<(), StepError> {
     let (screen, base) = (stage.parser.screen(), &stage.base.screen);
@@ -28,7 +28,7 @@ fn answer_of(
     screen: &Screen,
     prev: &Screen,
     name: &str,
-    words: &mut Words<'_>,
+    words: &Words,
     answer: &mut Answer,
 ) -> Result<(), StepError> {
     match name {
@@ -46,7 +46,7 @@ fn tell_asked(
     screen: &Screen,
     prev: &Screen,
     name: &str,
-    words: &mut Words<'_>,
+    words: &Words,
     answer: &mut Answer,
 ) -> Result<(), StepError> {
     let asked = match name {
@@ -99,16 +99,21 @@ fn tell_appended(
     answer: &mut Answer,
 ) -> Result<(), StepError> {
     let mut text = String::from_str(alloc, BEGUN)?;
+    append(screen, prev, name, &mut text)?;
+    tell_text(answer, text.as_str());
+    Ok(())
+}
+
+/// Makes a call that appends to a text, which keeps what it held before.
+fn append(screen: &Screen, prev: &Screen, name: &str, text: &mut String) -> Result<(), StepError> {
     let appended = match name {
-        "state_formatted" => screen.write_state_formatted(&mut text),
-        "state_diff" => screen.write_state_diff(&mut text, prev),
+        "state_formatted" => screen.write_state_formatted(text),
+        "state_diff" => screen.write_state_diff(text, prev),
         _ => return Err(StepError::Word("state_formatted or state_diff")),
     };
     check(
         text.as_str().starts_with(BEGUN),
         "a text has lost what it held before",
     )?;
-    appended.map_err(refused)?;
-    tell_text(answer, text.as_str());
-    Ok(())
+    appended.map_err(refused)
 }

@@ -1,7 +1,7 @@
 //! The texts of a screen's rows.
 ghost use Rattle.std.specs.Iterator.{IsFinite};
 
-use crate::screens::answers::{check, refused};
+use crate::screens::answers::refused;
 use case_player::StepError;
 use std::alloc::Global;
 use vt100::ScreenError;
@@ -12,14 +12,36 @@ fn text_of_both(
     second: Result<String, ScreenError>,
 ) -> Result<String, StepError> {
     match (first, second) {
-        (Ok(first), Ok(second)) => {
-            check(first == second, "a row is read otherwise the second time")?;
-            Ok(first)
-        }
+        (Ok(first), Ok(second)) => same(first, &second),
         (Ok(text), Err(ScreenError::Memory)) => Ok(text),
         (Err(ScreenError::Memory), other) => other.map_err(refused),
         _ => Err(StepError::Wrong("the screen has failed")),
     }
+}
+
+fn same(first: String, second: &str) -> Result<String, StepError> {
+    if first.as_str() == second {
+        Ok(first)
+    } else {
+        Err(StepError::Wrong("a row is read otherwise the second time"))
+    }
+}
+
+/// Appends the text of a row, of which two readings are given.
+fn push_row(
+    joined: &mut String,
+    first: Option<Result<String, ScreenError>>,
+    second: Option<Result<String, ScreenError>>,
+) -> Result<(), StepError> {
+    match (first, second) {
+        (Some(first), Some(second)) => push_line(joined, &text_of_both(first, second)?),
+        _ => Err(StepError::Wrong("a row has no text")),
+    }
+}
+
+fn push_line(joined: &mut String, text: &str) -> Result<(), StepError> {
+    joined.push_str(text)?;
+    Ok(joined.push_str("\n")?)
 }
 
 /// The texts of so many rows, each with its line's end. The rows are read twice, in turn: a row that is refused memory
@@ -35,12 +57,7 @@ pub fn joined<I: Iterator<Item = Result<String, ScreenError>> + Drop>(
 {
     let mut joined = String::new(alloc);
     for _ in 0..rows {
-        let (Some(first), Some(second)) = (texts.next(), again.next()) else {
-            return Err(StepError::Wrong("a row has no text"));
-        };
-        let text = text_of_both(first, second)?;
-        joined.push_str(text.as_str())?;
-        joined.push_str("\n")?;
+        push_row(&mut joined, texts.next(), again.next())?;
     }
     Ok(joined)
 }

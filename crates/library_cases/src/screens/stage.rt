@@ -6,6 +6,7 @@ use crate::screens::log::Log;
 use crate::screens::states::{check_bounds, places};
 use case_player::{StepError, Words};
 use std::alloc::Global;
+use std::num::NonZeroU16;
 use vt100::{Callbacks, Parser, Screen, ScreenError, WrappedScreen};
 
 /// The longest text of a cell: 21 bytes.
@@ -24,14 +25,10 @@ pub struct Stage {
 
 impl Stage {
     /// A new parser, and a copy of its screen. The words are its rows, its columns and how many rows it keeps at most.
-    pub fn new(alloc: Global, words: &mut Words<'_>) -> Result<Stage, StepError> {
+    pub fn new(alloc: Global, words: &Words) -> Result<Stage, StepError> {
         let (rows, cols, capacity) = (words.size(), words.size(), words.count());
-        let log = Log::new(alloc)?;
-        let parser = Parser::new_with_callbacks(alloc, rows, cols, capacity, log).map_err(refused)?;
-        let base = WrappedScreen {
-            screen: parser.screen().clone().map_err(refused)?,
-            callbacks: (),
-        };
+        let parser = new_parser(alloc, rows, cols, capacity)?;
+        let base = copy_of(parser.screen())?;
         Ok(Stage {
             parser,
             base,
@@ -92,12 +89,7 @@ impl Stage {
     }
 
     /// Takes a step that changes the parser or its screen.
-    pub fn change(
-        &mut self,
-        alloc: Global,
-        name: &str,
-        words: &mut Words<'_>,
-    ) -> Result<(), StepError> {
+    pub fn change(&mut self, alloc: Global, name: &str, words: &Words) -> Result<(), StepError> {
         match name {
             "feed" => self.feed(alloc, words.bytes()),
             "print" => self.print(words.bytes()),
@@ -110,7 +102,7 @@ impl Stage {
     }
 
     /// Gives the screen another size, or shows kept rows.
-    fn resize(&mut self, name: &str, words: &mut Words<'_>) -> Result<(), ScreenError> {
+    fn resize(&mut self, name: &str, words: &Words) -> Result<(), ScreenError> {
         match name {
             "set_size" => self.parser.set_size(words.size(), words.size()),
             "set_screen_size" => {
@@ -126,7 +118,7 @@ impl Stage {
         &mut self,
         alloc: Global,
         name: &str,
-        words: &mut Words<'_>,
+        words: &Words,
     ) -> Result<(), StepError> {
         let screen = self.parser.screen();
         match name {
@@ -142,7 +134,7 @@ impl Stage {
     }
 
     /// Makes a call on the screen beside the parser.
-    pub fn call(&mut self, alloc: Global, words: &mut Words<'_>) -> Result<(), StepError> {
+    pub fn call(&mut self, alloc: Global, words: &Words) -> Result<(), StepError> {
         let answer = crate::screens::direct::call(&mut self.base, words);
         self.settle_base(alloc, answer)
     }
@@ -154,6 +146,25 @@ impl Stage {
             _ => check_redraw(alloc, self.parser.screen()),
         }
     }
+}
+
+fn new_parser(
+    alloc: Global,
+    rows: NonZeroU16,
+    cols: NonZeroU16,
+    capacity: usize,
+) -> Result<Parser<Log>, StepError> {
+    let log = Log::new(alloc)?;
+    Parser::new_with_callbacks(alloc, rows, cols, capacity, log).map_err(refused)
+}
+
+/// A copy of a screen, without callbacks.
+fn copy_of(screen: &Screen) -> Result<WrappedScreen<()>, StepError> {
+    let screen = screen.clone().map_err(refused)?;
+    Ok(WrappedScreen {
+        screen,
+        callbacks: (),
+    })
 }
 
 /// A parser reads bytes. A call of it is proved against all that it has read before, so all steps share this one.

@@ -57,7 +57,7 @@ pub fn choices(screen: &Screen) -> Choices {
 }
 
 /// Tells what a screen is like.
-pub fn tell_state(answer: &mut Answer, screen: &Screen, words: &mut Words<'_>) {
+pub fn tell_state(answer: &mut Answer, screen: &Screen, words: &Words) {
     let (size, cursor, kept) = places(screen);
     match words.word() {
         "size" => writeln!(answer, "{size:?}"),

@@ -1,5 +1,6 @@
 //! The texts that a screen makes.
 use crate::screens::answers::{refused, written};
+use crate::screens::modes::found_in;
 use crate::screens::rows::joined;
 use case_player::{StepError, Words};
 use std::alloc::Global;
@@ -42,38 +43,42 @@ impl Text {
     }
 }
 
+const TEXTS: &[(&str, Text)] = &[
+    ("contents", Text::Contents),
+    ("contents_formatted_basic", Text::ContentsFormattedBasic),
+    ("visible_rows_basic", Text::VisibleRowsBasic),
+    ("all_rows_basic", Text::AllRowsBasic),
+    ("contents_formatted", Text::ContentsFormatted),
+    ("contents_diff", Text::ContentsDiff),
+    ("state_formatted", Text::StateFormatted),
+    ("state_diff", Text::StateDiff),
+    ("input_mode_formatted", Text::InputModeFormatted),
+    ("input_mode_diff", Text::InputModeDiff),
+    ("attributes_formatted", Text::AttributesFormatted),
+    ("cursor_state_formatted", Text::CursorStateFormatted),
+];
+
 /// The text of this name. If columns are to be told, they are the next words.
-pub fn parse_text(name: &str, words: &mut Words<'_>) -> Option<Text> {
-    Some(match name {
-        "contents" => Text::Contents,
-        "contents_formatted_basic" => Text::ContentsFormattedBasic,
-        "visible_rows_basic" => Text::VisibleRowsBasic,
-        "all_rows_basic" => Text::AllRowsBasic,
-        "contents_formatted" => Text::ContentsFormatted,
-        "contents_diff" => Text::ContentsDiff,
-        "state_formatted" => Text::StateFormatted,
-        "state_diff" => Text::StateDiff,
-        "input_mode_formatted" => Text::InputModeFormatted,
-        "input_mode_diff" => Text::InputModeDiff,
-        "attributes_formatted" => Text::AttributesFormatted,
-        "cursor_state_formatted" => Text::CursorStateFormatted,
-        _ => return parse_rows(name, words),
-    })
+pub fn parse_text(name: &str, words: &Words) -> Option<Text> {
+    match found_in(TEXTS, name) {
+        Some(text) => Some(text),
+        None => parse_rows(name, words),
+    }
 }
 
-fn parse_rows(name: &str, words: &mut Words<'_>) -> Option<Text> {
-    Some(match name {
-        "contents_between" => Text::ContentsBetween(
+fn parse_rows(name: &str, words: &Words) -> Option<Text> {
+    match name {
+        "contents_between" => Some(Text::ContentsBetween(
             words.place(),
             words.place(),
             words.place(),
             words.place(),
-        ),
-        "rows" => Text::Rows(words.place(), words.place()),
-        "rows_formatted" => Text::RowsFormatted(words.place(), words.place()),
-        "rows_diff" => Text::RowsDiff(words.place(), words.place()),
-        _ => return None,
-    })
+        )),
+        "rows" => Some(Text::Rows(words.place(), words.place())),
+        "rows_formatted" => Some(Text::RowsFormatted(words.place(), words.place())),
+        "rows_diff" => Some(Text::RowsDiff(words.place(), words.place())),
+        _ => None,
+    }
 }
 
 /// A text of a screen, or what differs from `prev`.

@@ -4,7 +4,7 @@
 
 ghost use Rattle.std.specs.Prelude.{⊤};
 
-use std::alloc::{AllocError, Global};
+use std::alloc::Global;
 use std::cell::Cell;
 use std::fmt::Display;
 use vte::ansi::{Call, Handler};
@@ -21,7 +21,7 @@ pub struct CallLog<'a> {
     pub inputs: Option<usize>,
     /// The flag that is watched.
     pub flag: Option<&'a Cell<bool>>,
-    /// Whether memory was refused to something that is to be written down.
+    /// Whether memory was refused to something since the log was made, or since this was last forgotten.
     pub refused: bool,
 }
 
@@ -36,11 +36,10 @@ impl<'a> CallLog<'a> {
         }
     }
 
-    /// Forgets everything, and makes room for so many bytes.
-    pub fn restart(&mut self, room: usize) -> Result<(), AllocError> {
+    /// Forgets what is written down, and makes room for so many bytes.
+    pub fn restart(&mut self, room: usize) {
         self.text.clear();
-        self.refused = false;
-        self.text.reserve(room)
+        self.refused |= self.text.reserve(room).is_err();
     }
 
     /// Writes down a text as it is.

@@ -51,10 +51,11 @@ fn new_processor(alloc: Global) -> Result<Processor, StepError> {
 struct Processors(Global);
 
 impl Reader for Processors {
-    fn read(&self, log: &mut Log, pieces: &[&[u8]]) -> Result<(), StepError> {
-        let mut processor = new_processor(self.0)?;
-        read_pieces(&mut processor, log, pieces);
-        Ok(())
+    fn read(&self, log: &mut Log, pieces: &[&[u8]]) {
+        match new_processor(self.0) {
+            Ok(mut processor) => read_pieces(&mut processor, log, pieces),
+            Err(_) => log.calls.refused = true,
+        }
     }
 }
 
@@ -68,25 +69,27 @@ fn read_pieces(processor: &mut Processor, log: &mut Log, pieces: &[&[u8]]) {
 }
 
 /// Answers the calls of a stream: as a whole, where it is cut, and byte by byte where these are other calls.
-pub fn tell_calls(
-    alloc: Global,
-    log: &mut Log,
-    bytes: &[u8],
-    answer: &mut Answer,
-) -> Result<(), StepError> {
-    tell_cut(&Processors(alloc), log, bytes, answer)?;
-    log.restart(Until::Never)?;
-    read_bytes(&mut new_processor(alloc)?, log, bytes);
-    let told = log.told();
-    if answer.as_str().strip_suffix('\n') != Some(told) {
-        writeln!(answer, "byte by byte: {told}");
+pub fn tell_calls(alloc: Global, log: &mut Log, bytes: &[u8], answer: &mut Answer) {
+    tell_cut(&Processors(alloc), log, bytes, answer);
+    log.restart(Until::Never);
+    match new_processor(alloc) {
+        Ok(mut processor) => read_bytes(&mut processor, log, bytes),
+        Err(_) => log.calls.refused = true,
     }
-    log.check()
+    tell_other(log.told(), answer);
 }
 
 fn read_bytes(processor: &mut Processor, log: &mut Log, bytes: &[u8]) {
     for byte in bytes {
         advance(processor, &mut log.calls, &[*byte]);
+    }
+}
+
+// Answers the calls byte by byte, where they aren't those that are answered.
+fn tell_other(told: &str, answer: &mut Answer) {
+    if answer.as_str().strip_suffix('\n') != Some(told) {
+        answer.push("byte by byte: ");
+        answer.line(told);
     }
 }
 
@@ -112,23 +115,18 @@ impl Held {
     }
 
     /// A processor is made.
-    pub fn renew(&mut self) -> Result<(), StepError> {
-        let processor = new_processor(self.alloc)?;
-        self.processor = Some(processor);
-        Ok(())
+    pub fn renew(&mut self, words: &Words) {
+        match new_processor(self.alloc) {
+            Ok(processor) => self.processor = Some(processor),
+            Err(error) => words.fail(error),
+        }
     }
 
     /// Takes a step on the processor: `advance`, `stop`, `pending` or `sets`.
-    pub fn take(
-        &mut self,
-        name: &str,
-        log: &mut Log,
-        words: &mut Words<'_>,
-        answer: &mut Answer,
-    ) -> Result<(), StepError> {
+    pub fn take(&mut self, name: &str, log: &mut Log, words: &Words, answer: &mut Answer) {
         match &mut self.processor {
             Some(processor) => take_held(processor, name, log, words, answer),
-            None => Err(StepError::Wrong("a step `new` has to come before")),
+            None => words.fail(StepError::Wrong("a step `new` has to come before")),
         }
     }
 }
@@ -137,34 +135,35 @@ fn take_held(
     processor: &mut Processor,
     name: &str,
     log: &mut Log,
-    words: &mut Words<'_>,
+    words: &Words,
     answer: &mut Answer,
-) -> Result<(), StepError> {
+) {
     match name {
         "pending" => tell_pending(processor, answer),
         "sets" => tell_sets(processor, answer),
-        _ => return tell_held(processor, name, log, words, answer),
+        _ => {
+            log.restart(Until::Never);
+            if !log.calls.refused {
+                hand(processor, name, log, words);
+                tell_held(processor, log, answer);
+            }
+        }
     }
-    Ok(())
 }
 
-// Hands the processor a piece, or stops it. Answers the calls that it makes, and how many bytes are held then.
-fn tell_held(
-    processor: &mut Processor,
-    name: &str,
-    log: &mut Log,
-    words: &mut Words<'_>,
-    answer: &mut Answer,
-) -> Result<(), StepError> {
-    log.restart(Until::Never)?;
-    if name == "stop" {
-        stop(processor, &mut log.calls);
-    } else {
-        advance(processor, &mut log.calls, words.bytes());
+// Hands the processor a piece, or stops it.
+fn hand(processor: &mut Processor, name: &str, log: &mut Log, words: &Words) {
+    match name {
+        "stop" => stop(processor, &mut log.calls),
+        _ => advance(processor, &mut log.calls, words.bytes()),
     }
-    let (told, held) = (log.told(), processor.sync_bytes_count());
-    writeln!(answer, "{told}\n{held} held");
-    log.check()
+}
+
+// Answers the calls that the processor has made, and how many bytes it holds.
+fn tell_held(processor: &Processor, log: &Log, answer: &mut Answer) {
+    answer.line(log.told());
+    answer.number(processor.sync_bytes_count() as u64);
+    answer.line(" held");
 }
 
 // Answers whether the timeout is pending.

@@ -76,7 +76,7 @@ const COLORS: &[NamedColor] = &[
 ];
 
 /// Takes a step on constants, if it is one.
-pub fn tell_constants(name: &str, words: &mut Words<'_>, answer: &mut Answer) {
+pub fn tell_constants(name: &str, words: &Words, answer: &mut Answer) {
     match name {
         "controls" => writeln!(answer, "{:?}", CONTROLS),
         "named_colors" => push_colors(answer),

@@ -3,7 +3,7 @@
 use crate::streams::cuts::Reader;
 use crate::streams::log::{Log, Until};
 use crate::streams::runs::Runs;
-use case_player::{Answer, StepError, Words};
+use case_player::{Answer, Words};
 use vte_core::Parser;
 
 /// Parsers, each for one stream. They keep so much of an operating system command.
@@ -16,7 +16,7 @@ pub enum Keeping {
 }
 
 impl Reader for Keeping {
-    fn read(&self, log: &mut Log, pieces: &[&[u8]]) -> Result<(), StepError> {
+    fn read(&self, log: &mut Log, pieces: &[&[u8]]) {
         match self {
             Keeping::Usual => read_pieces(&mut Parser::new(), log, pieces),
             Keeping::Four => {
@@ -24,7 +24,6 @@ impl Reader for Keeping {
                 read_pieces(&mut parser, log, pieces);
             }
         }
-        Ok(())
     }
 }
 
@@ -39,34 +38,36 @@ fn read_pieces<const N: usize>(parser: &mut Parser<N>, log: &mut Log, pieces: &[
 pub struct InRuns;
 
 impl Reader for InRuns {
-    fn read(&self, log: &mut Log, pieces: &[&[u8]]) -> Result<(), StepError> {
+    fn read(&self, log: &mut Log, pieces: &[&[u8]]) {
         let mut runs = Runs::new(log);
         let mut parser = Parser::new();
         for piece in pieces {
             parser.advance(&mut runs, piece);
         }
-        Ok(())
     }
 }
 
 /// Answers the events until the log asks the parser to stop, and how many bytes are read. From then on none is read.
-pub fn tell_until(
-    log: &mut Log,
-    words: &mut Words<'_>,
-    answer: &mut Answer,
-) -> Result<(), StepError> {
-    let (until, bytes) = (until(words), words.bytes());
-    log.restart(until)?;
+pub fn tell_until(log: &mut Log, words: &Words, answer: &mut Answer) {
+    log.restart(until(words));
+    let (read, more) = read_until(log, words.bytes());
+    answer.line(log.told());
+    answer.number(read as u64);
+    answer.push(" read, then ");
+    answer.number(more as u64);
+    answer.end_line();
+}
+
+// How many bytes a parser reads until the log asks it to stop, and how many of the others then.
+fn read_until(log: &mut Log, bytes: &[u8]) -> (usize, usize) {
     let mut parser: Parser<1024> = Parser::default();
     let read = parser.advance_until_terminated(log, bytes);
     let more = parser.advance_until_terminated(log, &bytes[read..]);
-    let told = log.told();
-    writeln!(answer, "{told}\n{read} read, then {more}");
-    log.check()
+    (read, more)
 }
 
 // When a log asks the parser to stop.
-fn until(words: &mut Words<'_>) -> Until {
+fn until(words: &Words) -> Until {
     let until = match words.word() {
         "event" => Some(Until::Event),
         "control_sequence" => Some(Until::ControlSequence),

@@ -4,7 +4,7 @@ ghost use Rattle.std.specs.Prelude.{⊤, ◌≡◌};
 
 use super::call_log::CallLog;
 use case_player::StepError;
-use std::alloc::{AllocError, Global};
+use std::alloc::Global;
 use vte_core::{Event, Params, Perform};
 
 /// When a log asks the parser to stop.
@@ -40,11 +40,16 @@ impl Log {
         }
     }
 
-    /// Forgets everything, and makes room. Then the parser is asked to stop where it says.
-    pub fn restart(&mut self, until: Until) -> Result<(), AllocError> {
+    /// A step begins: no memory was refused yet.
+    pub fn begin(&mut self) {
+        self.calls.refused = false;
+    }
+
+    /// Forgets what is written down, and makes room. Then the parser is asked to stop where it says.
+    pub fn restart(&mut self, until: Until) {
         self.until = until;
         self.terminated = false;
-        self.calls.restart(ROOM)
+        self.calls.restart(ROOM);
     }
 
     /// Forgets the events so far.
@@ -57,7 +62,7 @@ impl Log {
         self.calls.text.as_str().trim_end()
     }
 
-    /// No memory was refused.
+    /// No memory was refused since the step began.
     pub fn check(&self) -> Result<(), StepError> {
         if self.calls.refused {
             Err(StepError::Memory)
@@ -84,7 +89,8 @@ impl Log {
 
     /// Writes down a word and a number.
     pub fn tell(&mut self, word: &str, number: u32) {
-        write!(self.calls, "{word} {number} ");
+        self.word(word);
+        self.number(number);
     }
 
     fn bytes(&mut self, bytes: &[u8]) {
@@ -99,8 +105,26 @@ impl Log {
         self.tell(if ignore { "ignored" } else { "kept" }, number);
     }
 
+    fn sequence(
+        &mut self,
+        word: &str,
+        params: &Params,
+        intermediates: &[u8],
+        ignore: bool,
+        action: char,
+    ) {
+        self.params(word, params);
+        self.ending(intermediates, ignore, action as u32);
+    }
+
+    fn escape(&mut self, intermediates: &[u8], ignore: bool, byte: u8) {
+        self.word("esc");
+        self.ending(intermediates, ignore, u32::from(byte));
+    }
+
     fn params(&mut self, word: &str, params: &Params) {
-        write!(self.calls, "{word} {params:?} ");
+        self.word(word);
+        write!(self.calls, "{params:?} ");
     }
 
     fn command(&mut self, bell_terminated: bool, pieces: &[&[u8]]) {
@@ -134,10 +158,7 @@ impl Perform for Log {
                 intermediates,
                 ignore,
                 action,
-            } => {
-                self.params("hook", params);
-                self.ending(intermediates, ignore, action as u32);
-            }
+            } => self.sequence("hook", params, intermediates, ignore, action),
             Event::Put(byte) => self.tell("put", byte as u32),
             Event::Unhook => self.word("unhook"),
             Event::OscDispatch {
@@ -149,18 +170,12 @@ impl Perform for Log {
                 intermediates,
                 ignore,
                 action,
-            } => {
-                self.params("csi", params);
-                self.ending(intermediates, ignore, action as u32);
-            }
+            } => self.sequence("csi", params, intermediates, ignore, action),
             Event::EscDispatch {
                 intermediates,
                 ignore,
                 byte,
-            } => {
-                self.word("esc");
-                self.ending(intermediates, ignore, byte as u32);
-            }
+            } => self.escape(intermediates, ignore, byte),
         }
     }
 

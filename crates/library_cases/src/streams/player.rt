@@ -41,48 +41,49 @@ impl StreamPlayer {
     pub fn take(
         &mut self,
         name: &str,
-        words: &mut Words<'_>,
+        words: &Words,
         answer: &mut Answer,
     ) -> Result<(), StepError> {
-        let (alloc, log) = (self.alloc, &mut self.log);
+        self.log.begin();
         match name {
-            "calls" => tell_calls(alloc, log, words.bytes(), answer),
+            "draws" => return tell_drawn(self.alloc, words.bytes(), answer),
+            "flagged" => return tell_flagged(self.alloc, words, answer),
+            "times" => return tell_times(self.alloc, words, answer),
+            _ => self.tell_events(name, words, answer),
+        }
+        self.log.check()
+    }
+
+    // Steps on the events and calls of streams.
+    fn tell_events(&mut self, name: &str, words: &Words, answer: &mut Answer) {
+        let log = &mut self.log;
+        match name {
+            "calls" => tell_calls(self.alloc, log, words.bytes(), answer),
             "events" => tell_cut(&Keeping::Usual, log, words.bytes(), answer),
             "events_keeping_four" => tell_cut(&Keeping::Four, log, words.bytes(), answer),
             "runs" => tell_whole(&InRuns, log, words.bytes(), answer),
-            "draws" => tell_drawn(alloc, words.bytes(), answer),
             "until" => tell_until(log, words, answer),
-            "text_after" => tell_after(alloc, words.bytes(), answer),
-            "text_of_four" => tell_fours(alloc, words, answer),
-            "states" => tell_states(alloc, log, words.bytes(), words.bytes(), answer),
-            _ => self.take_held(name, words, answer),
+            "states" => tell_states(self.alloc, log, words, answer),
+            _ => self.tell_held(name, words, answer),
         }
     }
 
-    // Steps on updates, and on values.
-    fn take_held(
-        &mut self,
-        name: &str,
-        words: &mut Words<'_>,
-        answer: &mut Answer,
-    ) -> Result<(), StepError> {
+    // Steps on updates, on text, and on values.
+    fn tell_held(&mut self, name: &str, words: &Words, answer: &mut Answer) {
         match name {
-            "new" => self.held.renew(),
+            "new" => self.held.renew(words),
             "advance" | "stop" | "pending" | "sets" => {
-                self.held.take(name, &mut self.log, words, answer)
+                self.held.take(name, &mut self.log, words, answer);
             }
-            "flagged" => tell_flagged(self.alloc, words, answer),
-            "times" => tell_times(self.alloc, words, answer),
-            _ => {
-                take_value(name, words, answer);
-                Ok(())
-            }
+            "text_after" => tell_after(self.alloc, words, answer),
+            "text_of_four" => tell_fours(self.alloc, words, answer),
+            _ => take_value(name, words, answer),
         }
     }
 }
 
 // Steps on values.
-fn take_value(name: &str, words: &mut Words<'_>, answer: &mut Answer) {
+fn take_value(name: &str, words: &Words, answer: &mut Answer) {
     match name {
         "mode" => tell_mode(words.place(), answer),
         "private_mode" => tell_private_mode(words.place(), answer),

@@ -4,7 +4,7 @@ use super::call_log::CallLog;
 use crate::streams::cuts::read;
 use crate::streams::events::Keeping;
 use crate::streams::log::{Log, Until};
-use case_player::{Answer, StepError};
+use case_player::{Answer, StepError, Words};
 use std::alloc::Global;
 
 // How far a sequence has come.
@@ -142,8 +142,9 @@ struct Reading {
 }
 
 impl Reading {
-    fn new(alloc: Global) -> Result<Reading, StepError> {
-        let mut reading = Reading {
+    // Nothing is read yet.
+    fn new(alloc: Global) -> Reading {
+        Reading {
             place: Place::Ground,
             numbers: CallLog::new(alloc),
             count: 0,
@@ -152,18 +153,20 @@ impl Reading {
             content: Log::new(alloc),
             parts: 0,
             log: Log::new(alloc),
-        };
-        reading.restart()?;
-        Ok(reading)
+        }
     }
 
-    // Nothing is read yet.
-    fn restart(&mut self) -> Result<(), StepError> {
-        self.numbers.restart(256)?;
-        self.content.restart(Until::Never)?;
-        self.log.restart(Until::Never)?;
+    // A stream begins.
+    fn restart(&mut self) {
+        self.numbers.restart(256);
+        self.content.restart(Until::Never);
+        self.log.restart(Until::Never);
         self.begin(Place::Ground);
-        Ok(())
+    }
+
+    // Whether memory was refused to something.
+    fn is_refused(&self) -> bool {
+        self.numbers.refused || self.content.calls.refused || self.log.calls.refused
     }
 
     fn begin(&mut self, place: Place) {
@@ -216,7 +219,8 @@ impl Reading {
     // A number is whole: 32 are kept.
     fn end_number(&mut self) {
         if self.count < 32 {
-            write!(self.numbers, "{}{}", self.before, self.number);
+            self.numbers.push(self.before);
+            write!(self.numbers, "{}", self.number);
         }
         self.count = self.count.saturating_add(1);
         self.number = 0;
@@ -242,7 +246,10 @@ impl Reading {
 
     fn dispatch(&mut self, word: &str, byte: u8) {
         self.end_number();
-        write!(self.log.calls, "{word} [{}] ", self.numbers.text.as_str());
+        self.log.word(word);
+        self.log.push("[");
+        self.log.push(self.numbers.text.as_str());
+        self.log.push("] ");
         self.end(byte);
     }
 
@@ -302,30 +309,24 @@ impl Reading {
 }
 
 // The events that the table gives of a stream.
-fn read_by_table(reading: &mut Reading, pieces: &[&[u8]]) -> Result<(), StepError> {
-    reading.restart()?;
+fn read_by_table(reading: &mut Reading, pieces: &[&[u8]]) {
+    reading.restart();
     for piece in pieces {
         reading.bytes(piece);
     }
-    if reading.numbers.refused || reading.content.calls.refused {
-        return Err(StepError::Memory);
-    }
-    reading.log.check()
 }
 
 /// Each byte between a prefix and an end. Answers how many of the streams have the events of the table, and which
 /// don't.
-pub fn tell_states(
-    alloc: Global,
-    log: &mut Log,
-    prefix: &[u8],
-    end: &[u8],
-    answer: &mut Answer,
-) -> Result<(), StepError> {
-    let mut reading = Reading::new(alloc)?;
-    let agreed = compare_all(&mut reading, log, prefix, end, answer)?;
-    writeln!(answer, "{agreed} by the table");
-    Ok(())
+pub fn tell_states(alloc: Global, log: &mut Log, words: &Words, answer: &mut Answer) {
+    let (prefix, end) = (words.bytes(), words.bytes());
+    let mut reading = Reading::new(alloc);
+    let agreed = compare_all(&mut reading, log, prefix, end, answer);
+    answer.number(agreed);
+    answer.line(" by the table");
+    if reading.is_refused() {
+        words.fail(StepError::Memory);
+    }
 }
 
 // How many of the streams have the events of the table. Answers which don't.
@@ -335,22 +336,29 @@ fn compare_all(
     prefix: &[u8],
     end: &[u8],
     answer: &mut Answer,
-) -> Result<u64, StepError> {
+) -> u64 {
     let mut agreed: u64 = 0;
     for byte in 0..=255u8 {
-        let pieces: [&[u8]; 3] = [prefix, &[byte], end];
-        read(&Keeping::Usual, log, &pieces)?;
-        read_by_table(reading, &pieces)?;
-        if log.told() == reading.log.told() {
+        if compare(reading, log, &[prefix, &[byte], end]) {
             agreed = agreed.saturating_add(1);
         } else {
             tell_difference(byte, reading.log.told(), log.told(), answer);
         }
     }
-    Ok(agreed)
+    agreed
+}
+
+// Whether a stream has the events of the table.
+fn compare(reading: &mut Reading, log: &mut Log, pieces: &[&[u8]]) -> bool {
+    read(&Keeping::Usual, log, pieces);
+    read_by_table(reading, pieces);
+    log.told() == reading.log.told()
 }
 
 fn tell_difference(byte: u8, wanted: &str, told: &str, answer: &mut Answer) {
     answer.quoted(&[byte]);
-    writeln!(answer, ": wanted {wanted}, read {told}");
+    answer.push(": wanted ");
+    answer.push(wanted);
+    answer.push(", read ");
+    answer.line(told);
 }

@@ -69,129 +69,117 @@ pub struct Comparison {
 
 impl Comparison {
     /// Nothing is compared yet.
-    pub fn new(alloc: Global) -> Result<Comparison, StepError> {
-        let mut wanted = Log::new(alloc);
-        wanted.restart(Until::Never)?;
-        Ok(Comparison {
+    pub fn new(alloc: Global) -> Comparison {
+        Comparison {
             log: Log::new(alloc),
-            wanted,
-            bytes: Vec::with_capacity(alloc, 16)?,
+            wanted: Log::new(alloc),
+            bytes: Vec::new(alloc),
             agreed: 0,
-        })
+        }
     }
 
-    /// How many streams have agreed.
-    pub fn agreed(&self) -> u64 {
-        self.agreed
+    /// Answers how many streams have agreed.
+    fn tell(&self, words: &Words, answer: &mut Answer) {
+        answer.number(self.agreed);
+        answer.line(" as text");
+        if self.log.calls.refused || self.wanted.calls.refused {
+            words.fail(StepError::Memory);
+        }
     }
 
     // The stream, cut once at each place, has the events that are wanted.
-    fn compare(&mut self, answer: &mut Answer) -> Result<(), StepError> {
-        self.wanted.check()?;
+    fn compare(&mut self, answer: &mut Answer) {
         let stream = self.bytes.as_slice();
         for cut in 0..=stream.len() {
             let pieces = [&stream[..cut], &stream[cut..]];
-            read(&Keeping::Usual, &mut self.log, &pieces)?;
+            read(&Keeping::Usual, &mut self.log, &pieces);
             if self.log.told() != self.wanted.told() {
-                self.tell_difference(cut, answer);
-                return Ok(());
+                return self.tell_difference(cut, answer);
             }
         }
         self.agreed = self.agreed.saturating_add(1);
-        Ok(())
     }
 
     fn tell_difference(&self, cut: usize, answer: &mut Answer) {
         answer.quoted(&self.bytes);
-        let (wanted, told) = (self.wanted.told(), self.log.told());
-        writeln!(answer, " cut at {cut}: wanted {wanted}, read {told}");
+        answer.push(" cut at ");
+        answer.number(cut as u64);
+        answer.push(": wanted ");
+        answer.push(self.wanted.told());
+        answer.push(", read ");
+        answer.line(self.log.told());
     }
 
     // The stream is made of these parts.
-    fn begin(&mut self, front: &[u8], back: &[u8]) -> Result<(), StepError> {
-        self.wanted.clear();
+    fn begin(&mut self, front: &[u8], back: &[u8]) {
+        self.wanted.restart(Until::Never);
         self.bytes.clear();
-        self.bytes.extend_from_slice(front)?;
-        Ok(self.bytes.extend_from_slice(back)?)
+        self.push(front);
+        self.push(back);
+    }
+
+    fn push(&mut self, bytes: &[u8]) {
+        self.wanted.calls.refused |= self.bytes.extend_from_slice(bytes).is_err();
+    }
+
+    // The events of the stream are those of its text.
+    fn compare_text(&mut self, answer: &mut Answer) {
+        events(&mut self.wanted, &self.bytes);
+        self.compare(answer);
     }
 
     /// Each byte and `c` behind an unfinished character, which ESC ends.
-    pub fn each_byte_after(
-        &mut self,
-        unfinished: &[u8],
-        answer: &mut Answer,
-    ) -> Result<(), StepError> {
+    pub fn each_byte_after(&mut self, unfinished: &[u8], answer: &mut Answer) {
         for byte in 0..=255u8 {
-            self.begin(unfinished, &[byte, b'c'])?;
+            self.begin(unfinished, &[byte, b'c']);
             if byte == 0x1B {
-                malformed(&mut self.wanted, unfinished);
-                self.wanted.word("esc |");
-                self.wanted.tell("kept", b'c' as u32);
+                self.compare_escape(unfinished, answer);
             } else {
-                events(&mut self.wanted, &self.bytes);
+                self.compare_text(answer);
             }
-            self.compare(answer)?;
         }
-        Ok(())
+    }
+
+    // An escape sequence of `c` ends the character.
+    fn compare_escape(&mut self, unfinished: &[u8], answer: &mut Answer) {
+        malformed(&mut self.wanted, unfinished);
+        self.wanted.word("esc |");
+        self.wanted.tell("kept", b'c' as u32);
+        self.compare(answer);
     }
 
     /// Each of the second bytes, each of the third ones and each of the last ones behind a first byte.
-    pub fn each_four(
-        &mut self,
-        first: u8,
-        others: &[u8],
-        lasts: &[u8],
-        answer: &mut Answer,
-    ) -> Result<(), StepError> {
+    pub fn each_four(&mut self, first: u8, others: &[u8], lasts: &[u8], answer: &mut Answer) {
         for second in others {
             for third in others {
-                self.each_last([first, *second, *third], lasts, answer)?;
+                self.each_last([first, *second, *third], lasts, answer);
             }
         }
-        Ok(())
     }
 
-    fn each_last(
-        &mut self,
-        front: [u8; 3],
-        lasts: &[u8],
-        answer: &mut Answer,
-    ) -> Result<(), StepError> {
+    fn each_last(&mut self, front: [u8; 3], lasts: &[u8], answer: &mut Answer) {
         for last in lasts {
-            self.begin(&front, &[*last])?;
-            events(&mut self.wanted, &self.bytes);
-            self.compare(answer)?;
+            self.begin(&front, &[*last]);
+            self.compare_text(answer);
         }
-        Ok(())
     }
 }
 
 /// Each byte behind an unfinished character, at every cut. Answers how many streams have the events that
 /// `str::from_utf8` says, and which don't.
-pub fn tell_after(alloc: Global, unfinished: &[u8], answer: &mut Answer) -> Result<(), StepError> {
-    let mut comparison = Comparison::new(alloc)?;
-    comparison.each_byte_after(unfinished, answer)?;
-    tell_agreed(&comparison, answer);
-    Ok(())
+pub fn tell_after(alloc: Global, words: &Words, answer: &mut Answer) {
+    let mut comparison = Comparison::new(alloc);
+    comparison.each_byte_after(words.bytes(), answer);
+    comparison.tell(words, answer);
 }
 
 /// Streams of four bytes, at every cut: each of the first bytes, of the others twice, and of the last ones. Answers as
 /// `tell_after` does.
-pub fn tell_fours(
-    alloc: Global,
-    words: &mut Words<'_>,
-    answer: &mut Answer,
-) -> Result<(), StepError> {
+pub fn tell_fours(alloc: Global, words: &Words, answer: &mut Answer) {
     let (firsts, others, lasts) = (words.bytes(), words.bytes(), words.bytes());
-    let mut comparison = Comparison::new(alloc)?;
+    let mut comparison = Comparison::new(alloc);
     for first in firsts {
-        comparison.each_four(*first, others, lasts, answer)?;
+        comparison.each_four(*first, others, lasts, answer);
     }
-    tell_agreed(&comparison, answer);
-    Ok(())
-}
-
-fn tell_agreed(comparison: &Comparison, answer: &mut Answer) {
-    let agreed = comparison.agreed();
-    writeln!(answer, "{agreed} as text");
+    comparison.tell(words, answer);
 }

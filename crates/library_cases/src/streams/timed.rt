@@ -49,11 +49,7 @@ impl Clock for Still {
 /// Answers the calls of a processor whose timeout is a flag, and how many bytes are held after each piece. The words are
 /// `give PIECE`, `times N PIECE`, `stop`, `up` and `down`, which set the flag, and two for the log: after `watch` each
 /// call has `true` or `false` behind it, whether the flag is up, and after `count` inputs are counted, and not told.
-pub fn tell_flagged(
-    alloc: Global,
-    words: &mut Words<'_>,
-    answer: &mut Answer,
-) -> Result<(), StepError> {
+pub fn tell_flagged(alloc: Global, words: &Words, answer: &mut Answer) -> Result<(), StepError> {
     let flag = Cell::new(false);
     play_flagged(&flag, alloc, words, answer)
 }
@@ -62,10 +58,10 @@ pub fn tell_flagged(
 fn play_flagged(
     flag: &Cell<bool>,
     alloc: Global,
-    words: &mut Words<'_>,
+    words: &Words,
     answer: &mut Answer,
 ) -> Result<(), StepError> {
-    let mut log = new_log(alloc)?;
+    let mut log = new_log(alloc);
     let mut processor = new_processor(alloc, Flagged(flag))?;
     play_words(&mut processor, flag, &mut log, words, answer);
     answer.line(log.text.as_str().trim_end());
@@ -73,10 +69,10 @@ fn play_flagged(
 }
 
 // A log with room.
-fn new_log<'a>(alloc: Global) -> Result<CallLog<'a>, StepError> {
+fn new_log<'a>(alloc: Global) -> CallLog<'a> {
     let mut log = CallLog::new(alloc);
-    log.restart(ROOM)?;
-    Ok(log)
+    log.restart(ROOM);
+    log
 }
 
 // No memory was refused to the log.
@@ -93,7 +89,7 @@ fn play_words<'a>(
     processor: &mut Processor<Flagged<'a>, Global>,
     flag: &'a Cell<bool>,
     log: &mut CallLog<'a>,
-    words: &mut Words<'_>,
+    words: &Words,
     answer: &mut Answer,
 ) {
     for _ in 0..MOST_WORDS {
@@ -108,7 +104,7 @@ fn play_word<'a>(
     processor: &mut Processor<Flagged<'a>, Global>,
     flag: &'a Cell<bool>,
     log: &mut CallLog<'a>,
-    words: &mut Words<'_>,
+    words: &Words,
     answer: &mut Answer,
 ) {
     match words.word() {
@@ -128,7 +124,7 @@ fn hand(
     processor: &mut Processor<Flagged<'_>, Global>,
     log: &mut CallLog<'_>,
     name: &str,
-    words: &mut Words<'_>,
+    words: &Words,
 ) {
     match name {
         "give" => advance(processor, log, words.bytes()),
@@ -160,12 +156,8 @@ fn tell_held(processor: &Processor<Flagged<'_>, Global>, log: &CallLog<'_>, answ
 }
 
 /// Answers how many bytes are held after each piece, and when the update's time is over. The clock stands at 1 second.
-pub fn tell_times(
-    alloc: Global,
-    words: &mut Words<'_>,
-    answer: &mut Answer,
-) -> Result<(), StepError> {
-    let mut log = new_log(alloc)?;
+pub fn tell_times(alloc: Global, words: &Words, answer: &mut Answer) -> Result<(), StepError> {
+    let mut log = new_log(alloc);
     let timeout = StdSyncHandler::new(Still(Duration::from_secs(1)));
     let mut processor = new_processor(alloc, timeout)?;
     for _ in 0..MOST_WORDS {
@@ -187,7 +179,7 @@ fn tell_end(processor: &Processor<StdSyncHandler<Still>, Global>, answer: &mut A
 
 /// Answers when a fresh timeout is due to end and whether it is pending, then when it is set for 150 milliseconds, and
 /// then when it is cleared. The clock stands at so many seconds, or at the `last` moment.
-pub fn tell_timeout(words: &mut Words<'_>, answer: &mut Answer) {
+pub fn tell_timeout(words: &Words, answer: &mut Answer) {
     let now = match words.word() {
         "last" => Duration::MAX,
         word => Duration::from_secs(words.named(word.parse::<u64>().ok(), "seconds, or last", 0)),

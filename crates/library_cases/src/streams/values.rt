@@ -27,7 +27,7 @@ pub fn tell_color(text: &str, answer: &mut Answer) {
 }
 
 /// Answers the sum of two colours, and their difference.
-pub fn tell_sums(words: &mut Words<'_>, answer: &mut Answer) {
+pub fn tell_sums(words: &Words, answer: &mut Answer) {
     let (Ok(first), Ok(second)) = (Rgb::from_str(words.text()), Rgb::from_str(words.text())) else {
         words.want("a colour");
         return;

@@ -18,6 +18,12 @@ pub enum Call<'a> {
     Print(&'a str),
     Text(char),
     RowIncScroll(u16),
+    Change(Change),
+}
+
+/// A call that tells nothing.
+#[derive(Clone, Copy)]
+pub enum Change {
     ScrollUp(u16),
     ColWrap(u16, bool),
     SetSize(Size),
@@ -33,35 +39,61 @@ pub enum Told {
 }
 
 /// The call that a step is, if it is one.
-pub fn parse_call<'a>(name: &str, words: &mut Words<'a>) -> Option<Call<'a>> {
-    Some(match name {
-        "print" => Call::Print(words.text()),
-        "text" => Call::Text(character(words)),
-        "row_inc_scroll" => Call::RowIncScroll(words.place()),
-        "scroll_up" => Call::ScrollUp(words.place()),
-        "col_wrap" => Call::ColWrap(words.place(), flag(words)),
-        "set_size" => Call::SetSize(size(words)),
-        "set_scrollback" => Call::SetScrollback(words.count()),
-        _ => return None,
-    })
+pub fn parse_call<'a>(name: &str, words: &'a Words) -> Option<Call<'a>> {
+    match name {
+        "print" => Some(Call::Print(words.text())),
+        "text" => Some(Call::Text(character(words))),
+        "row_inc_scroll" => Some(Call::RowIncScroll(words.place())),
+        _ => Some(Call::Change(parse_change(name, words)?)),
+    }
 }
 
-fn print(grid: &mut Grid, text: &str, gone: &mut Counter) -> Result<(), GridError>
+fn parse_change(name: &str, words: &Words) -> Option<Change> {
+    match name {
+        "scroll_up" => Some(Change::ScrollUp(words.place())),
+        "col_wrap" => Some(Change::ColWrap(words.place(), flag(words))),
+        "set_size" => Some(Change::SetSize(size(words))),
+        "set_scrollback" => Some(Change::SetScrollback(words.count())),
+        _ => None,
+    }
+}
+
+/// Prints a text, where `\r` goes to the first column and `\n` to the next row.
+fn print(grid: &mut Grid, text: &str, gone: &mut Counter) -> Result<Told, GridError>
     requires { IsAllocated grid.old }
     ensures { IsAllocated grid.new }
 {
     for c in text.chars() {
-        match c {
-            '\r' => grid.col_set(0),
-            '\n' => {
-                grid.row_inc_scroll(1, gone)?;
-            }
-            _ => {
-                grid.text(c, Attrs::new(), gone)?;
-            }
-        }
+        print_character(grid, c, gone)?;
     }
-    Ok(())
+    Ok(Told::Nothing)
+}
+
+fn print_character(grid: &mut Grid, c: char, gone: &mut Counter) -> Result<Told, GridError>
+    requires { IsAllocated grid.old }
+    ensures { IsAllocated grid.new }
+{
+    match c {
+        '\r' => grid.col_set(0),
+        '\n' => return row_inc_scroll(grid, 1, gone),
+        _ => return draw(grid, c, gone),
+    }
+    Ok(Told::Nothing)
+}
+
+/// Draws a character, with the default attributes.
+fn draw(grid: &mut Grid, c: char, gone: &mut Counter) -> Result<Told, GridError>
+    requires { IsAllocated grid.old }
+    ensures { IsAllocated grid.new }
+{
+    grid.text(c, Attrs::new(), gone).map(Told::Printed)
+}
+
+fn row_inc_scroll(grid: &mut Grid, count: u16, gone: &mut Counter) -> Result<Told, GridError>
+    requires { IsAllocated grid.old }
+    ensures { IsAllocated grid.new }
+{
+    grid.row_inc_scroll(count, gone).map(Told::Lines)
 }
 
 /// Makes a call.
@@ -70,16 +102,26 @@ pub fn make(grid: &mut Grid, call: Call<'_>, gone: &mut Counter) -> Result<Told,
     ensures { IsAllocated grid.new }
 {
     match call {
-        Call::Print(text) => print(grid, text, gone)?,
-        Call::Text(c) => return grid.text(c, Attrs::new(), gone).map(Told::Printed),
-        Call::RowIncScroll(count) => return grid.row_inc_scroll(count, gone).map(Told::Lines),
-        Call::ScrollUp(count) => grid.scroll_up(count, gone)?,
-        Call::ColWrap(width, wrap) => {
+        Call::Print(text) => print(grid, text, gone),
+        Call::Text(c) => draw(grid, c, gone),
+        Call::RowIncScroll(count) => row_inc_scroll(grid, count, gone),
+        Call::Change(change) => change_grid(grid, change, gone),
+    }
+}
+
+/// Makes a call that tells nothing.
+fn change_grid(grid: &mut Grid, change: Change, gone: &mut Counter) -> Result<Told, GridError>
+    requires { IsAllocated grid.old }
+    ensures { IsAllocated grid.new }
+{
+    match change {
+        Change::ScrollUp(count) => grid.scroll_up(count, gone)?,
+        Change::ColWrap(width, wrap) => {
             let width = width.min(grid.size().cols());
             grid.col_wrap(width, wrap, gone)?;
         }
-        Call::SetSize(size) => grid.set_size(size, gone)?,
-        Call::SetScrollback(rows) => grid.set_scrollback(rows)?,
+        Change::SetSize(size) => grid.set_size(size, gone)?,
+        Change::SetScrollback(rows) => grid.set_scrollback(rows)?,
     }
     Ok(Told::Nothing)
 }

@@ -3,12 +3,13 @@ ghost use Rattle.std.specs.Prelude.{◌<◌, length};
 ghost use Rattle.vt100_core.specs.Grid.{IsAllocated};
 
 use super::Counter;
+use super::moves::move_cursor;
 use case_player::Words;
 use vt100_core::Grid;
 use vt100_core::attrs::Attrs;
 
-/// Takes a step that edits cells or lines, if it is one.
-pub fn edit(grid: &mut Grid, name: &str, words: &mut Words<'_>, gone: &mut Counter) -> bool
+/// Takes a step that changes a grid and takes no memory.
+pub fn edit(grid: &mut Grid, name: &str, words: &Words, gone: &mut Counter)
     requires { IsAllocated grid.old }
 {
     match name {
@@ -20,12 +21,11 @@ pub fn edit(grid: &mut Grid, name: &str, words: &mut Words<'_>, gone: &mut Count
         "row_dec_scroll" => grid.row_dec_scroll(words.place()),
         "erase_all_scrollback" => grid.erase_all_scrollback(gone),
         "clear" => grid.clear(),
-        _ => return erase(grid, name, words),
+        _ => erase(grid, name, words),
     }
-    true
 }
 
-fn erase(grid: &mut Grid, name: &str, words: &mut Words<'_>) -> bool
+fn erase(grid: &mut Grid, name: &str, words: &Words)
     requires { IsAllocated grid.old }
 {
     let attrs = Attrs::new();
@@ -37,7 +37,6 @@ fn erase(grid: &mut Grid, name: &str, words: &mut Words<'_>) -> bool
         "erase_row_forward" => grid.erase_row_forward(attrs),
         "erase_row_backward" => grid.erase_row_backward(attrs),
         "erase_cells" => grid.erase_cells(words.place(), attrs),
-        _ => return false,
+        _ => move_cursor(grid, name, words),
     }
-    true
 }

@@ -5,17 +5,16 @@ use case_player::{StepError, Words};
 use vt100_core::attrs::Attrs;
 use vt100_core::{Cell, GridError, Row};
 
-/// Takes a step that edits a whole row, if it is one.
-pub fn edit_row(row: &mut Row, pen: Attrs, name: &str, words: &mut Words<'_>) -> bool {
+/// Takes a step that edits a row.
+pub fn change(row: &mut Row, pen: Attrs, name: &str, words: &Words) {
     match name {
         "clear" => row.clear(pen),
         "reset" => row.reset(),
         "trim" => row.trim(),
         "truncate" => row.truncate(words.place()),
         "wrap" => row.wrap(flag(words)),
-        _ => return false,
+        _ => edit_cells(row, pen, name, words),
     }
-    true
 }
 
 /// A step on cells of a row.
@@ -28,15 +27,21 @@ enum Edit {
     ClearWide,
 }
 
-/// Takes a step that edits cells of a row, if it is one.
-pub fn edit_cells(row: &mut Row, pen: Attrs, name: &str, words: &mut Words<'_>) -> bool {
-    let edit = match name {
-        "insert" => Edit::Insert,
-        "remove" => Edit::Remove,
-        "erase_range" => Edit::EraseRange,
-        "erase" => Edit::Erase,
-        "clear_wide" => Edit::ClearWide,
-        _ => return false,
+fn parse_edit(name: &str) -> Option<Edit> {
+    match name {
+        "insert" => Some(Edit::Insert),
+        "remove" => Some(Edit::Remove),
+        "erase" => Some(Edit::Erase),
+        "erase_range" => Some(Edit::EraseRange),
+        "clear_wide" => Some(Edit::ClearWide),
+        _ => None,
+    }
+}
+
+/// Takes a step that edits cells of a row.
+fn edit_cells(row: &mut Row, pen: Attrs, name: &str, words: &Words) {
+    let Some(edit) = parse_edit(name) else {
+        return words.fail(StepError::Unknown);
     };
     let (first, second) = match edit {
         Edit::Erase | Edit::ClearWide => (words.place(), 0),
@@ -45,7 +50,6 @@ pub fn edit_cells(row: &mut Row, pen: Attrs, name: &str, words: &mut Words<'_>) 
     if !make(row, pen, edit, first, second) {
         words.want("a column of the row");
     }
-    true
 }
 
 /// Makes an edit, and tells whether the row has the columns for it.
@@ -76,18 +80,17 @@ fn set_length(row: &mut Row, length: Length) -> Result<(), GridError> {
     }
 }
 
-/// Takes a step that makes a row longer, if it is one.
-pub fn lengthen(row: &mut Row, name: &str, words: &mut Words<'_>) -> Result<bool, StepError> {
+/// Takes a step that makes a row longer.
+pub fn lengthen(row: &mut Row, name: &str, words: &Words) -> Result<(), StepError> {
     let length = match name {
         "grow" => Length::Grow(words.place()),
-        "resize" => Length::Resize(words.place()),
-        _ => return Ok(false),
+        _ => Length::Resize(words.place()),
     };
     let before = row.clone().map_err(refused)?;
-    if set_length(row, length).is_err() {
-        return Err(unchanged(&before, row, length));
+    match set_length(row, length) {
+        Ok(()) => Ok(()),
+        Err(_) => Err(unchanged(&before, row, length)),
     }
-    Ok(true)
 }
 
 /// The error of a row that was refused memory: it is as before, and was to become longer.

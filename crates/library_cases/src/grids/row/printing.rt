@@ -10,38 +10,50 @@ use vt100_rows::{Join, columns};
 pub fn print(row: &mut Row, col: u16, text: &str, attrs: Attrs) {
     let mut col = col;
     for c in text.chars() {
-        match columns(c) {
-            Some(0) if 0 < col && col <= row.cols() => {
-                if let Join::Widened = row.join(col, c, attrs) {
-                    col = col.saturating_add(1);
-                }
-            }
-            Some(n) if 0 < n && u32::from(col) + u32::from(n) <= u32::from(row.cols()) => {
-                row.put(col, c, n, attrs);
-                col += n;
-            }
-            _ => {}
+        col = col.saturating_add(print_character(row, col, c, attrs));
+    }
+}
+
+/// Prints a character, if it fits. Answers by how many columns the next one goes further.
+fn print_character(row: &mut Row, col: u16, c: char, attrs: Attrs) -> u16 {
+    match join_at(row, col, c, attrs) {
+        Some(Join::Widened) => 1,
+        Some(_) => 0,
+        None => put_at(row, col, c, attrs),
+    }
+}
+
+/// Puts a character that takes columns, if it fits there. Answers how many columns it takes.
+fn put_at(row: &mut Row, col: u16, c: char, attrs: Attrs) -> u16 {
+    match columns(c) {
+        Some(n) if 0 < n && u32::from(col) + u32::from(n) <= u32::from(row.cols()) => {
+            row.put(col, c, n, attrs);
+            n
         }
+        _ => 0,
+    }
+}
+
+/// Joins a character that takes no column, if there is one before it. Answers what became of it.
+fn join_at(row: &mut Row, col: u16, c: char, attrs: Attrs) -> Option<Join> {
+    match columns(c) {
+        Some(0) if 0 < col && col <= row.cols() => Some(row.join(col, c, attrs)),
+        _ => None,
     }
 }
 
 /// Puts a character that takes columns.
-fn put(row: &mut Row, attrs: Attrs, words: &mut Words<'_>) {
-    let (col, c) = (words.place(), character(words));
-    match columns(c) {
-        Some(n) if 0 < n && u32::from(col) + u32::from(n) <= u32::from(row.cols()) => {
-            row.put(col, c, n, attrs);
-        }
-        _ => words.want("a character that fits there"),
+fn put(row: &mut Row, attrs: Attrs, words: &Words) {
+    if put_at(row, words.place(), character(words), attrs) == 0 {
+        words.want("a character that fits there");
     }
 }
 
 /// Joins a character that takes no column, and tells what became of it.
-fn join(row: &mut Row, attrs: Attrs, words: &mut Words<'_>, answer: &mut Answer) {
-    let (col, c) = (words.place(), character(words));
-    match columns(c) {
-        Some(0) if 0 < col && col <= row.cols() => { tell_join(row.join(col, c, attrs), answer) }
-        _ => words.want("a character that joins one there"),
+fn join(row: &mut Row, attrs: Attrs, words: &Words, answer: &mut Answer) {
+    match join_at(row, words.place(), character(words), attrs) {
+        Some(join) => tell_join(join, answer),
+        None => words.want("a character that joins one there"),
     }
 }
 
@@ -57,25 +69,17 @@ fn tell_join(join: Join, answer: &mut Answer) {
     }
 }
 
-/// Takes a step that prints, if it is one.
-pub fn print_at(
-    row: &mut Row,
-    pen: Attrs,
-    name: &str,
-    words: &mut Words<'_>,
-    answer: &mut Answer,
-) -> bool {
+/// Takes a step that prints.
+pub fn print_at(row: &mut Row, pen: Attrs, name: &str, words: &Words, answer: &mut Answer) {
     match name {
         "print" => print(row, words.place(), words.text(), pen),
         "put" => put(row, pen, words),
-        "join" => join(row, pen, words, answer),
-        _ => return false,
+        _ => join(row, pen, words, answer),
     }
-    true
 }
 
 /// Sets the attributes to draw with: two colours, and modes.
-pub fn set_pen(pen: &mut Attrs, words: &mut Words<'_>) {
+pub fn set_pen(pen: &mut Attrs, words: &Words) {
     let mut attrs = Attrs {
         fgcolor: color(words),
         bgcolor: color(words),
@@ -90,7 +94,7 @@ pub fn set_pen(pen: &mut Attrs, words: &mut Words<'_>) {
     *pen = attrs;
 }
 
-fn add_mode(attrs: &mut Attrs, words: &mut Words<'_>) {
+fn add_mode(attrs: &mut Attrs, words: &Words) {
     match words.word() {
         "bold" => attrs.set_bold(),
         "dim" => attrs.set_dim(),

@@ -1,35 +1,21 @@
 //! What a row tells.
-use crate::grids::answers::{plainness, push_cell, push_row, tell_text};
-use crate::grids::refused::appended;
+use crate::grids::answers::{push_cell, push_row};
+use crate::grids::forms::{Columns, Form, tell_form};
 use crate::grids::words::{flag, optional_pos, pos, two};
 use case_player::{Answer, StepError, Words};
 use std::alloc::Global;
-use vt100_core::attrs::Attrs;
-use vt100_core::{Cell, Pos, Row};
+use vt100_core::{Cell, Row};
 
 /// Tells what a step asks of a row.
-pub fn tell(
-    alloc: Global,
-    row: &Row,
-    earlier: &Option<Row>,
-    name: &str,
-    words: &mut Words<'_>,
-    answer: &mut Answer,
-) -> Result<(), StepError> {
+pub fn tell(row: &Row, earlier: &Option<Row>, name: &str, words: &Words, answer: &mut Answer) {
     match name {
         "shown" => push_row(answer, row),
         "counts" => push_counts(row, answer),
-        "cell" => {
-            tell_cell(row, words, answer);
-            return Ok(());
-        }
+        "cell" => return tell_cell(row, words, answer),
         "same_cell" => answer.push(same_cell(row, earlier, two(words))),
-        "write_contents" => return tell_contents(alloc, row, words, answer),
-        "write_contents_formatted" => return tell_forms(alloc, row, words, answer),
-        _ => return Err(StepError::Unknown),
+        _ => return words.fail(StepError::Unknown),
     }
     answer.end_line();
-    Ok(())
 }
 
 /// How many cells of a row are default ones.
@@ -46,14 +32,16 @@ fn blank_cells(row: &Row) -> u32 {
 
 /// How many columns a row has, how many of its cells are default ones, and whether it is wrapped.
 fn push_counts(row: &Row, answer: &mut Answer) {
-    let (cols, blank) = (row.cols(), blank_cells(row));
-    write!(answer, "{cols} columns, {blank} blank");
+    answer.number(u64::from(row.cols()));
+    answer.push(" columns, ");
+    answer.number(u64::from(blank_cells(row)));
+    answer.push(" blank");
     if row.wrapped() {
         answer.push(", wrapped");
     }
 }
 
-fn tell_cell(row: &Row, words: &mut Words<'_>, answer: &mut Answer) {
+fn tell_cell(row: &Row, words: &Words, answer: &mut Answer) {
     match row.get(words.place()) {
         Some(cell) => push_cell(answer, cell),
         None => words.want("a column of the row"),
@@ -68,77 +56,56 @@ fn same_cell(row: &Row, earlier: &Option<Row>, (col, earlier_col): (u16, u16)) -
     }
 }
 
-/// The text of columns: the first one, how many, and whether the row above goes on in this one.
-fn tell_contents(
-    alloc: Global,
-    row: &Row,
-    words: &mut Words<'_>,
-    answer: &mut Answer,
-) -> Result<(), StepError> {
-    let (start, width) = two(words);
-    let wrapping = flag(words);
-    let (text, ()) = appended(alloc, |text| {
-        row.write_contents(text, start, width, wrapping)
-    })?;
-    tell_text(answer, text.text());
-    Ok(())
+/// The columns of a step: the first one, how many, the row's number, and whether the row above goes on in this one.
+fn columns(words: &Words) -> Columns {
+    Columns {
+        start: words.place(),
+        width: words.place(),
+        row: words.place(),
+        wrapping: flag(words),
+    }
 }
 
-/// Appends where the cursor stands, and whether it draws with the default attributes.
-fn tell_left(answer: &mut Answer, (pos, attrs): (Pos, Attrs)) {
-    writeln!(answer, "{} {} {}", pos.row, pos.col, plainness(attrs));
+/// The call that a step is. The text of columns needs no row's number, and a difference needs an earlier row.
+fn parse_form<'a>(
+    row: &'a Row,
+    earlier: &'a Option<Row>,
+    name: &str,
+    words: &Words,
+) -> Option<Form<'a>> {
+    match (name, earlier) {
+        ("write_contents", _) => Some(Form::RowContents(row, contents_columns(words))),
+        ("write_contents_formatted", _) => {
+            Some(Form::RowFormatted(row, columns(words), optional_pos(words)))
+        }
+        ("write_contents_diff", Some(earlier)) => {
+            let columns = columns(words);
+            Some(Form::RowDiff(row, earlier, columns, flag(words), pos(words)))
+        }
+        _ => None,
+    }
 }
 
-/// The forms that draw columns: the first one, how many, the row's number, whether the row above goes on in this one,
-/// and where the cursor stands, if that is known.
-fn tell_forms(
-    alloc: Global,
-    row: &Row,
-    words: &mut Words<'_>,
-    answer: &mut Answer,
-) -> Result<(), StepError> {
-    let (start, width) = two(words);
-    let number = words.place();
-    let wrapping = flag(words);
-    let place = optional_pos(words);
-    let (text, left) = appended(alloc, |text| {
-        row.write_contents_formatted(text, start, width, number, wrapping, place, None)
-    })?;
-    tell_text(answer, text.text());
-    tell_left(answer, left);
-    Ok(())
+fn contents_columns(words: &Words) -> Columns {
+    Columns {
+        start: words.place(),
+        width: words.place(),
+        row: 0,
+        wrapping: flag(words),
+    }
 }
 
-/// The difference from the earlier row: the first column, how many, the row's number, whether the row above goes on in
-/// this one and did before, and where the cursor stands.
-pub fn tell_difference(
+/// Takes a step that writes a row.
+pub fn write(
     alloc: Global,
     row: &Row,
     earlier: &Option<Row>,
-    words: &mut Words<'_>,
+    name: &str,
+    words: &Words,
     answer: &mut Answer,
 ) -> Result<(), StepError> {
-    let Some(earlier) = earlier else {
-        return Err(StepError::Wrong("there is no earlier row"));
-    };
-    let (start, width) = two(words);
-    let number = words.place();
-    let (wrapping, was_wrapping) = (flag(words), flag(words));
-    let (pos, attrs) = (pos(words), Attrs::new());
-    let (text, left) = appended(alloc, |text| {
-        row.write_contents_diff(
-            text,
-            earlier,
-            start,
-            width,
-            number,
-            wrapping,
-            was_wrapping,
-            pos,
-            attrs,
-        )
-    })?;
-    tell_text(answer, text.text());
-    tell_left(answer, left);
-    Ok(())
+    match parse_form(row, earlier, name, words) {
+        Some(form) => tell_form(alloc, form, answer),
+        None => Err(StepError::Wrong("there is no earlier row")),
+    }
 }
