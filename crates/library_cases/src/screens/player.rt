@@ -101,11 +101,10 @@ fn take_on_stage(
         "feed" | "print" | "fill" | "set_size" | "set_screen_size" | "set_scrollback" => {
             stage.change(alloc, name, words)
         }
-        "set_base" | "set_base_shown" | "copy_shown" | "set_base_scrollback" => {
-            stage.change_base(alloc, name, words)
-        }
+        "set_base" | "set_base_shown" | "set_base_visible" | "copy_shown" | "set_base_scrollback" =>
+            stage.change_base(alloc, name, words),
         "call" => stage.call(alloc, words),
-        "copy" | "redraw" => stage.check(alloc, name),
+        "copy" | "redraw" | "redraw_visible" => stage.check(alloc, name),
         _ => tell_on_stage(alloc, stage, name, words, answer),
     }
 }

@@ -124,6 +124,7 @@ impl Stage {
         match name {
             "set_base" => self.base.screen = screen.clone().map_err(refused)?,
             "set_base_shown" => self.base.screen = screen.clone_shown().map_err(refused)?,
+            "set_base_visible" => self.base.screen = screen.clone_visible().map_err(refused)?,
             "copy_shown" => self.base.screen.copy_shown(screen).map_err(refused)?,
             _ => {
                 let answer = self.base.screen.set_scrollback(words.count());
@@ -143,6 +144,10 @@ impl Stage {
     pub fn check(&self, alloc: Global, name: &str) -> Result<(), StepError> {
         match name {
             "copy" => check_copy(alloc, self.parser.screen()),
+            "redraw_visible" => {
+                let copy = self.parser.screen().clone_visible().map_err(refused)?;
+                check_redraw(alloc, &copy)
+            }
             _ => check_redraw(alloc, self.parser.screen()),
         }
     }
