@@ -13,6 +13,7 @@ use Rattle.screen_model.specs.Call.{ScreenView}
 use Rattle.screen_model.specs.Shown.{shown_state}
 use Rattle.screen_model.specs.State.{State}
 use Rattle.screen_model.specs.Step.{kept_dropped}
+use Rattle.vt100.specs.Copies.{visible_copy_of}
 use Rattle.vt100.specs.Parsing.{HasRead}
 use Rattle.vt100.specs.Tries.{unless_failed}
 use Rattle.vt100.specs.WriterLaws.{IsUnscrolled}
@@ -39,17 +40,21 @@ pub record IsMadeOf (v : ScreenView) (n : Marked) : Type 0 where
   pub requests : n.parser.callbacks ≡ no_requests
   pub mark : n.mark ≡ None
 
--- an equal screen
-abbrev pub IsCopy : Marked → Marked → Type 0
-IsCopy m n = IsMadeOf m.parser.screen n
+-- the object is a screen of this
+abbrev pub IsScreenOf : ScreenView → Object → Type 0
+IsScreenOf v (Hub h) = ⊥
+IsScreenOf v (View w) = ⊥
+IsScreenOf v (Screen n) = IsMadeOf v n
+IsScreenOf v (Recording r) = ⊥
+IsScreenOf v (Filter f) = ⊥
 
 -- the object y is a copy of the screen m
 abbrev pub IsCopyOf : Object → Marked → ℤ → Type 0
-IsCopyOf (Hub h) m code = ⊥
-IsCopyOf (View v) m code = ⊥
-IsCopyOf (Screen n) m code = IsCopy m n
-IsCopyOf (Recording r) m code = ⊥
-IsCopyOf (Filter f) m code = ⊥
+IsCopyOf y m code = IsScreenOf m.parser.screen y
+
+-- the object y draws on copies of the rows that the screen m shows
+abbrev pub IsVisibleCopyOf : Object → Marked → ℤ → Type 0
+IsVisibleCopyOf y m code = IsScreenOf (visible_copy_of m.parser.screen) y
 
 -- ---- the kept rows
 

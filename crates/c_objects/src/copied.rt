@@ -1,7 +1,8 @@
 //! A copy of a screen, the differences of two screens, and the parts of what redraws one.
 ghost use Rattle.std.specs.Prelude.{◌≡◌, IfOk, IfErr};
 ghost use Rattle.c_objects.specs.Codes.{IsRefusal, ok, memory};
-ghost use Rattle.c_objects.specs.Copied.{IsCopy, IsCopyOf, IsMadeOf, ClearsKept, Draws, ScreensSay};
+ghost use Rattle.c_objects.specs.Copied.{IsMadeOf, IsScreenOf, IsCopyOf, IsVisibleCopyOf, ClearsKept, Draws};
+ghost use Rattle.c_objects.specs.Copied.{ScreensSay};
 ghost use Rattle.c_objects.specs.Copied.{HasBasic, HasModes, HasAttributes, HasCursor};
 ghost use Rattle.c_objects.specs.Copied.{HasContentsDiff, HasStateDiff, HasModesDiff};
 ghost use Rattle.c_objects.specs.Objects.{ScreenDoes, ScreenSays};
@@ -32,12 +33,13 @@ pub(crate) fn marked_of(alloc: Global, screen: Screen) -> Result<Marked, i32>
     Ok(Marked { parser, mark: None })
 }
 
-fn copy_of(alloc: Global, marked: &Marked) -> Result<Marked, i32>
-    ensures copied { IfOk result (λ n. IsCopy marked.now n) }
+fn boxed_screen(alloc: Global, screen: Screen) -> Result<Box<Object>, i32>
+    ensures made { IfOk result (λ b. IsScreenOf screen b.value) }
     ensures refused { IfErr result (λ code. code ≡ memory) }
 {
-    match marked.parser.screen().clone() {
-        Ok(screen) => marked_of(alloc, screen),
+    let marked = marked_of(alloc, screen)?;
+    match Box::new(alloc, Object::Screen(marked)) {
+        Ok(b) => Ok(b),
         Err(_) => Err(MEMORY),
     }
 }
@@ -46,9 +48,18 @@ fn boxed_copy(alloc: Global, marked: &Marked) -> Result<Box<Object>, i32>
     ensures copied { IfOk result (λ b. IsCopyOf b.value marked.now ok) }
     ensures refused { IfErr result (λ code. code ≡ memory) }
 {
-    let copy = copy_of(alloc, marked)?;
-    match Box::new(alloc, Object::Screen(copy)) {
-        Ok(b) => Ok(b),
+    match marked.parser.screen().clone() {
+        Ok(copy) => boxed_screen(alloc, copy),
+        Err(_) => Err(MEMORY),
+    }
+}
+
+fn boxed_visible(alloc: Global, marked: &Marked) -> Result<Box<Object>, i32>
+    ensures copied { IfOk result (λ b. IsVisibleCopyOf b.value marked.now ok) }
+    ensures refused { IfErr result (λ code. code ≡ memory) }
+{
+    match marked.parser.screen().clone_visible() {
+        Ok(copy) => boxed_screen(alloc, copy),
         Err(_) => Err(MEMORY),
     }
 }
@@ -61,6 +72,18 @@ pub fn clone_screen(alloc: Global, object: &Object) -> Result<Box<Object>, i32>
 {
     match object {
         Object::Screen(marked) => boxed_copy(alloc, marked),
+        _ => Err(OTHER_KIND),
+    }
+}
+
+/// Makes a screen that draws on copies of the rows that a screen shows, kept ones too, and keeps none. Refused if an
+/// allocation fails.
+pub fn clone_visible(alloc: Global, object: &Object) -> Result<Box<Object>, i32>
+    ensures copied { IfOk result (λ b. ScreenSays (IsVisibleCopyOf b.value) object.now ok) }
+    ensures refused { IfErr result (λ code. ScreenSays (λ m c. c ≡ memory) object.now code) }
+{
+    match object {
+        Object::Screen(marked) => boxed_visible(alloc, marked),
         _ => Err(OTHER_KIND),
     }
 }

@@ -1,11 +1,12 @@
 //! Copies of screens, differences of two, and the parts of what redraws one, for C.
 ghost use Rattle.std.specs.Prelude.{◌≡◌, IfOk, IfErr, None};
 ghost use Rattle.c_objects.specs.Codes.{IsRefusal, ok, memory};
-ghost use Rattle.c_objects.specs.Copied.{IsCopyOf, ClearsKept, Draws, ScreensSay, HasRows, HasRowsDiff};
+ghost use Rattle.c_objects.specs.Copied.{IsCopyOf, IsVisibleCopyOf, ClearsKept, Draws, ScreensSay};
+ghost use Rattle.c_objects.specs.Copied.{HasRows, HasRowsDiff};
 ghost use Rattle.c_objects.specs.Copied.{HasBasic, HasModes, HasAttributes, HasCursor};
 ghost use Rattle.c_objects.specs.Copied.{HasContentsDiff, HasStateDiff, HasModesDiff};
 ghost use Rattle.c_objects.specs.Objects.{ScreenDoes, ScreenSays};
-ghost use Rattle.c_objects.specs.Words.{OnWord, InWord, InWords, GetsCopy};
+ghost use Rattle.c_objects.specs.Words.{OnWord, InWord, InWords, GetsCopy, GetsVisibleCopy};
 
 use crate::word::Word;
 use c_objects::{CDrawing, CLOSED, OK, Object, copied, rows};
@@ -37,6 +38,40 @@ pub extern "C" fn jeihpal_screen_clone(alloc: Global, word: &mut Word, from: &mu
             OK
         }
         Err(code) => code,
+    }
+}
+
+fn visible_in(alloc: Global, from: &mut Word) -> Result<Box<Object>, i32>
+    ensures copied { IfOk result (λ b. InWord (ScreenSays (IsVisibleCopyOf b.value)) from.old.held ok) }
+    ensures refused { IfErr result (λ code. InWord (ScreenSays (λ m c. c ≡ memory)) from.old.held code) }
+    ensures same { from.new.held ≡ from.old.held }
+{
+    match from.get_mut() {
+        Some(object) => copied::clone_visible(alloc, object),
+        None => Err(CLOSED),
+    }
+}
+
+/// Makes a screen that draws on copies of the rows that the screen in `from` shows, kept ones too, and keeps none, and
+/// puts it into `word`. So its redraws and differences lead a terminal to what is shown. Refused if an allocation
+/// fails; `word` is then as it was.
+///
+/// An object that `word` held is closed, unless the call is refused.
+#[unsafe(no_mangle)]
+pub extern "C" fn jeihpal_screen_clone_visible(
+    alloc: Global,
+    word: &mut Word,
+    from: &mut Word,
+) -> i32
+    ensures says { GetsVisibleCopy from.old.held word.old.held result word.new.held }
+    ensures same { from.new.held ≡ from.old.held }
+{
+    match visible_in(alloc, from) {
+        Ok(object) => {
+            word.put(alloc, object);
+            OK
+        }
+        Err(refusal) => refusal,
     }
 }
 
