@@ -268,7 +268,7 @@ static void row_cells(void) {
 }
 
 static void copies(void) {
-    jeihpal_screen screen = JEIHPAL_INIT, copy = JEIHPAL_INIT;
+    jeihpal_screen screen = JEIHPAL_INIT, copy = JEIHPAL_INIT, fresh = JEIHPAL_INIT;
     jeihpal_view view = JEIHPAL_INIT;
     jeihpal_request request;
     jeihpal_look look, other;
@@ -308,8 +308,19 @@ static void copies(void) {
     CHECK(jeihpal_screen_look(&screen, &look) == JEIHPAL_OK && look.kept == 1);
     CHECK(jeihpal_screen_clear_scrollback((jeihpal_screen *)&view) == JEIHPAL_OTHER_KIND);
     CHECK(jeihpal_screen_tell((jeihpal_screen *)&view, 1, 1) == JEIHPAL_OTHER_KIND);
+    CHECK(jeihpal_screen_scroll(&screen, 1) == JEIHPAL_OK);
+    CHECK(jeihpal_screen_clone_visible(&copy, (jeihpal_screen *)&view) == JEIHPAL_OTHER_KIND);
+    CHECK(jeihpal_screen_clone_visible(&copy, &screen) == JEIHPAL_OK);
+    CHECK(jeihpal_screen_look(&copy, &other) == JEIHPAL_OK && other.kept == 0 && other.scrolled == 0);
+    CHECK(jeihpal_screen_state(&copy, text, sizeof text, &length) == JEIHPAL_OK && length < sizeof text);
+    CHECK(jeihpal_screen_new(&fresh, 2, 5, 0) == JEIHPAL_OK);
+    CHECK(jeihpal_screen_process(&fresh, text, length) == JEIHPAL_OK);
+    CHECK(jeihpal_screen_contents(&fresh, text, sizeof text, &length) == JEIHPAL_OK);
+    CHECK(is_text(text, length, "a\nb")); /* what the screen shows */
+    jeihpal_screen_close(&fresh);
     jeihpal_screen_close(&screen);
     jeihpal_screen_close(&copy);
+    CHECK(jeihpal_screen_clone_visible(&copy, &screen) == JEIHPAL_CLOSED && !copy.held);
     CHECK(jeihpal_screen_clear_scrollback(&screen) == JEIHPAL_CLOSED);
     CHECK(jeihpal_screen_tell(&screen, 1, 1) == JEIHPAL_CLOSED);
     jeihpal_view_close(&view);

@@ -102,6 +102,8 @@ static void screens() {
     }
     moved = copy;
     CHECK(moved.contents() == copy.contents());
+    moved.scroll(1);
+    CHECK(moved.clone_visible().look().kept == 0 && moved.clone_visible().contents() == moved.contents());
     std::thread([kept = std::make_unique<jeihpal::screen>(std::move(moved))] { CHECK(kept->look().rows == 2); }).join();
 }
 

@@ -91,6 +91,8 @@ static void use_copy(jeihpal_screen *screen) {
     noted(jeihpal_screen_clear_scrollback(&copy));
     void *before = copy.held;
     if (noted(jeihpal_screen_clone(&copy, screen)) < 0) CHECK(copy.held == before);
+    before = copy.held;
+    if (noted(jeihpal_screen_clone_visible(&copy, screen)) < 0) CHECK(copy.held == before);
     jeihpal_screen_close(&copy);
 }
 

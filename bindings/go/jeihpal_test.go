@@ -204,6 +204,23 @@ func TestDifferencesAndClones(t *testing.T) {
 	}
 }
 
+func TestClonesOfWhatIsShown(t *testing.T) {
+	screen, err := NewScreen(1, 9, 3)
+	must(t, err)
+	fmt.Fprint(screen, "one\r\ntwo")
+	must(t, screen.Scroll(1))
+	clone, err := screen.CloneVisible()
+	must(t, err)
+	state, err := clone.StateFormatted()
+	must(t, err)
+	fresh, err := NewScreen(1, 9, 0)
+	must(t, err)
+	fresh.Write(state)
+	if text, err := fresh.Contents(); err != nil || text != "one" {
+		t.Fatalf("%q %q %v", state, text, err)
+	}
+}
+
 func TestRecording(t *testing.T) {
 	recording, err := OpenRecording([]byte("{\"version\": 2, \"width\": 9, \"height\": 2}\n[0.5, \"o\", \"hi\"]\n[1, \"r\", \"7x3\"]\nx"))
 	must(t, err)

@@ -49,16 +49,27 @@ func closeScreen(w *word) { C.jeihpal_screen_close(screenOf(w)) }
 // Clone is a screen that shows the same and keeps the same rows. It has no requests, and has read nothing of a character
 // or a sequence.
 func (s *Screen) Clone() (*Screen, error) {
+	return s.copied(func(to, from *C.jeihpal_screen) C.int32_t { return C.jeihpal_screen_clone(to, from) })
+}
+
+func (s *Screen) copied(fill func(to, from *C.jeihpal_screen) C.int32_t) (*Screen, error) {
 	clone := &Screen{shown: shown{reads: screenReads}, mostCells: s.mostCells}
 	err := clone.made(closeScreen, func(w *word) C.int32_t {
 		s.lock.Lock()
 		defer s.lock.Unlock()
-		return C.jeihpal_screen_clone(screenOf(w), screenOf(s.word))
+		return fill(screenOf(w), screenOf(s.word))
 	})
 	if err != nil {
 		return nil, err
 	}
 	return clone, nil
+}
+
+// CloneVisible is a screen that draws on the rows that are shown, kept ones too, and keeps none. So what redraws it
+// leads a terminal to what s shows, whether kept rows are shown or not. Of a kept row that is wider than the screen, a
+// wide character that the right edge cuts is blank.
+func (s *Screen) CloneVisible() (*Screen, error) {
+	return s.copied(func(to, from *C.jeihpal_screen) C.int32_t { return C.jeihpal_screen_clone_visible(to, from) })
 }
 
 // Write reads the program's next bytes. They may be cut anywhere. After ErrMemory the screen has failed: it can still be

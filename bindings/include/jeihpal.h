@@ -323,8 +323,8 @@ int32_t jeihpal_screen_resize_within(jeihpal_screen *screen, uint16_t rows, uint
 
 /* Shows the newest `rows` of the kept rows above the others, or all of them where there are fewer. What the calls
  * below say of cells and texts is read there. Redraws and differences draw these rows too, but bring the cursor to where
- * it is in the rows that are drawn on. So they lead a terminal to the picture only where no kept row is shown. FAILED:
- * nothing has changed. MEMORY: the screen has failed. */
+ * it is in the rows that are drawn on. So they lead a terminal to the picture only where no kept row is shown, or from
+ * copies by jeihpal_screen_clone_visible. FAILED: nothing has changed. MEMORY: the screen has failed. */
 int32_t jeihpal_screen_scroll(jeihpal_screen *screen, size_t rows);
 
 /* The size, the cursor and the modes. */
@@ -369,6 +369,12 @@ int32_t jeihpal_screen_difference(jeihpal_screen *screen, uint8_t *to, size_t ca
  * no mark and no requests, and has read nothing of a character or a sequence. What `screen` held is closed, unless
  * the call is refused. CLOSED and OTHER_KIND speak of `from`. The two words aren't the same. MEMORY. */
 int32_t jeihpal_screen_clone(jeihpal_screen *screen, jeihpal_screen *from);
+
+/* The same, of what is shown: the copy draws on the rows that `from` shows, kept ones too, and keeps none. So its
+ * redraws and differences lead a terminal to what `from` shows, whether kept rows are shown or not. Of a kept row that
+ * is wider than the screen, a wide character that the right edge cuts is blank, and the row goes on in the next one
+ * only if its last column shows something. The last row goes on in none. MEMORY. */
+int32_t jeihpal_screen_clone_visible(jeihpal_screen *screen, jeihpal_screen *from);
 
 /* Drops the kept rows of what is shown. FAILED. */
 int32_t jeihpal_screen_clear_scrollback(jeihpal_screen *screen);

@@ -263,6 +263,13 @@ public:
         return *this;
     }
 
+    // A screen that draws on the rows that are shown, kept ones too, and keeps none.
+    screen clone_visible() const {
+        screen copy(1, 1);
+        checked(jeihpal_screen_clone_visible(copy.word(), word()));
+        return copy;
+    }
+
     void process(std::string_view bytes) {
         checked(jeihpal_screen_process(word(), detail::bytes_of(bytes), bytes.size()));
     }

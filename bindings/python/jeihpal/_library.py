@@ -150,6 +150,7 @@ PARAMETERS: dict[str, list[Any]] = {
     "screen_difference": _TEXT,
     "screen_tell": [ctypes.c_uint8, ctypes.c_uint8],
     "screen_clone": [_WORD],
+    "screen_clone_visible": [_WORD],
     "screen_clear_scrollback": [],
     "screen_drawing": [ctypes.POINTER(RawDrawing)],
     "screen_contents_formatted_basic": _TEXT,

@@ -86,19 +86,30 @@ class Screen(Shown):
 
         Where it draws lines, so does the copy, from the usual character sets on.
         """
-        copy = type(self).__new__(type(self))
-        copy._prepare(self._filter is not None)
-        copy._begin()
-        copy._most_cells = self._most_cells
-        with self._lock:
-            copy._call("clone", self._word)
-            copy._names, copy._clean = dict(self._names), self._clean
-        return copy
+        return self._copied("clone")
 
     __copy__ = clone
 
     def __deepcopy__(self, _: object) -> Screen:
         return self.clone()
+
+    def clone_visible(self) -> Screen:
+        """Such a copy of what is shown: it draws on the rows that are shown, kept ones too, and keeps none.
+
+        So its redraws and differences lead a terminal to what is shown, whether kept rows are shown or not. Of a kept
+        row that is wider than the screen, a wide character that the right edge cuts is blank.
+        """
+        return self._copied("clone_visible")
+
+    def _copied(self, name: str) -> Screen:
+        copy = type(self).__new__(type(self))
+        copy._prepare(self._filter is not None)
+        copy._begin()
+        copy._most_cells = self._most_cells
+        with self._lock:
+            copy._call(name, self._word)
+            copy._names, copy._clean = dict(self._names), self._clean
+        return copy
 
     # ---- what changes it
 
@@ -136,7 +147,8 @@ class Screen(Shown):
     def scroll(self, rows: int) -> None:
         """Shows the newest `rows` of the kept rows above the others, or all where there are fewer.
 
-        Redraws and differences lead a terminal to the picture only where none is shown.
+        Redraws and differences lead a terminal to the picture only where none is shown, or from copies by
+        `clone_visible`.
         """
         self._call("scroll", checked_count(rows))
 

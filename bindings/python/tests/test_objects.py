@@ -276,6 +276,18 @@ class Reading(unittest.TestCase):
             self.assertEqual(screen.contents_formatted_basic(), b"abcdefg\n\x1b[31;1mred")
             self.assertEqual(screen.drawing, (1, None, Attributes.BOLD | Attributes.UNDERLINED))
 
+    def test_clones_of_what_is_shown(self):
+        with Screen(2, 5, scrollback=10) as screen:
+            screen.process(b"a\r\nb\r\nc\r\nd")
+            bottom = screen.clone_visible()
+            screen.scroll(1)
+            shown, fresh = screen.clone_visible(), Screen(2, 5)
+            self.assertEqual((shown.look().kept, shown.look().scrolled), (0, 0))
+            fresh.process(bottom.state())
+            self.assertEqual(fresh.contents(), "c\nd")
+            fresh.process(shown.difference(bottom))
+            self.assertEqual(fresh.contents(), screen.contents())
+
     def test_clones(self):
         with Screen(3, 5, scrollback=10) as screen:
             screen.process(b"abcdefg\r\n\x1b[1;31mred\x1b[?2004h\x1b[4m\x1b]2;t\a")

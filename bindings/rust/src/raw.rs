@@ -301,6 +301,7 @@ extern "C" {
     ) -> i32;
     pub(crate) fn jeihpal_screen_tell(screen: *mut Word, unknown: u8, rows: u8) -> i32;
     pub(crate) fn jeihpal_screen_clone(screen: *mut Word, from: *mut Word) -> i32;
+    pub(crate) fn jeihpal_screen_clone_visible(screen: *mut Word, from: *mut Word) -> i32;
     pub(crate) fn jeihpal_screen_clear_scrollback(screen: *mut Word) -> i32;
     pub(crate) fn jeihpal_screen_drawing(screen: *mut Word, drawing: *mut RawDrawing) -> i32;
     pub(crate) fn jeihpal_screen_contents_formatted_basic(

@@ -85,6 +85,15 @@ impl Screen {
         Ok(copy)
     }
 
+    /// A copy that draws on the rows that are shown, kept ones too, and keeps none. Its redraws and differences lead a
+    /// terminal to what this screen shows, whether kept rows are shown or not. Of a kept row that is wider than the
+    /// screen, a wide character that the right edge cuts is blank.
+    pub fn try_clone_visible(&self) -> Result<Screen> {
+        let from = self.object.word();
+        // SAFETY: the new word is null, and another one than that of this screen.
+        Screen::filled(|word| unsafe { raw::jeihpal_screen_clone_visible(word, from) })
+    }
+
     /// Reads the program's next bytes. They may be cut anywhere. After [`Error::Memory`] the screen has failed: it can
     /// still be read, but no bytes change it any more.
     ///
@@ -105,7 +114,8 @@ impl Screen {
     }
 
     /// Shows the newest `rows` of the kept rows above the others, or all where there are fewer. Redraws and differences
-    /// lead a terminal to the picture only where none is shown.
+    /// lead a terminal to the picture only where none is shown, or from copies by
+    /// [`try_clone_visible`](Screen::try_clone_visible).
     pub fn scroll(&mut self, rows: usize) -> Result<()> {
         self.object
             .act(|word| unsafe { raw::jeihpal_screen_scroll(word, rows) })

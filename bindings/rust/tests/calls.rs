@@ -277,6 +277,28 @@ fn copies() {
 }
 
 #[test]
+fn copies_of_what_is_shown() {
+    let mut screen = Screen::new(size(2), size(5), 3).unwrap();
+    screen.process(b"a\r\nb\r\nc\r\nd").unwrap();
+    let bottom = screen.try_clone_visible().unwrap();
+    screen.scroll(1).unwrap();
+    let shown = screen.try_clone_visible().unwrap();
+    assert_eq!(
+        (shown.look().scrollback_len, shown.look().scrollback),
+        (0, 0)
+    );
+    let mut fresh = Screen::new(size(2), size(5), 0).unwrap();
+    fresh
+        .process(bottom.state_formatted().unwrap().as_bytes())
+        .unwrap();
+    assert_eq!(fresh.contents().unwrap(), "c\nd");
+    fresh
+        .process(shown.state_diff(&bottom).unwrap().as_bytes())
+        .unwrap();
+    assert_eq!(fresh.contents().unwrap(), "b\nc");
+}
+
+#[test]
 fn a_queue_is_bounded() {
     let mut screen = Screen::new(size(2), size(5), 0).unwrap();
     let name = [b'x'; 1021];
