@@ -31,12 +31,7 @@ impl Player for Stage<'_> {
         self.relays.begin();
     }
 
-    fn take(
-        &mut self,
-        name: &str,
-        words: &mut Words<'_>,
-        answer: &mut Answer,
-    ) -> Result<(), StepError> {
+    fn take(&mut self, name: &str, words: &Words, answer: &mut Answer) -> Result<(), StepError> {
         if self.is_command {
             self.commands.take(name, words, answer)
         } else {

@@ -49,7 +49,7 @@ impl Limits {
     }
 
     /// Takes a step that changes a limit.
-    pub fn take(&mut self, name: &str, words: &mut Words<'_>) -> Result<(), StepError> {
+    pub fn take(&mut self, name: &str, words: &Words) -> Result<(), StepError> {
         match name {
             "room" => self.room = words.count(),
             "writes-of" => self.step = words.count(),

@@ -41,40 +41,40 @@ impl<'a> CommandPlayer<'a> {
         }
     }
 
-    fn set_input(&mut self, words: &mut Words<'_>) -> Result<(), StepError> {
+    fn set_input(&mut self, words: &Words) -> Result<(), StepError> {
         let bytes = words.bytes().to_vec(self.alloc)?;
         Ok(self.input.set(self.alloc, bytes)?)
     }
 
-    fn read_input(&mut self, words: &mut Words<'_>) -> Result<(), StepError> {
+    fn read_input(&mut self, words: &Words) -> Result<(), StepError> {
         let bytes = self.file_in_data(words.word())?;
         Ok(self.input.set(self.alloc, bytes)?)
     }
 
-    fn extend_input(&mut self, words: &mut Words<'_>) -> Result<(), StepError> {
+    fn extend_input(&mut self, words: &Words) -> Result<(), StepError> {
         let times = words.count();
         let bytes = words.bytes();
         let more = repeated(self.alloc, times, bytes)?;
         Ok(self.input.extend(more)?)
     }
 
-    fn push_read(&mut self, words: &mut Words<'_>) -> Result<(), StepError> {
+    fn push_read(&mut self, words: &Words) -> Result<(), StepError> {
         let bytes = words.bytes().to_vec(self.alloc)?;
         Ok(self.input.push_read(bytes)?)
     }
 
-    fn push_fault(&mut self, words: &mut Words<'_>) -> Result<(), StepError> {
+    fn push_fault(&mut self, words: &Words) -> Result<(), StepError> {
         let kind = error_kind(words.word())?;
         Ok(self.input.push_fault(kind)?)
     }
 
-    fn add_file(&mut self, words: &mut Words<'_>) -> Result<(), StepError> {
+    fn add_file(&mut self, words: &Words) -> Result<(), StepError> {
         let name = String::from_str(self.alloc, words.text())?;
         let bytes = words.bytes().to_vec(self.alloc)?;
         Ok(self.files.push(NamedFile { name, bytes })?)
     }
 
-    fn know_file(&mut self, words: &mut Words<'_>) -> Result<(), StepError> {
+    fn know_file(&mut self, words: &Words) -> Result<(), StepError> {
         let name = words.word();
         let bytes = self.file_in_data(name)?;
         let name = String::from_str(self.alloc, name)?;
@@ -97,7 +97,7 @@ impl<'a> CommandPlayer<'a> {
     fn run(
         &mut self,
         program: Program,
-        words: &mut Words<'_>,
+        words: &Words,
         outputs: &mut Outputs,
     ) -> Result<u8, StepError> {
         let texts = texts(self.alloc, words)?;
@@ -118,7 +118,7 @@ impl<'a> CommandPlayer<'a> {
     fn show(
         &mut self,
         program: Program,
-        words: &mut Words<'_>,
+        words: &Words,
         answer: &mut Answer,
     ) -> Result<(), StepError> {
         let mut outputs = Outputs::new(self.alloc, self.limits)?;
@@ -130,7 +130,7 @@ impl<'a> CommandPlayer<'a> {
     }
 
     // Runs a program whose output is the input from here on.
-    fn pipe(&mut self, words: &mut Words<'_>, answer: &mut Answer) -> Result<(), StepError> {
+    fn pipe(&mut self, words: &Words, answer: &mut Answer) -> Result<(), StepError> {
         let program = program_of(words)?;
         let mut outputs = Outputs::new(self.alloc, self.limits)?;
         let status = self.run(program, words, &mut outputs)?;
@@ -141,11 +141,7 @@ impl<'a> CommandPlayer<'a> {
     }
 
     // Answers what a program tells of an input that doesn't end.
-    fn too_many_reads(
-        &mut self,
-        words: &mut Words<'_>,
-        answer: &mut Answer,
-    ) -> Result<(), StepError> {
+    fn too_many_reads(&mut self, words: &Words, answer: &mut Answer) -> Result<(), StepError> {
         let program = program_of(words)?;
         let mut outputs = Outputs::new(self.alloc, self.limits)?;
         let Some(status) = program.report_too_many_reads(&mut outputs.errors) else {
@@ -165,7 +161,7 @@ impl<'a> CommandPlayer<'a> {
     pub fn take(
         &mut self,
         name: &str,
-        words: &mut Words<'_>,
+        words: &Words,
         answer: &mut Answer,
     ) -> Result<(), StepError> {
         match name {
@@ -199,7 +195,7 @@ impl<'a> CommandPlayer<'a> {
 }
 
 // The rest of the words.
-fn texts<'a>(alloc: Global, words: &mut Words<'a>) -> Result<Vec<&'a str>, AllocError> {
+fn texts<'a>(alloc: Global, words: &'a Words) -> Result<Vec<&'a str>, AllocError> {
     let mut texts = Vec::new(alloc);
     // The line has fewer words than this.
     for _ in 0..usize::MAX {
@@ -211,7 +207,7 @@ fn texts<'a>(alloc: Global, words: &mut Words<'a>) -> Result<Vec<&'a str>, Alloc
     Ok(texts)
 }
 
-fn program_of(words: &mut Words<'_>) -> Result<Program, StepError> {
+fn program_of(words: &Words) -> Result<Program, StepError> {
     match Program::named(words.word()) {
         Some(program) => Ok(program),
         None => Err(StepError::Word("the name of a program")),

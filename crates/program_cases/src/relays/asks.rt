@@ -9,12 +9,7 @@ use termrelay::{HubError, Screen};
 
 impl Hubs {
     /// Takes a step that changes nothing.
-    pub fn tell(
-        &self,
-        name: &str,
-        words: &mut Words<'_>,
-        answer: &mut Answer,
-    ) -> Result<(), StepError> {
+    pub fn tell(&self, name: &str, words: &Words, answer: &mut Answer) -> Result<(), StepError> {
         match name {
             "owed" => push_text(answer, self.owed(words.count())),
             "writes" => answer.number(self.pumped.writes as u64),

@@ -52,7 +52,7 @@ impl Turns {
 pub fn take(
     alloc: Global,
     name: &str,
-    words: &mut Words<'_>,
+    words: &Words,
     answer: &mut Answer,
 ) -> Result<(), StepError> {
     let mut turns = Turns::new(alloc)?;

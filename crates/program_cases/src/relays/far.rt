@@ -51,7 +51,7 @@ impl Hubs {
     pub fn find_far(
         &self,
         alloc: Global,
-        words: &mut Words<'_>,
+        words: &Words,
     ) -> Result<Option<View<UntilCleared>>, StepError> {
         let part = (words.count(), amount(words));
         let cuts = counts(alloc, words)?;
@@ -63,7 +63,7 @@ impl Hubs {
     pub fn cut_far(
         &self,
         alloc: Global,
-        words: &mut Words<'_>,
+        words: &Words,
         answer: &mut Answer,
     ) -> Result<(), StepError> {
         let part = (words.count(), words.count());

@@ -22,7 +22,7 @@ impl Hubs {
         &mut self,
         alloc: Global,
         name: &str,
-        words: &mut Words<'_>,
+        words: &Words,
         answer: &mut Answer,
     ) -> Result<(), StepError> {
         match name {
@@ -78,13 +78,13 @@ impl Hubs {
     }
 
     // Feeds bytes, so many times.
-    fn feed(&mut self, words: &mut Words<'_>) -> Result<(), StepError> {
+    fn feed(&mut self, words: &Words) -> Result<(), StepError> {
         let part = self.calls.keep(words.bytes())?;
         let times = count_or(words, 1);
         self.make_times(Deed::Feed(part), times)
     }
 
-    fn resize(&mut self, words: &mut Words<'_>) -> Result<(), StepError> {
+    fn resize(&mut self, words: &Words) -> Result<(), StepError> {
         let deed = Deed::Resize(words.size(), words.size());
         self.make_done(deed)?;
         for seat in self.seats.iter_mut() {
@@ -162,12 +162,7 @@ impl Hubs {
         Ok(told)
     }
 
-    fn pump(
-        &mut self,
-        alloc: Global,
-        words: &mut Words<'_>,
-        answer: &mut Answer,
-    ) -> Result<(), StepError> {
+    fn pump(&mut self, alloc: Global, words: &Words, answer: &mut Answer) -> Result<(), StepError> {
         let pumping = self.pumping(alloc, words)?;
         let told = self.make_pump(pumping)?;
         write!(answer, "{}", self.pumped.taken.length());
@@ -181,7 +176,7 @@ impl Hubs {
 
     // The client, and what the writes take: `by N` for each later one, a number for each of the first, `fault` or
     // `interrupted` for one that fails.
-    fn pumping(&mut self, alloc: Global, words: &mut Words<'_>) -> Result<Pumping, AllocError> {
+    fn pumping(&mut self, alloc: Global, words: &Words) -> Result<Pumping, AllocError> {
         let client = words.count();
         let mut takes = Vec::new(alloc);
         let (mut most, mut fault) = (MOST, ErrorKind::BrokenPipe);
@@ -208,7 +203,7 @@ impl Hubs {
     }
 }
 
-fn take_of(words: &mut Words<'_>, word: &str) -> usize {
+fn take_of(words: &Words, word: &str) -> usize {
     words.named(
         word.parse::<usize>().ok(),
         "by, fault, interrupted, or how many bytes a write takes",

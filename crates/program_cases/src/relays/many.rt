@@ -17,7 +17,7 @@ fn ended(error: StepError) -> StepError {
 
 impl Hubs {
     /// So many clients come.
-    pub fn attach_many(&mut self, words: &mut Words<'_>) -> Result<(), StepError> {
+    pub fn attach_many(&mut self, words: &Words) -> Result<(), StepError> {
         for _ in 0..words.count() {
             self.attach().map_err(ended)?;
         }
@@ -80,7 +80,7 @@ impl Hubs {
 
     /// The program writes so many lines of 80 letters, of `a` to `z` again and again. A client is sent a frame after
     /// each, which is added to the bytes.
-    pub fn letters(&mut self, words: &mut Words<'_>, sent: &mut Vec<u8>) -> Result<(), StepError> {
+    pub fn letters(&mut self, words: &Words, sent: &mut Vec<u8>) -> Result<(), StepError> {
         let index = words.count();
         for line in 0..words.count() {
             self.letter(index, b'a' + (line % 26) as u8, sent)

@@ -26,7 +26,7 @@ impl Numbers {
 
 /// Makes a stream of this length of parts that follow each other in a fixed order. The words are its length and the
 /// parts.
-pub fn made_of_parts(alloc: Global, words: &mut Words<'_>) -> Result<Vec<u8>, AllocError> {
+pub fn made_of_parts(alloc: Global, words: &Words) -> Result<Vec<u8>, AllocError> {
     let length = words.count();
     let mut parts = Vec::new(alloc);
     for _ in 0..MOST_WORDS {
@@ -54,7 +54,7 @@ fn fill(stream: &mut Vec<u8>, length: usize, parts: &[&[u8]]) -> Result<(), Allo
 
 /// The first frame of a screen that is fed the stream in pieces of these lengths, again and again, is that of one that
 /// is fed it in one piece. The words are the screen's size and the lengths.
-pub fn check_pieces(alloc: Global, words: &mut Words<'_>, stream: &[u8]) -> Result<(), StepError> {
+pub fn check_pieces(alloc: Global, words: &Words, stream: &[u8]) -> Result<(), StepError> {
     let size = (words.size(), words.size());
     let lengths = counts(alloc, words)?;
     let whole = first_frame(alloc, size, stream, &[stream.len()])?;

@@ -35,24 +35,24 @@ impl RelayPlayer {
         }
     }
 
-    fn make_hubs(&mut self, words: &mut Words<'_>) -> Result<(), StepError> {
+    fn make_hubs(&mut self, words: &Words) -> Result<(), StepError> {
         self.hubs = Some(Hubs::new(self.alloc, words.size(), words.size())?);
         Ok(())
     }
 
-    fn make_view(&mut self, words: &mut Words<'_>) -> Result<(), StepError> {
+    fn make_view(&mut self, words: &Words) -> Result<(), StepError> {
         let size = (words.size(), words.size());
         self.view = Some(new_view(self.alloc, size)?);
         Ok(())
     }
 
-    fn make_view_of(&mut self, words: &mut Words<'_>) -> Result<(), StepError> {
+    fn make_view_of(&mut self, words: &Words) -> Result<(), StepError> {
         self.view = Some(view_in_pieces(self.alloc, words)?);
         Ok(())
     }
 
     // A far view of all calls so far is the view from now on.
-    fn find_far(&mut self, words: &mut Words<'_>, answer: &mut Answer) -> Result<(), StepError> {
+    fn find_far(&mut self, words: &Words, answer: &mut Answer) -> Result<(), StepError> {
         let Some(hubs) = &self.hubs else {
             return Err(NO_HUB);
         };
@@ -67,7 +67,7 @@ impl RelayPlayer {
     fn take_hubs(
         &mut self,
         name: &str,
-        words: &mut Words<'_>,
+        words: &Words,
         answer: &mut Answer,
     ) -> Result<(), StepError> {
         let Some(hubs) = &mut self.hubs else {
@@ -92,7 +92,7 @@ impl RelayPlayer {
     fn take_view(
         &mut self,
         name: &str,
-        words: &mut Words<'_>,
+        words: &Words,
         answer: &mut Answer,
     ) -> Result<(), StepError> {
         let Some(view) = &mut self.view else {
@@ -118,7 +118,7 @@ impl RelayPlayer {
     pub fn take(
         &mut self,
         name: &str,
-        words: &mut Words<'_>,
+        words: &Words,
         answer: &mut Answer,
     ) -> Result<(), StepError> {
         match name {

@@ -73,7 +73,7 @@ impl Streams {
         &mut self,
         alloc: Global,
         name: &str,
-        words: &mut Words<'_>,
+        words: &Words,
         answer: &mut Answer,
     ) -> Result<(), StepError> {
         match name {
@@ -96,7 +96,7 @@ impl Streams {
     }
 
     // Adds bytes to the input, so many times.
-    fn add(&mut self, words: &mut Words<'_>) -> Result<(), StepError> {
+    fn add(&mut self, words: &Words) -> Result<(), StepError> {
         let bytes = words.bytes();
         let times = count_or(words, 1);
         self.input.reserve(bytes.len().saturating_mul(times))?;
@@ -106,7 +106,7 @@ impl Streams {
         Ok(())
     }
 
-    fn add_parts(&mut self, alloc: Global, words: &mut Words<'_>) -> Result<(), StepError> {
+    fn add_parts(&mut self, alloc: Global, words: &Words) -> Result<(), StepError> {
         let stream = made_of_parts(alloc, words)?;
         self.input.extend_from_slice(&stream)?;
         Ok(())
@@ -130,7 +130,7 @@ impl Streams {
         &mut self,
         alloc: Global,
         work: Work,
-        words: &mut Words<'_>,
+        words: &Words,
         answer: &mut Answer,
     ) -> Result<(), StepError> {
         let size = (words.size(), words.size());

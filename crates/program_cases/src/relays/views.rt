@@ -13,10 +13,7 @@ use std::io::ErrorKind;
 use termview::{UntilCleared, View};
 
 /// What a view shows of bytes. The words are its size, the bytes, and how long the pieces are before the last one.
-pub fn view_in_pieces(
-    alloc: Global,
-    words: &mut Words<'_>,
-) -> Result<View<UntilCleared>, StepError> {
+pub fn view_in_pieces(alloc: Global, words: &Words) -> Result<View<UntilCleared>, StepError> {
     let (rows, cols) = (words.size(), words.size());
     let bytes = words.bytes();
     let cuts = counts(alloc, words)?;
@@ -28,7 +25,7 @@ pub fn take(
     alloc: Global,
     view: &mut View<UntilCleared>,
     name: &str,
-    words: &mut Words<'_>,
+    words: &Words,
     answer: &mut Answer,
 ) -> Result<(), StepError> {
     match name {
@@ -50,7 +47,7 @@ pub fn take(
 }
 
 // Gives a view pieces of bytes.
-fn give_pieces(view: &mut View<UntilCleared>, words: &mut Words<'_>) {
+fn give_pieces(view: &mut View<UntilCleared>, words: &Words) {
     for _ in 0..MOST_WORDS {
         if !words.is_empty() {
             advance(view, words.bytes());
@@ -80,7 +77,7 @@ fn push_text(
 fn row_to(
     alloc: Global,
     view: &View<UntilCleared>,
-    words: &mut Words<'_>,
+    words: &Words,
     answer: &mut Answer,
 ) -> Result<(), StepError> {
     let (row, room) = (words.place(), words.count());
@@ -97,7 +94,7 @@ fn row_to(
 }
 
 // What a writer without room is at.
-fn fault(words: &mut Words<'_>) -> Option<ErrorKind> {
+fn fault(words: &Words) -> Option<ErrorKind> {
     let fault = match words.word() {
         "fault" => Some(Some(ErrorKind::BrokenPipe)),
         "interrupted" => Some(Some(ErrorKind::Interrupted)),

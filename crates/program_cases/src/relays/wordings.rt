@@ -7,7 +7,7 @@ use std::alloc::{AllocError, Global};
 pub const MOST_WORDS: usize = 64;
 
 /// A number of things, or `all`.
-pub fn amount(words: &mut Words<'_>) -> usize {
+pub fn amount(words: &Words) -> usize {
     match words.word() {
         "all" => usize::MAX,
         word => words.named(word.parse::<usize>().ok(), "a count, or all", 0),
@@ -15,7 +15,7 @@ pub fn amount(words: &mut Words<'_>) -> usize {
 }
 
 /// A count, or this one where no word is left.
-pub fn count_or(words: &mut Words<'_>, count: usize) -> usize {
+pub fn count_or(words: &Words, count: usize) -> usize {
     if words.is_empty() {
         count
     } else {
@@ -24,7 +24,7 @@ pub fn count_or(words: &mut Words<'_>, count: usize) -> usize {
 }
 
 /// All counts that are left.
-pub fn counts(alloc: Global, words: &mut Words<'_>) -> Result<Vec<usize>, AllocError> {
+pub fn counts(alloc: Global, words: &Words) -> Result<Vec<usize>, AllocError> {
     let mut counts = Vec::new(alloc);
     for _ in 0..MOST_WORDS {
         if !words.is_empty() {
