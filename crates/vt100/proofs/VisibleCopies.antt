@@ -153,7 +153,8 @@ cut-plain n f k c p =
 plain-fitted : (z : Size) (x : Shown) → IsPlainlyShown x → IsPlainlyShown (fitted z x)
 plain-fitted z x p r k = cut-plain z.cols (x.cell r) k 0xFE0F (p r k)
 
-plain-visible : (s : State) → IsState s → IsPlainlyShown (shown_state s) → IsPlainlyShown (shown_state (visible_alone s))
+plain-visible : (s : State) → IsState s → IsPlainlyShown (shown_state s)
+    → IsPlainlyShown (shown_state (visible_alone s))
 plain-visible s i p =
     subst IsPlainlyShown (sym (visible-shown s i)) (plain-fitted (grid_size s.shown) (shown_state s) p)
 

@@ -37,10 +37,10 @@ pub fn copies_show_the_same()
     ensures { EachCopyShowsTheSame }
 {}
 
-/// The copy that [`clone_visible`](crate::Screen::clone_visible) makes of a live screen has its size, and shows what the
-/// screen shows, as a terminal can show it: without a wide character that the right edge cuts, with a wrapped row only
-/// where the last column shows something, and never wrapped in the last row. So it shows the same if none of these
-/// stands there. If no kept row is shown, [`clone_shown`](crate::Screen::clone_shown) makes the same copy.
+/// The copy that [`clone_visible`](crate::Screen::clone_visible) makes of a live screen has its size, and shows what
+/// the screen shows, as a terminal can show it: without a wide character that the right edge cuts, with a wrapped row
+/// only where the last column shows something, and never wrapped in the last row. So it shows the same if none of
+/// these stands there. If no kept row is shown, [`clone_shown`](crate::Screen::clone_shown) makes the same copy.
 pub fn visible_copies_show_the_same()
     ensures { EachVisibleCopyShowsTheSame }
 {}
