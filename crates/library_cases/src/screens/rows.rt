@@ -30,13 +30,10 @@ fn same(first: String, second: &str) -> Result<String, StepError> {
 /// Appends the text of a row, of which two readings are given.
 fn push_row(
     joined: &mut String,
-    first: Option<Result<String, ScreenError>>,
-    second: Option<Result<String, ScreenError>>,
+    first: Result<String, ScreenError>,
+    second: Result<String, ScreenError>,
 ) -> Result<(), StepError> {
-    match (first, second) {
-        (Some(first), Some(second)) => push_line(joined, &text_of_both(first, second)?),
-        _ => Err(StepError::Wrong("a row has no text")),
-    }
+    push_line(joined, &text_of_both(first, second)?)
 }
 
 fn push_line(joined: &mut String, text: &str) -> Result<(), StepError> {
@@ -57,7 +54,10 @@ pub fn joined<I: Iterator<Item = Result<String, ScreenError>> + Drop>(
 {
     let mut joined = String::new(alloc);
     for _ in 0..rows {
-        push_row(&mut joined, texts.next(), again.next())?;
+        let (Some(first), Some(second)) = (texts.next(), again.next()) else {
+            return Err(StepError::Wrong("a row has no text"));
+        };
+        push_row(&mut joined, first, second)?;
     }
     Ok(joined)
 }
