@@ -195,7 +195,8 @@ fitted-proper g i some drawn kept r k =
     (row_at g.kept.rows (length g.kept.rows - g.kept.offset + r)) (row_at g.rows (r - g.kept.offset))
     (λ (v : RowView). IsProper (cell_at v.cells k).attrs)
     (λ _. kept (length g.kept.rows - g.kept.offset + r) k) (λ _. drawn (r - g.kept.offset) k) in
-    subst (λ (x : CellView). IsProper x.attrs) (sym (cell-fitted g r k i some)) (cut-proper g.width (visible_lines g r) k
+    subst (λ (x : CellView). IsProper x.attrs) (sym (cell-fitted g r k i some))
+    (cut-proper g.width (visible_lines g r) k
     (cond_both (nat_lt r g.height && nat_lt k g.width) (cell_at (visible_at g r).cells k) default_cell
     (λ (x : CellView). IsProper x.attrs) (λ _. inside) (λ _. default-proper)))
 

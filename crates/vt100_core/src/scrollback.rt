@@ -101,6 +101,7 @@ impl ScrollbackState {
     }
 
     /// Moves the rows up to `end` up by `n`. The first `n` of them are kept, and what is shown stays.
+    #[inline(always)]
     pub(crate) fn scroll_off<S: RowSink>(
         &mut self,
         rows: &mut [Row],

@@ -775,7 +775,8 @@ fn is_escape_final(byte: u8) -> bool
 fn opens_sequence(byte: u8) -> bool
     ensures { result ≡ opens_sequence byte }
 {
-    matches!(byte, b'[' | b']' | b'P' | b'X' | b'^' | b'_')
+    // Most bytes that open none are less than all that do.
+    byte >= b'P' && matches!(byte, b'P' | b'X' | b'[' | b']' | b'^' | b'_')
 }
 
 /// Whether the byte is a private one, which stands first in a header.
