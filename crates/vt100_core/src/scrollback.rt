@@ -40,6 +40,7 @@ impl ScrollbackState {
 
     /// Takes the first `n` rows in, and leaves blank rows in place of those that it keeps. What this pushes out goes to
     /// the sink. None of the kept rows is shown then.
+    #[inline(always)]
     pub(crate) fn push_off<S: RowSink>(
         &mut self,
         rows: &mut [Row],
