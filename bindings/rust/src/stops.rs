@@ -22,7 +22,8 @@ const ESCAPE: u8 = 0x1b;
 const DELETE: u8 = 0x7f;
 const STRING_END: u8 = 0x9c;
 
-/// A piece has at most so many bytes, so that few rows leave in it.
+/// A piece has at most so many bytes, less those rows that a sequence in it may have leave. So at most so many rows leave
+/// before its last sequence, and what this asks finds room in the library's queue.
 const MOST_BYTES: usize = 256;
 
 /// So many bytes of a control sequence are looked at.
@@ -37,13 +38,17 @@ pub(crate) struct Stops {
     sequence: Vec<u8>,
     command: Vec<u8>,
     is_whole: bool,
+    /// How many rows the sequence that has just ended may have leave.
+    rows: usize,
 }
 
 impl Stops {
     /// How many of these bytes, of which there are some, lead up to the next stop.
     pub(crate) fn next(&mut self, bytes: &[u8]) -> usize {
-        let bytes = &bytes[..bytes.len().min(MOST_BYTES)];
+        let mut most = MOST_BYTES;
+        let mut bytes = &bytes[..bytes.len().min(most)];
         let mut at = 0;
+        self.rows = 0;
         while at < bytes.len() {
             let mut is_cut = false;
             if self.inside == Inside::Text {
@@ -62,6 +67,8 @@ impl Stops {
             if self.is_stop(bytes[at - 1]) || is_cut {
                 return at;
             }
+            most = most.saturating_sub(std::mem::take(&mut self.rows)).max(at);
+            bytes = &bytes[..bytes.len().min(most)];
         }
         at
     }
@@ -104,6 +111,7 @@ impl Stops {
             Inside::Escape => self.sequence.is_empty() && is_known_escape(byte),
             _ => self.inside == Inside::Text && is_known_control(&self.sequence, byte),
         };
+        self.rows = rows_of(&self.sequence, byte);
         self.sequence.clear();
         !is_known
     }
@@ -153,6 +161,19 @@ fn is_known_control(parameters: &[u8], last: u8) -> bool {
     }
 }
 
+/// How many rows a control sequence may have leave at most: one that repeats a character, or scrolls.
+fn rows_of(parameters: &[u8], last: u8) -> usize {
+    if !matches!(last, b'b' | b'S') {
+        return 0;
+    }
+    let digits = parameters.iter().take_while(|byte| byte.is_ascii_digit());
+    digits.fold(0, |count: usize, byte| {
+        count
+            .saturating_mul(10)
+            .saturating_add(usize::from(byte - b'0'))
+    })
+}
+
 /// Whether a screen knows each number of SGR.
 fn are_known_attributes(parameters: &[u8]) -> bool {
     let text = std::str::from_utf8(parameters).unwrap_or("x");
@@ -178,7 +199,8 @@ fn are_known_attributes(parameters: &[u8]) -> bool {
 }
 
 /// Up to where a text has to be read for the first character that a screen doesn't show: U+FFFD, a control from U+0080
-/// to U+009F, or malformed bytes, which the byte behind them shows to be such.
+/// to U+009F, or malformed bytes. A byte that begins no character is malformed by itself; others are shown to be so by
+/// the byte behind them.
 fn unknown_in(text: &[u8]) -> Option<usize> {
     if text.is_ascii() {
         return None;
@@ -186,8 +208,9 @@ fn unknown_in(text: &[u8]) -> Option<usize> {
     let (valid, malformed) = match std::str::from_utf8(text) {
         Ok(valid) => (valid, None),
         Err(error) => {
-            let (valid, _) = text.split_at(error.valid_up_to());
-            let end = error.error_len().map(|count| valid.len() + count + 1);
+            let (valid, rest) = text.split_at(error.valid_up_to());
+            let behind = usize::from(!matches!(rest, [0x80..=0xc1 | 0xf5..=0xff, ..]));
+            let end = error.error_len().map(|count| valid.len() + count + behind);
             (std::str::from_utf8(valid).unwrap_or_default(), end)
         }
     };
@@ -243,18 +266,24 @@ mod tests {
 
     #[test]
     fn behind_characters_that_are_not_shown() {
-        let bytes = b"a\xc3\xa4\xef\xbf\xbdb\xc2\x9bc\xff\xc3d\xe4\x1b[me";
+        let bytes = b"a\xc3\xa4\xef\xbf\xbdb\xc2\x9bc\xff\x9bd\xc3e\xe4\x1b[mf";
         let want: [&[u8]; 7] = [
             b"a\xc3\xa4\xef\xbf\xbd",
             b"b\xc2\x9b",
-            b"c\xff\xc3",
-            b"d",
+            b"c\xff",
+            b"\x9b",
+            b"d\xc3e",
             b"\xe4\x1b",
-            b"[m",
-            b"e",
+            b"[mf",
         ];
-        assert_eq!(pieces(bytes).concat(), want.concat());
-        assert_eq!(pieces(bytes)[..3], want[..3]);
+        assert_eq!(pieces(bytes), want);
+    }
+
+    #[test]
+    fn behind_many_rows() {
+        let bytes = b"a\x1b[2bb\x1b[700bc\x1b[200S\x1b[60Sd\x1b[S";
+        let want: [&[u8]; 3] = [b"a\x1b[2bb\x1b[700b", b"c\x1b[200S\x1b[60S", b"d\x1b[S"];
+        assert_eq!(pieces(bytes), want);
     }
 
     #[test]

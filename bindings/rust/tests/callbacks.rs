@@ -104,6 +104,21 @@ fn what_is_not_handled() {
     assert_eq!(parser.screen().contents(), "abcdef");
 }
 
+/// Many rows leave before a sequence that isn't handled.
+#[test]
+fn many_rows_that_leave() {
+    let mut parser = parser(3, 2, 0);
+    parser.process(b"h\x1b[700b\x1b[2S\x1b[60Sd\x1bZ\x9bx");
+    let calls = &parser.callbacks().calls;
+    let is_row = |call: &String| call.starts_with("row");
+    assert_eq!(calls.iter().filter(|call| is_row(call)).count(), 354);
+    assert_eq!(
+        calls[353..355],
+        ["escape None None Z at 2,2", "control 155 at 2,2"]
+    );
+    assert!(is_row(&calls[355]));
+}
+
 #[test]
 fn rows_that_leave() {
     let mut parser = parser(2, 5, 1);
