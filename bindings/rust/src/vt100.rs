@@ -16,7 +16,7 @@
 //! `docs/MOVING.md` lists item by item what is as there and what differs. In short:
 //!
 //! - [`Screen::cell`] has no cell outside of the screen's columns, also where a kept row is wider;
-//! - malformed bytes are told ([`Callbacks::unhandled_char`]) behind the byte that shows them to be such;
+//! - malformed bytes that begin a character are told ([`Callbacks::unhandled_char`]) behind the byte that shows it;
 //! - redraws and differences lead a terminal to the picture only where no kept row is shown, as in `vt100`;
 //! - where no memory is found a call panics. [`crate::Screen`] answers an error there.
 pub mod capture;
@@ -450,8 +450,8 @@ pub trait Callbacks {
     fn copy_to_clipboard(&mut self, _: &mut Screen, _ty: &[u8], _data: &[u8]) {}
     /// Clipboards whose data is asked for.
     fn paste_from_clipboard(&mut self, _: &mut Screen, _ty: &[u8]) {}
-    /// U+FFFD, which malformed bytes give too, or a control from U+0080 to U+009F. For malformed bytes the screen has
-    /// read the byte behind them.
+    /// U+FFFD, which malformed bytes give too. Where such bytes begin a character, the screen has read the byte behind
+    /// them.
     fn unhandled_char(&mut self, _: &mut Screen, _c: char) {}
     /// A control that does nothing.
     fn unhandled_control(&mut self, _: &mut Screen, _b: u8) {}
