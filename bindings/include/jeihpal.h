@@ -341,7 +341,7 @@ int32_t jeihpal_screen_row_cells(jeihpal_screen *screen, uint16_t row, jeihpal_c
 int32_t jeihpal_screen_row_text(jeihpal_screen *screen, uint16_t row, uint8_t *to, size_t capacity, size_t *length);
 
 /* The text of the rows that are shown, as UTF-8: without the empty columns at a row's end, with a newline after each
- * row that doesn't go on in the next, and without newlines at its own end. MEMORY. */
+ * row that doesn't go on in the next, or goes on in an empty one, and without newlines at its end. MEMORY. */
 int32_t jeihpal_screen_contents(jeihpal_screen *screen, uint8_t *to, size_t capacity, size_t *length);
 
 /* The text from one place up to another. Places past the screen show nothing, and where the end doesn't come after
@@ -459,8 +459,9 @@ typedef struct jeihpal_request {
     uint8_t kind;    /* enum jeihpal_request_kind */
 } jeihpal_request;
 
-/* At most so many requests wait in a screen's queue, each with a text of at most so many bytes. Rows wait beside them
- * as long as there is memory, and have texts of any length. */
+/* At most so many requests wait in a screen's queue, each with a text of at most so many bytes. Rows are queued as long
+ * as there is memory, and have texts of any length. They count among those that wait: behind so many rows no other
+ * request is queued, until they were taken. */
 #define JEIHPAL_MOST_REQUESTS 256
 #define JEIHPAL_MOST_REQUEST_BYTES 1021
 

@@ -289,7 +289,7 @@ class Screen(Shown):
         """Takes what the program has asked for out of the screen's queue, oldest first.
 
         The queue holds up to 256 requests, each with a text of up to 1,021 bytes. Others are dropped, and none is cut.
-        Rows wait as long as there is memory.
+        Rows wait as long as there is memory, and count among the 256.
         """
         while True:
             self._take_requests()

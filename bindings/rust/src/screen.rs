@@ -279,7 +279,8 @@ impl Screen {
     }
 
     /// Takes what the program has asked of its terminal out of the screen's queue, oldest first. The queue holds up to
-    /// 256 requests, each with a text of up to 1,021 bytes; others are dropped. Rows wait as long as there is memory.
+    /// 256 requests, each with a text of up to 1,021 bytes; others are dropped. Rows wait as long as there is memory,
+    /// and count among the 256.
     ///
     /// ```
     /// # let size = std::num::NonZeroU16::new(9).unwrap();
