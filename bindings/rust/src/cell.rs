@@ -15,6 +15,7 @@ pub enum Color {
 }
 
 impl Color {
+    #[inline]
     fn of(raw: RawColor) -> Color {
         match raw.kind {
             0 => Color::Default,
@@ -37,57 +38,68 @@ impl Cell {
     }
 
     /// A character and the zero-width ones that joined it, or nothing.
+    #[inline]
     pub fn contents(&self) -> &str {
         let length = usize::from(self.raw.length);
         std::str::from_utf8(&self.raw.text[..length]).expect("a cell's text is UTF-8")
     }
 
     /// Whether it shows a character.
+    #[inline]
     pub fn has_contents(&self) -> bool {
         self.raw.length > 0
     }
 
     /// Whether it takes the next column too.
+    #[inline]
     pub fn is_wide(&self) -> bool {
         self.raw.width == 2
     }
 
     /// Whether it is the second half of a wide cell.
+    #[inline]
     pub fn is_wide_continuation(&self) -> bool {
         self.raw.width == 0
     }
 
     /// The text's colour.
+    #[inline]
     pub fn fgcolor(&self) -> Color {
         Color::of(self.raw.foreground)
     }
 
     /// The colour behind the text.
+    #[inline]
     pub fn bgcolor(&self) -> Color {
         Color::of(self.raw.background)
     }
 
     /// Whether the text is bold.
+    #[inline]
     pub fn bold(&self) -> bool {
         self.raw.attributes & 1 != 0
     }
 
     /// Whether the text is dim. It isn't where it is bold.
+    #[inline]
     pub fn dim(&self) -> bool {
         self.raw.attributes & 3 == 2
     }
 
     /// Whether the text is italic.
+    #[inline]
     pub fn italic(&self) -> bool {
         self.raw.attributes & 4 != 0
     }
 
     /// Whether the text is underlined.
+    #[inline]
     pub fn underline(&self) -> bool {
         self.raw.attributes & 8 != 0
     }
 
     /// Whether the text's colours are exchanged.
+    #[inline]
     pub fn inverse(&self) -> bool {
         self.raw.attributes & 16 != 0
     }

@@ -6,14 +6,18 @@ use crate::raw::{
     RawLook, Word,
 };
 use std::cell::UnsafeCell;
+use std::mem::MaybeUninit;
 use std::ops::Deref;
-use std::ptr;
+use std::{ptr, slice};
 
 /// The number of the interface that the declarations are for.
 const ABI: u32 = 1;
 
 /// The library's answer to a place outside of the screen.
 const NO_CELL: i32 = -8;
+
+/// A text of up to so many bytes is made once, where it doesn't yet say how many it has.
+const ROOM: usize = 16 * 1024;
 
 /// The functions that all kinds with a screen have.
 pub(crate) struct Functions {
@@ -85,15 +89,17 @@ impl Owned {
         &self,
         mut function: impl FnMut(*mut Word, *mut u8, usize, *mut usize) -> i32,
     ) -> Result<Vec<u8>> {
-        let mut room = vec![0; 1024];
-        loop {
-            let length = self.copy(&mut room, &mut function)?;
-            if length <= room.len() {
-                room.truncate(length);
-                return Ok(room);
-            }
-            room.resize(length, 0);
+        let mut room = [MaybeUninit::<u8>::uninit(); ROOM];
+        let mut length = 0;
+        self.act(|word| function(word, room.as_mut_ptr().cast(), ROOM, &mut length))?;
+        if length <= ROOM {
+            // SAFETY: so many bytes have been copied into the room.
+            let bytes = unsafe { slice::from_raw_parts(room.as_ptr().cast(), length) };
+            return Ok(bytes.to_vec());
         }
+        let mut bytes = vec![0; length];
+        self.copy(&mut bytes, function)?;
+        Ok(bytes)
     }
 
     /// The text that such a function copies.
@@ -166,25 +172,20 @@ impl Object {
 
     /// The cells of a row, in one call, and whether its text goes on in the next row; nothing past the last row.
     pub(crate) fn row(&self, row: u16, cols: u16) -> Option<(Vec<Cell>, bool)> {
-        let mut cells = vec![Cell::default(); usize::from(cols)];
+        let most = usize::from(cols);
+        let mut cells = Vec::<Cell>::with_capacity(most);
         let (mut count, mut wrapped) = (0, 0);
-        // SAFETY: a `Cell` is a `RawCell`, and there are as many as is said; the rest is as in other calls.
+        // SAFETY: a `Cell` is a `RawCell`, and there is room for as many as is said; the rest is as in other calls.
         let code = unsafe {
             let room = cells.as_mut_ptr().cast::<RawCell>();
-            (self.functions.cells)(
-                self.word(),
-                row,
-                room,
-                cells.len(),
-                &mut count,
-                &mut wrapped,
-            )
+            (self.functions.cells)(self.word(), row, room, most, &mut count, &mut wrapped)
         };
         if code == NO_CELL {
             return None;
         }
         answer(code).expect("cells are never refused");
-        cells.truncate(count);
+        // SAFETY: as many as fit have been copied into the room.
+        unsafe { cells.set_len(count.min(most)) };
         Some((cells, wrapped != 0))
     }
 

@@ -37,23 +37,39 @@ pub use crate::cell::{Cell, Color, CursorStyle, MouseProtocolEncoding, MouseProt
 /// A row as it was read: its cells, and whether its text goes on in the next row.
 type Row = (Vec<Cell>, bool);
 
+/// A cell as it was read by itself: its row, its column, and what it is.
+type Single = (u16, u16, Cell);
+
+/// So many cells are read by themselves before rows are.
+const SINGLES: usize = 4;
+
 /// A screen that is read. A clone is a copy of its own.
 ///
 /// It is `Send` and `Sync`. What is read of it is kept until the screen changes, so that a cell can be lent.
 pub struct Screen {
     /// There is one call of the library at a time.
     screen: Mutex<crate::Screen>,
+    rows_and_cols: (NonZeroU16, NonZeroU16),
     capacity: usize,
     look: OnceLock<Look>,
+    drawing: OnceLock<Drawing>,
+    singles: [OnceLock<Single>; SINGLES],
     rows: OnceLock<Box<[OnceLock<Row>]>>,
 }
 
 impl Screen {
-    fn of(screen: crate::Screen, capacity: usize) -> Screen {
+    fn of(
+        screen: crate::Screen,
+        rows_and_cols: (NonZeroU16, NonZeroU16),
+        capacity: usize,
+    ) -> Screen {
         Screen {
             screen: Mutex::new(screen),
+            rows_and_cols,
             capacity,
             look: OnceLock::new(),
+            drawing: OnceLock::new(),
+            singles: Default::default(),
             rows: OnceLock::new(),
         }
     }
@@ -65,27 +81,70 @@ impl Screen {
     /// The screen, to be changed: what was read of it is forgotten.
     fn changed(&mut self) -> &mut crate::Screen {
         self.look.take();
+        self.drawing.take();
+        for single in &mut self.singles {
+            single.take();
+        }
         self.rows.take();
         self.screen
             .get_mut()
             .unwrap_or_else(PoisonError::into_inner)
     }
 
+    /// Gives it another size, and has the library's queue get what isn't known, or rows, from now on.
+    fn resized(&mut self, rows: NonZeroU16, cols: NonZeroU16, unknown: bool, of_rows: bool) {
+        let screen = self.changed();
+        screen.tell(unknown, of_rows);
+        screen.resize(rows, cols).unwrap();
+        self.rows_and_cols = (rows, cols);
+    }
+
+    #[inline]
     fn look(&self) -> &Look {
-        self.look.get_or_init(|| self.lock().look())
+        match self.look.get() {
+            Some(look) => look,
+            None => self.look.get_or_init(|| self.lock().look()),
+        }
     }
 
     fn row(&self, row: u16) -> Option<&Row> {
         let rows = self.rows.get_or_init(|| {
-            let rows = (0..self.look().rows).map(|_| OnceLock::new());
+            let rows = (0..self.rows_and_cols.0.get()).map(|_| OnceLock::new());
             rows.collect()
         });
         let row_of = || self.lock().row(row).unwrap_or_default();
         Some(rows.get(usize::from(row))?.get_or_init(row_of))
     }
 
-    fn drawing(&self) -> Drawing {
-        self.lock().drawing()
+    /// The row, where it has been read.
+    #[inline]
+    fn row_read(&self, row: u16) -> Option<&Row> {
+        self.rows.get()?.get(usize::from(row))?.get()
+    }
+
+    /// A cell of a row that hasn't been read. Who reads a few cells has these read, and who reads more has rows read.
+    #[cold]
+    fn unread_cell(&self, row: u16, col: u16) -> Option<&Cell> {
+        let (rows, cols) = self.rows_and_cols;
+        if row >= rows.get() || col >= cols.get() {
+            return None;
+        }
+        let cell = || self.lock().cell(row, col).unwrap_or_default();
+        for single in &self.singles {
+            let (its_row, its_col, its_cell) = single.get_or_init(|| (row, col, cell()));
+            if (*its_row, *its_col) == (row, col) {
+                return Some(its_cell);
+            }
+        }
+        self.row(row)?.0.get(usize::from(col))
+    }
+
+    #[inline]
+    fn drawing(&self) -> &Drawing {
+        match self.drawing.get() {
+            Some(drawing) => drawing,
+            None => self.drawing.get_or_init(|| self.lock().drawing()),
+        }
     }
 
     /// What a call reads of this screen and an earlier one. Two threads may compare two screens the other way round, so
@@ -112,18 +171,15 @@ impl Screen {
 
     /// The rows and the columns.
     #[must_use]
+    #[inline]
     pub fn size(&self) -> (NonZeroU16, NonZeroU16) {
-        let look = self.look();
-        let number = |n| NonZeroU16::new(n).expect("a screen has rows and columns");
-        (number(look.rows), number(look.cols))
+        self.rows_and_cols
     }
 
     /// Gives it another size, without calls of [`Callbacks::on_scroll`]. Other than in `vt100` the program's
     /// synchronized update ends.
     pub fn set_size(&mut self, rows: NonZeroU16, cols: NonZeroU16) {
-        let screen = self.changed();
-        screen.tell(false, false);
-        screen.resize(rows, cols).unwrap();
+        self.resized(rows, cols, false, false);
     }
 
     /// Shows the newest `rows` of the rows that have scrolled off, or all where there are fewer.
@@ -133,12 +189,14 @@ impl Screen {
 
     /// How many of the rows that have scrolled off are shown.
     #[must_use]
+    #[inline]
     pub fn scrollback(&self) -> usize {
         self.look().scrollback
     }
 
     /// How many rows have scrolled off and are kept.
     #[must_use]
+    #[inline]
     pub fn scrollback_len(&self) -> usize {
         self.look().scrollback_len
     }
@@ -167,7 +225,8 @@ impl Screen {
     /// The text of each row: `width` columns from column `start` on.
     pub fn rows(&self, start: u16, width: u16) -> impl Iterator<Item = String> + '_ {
         let end = start.saturating_add(width);
-        (0..self.look().rows).map(move |row| self.contents_between(row, start, row, end))
+        let rows = self.rows_and_cols.0.get();
+        (0..rows).map(move |row| self.contents_between(row, start, row, end))
     }
 
     /// The text from one place up to another.
@@ -230,7 +289,7 @@ impl Screen {
         state: &mut BasicFormattedCaptureState,
     ) -> fmt::Result {
         let mut copy = self.lock().try_clone().unwrap();
-        let rows = self.look().rows;
+        let rows = self.rows_and_cols.0.get();
         let mut left = self.look().scrollback_len;
         loop {
             copy.scroll(left).unwrap();
@@ -290,6 +349,7 @@ impl Screen {
 
     /// The cursor's row and column. The column is the width where the next character goes to the next row.
     #[must_use]
+    #[inline]
     pub fn cursor_position(&self) -> (u16, u16) {
         self.look().cursor
     }
@@ -302,102 +362,123 @@ impl Screen {
 
     /// How the cursor looks.
     #[must_use]
+    #[inline]
     pub fn cursor_style(&self) -> CursorStyle {
         self.look().cursor_style
     }
 
     /// The cell at a place.
     #[must_use]
+    #[inline]
     pub fn cell(&self, row: u16, col: u16) -> Option<&Cell> {
-        self.row(row)?.0.get(usize::from(col))
+        match self.row_read(row) {
+            Some((cells, _)) => cells.get(usize::from(col)),
+            None => self.unread_cell(row, col),
+        }
     }
 
     /// Whether the text of a row goes on in the next one.
     #[must_use]
+    #[inline]
     pub fn row_wrapped(&self, row: u16) -> bool {
-        self.row(row).is_some_and(|row| row.1)
+        let row = self.row_read(row).or_else(|| self.row(row));
+        row.is_some_and(|row| row.1)
     }
 
     /// Whether the alternate screen is shown.
     #[must_use]
+    #[inline]
     pub fn alternate_screen(&self) -> bool {
         self.look().alternate_screen
     }
 
     /// Whether the keypad sends application sequences.
     #[must_use]
+    #[inline]
     pub fn application_keypad(&self) -> bool {
         self.look().application_keypad
     }
 
     /// Whether the cursor keys send application sequences.
     #[must_use]
+    #[inline]
     pub fn application_cursor(&self) -> bool {
         self.look().application_cursor
     }
 
     /// Whether the cursor is hidden.
     #[must_use]
+    #[inline]
     pub fn hide_cursor(&self) -> bool {
         self.look().hide_cursor
     }
 
     /// Whether pasted text is marked as such.
     #[must_use]
+    #[inline]
     pub fn bracketed_paste(&self) -> bool {
         self.look().bracketed_paste
     }
 
     /// Which events of the mouse are asked for.
     #[must_use]
+    #[inline]
     pub fn mouse_protocol_mode(&self) -> MouseProtocolMode {
         self.look().mouse_protocol_mode
     }
 
     /// How events of the mouse are written.
     #[must_use]
+    #[inline]
     pub fn mouse_protocol_encoding(&self) -> MouseProtocolEncoding {
         self.look().mouse_protocol_encoding
     }
 
     /// The colour of the next character.
     #[must_use]
+    #[inline]
     pub fn fgcolor(&self) -> Color {
         self.drawing().fgcolor
     }
 
     /// The colour behind the next character.
     #[must_use]
+    #[inline]
     pub fn bgcolor(&self) -> Color {
         self.drawing().bgcolor
     }
 
     /// Whether the next character is bold.
     #[must_use]
+    #[inline]
     pub fn bold(&self) -> bool {
         self.drawing().bold
     }
 
     /// Whether the next character is dim.
     #[must_use]
+    #[inline]
     pub fn dim(&self) -> bool {
         self.drawing().dim
     }
 
     /// Whether the next character is italic.
     #[must_use]
+    #[inline]
     pub fn italic(&self) -> bool {
         self.drawing().italic
     }
 
     /// Whether the next character is underlined.
     #[must_use]
+    #[inline]
     pub fn underline(&self) -> bool {
         self.drawing().underline
     }
 
     /// Whether the next character's colours are exchanged.
     #[must_use]
+    #[inline]
     pub fn inverse(&self) -> bool {
         self.drawing().inverse
     }
@@ -417,7 +498,8 @@ fn whole_row(screen: &crate::Screen, row: u16) -> Row {
 
 impl Clone for Screen {
     fn clone(&self) -> Screen {
-        Screen::of(self.lock().try_clone().unwrap(), self.capacity)
+        let copy = self.lock().try_clone().unwrap();
+        Screen::of(copy, self.rows_and_cols, self.capacity)
     }
 }
 
@@ -540,7 +622,7 @@ impl<CB: Callbacks> Parser<CB> {
     ) -> Self {
         let screen = crate::Screen::new(rows, cols, scrollback_capacity).unwrap();
         Parser {
-            screen: Screen::of(screen, scrollback_capacity),
+            screen: Screen::of(screen, (rows, cols), scrollback_capacity),
             callbacks,
             stops: Stops::default(),
             are_rows_unread: false,
@@ -623,9 +705,8 @@ impl<CB: Callbacks> Parser<CB> {
         if !self.callbacks.are_wanted() {
             return self.screen.set_size(rows, cols);
         }
-        let screen = self.screen.changed();
-        screen.tell(true, !self.are_rows_unread);
-        screen.resize(rows, cols).unwrap();
+        let (unknown, of_rows) = (true, !self.are_rows_unread);
+        self.screen.resized(rows, cols, unknown, of_rows);
         self.call_back();
     }
 

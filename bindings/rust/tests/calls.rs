@@ -514,6 +514,30 @@ mod as_vt100 {
         assert_eq!(parser.screen().cell(0, 0).unwrap().contents(), "y");
     }
 
+    /// The first cells are read one by one, and others with their rows.
+    #[test]
+    fn few_cells_and_many() {
+        let mut parser = vt100::Parser::new(super::size(3), super::size(4), 9);
+        parser.process(b"abcd\r\nefgh\r\nijkl");
+        for _ in 0..2 {
+            let screen = parser.screen();
+            let text = |row, col| screen.cell(row, col).map(vt100::Cell::contents);
+            assert_eq!((text(3, 0), text(0, 4)), (None, None));
+            let few = [text(1, 1), text(2, 3), text(1, 1), text(0, 0)];
+            assert_eq!(few, ["f", "l", "f", "a"].map(Some));
+            let all: Vec<_> = (0..12).filter_map(|n| text(n / 4, n % 4)).collect();
+            assert_eq!(all.concat(), "abcdefghijkl");
+            parser.process(b"\x1b[2;2Hf");
+        }
+        parser.set_size(super::size(2), super::size(3));
+        let text = |row, col| parser.screen().cell(row, col).map(vt100::Cell::contents);
+        assert_eq!(parser.screen().size(), (super::size(2), super::size(3)));
+        assert_eq!(
+            [text(0, 2), text(1, 2), text(1, 3), text(2, 0)],
+            [Some("c"), Some("g"), None, None]
+        );
+    }
+
     #[test]
     fn a_parser_is_shared() {
         use std::sync::{Arc, Mutex};
