@@ -22,8 +22,8 @@ const ESCAPE: u8 = 0x1b;
 const DELETE: u8 = 0x7f;
 const STRING_END: u8 = 0x9c;
 
-/// A piece has at most so many bytes, less those rows that a sequence in it may have leave. So at most so many rows leave
-/// before its last sequence, and what this asks finds room in the library's queue.
+/// A piece has at most so many bytes, less the rows that a sequence in it may have leave. So at most so many rows leave
+/// before its last sequence, and what this one asks finds room in the library's queue.
 const MOST_BYTES: usize = 256;
 
 /// So many bytes of a control sequence are looked at.
