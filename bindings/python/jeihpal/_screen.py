@@ -108,6 +108,7 @@ class Screen(Shown):
         copy._most_cells = self._most_cells
         with self._lock:
             copy._call(name, self._word)
+            self._take_requests()  # a title may wait there
             copy._names, copy._clean = dict(self._names), self._clean
         return copy
 

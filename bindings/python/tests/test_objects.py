@@ -299,6 +299,7 @@ class Reading(unittest.TestCase):
             self.assertEqual(screen.rows_difference(before), [b"\x1b[Cx", b"", b""])
             self.assertEqual((screen.difference(screen), screen.rows_difference(screen)), (b"", [b"", b"", b""]))
             self.assertEqual((copied.contents(), list(copied.requests())), (before.contents(), []))
+            self.assertEqual((copied.title, screen.title), ("t", "t"))
             before.close()
             with self.assertRaises(ValueError):
                 screen.difference(before)
