@@ -34,6 +34,8 @@ static FUNCTIONS: Functions = Functions {
 pub struct Screen {
     object: Object,
     dropped: usize,
+    /// Room for the texts of requests.
+    room: Vec<u8>,
     most_cells: Option<usize>,
 }
 
@@ -71,6 +73,7 @@ impl Screen {
         Ok(Screen {
             object: Object::new(&FUNCTIONS, fill)?,
             dropped: 0,
+            room: Vec::new(),
             most_cells: None,
         })
     }
@@ -291,8 +294,7 @@ impl Screen {
     /// # Ok::<(), jeihpal::Error>(())
     /// ```
     pub fn requests(&mut self) -> impl Iterator<Item = Request> + '_ {
-        let mut room = Vec::new();
-        std::iter::from_fn(move || self.next_request(&mut room))
+        std::iter::from_fn(move || self.next_request())
     }
 
     /// How many requests had been dropped when [`requests`](Screen::requests) last looked.
@@ -300,8 +302,11 @@ impl Screen {
         self.dropped
     }
 
-    fn next_request(&mut self, room: &mut Vec<u8>) -> Option<Request> {
-        let mut raw = RawRequest::default();
+    fn next_request(&mut self) -> Option<Request> {
+        let (mut raw, room) = (RawRequest::default(), &mut self.room);
+        if room.is_empty() {
+            room.resize(FIRST_ROOM, 0);
+        }
         loop {
             self.object
                 .call(|word| unsafe {
@@ -328,6 +333,9 @@ impl io::Write for Screen {
         Ok(())
     }
 }
+
+/// The texts of most requests have fewer bytes.
+const FIRST_ROOM: usize = 128;
 
 /// What a program asks of its terminal beyond drawing. Texts are as it wrote them, and needn't be UTF-8.
 ///

@@ -30,6 +30,7 @@ use capture::{BasicFormattedCaptureRange, BasicFormattedCaptureState, RowContent
 use std::fmt;
 use std::io;
 use std::num::NonZeroU16;
+use std::sync::atomic::{AtomicBool, Ordering};
 use std::sync::{Mutex, MutexGuard, OnceLock, PoisonError};
 
 pub use crate::cell::{Cell, Color, CursorStyle, MouseProtocolEncoding, MouseProtocolMode};
@@ -51,6 +52,8 @@ pub struct Screen {
     screen: Mutex<crate::Screen>,
     rows_and_cols: (NonZeroU16, NonZeroU16),
     capacity: usize,
+    /// Whether something that is kept may have been read since the last change.
+    is_read: AtomicBool,
     look: OnceLock<Look>,
     drawing: OnceLock<Drawing>,
     singles: [OnceLock<Single>; SINGLES],
@@ -67,11 +70,18 @@ impl Screen {
             screen: Mutex::new(screen),
             rows_and_cols,
             capacity,
+            is_read: AtomicBool::new(false),
             look: OnceLock::new(),
             drawing: OnceLock::new(),
             singles: Default::default(),
             rows: OnceLock::new(),
         }
+    }
+
+    /// The screen, to be read and kept.
+    fn lock_to_keep(&self) -> MutexGuard<'_, crate::Screen> {
+        self.is_read.store(true, Ordering::Relaxed); // a change has the screen alone
+        self.lock()
     }
 
     fn lock(&self) -> MutexGuard<'_, crate::Screen> {
@@ -80,12 +90,12 @@ impl Screen {
 
     /// The screen, to be changed: what was read of it is forgotten.
     fn changed(&mut self) -> &mut crate::Screen {
-        self.look.take();
-        self.drawing.take();
-        for single in &mut self.singles {
-            single.take();
+        if std::mem::take(self.is_read.get_mut()) {
+            self.look.take();
+            self.drawing.take();
+            self.singles = Default::default();
+            self.rows.take();
         }
-        self.rows.take();
         self.screen
             .get_mut()
             .unwrap_or_else(PoisonError::into_inner)
@@ -103,16 +113,17 @@ impl Screen {
     fn look(&self) -> &Look {
         match self.look.get() {
             Some(look) => look,
-            None => self.look.get_or_init(|| self.lock().look()),
+            None => self.look.get_or_init(|| self.lock_to_keep().look()),
         }
     }
 
     fn row(&self, row: u16) -> Option<&Row> {
         let rows = self.rows.get_or_init(|| {
+            self.is_read.store(true, Ordering::Relaxed);
             let rows = (0..self.rows_and_cols.0.get()).map(|_| OnceLock::new());
             rows.collect()
         });
-        let row_of = || self.lock().row(row).unwrap_or_default();
+        let row_of = || self.lock_to_keep().row(row).unwrap_or_default();
         Some(rows.get(usize::from(row))?.get_or_init(row_of))
     }
 
@@ -129,7 +140,7 @@ impl Screen {
         if row >= rows.get() || col >= cols.get() {
             return None;
         }
-        let cell = || self.lock().cell(row, col).unwrap_or_default();
+        let cell = || self.lock_to_keep().cell(row, col).unwrap_or_default();
         for single in &self.singles {
             let (its_row, its_col, its_cell) = single.get_or_init(|| (row, col, cell()));
             if (*its_row, *its_col) == (row, col) {
@@ -143,7 +154,7 @@ impl Screen {
     fn drawing(&self) -> &Drawing {
         match self.drawing.get() {
             Some(drawing) => drawing,
-            None => self.drawing.get_or_init(|| self.lock().drawing()),
+            None => self.drawing.get_or_init(|| self.lock_to_keep().drawing()),
         }
     }
 
@@ -588,6 +599,8 @@ pub struct Parser<CB: Callbacks = ()> {
     screen: Screen,
     callbacks: CB,
     stops: Stops,
+    /// Room for what a piece asks.
+    requests: Vec<Request>,
     /// The callback for rows isn't written, as a row has shown.
     are_rows_unread: bool,
 }
@@ -625,6 +638,7 @@ impl<CB: Callbacks> Parser<CB> {
             screen: Screen::of(screen, (rows, cols), scrollback_capacity),
             callbacks,
             stops: Stops::default(),
+            requests: Vec::new(),
             are_rows_unread: false,
         }
     }
@@ -655,12 +669,15 @@ impl<CB: Callbacks> Parser<CB> {
     /// Calls the callbacks for what waits, and says whether something did. Operating system commands are read whole
     /// elsewhere.
     fn call_back(&mut self) -> bool {
-        let screen = self.screen.changed();
-        let requests: Vec<Request> = screen.requests().collect();
+        let mut requests = std::mem::take(&mut self.requests);
+        requests.extend(self.screen.changed().requests());
         for request in &requests {
             self.call(request);
         }
-        !requests.is_empty()
+        let is_called = !requests.is_empty();
+        requests.clear();
+        self.requests = requests;
+        is_called
     }
 
     fn call(&mut self, request: &Request) {

@@ -530,6 +530,11 @@ mod as_vt100 {
             parser.process(b"\x1b[2;2Hf");
         }
         parser.set_size(super::size(2), super::size(3));
+        assert!(!parser.screen().row_wrapped(2)); // it is below the screen
+        parser.set_size(super::size(4), super::size(3));
+        assert_eq!(parser.screen().rows(0, 3).count(), 4);
+        assert!((0..12).all(|n| parser.screen().cell(n / 3, n % 3).is_some()));
+        parser.set_size(super::size(2), super::size(3));
         let text = |row, col| parser.screen().cell(row, col).map(vt100::Cell::contents);
         assert_eq!(parser.screen().size(), (super::size(2), super::size(3)));
         assert_eq!(
