@@ -57,11 +57,20 @@ impl Stops {
                 if let Some(count) = unknown_in(text) {
                     return at + count;
                 }
-                is_cut = std::str::from_utf8(text).is_err();
+                is_cut = !text.is_ascii() && std::str::from_utf8(text).is_err();
                 at += count;
                 if at == bytes.len() {
                     return at;
                 }
+            }
+            if let Some((parameters, last)) = self.control_at(&bytes[at..], is_cut) {
+                at += b"\x1b[".len() + parameters.len() + 1;
+                if !is_known_control(parameters, last) {
+                    return at;
+                }
+                most = most.saturating_sub(rows_of(parameters, last)).max(at);
+                bytes = &bytes[..bytes.len().min(most)];
+                continue;
             }
             at += 1;
             if self.is_stop(bytes[at - 1]) || is_cut {
@@ -77,6 +86,19 @@ impl Stops {
     pub(crate) fn command(&mut self) -> Option<Vec<u8>> {
         let is_whole = std::mem::take(&mut self.is_whole);
         is_whole.then(|| std::mem::take(&mut self.command))
+    }
+
+    /// The control sequence that these bytes begin with, if it is whole and has numbers alone: most are. Behind a
+    /// character that is cut there is a stop in it.
+    fn control_at<'a>(&self, bytes: &'a [u8], is_cut: bool) -> Option<(&'a [u8], u8)> {
+        if self.inside != Inside::Text || is_cut {
+            return None;
+        }
+        let rest = bytes.strip_prefix(b"\x1b[")?;
+        let is_last = |byte: &u8| !matches!(*byte, b'0'..=b'9' | b';');
+        let (parameters, rest) = rest.split_at(rest.iter().position(is_last)?);
+        let last = rest[0];
+        matches!(last, 0x40..=0x7e).then_some((parameters, last))
     }
 
     fn is_stop(&mut self, byte: u8) -> bool {
@@ -166,21 +188,22 @@ fn rows_of(parameters: &[u8], last: u8) -> usize {
     if !matches!(last, b'b' | b'S') {
         return 0;
     }
-    let digits = parameters.iter().take_while(|byte| byte.is_ascii_digit());
-    digits.fold(0, |count: usize, byte| {
-        count
-            .saturating_mul(10)
-            .saturating_add(usize::from(byte - b'0'))
+    number_of(parameters)
+}
+
+/// The number that bytes begin with; 0 where they begin with none.
+fn number_of(bytes: &[u8]) -> usize {
+    let digits = bytes.iter().take_while(|byte| byte.is_ascii_digit());
+    digits.fold(0, |number: usize, digit| {
+        let next = number.saturating_mul(10);
+        next.saturating_add(usize::from(digit - b'0'))
     })
 }
 
 /// Whether a screen knows each number of SGR.
 fn are_known_attributes(parameters: &[u8]) -> bool {
-    let text = std::str::from_utf8(parameters).unwrap_or("x");
-    let mut numbers = text.split(';').map(|it| match it {
-        "" => Some(0),
-        it => it.parse::<u8>().ok(),
-    });
+    let pieces = parameters.split(|byte| *byte == b';');
+    let mut numbers = pieces.map(|digits| u8::try_from(number_of(digits)).ok());
     while let Some(number) = numbers.next() {
         let is_known = match number {
             Some(38 | 48) => match numbers.next() {
