@@ -461,7 +461,7 @@ typedef struct jeihpal_request {
 
 /* At most so many requests wait in a screen's queue, each with a text of at most so many bytes. Rows are queued as long
  * as there is memory, and have texts of any length. They count among those that wait: behind so many rows no other
- * request is queued, until they were taken. */
+ * request is queued until some are taken. */
 #define JEIHPAL_MOST_REQUESTS 256
 #define JEIHPAL_MOST_REQUEST_BYTES 1021
 

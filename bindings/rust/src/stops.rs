@@ -22,8 +22,8 @@ const ESCAPE: u8 = 0x1b;
 const DELETE: u8 = 0x7f;
 const STRING_END: u8 = 0x9c;
 
-/// A piece has at most so many bytes, less the rows that a sequence in it may have leave. So at most so many rows leave
-/// before its last sequence, and what this one asks finds room in the library's queue.
+/// A piece has at most so many bytes, less the rows that its sequences may scroll off. So fewer rows than this scroll off
+/// before its last sequence, and what that one asks finds room in the library's queue.
 const MOST_BYTES: usize = 256;
 
 /// So many bytes of a control sequence are looked at.
@@ -38,7 +38,7 @@ pub(crate) struct Stops {
     sequence: Vec<u8>,
     command: Vec<u8>,
     is_whole: bool,
-    /// How many rows the sequence that has just ended may have leave.
+    /// How many rows the sequence that has just ended may scroll off.
     rows: usize,
 }
 
@@ -183,7 +183,7 @@ fn is_known_control(parameters: &[u8], last: u8) -> bool {
     }
 }
 
-/// How many rows a control sequence may have leave at most: one that repeats a character, or scrolls.
+/// How many rows a control sequence scrolls off at most: one that repeats a character, or scrolls.
 fn rows_of(parameters: &[u8], last: u8) -> usize {
     if !matches!(last, b'b' | b'S') {
         return 0;
