@@ -1,4 +1,3 @@
-pub mod Splits
 pub mod Joins
 pub mod RunLemmas
 pub mod PrintLemmas

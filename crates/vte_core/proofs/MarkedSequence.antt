@@ -5,7 +5,7 @@ use Rattle.std.proofs.lemmas.Bool.Decides.{nat_tests}
 use Rattle.std.specs.Int.{is_in_range}
 use Rattle.vte_core.specs.Bytes.{is_abort, is_control, is_esc, is_intermediate, ends_escape, opens_sequence}
 use Rattle.vte_core.specs.Event.{Event, Esc}
-use Rattle.vte_core.specs.Pending.{InText, InEscape, events_of_byte, events_from, after_byte, after_bytes}
+use Rattle.vte_core.specs.Pending.{Pending, InText, InEscape, events_of_byte, events_from, after_byte, after_bytes}
 use Rattle.vte_core.specs.Reads.{BeginsWithEsc, ReadsStep}
 use Rattle.vte_core.specs.Runs.{is_one_step}
 use Rattle.vte_core.specs.declared.parser.Parser.{Parser}
@@ -66,12 +66,13 @@ first_three (x ∷ y ∷ z ∷ bs) m f some a b c = cc
 
 module _ {S : Type 0} {step : S → Event → S → Type 0} {n : ℕ} {p : Parser n} {old new : S} where
   -- the bytes before the final byte have no event, and it has this one
-  escape_step : (bs quiet : List ℕ) (k f : ℕ) (is : List ℕ) (event : Event) → 0 < k → k ≤ length bs → p.state ≡ Ground
-      → p.unfinished ≡ [] → take k bs ≡ quiet ++ f ∷ []
-      → (events_from n (InText []) quiet ≡ []) × (after_bytes (InText []) quiet ≡ InEscape is)
-      → (events_of_byte n (InEscape is) f ≡ event ∷ []) × (after_byte (InEscape is) f ≡ InText [])
+  pub final_step : (bs quiet : List ℕ) (k f : ℕ) (mid : Pending) (event : Event) → 0 < k → k ≤ length bs
+      → p.state ≡ Ground → p.unfinished ≡ [] → take k bs ≡ quiet ++ f ∷ []
+      → (events_from n (InText []) quiet ≡ []) × (after_bytes (InText []) quiet ≡ mid)
+      → (events_of_byte n mid f ≡ event ∷ []) × (after_byte mid f ≡ InText [])
+      → ((rest : List ℕ) → is_one_step mid (f ∷ []) rest ≡ true)
       → step old event new → ReadsStep step n p old bs k p new
-  escape_step bs quiet k f is event some within ground none cut begun ends told = record {
+  final_step bs quiet k f mid event some within ground none cut begun ends asked told = record {
     some = some;
     reads = record {
       within = within;
@@ -96,7 +97,7 @@ module _ {S : Type 0} {step : S → Event → S → Type 0} {n : ℕ} {p : Parse
       };
     };
     is_step = λ q at. rw (begun-text n p q ground none at, cut) (quiet-step n (InText []) quiet (f ∷ []) _ begun.0
-        (rw begun.1 (one-step n (InEscape is) (f ∷ []) _ (asked is f _))));
+        (rw begun.1 (one-step n mid (f ∷ []) _ (asked _))));
   }
 
   pub marked_step : (bs : List ℕ) → BeginsWithEsc bs → p.state ≡ Ground → p.unfinished ≡ [] → 3 ≤ length bs
@@ -105,13 +106,14 @@ module _ {S : Type 0} {step : S → Event → S → Type 0} {n : ℕ} {p : Parse
   marked_step bs begins ground whole some mark final told =
       let m = get_or bs 1 0 in
       let f = get_or bs 2 0 in
-      escape_step bs (0x1B ∷ m ∷ []) 3 f (m ∷ []) (Esc (m ∷ []) false f) (omega arith) some ground whole
-      (first_three bs m f some begins.esc refl refl) (marked n m mark) (final-marked n m f final) told
+      final_step bs (0x1B ∷ m ∷ []) 3 f (InEscape (m ∷ [])) (Esc (m ∷ []) false f) (omega arith) some ground whole
+      (first_three bs m f some begins.esc refl refl) (marked n m mark) (final-marked n m f final)
+      (asked (m ∷ []) f) told
 
   pub unmarked_step : (bs : List ℕ) → BeginsWithEsc bs → p.state ≡ Ground → p.unfinished ≡ [] → 2 ≤ length bs
       → is_in_range 0x30 0x7E (get_or bs 1 0) ≡ true → opens_sequence (get_or bs 1 0) ≡ false
       → step old (Esc [] false (get_or bs 1 0)) new → ReadsStep step n p old bs 2 p new
   unmarked_step bs begins ground whole some final opens_none told =
       let f = get_or bs 1 0 in
-      escape_step bs (0x1B ∷ []) 2 f [] (Esc [] false f) (omega arith) some ground whole
-      (first_two bs f some begins.esc refl) (refl, refl) (final-unmarked n f final opens_none) told
+      final_step bs (0x1B ∷ []) 2 f (InEscape []) (Esc [] false f) (omega arith) some ground whole
+      (first_two bs f some begins.esc refl) (refl, refl) (final-unmarked n f final opens_none) (asked [] f) told

@@ -167,17 +167,16 @@ cut-pieces n x s ends r h =
     ∙ (cut-first n 0 all [] refl ∙ ap (λ j. first_bytes j all) (omega arith)))))
 
 -- one more piece reported
-pub tell_step : {X : Type 0} (f : X → List ℕ) (xs : List X) (x : X) (i start end : ℕ) (rest bytes : List ℕ)
-    (all : List (List ℕ)) → i < length xs → f x ≡ slice_range bytes start end
-    → map f (take i xs) ++ cut_at start (end ∷ rest) bytes ≡ all
-    → map f (take (i + 1) (set xs i x)) ++ cut_at end rest bytes ≡ all
-tell_step f xs x i start end rest bytes all h e k =
+pub tell_step : {X : Type 0} (f : X → List ℕ) (xs : List X) (x : X) (i : ℕ) (first : List ℕ)
+    (rest all : List (List ℕ)) → i < length xs → f x ≡ first → map f (take i xs) ++ first ∷ rest ≡ all
+    → map f (take (i + 1) (set xs i x)) ++ rest ≡ all
+tell_step f xs x i first rest all h e k =
     let more : take (i + 1) (set xs i x) ≡ take i xs ++ x ∷ [] =
     (let m : i + 1 ≡ suc i = omega arith in ap (λ j. take j (set xs i x)) m) ∙ take-suc-set xs i x h in
-    ap (λ y. map f y ++ cut_at end rest bytes) more
-    ∙ (ap (λ y. y ++ cut_at end rest bytes) (map-append f (take i xs) (x ∷ []))
-    ∙ (append_assoc (map f (take i xs)) (f x ∷ []) (cut_at end rest bytes)
-    ∙ (ap (λ y. map f (take i xs) ++ y ∷ cut_at end rest bytes) e ∙ k)))
+    ap (λ y. map f y ++ rest) more
+    ∙ (ap (λ y. y ++ rest) (map-append f (take i xs) (x ∷ []))
+    ∙ (append_assoc (map f (take i xs)) (f x ∷ []) rest
+    ∙ (ap (λ y. map f (take i xs) ++ y ∷ rest) e ∙ k)))
 
 pub rise_at : (start : ℕ) (ends xs : List ℕ) (i : ℕ) → i < length ends → EndsRise start (drop i ends) xs
     → (start ≤ get_or ends i 0) × EndsRise (get_or ends i 0) (drop (i + 1) ends) xs

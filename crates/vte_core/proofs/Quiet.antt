@@ -263,6 +263,14 @@ begun-csi n p q bs k some e f s none header at =
     (begun-kept n (InText []) InCsi is_header bs (0x1B ∷ 0x5B ∷ []) 2 k (header-csi n) (first_two bs _ _ some e f) refl
     refl header)
 
+pub begun-osc : (n : ℕ) (bs : List ℕ) (k : ℕ) → 2 ≤ length bs → get_or bs 0 0 ≡ 0x1B → get_or bs 1 0 ≡ 0x5D
+    → each is_data (take k (take (length bs - 2) (drop 2 bs))) ≡ true
+    → (events_from n (InText []) (take (2 + k) bs) ≡ [])
+    × (after_bytes (InText []) (take (2 + k) bs) ≡ InOsc (take k (take (length bs - 2) (drop 2 bs))))
+begun-osc n bs k some e f all =
+    begun-kept n (InText []) InOsc is_data bs (0x1B ∷ 0x5D ∷ []) 2 k (data-osc n) (first_two bs _ _ some e f) refl refl
+    all
+
 -- `[` and some of a header, or `]` and some of a command's data, after ESC alone
 
 none_kept : (is : List ℕ) → take 2 is ≡ [] → is ≡ []

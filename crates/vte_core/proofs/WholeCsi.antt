@@ -109,7 +109,7 @@ from_third (x ∷ y ∷ z ∷ bs) k some = let next : 1 + k ≡ suc k = omega ar
 abbrev rest_of : ℕ → List ℕ → List ℕ
 rest_of j bs = take (length bs - j) (drop j bs)
 
-rest_at : (j : ℕ) (bs : List ℕ) (k : ℕ) → get_or (take (length bs - j) (drop j bs)) k 0 ≡ get_or bs (j + k) 0
+pub rest_at : (j : ℕ) (bs : List ℕ) (k : ℕ) → get_or (take (length bs - j) (drop j bs)) k 0 ≡ get_or bs (j + k) 0
 rest_at j bs k = ap (λ (xs : List ℕ). get_or xs k 0) (whole_rest bs j) ∙ get_or-drop j bs k 0
 
 module _ {S : Type 0} {step : S → Event → S → Type 0} {n : ℕ} {p r : Parser n} {old new : S} where
@@ -154,42 +154,37 @@ module _ {S : Type 0} {step : S → Event → S → Type 0} {n : ℕ} {p r : Par
 
   pub csi_step : (bs : List ℕ) (k : ℕ) → BeginsWithEsc bs → p.state ≡ Ground → p.unfinished ≡ [] → 2 ≤ length bs
       → get_or bs 1 0 ≡ 0x5B → AreLoneNumbers (rest_of 2 bs) k r.header.numbers.params
-      → is_in_range 0x40 0x7E (get_or (rest_of 2 bs) k 0) ≡ true
+      → is_in_range 0x40 0x7E (get_or bs (2 + k) 0) ≡ true
       → ((q : Pending) → IsAt n p q → IsAt n r q)
-      → step old (Csi r.header.numbers.params [] false (get_or (rest_of 2 bs) k 0)) new
-      → ReadsStep step n p old bs (k + 3) r new
+      → step old (Csi r.header.numbers.params [] false (get_or bs (2 + k) 0)) new
+      → ReadsStep step n p old bs (2 + k + 1) r new
   csi_step bs k begins ground whole some bracket lone final state_after reported =
       let numbers = r.header.numbers.params in
       let kept : AreLoneNumbers (drop 2 bs) k numbers = subst (λ xs. AreLoneNumbers xs k numbers)
       (whole_rest bs 2) lone in
       let less : 2 + k < length bs = omega (arith, kept.within, length-drop 2 bs) in
-      let end : k + 3 ≡ 2 + k + 1 = omega arith in
-      rw end (header_step bs k numbers [] ground whole less begins.esc bracket
-      (numbers_reported (drop 2 bs) k numbers kept)
-      (rw (← rest_at 2 bs k) final) state_after (rw (← rest_at 2 bs k) reported))
+      header_step bs k numbers [] ground whole less begins.esc bracket
+      (numbers_reported (drop 2 bs) k numbers kept) final state_after reported
 
   pub marked_csi_step : (bs : List ℕ) (k : ℕ) → BeginsWithEsc bs → p.state ≡ Ground → p.unfinished ≡ [] → 2 ≤ length bs
       → get_or bs 1 0 ≡ 0x5B → AreLoneNumbers (rest_of 2 bs) k r.header.numbers.params
-      → is_in_range 0x20 0x2F (get_or (rest_of 2 bs) k 0) ≡ true → k + 1 < length (rest_of 2 bs)
-      → is_in_range 0x40 0x7E (get_or (rest_of 2 bs) (k + 1) 0) ≡ true
+      → is_in_range 0x20 0x2F (get_or bs (2 + k) 0) ≡ true → 2 + k + 1 < length bs
+      → is_in_range 0x40 0x7E (get_or bs (2 + k + 1) 0) ≡ true
       → ((q : Pending) → IsAt n p q → IsAt n r q)
-      → step old (Csi r.header.numbers.params (get_or (rest_of 2 bs) k 0 ∷ []) false
-      (get_or (rest_of 2 bs) (k + 1) 0)) new
-      → ReadsStep step n p old bs (k + 4) r new
+      → step old (Csi r.header.numbers.params (get_or bs (2 + k) 0 ∷ []) false (get_or bs (2 + k + 1) 0)) new
+      → ReadsStep step n p old bs (2 + k + 2) r new
   marked_csi_step bs k begins ground whole some bracket lone mark less final state_after reported =
       let numbers = r.header.numbers.params in
       let kept : AreLoneNumbers (drop 2 bs) k numbers = subst (λ xs. AreLoneNumbers xs k numbers)
       (whole_rest bs 2) lone in
-      let m = get_or (rest_of 2 bs) k 0 in
-      let at_mark : get_or (drop 2 bs) k 0 ≡ m = ap (λ (xs : List ℕ). get_or xs k 0) (sym (whole_rest bs 2)) in
+      let m = get_or bs (2 + k) 0 in
+      let at_mark : get_or (drop 2 bs) k 0 ≡ m = get_or-drop 2 bs k 0 in
       let cut : take (k + 1) (drop 2 bs) ≡ take k (drop 2 bs) ++ m ∷ [] =
       take_more (drop 2 bs) k 0 kept.within ∙ rw at_mark refl in
-      let end : k + 4 ≡ 2 + (k + 1) + 1 = omega arith in
-      let less_than : 2 + (k + 1) < length bs =
-      omega (arith, less, length-take (length bs - 2) (drop 2 bs), length-drop 2 bs) in
-      rw end (header_step bs (k + 1) numbers (m ∷ []) ground whole less_than begins.esc bracket
-      (rw cut (marked_reported m (drop 2 bs) k numbers mark kept)) (rw (← rest_at 2 bs (k + 1)) final) state_after
-      (rw (← rest_at 2 bs (k + 1)) reported))
+      let place : 2 + (k + 1) ≡ 2 + k + 1 = omega arith in
+      let end : 2 + k + 2 ≡ 2 + (k + 1) + 1 = omega arith in
+      rw end (header_step bs (k + 1) numbers (m ∷ []) ground whole (omega (arith, less)) begins.esc bracket
+      (rw cut (marked_reported m (drop 2 bs) k numbers mark kept)) (rw place final) state_after (rw place reported))
 
   pub private_step : (bs : List ℕ) (k : ℕ) → BeginsWithEsc bs → p.state ≡ Ground → p.unfinished ≡ [] → 3 ≤ length bs
       → get_or bs 1 0 ≡ 0x5B → is_private (get_or bs 2 0) ≡ true

@@ -1,7 +1,7 @@
 //! The data of an operating system command, byte by byte: the first N bytes, in the first 16 pieces.
 
 ghost use Rattle.std.specs.Prelude.{◌≡◌, ◌+◌, ◌<◌, ◌≤◌, ℕ, List, [], ◌∷◌, ◌++◌, length, take, map, IsTrue, true};
-ghost use Rattle.std.specs.Prelude.{false, slice_index};
+ghost use Rattle.std.specs.Prelude.{false, slice_index, get_or, ◌==◌};
 ghost use Rattle.vte_core.specs.Event.{Osc as OscEvent};
 ghost use Rattle.vte_core.specs.Bytes.{each, is_data};
 ghost use Rattle.vte_core.specs.StepEvents.{osc_event};
@@ -44,6 +44,54 @@ fn report<P: Perform>(performer: &mut P, bytes: &[u8], ends: &[usize], bell_term
         start = *end;
     }
     performer.osc_dispatch(&pieces[..ends.len()], bell_terminated);
+}
+
+/// How many bytes at the start are data or `;`, and no control.
+#[inline(always)]
+pub fn data_len(bytes: &[u8]) -> usize
+    ensures within { result ≤ length bytes.now }
+    ensures all_data { each is_data (take result bytes.now) ≡ true }
+    ensures ended { result < length bytes.now → is_data (slice_index bytes.now result) ≡ false }
+{
+    let mut len = 0;
+    while len < bytes.len() && bytes[len] >= 0x20 {
+        len += 1;
+    }
+    len
+}
+
+/// How many bytes at the start stand before the first `;`.
+#[inline(always)]
+fn piece_len(bytes: &[u8]) -> usize
+    ensures within { result ≤ length bytes.now }
+    ensures one { (j : ℕ) → j < result → (get_or bytes.now j 0 == 0x3B) ≡ false }
+    ensures ended { result < length bytes.now → (get_or bytes.now result 0 == 0x3B) ≡ true }
+{
+    let mut len = 0;
+    while len < bytes.len() && bytes[len] != b';' {
+        len += 1;
+    }
+    len
+}
+
+/// Reports a command that BEL ends, by its data.
+#[inline(always)]
+pub fn report_whole<P: Perform>(performer: &mut P, data: &[u8])
+    ensures { P.step performer.old (OscEvent (take 16 (pieces_of «data».now)) true) performer.new }
+{
+    let mut pieces: [&[u8]; 16] = [&[]; 16];
+    let mut count = 0;
+    let mut rest = data;
+    loop {
+        let len = piece_len(rest);
+        pieces[count] = &rest[..len];
+        count += 1;
+        if len == rest.len() || count == 16 {
+            performer.osc_dispatch(&pieces[..count], true);
+            return;
+        }
+        rest = &rest[len + 1..];
+    }
 }
 
 impl<const N: usize> OscData<N> {
@@ -94,12 +142,11 @@ impl<const N: usize> OscData<N> {
         ensures ended { result < length bytes.now → is_data (slice_index bytes.now result) ≡ false }
         ensures reads { (s : List ℕ) → ReadsOsc N self.old s → ReadsOsc N self.new (s ++ take result bytes.now) }
     {
-        let mut read = 0;
-        while read < bytes.len() && bytes[read] >= 0x20 {
-            self.push(bytes[read]);
-            read += 1;
+        let len = data_len(bytes);
+        for byte in &bytes[..len] {
+            self.push(*byte);
         }
-        read
+        len
     }
 
     /// The command ends.

@@ -17,7 +17,7 @@ ghost use Rattle.vte_core.specs.Reported.{Reported};
 
 use crate::header::{Header, is_intermediate};
 use crate::intermediates::Intermediates;
-use crate::osc_data::OscData;
+use crate::osc_data::{OscData, data_len, report_whole};
 use crate::perform::Perform;
 use crate::table::{Action, step_of};
 use crate::text::Unfinished;
@@ -447,20 +447,21 @@ impl<const N: usize> Parser<N> {
         ensures whole { self.new.unfinished ≡ [] }
         ensures reads { ReadsWhole P.step N self.old performer.old bytes.now result self.new performer.new }
     {
-        let [_, b'[', rest @ ..] = bytes else {
+        let [_, b'[', ..] = bytes else {
             return 0;
         };
-        let Some(len) = self.header.numbers.read_lone_numbers(rest) else {
+        let Some(numbers) = self.header.numbers.read_lone_numbers(&bytes[2..]) else {
             return 0;
         };
-        let byte = rest[len];
+        let len = 2 + numbers;
+        let byte = bytes[len];
         if is_final(byte) {
             performer.csi_dispatch(&self.header.numbers.params, &[], false, byte as char);
-            return len + 3;
+            return len + 1;
         }
-        if is_intermediate(byte) && len + 1 < rest.len() && is_final(rest[len + 1]) {
-            self.dispatch_marked(performer, byte, rest[len + 1]);
-            return len + 4;
+        if is_intermediate(byte) && len + 1 < bytes.len() && is_final(bytes[len + 1]) {
+            self.dispatch_marked(performer, byte, bytes[len + 1]);
+            return len + 2;
         }
         self.read_private(performer, bytes)
     }
@@ -483,7 +484,26 @@ impl<const N: usize> Parser<N> {
             performer.esc_dispatch(&[*byte], false, bytes[2]);
             return 3;
         }
-        0
+        self.read_command(performer, bytes)
+    }
+
+    /// Reads an operating system command that BEL ends, if it stands whole at the start and all its data is kept.
+    /// Returns how many bytes it is, or else 0.
+    // Never inlined: a command is rare beside other sequences, and its pieces need stack.
+    #[inline(never)]
+    fn read_command<P: Perform>(&self, performer: &mut P, bytes: &[u8]) -> usize
+        requires { IsAtEsc N self.now bytes.now }
+        ensures { ReadsWhole P.step N self.now performer.old bytes.now result self.now performer.new }
+    {
+        let [_, b']', rest @ ..] = bytes else {
+            return 0;
+        };
+        let len = data_len(rest);
+        if len > N || len == rest.len() || rest[len] != 0x07 {
+            return 0;
+        }
+        report_whole(performer, &rest[..len]);
+        len + 3
     }
 
     /// Reads ESC after whole ground text, and what follows up to the first byte that has an event, and with it. Returns

@@ -1,6 +1,6 @@
 use Rattle.std.proofs.Common.{◌≡◌, ◌==◌, ◌∷◌, rules}
 use Rattle.std.specs.List.{slice_split}
-use Rattle.vte.proofs.Splits.{some_part}
+use Rattle.vte_core.proofs.Splits.{some_part}
 use Rattle.vte.proofs.color.three_scaled.Goals as goal
 
 pub returns-in-Some : goal.returns-in-Some

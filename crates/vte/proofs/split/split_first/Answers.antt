@@ -1,7 +1,7 @@
 use Rattle.std.proofs.Common.{◌≡◌, ◌+◌, ◌-◌, ◌==◌, take, drop, length, arith, add-one}
 use Rattle.std.proofs.lemmas.Grind.{common_steps}
 use Rattle.std.proofs.lemmas.Bool.{false_from_ne_true}
-use Rattle.vte.proofs.Splits.{split_at, split_nowhere}
+use Rattle.vte_core.proofs.Splits.{split_at, split_nowhere}
 use Rattle.vte.proofs.split.split_first.Goals as goal
 
 pub returns-in-Some-clause-parts : goal.returns-in-Some-clause-parts

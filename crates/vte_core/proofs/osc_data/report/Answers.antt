@@ -18,7 +18,7 @@ loop-i-preserved g c =
     record {
       rise = r.1;
       room = length-set _ _ _ ∙ c.loop-i.invariant.room;
-      so_far = tell_step (λ p. p.now) c.loop-i.pieces _ c.loop-i.i c.loop-i.start _ _ c.args.bytes.now _
+      so_far = tell_step (λ p. p.now) c.loop-i.pieces _ c.loop-i.i _ _ _
           (omega (arith, c.requires.few, c.loop-i.invariant.room)) refl
           (ap (λ y. map (λ p. p.now) (take c.loop-i.i c.loop-i.pieces) ++ y) (sym next) ∙ c.loop-i.invariant.so_far);
     }

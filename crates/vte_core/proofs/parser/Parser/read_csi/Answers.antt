@@ -5,17 +5,19 @@ use Rattle.vte_core.proofs.parser.Parser.read_csi.Goals as goal
 pub returns-then-is_final-clause-reads : goal.returns-then-is_final-clause-reads
 returns-then-is_final-clause-reads g c =
     let need = c.requires in
-    sequence_read c.args.bytes.now (c.in-Some.len + 3) (csi_step c.args.bytes.now c.in-Some.len need.begins need.ground
+    let k = c.in-Some.numbers in
+    sequence_read c.args.bytes.now (2 + k + 1) (csi_step c.args.bytes.now k need.begins need.ground
     need.whole (omega arith) (omega arith) c.in-Some.ensures (sym c.is_final.ensures ∙ c.if-is_final.true)
     (still_text _ _ _ need.ground need.ground refl) c.csi_dispatch.ensures)
 
 pub returns-then-is_final-2-clause-reads : goal.returns-then-is_final-2-clause-reads
 returns-then-is_final-2-clause-reads g c =
     let need = c.requires in
-    sequence_read c.args.bytes.now (c.in-Some.len + 4) (marked_csi_step c.args.bytes.now c.in-Some.len need.begins
+    let k = c.in-Some.numbers in
+    sequence_read c.args.bytes.now (2 + k + 2) (marked_csi_step c.args.bytes.now k need.begins
     need.ground need.whole (omega arith) (omega arith) c.in-Some.ensures
-    (sym c.is_intermediate.ensures ∙ c.if-is_intermediate.true) c.if-len-rest.true
-    (sym c.is_final-then-len-rest.ensures ∙ c.if-is_final-2.true) (still_text _ _ _ need.ground need.ground refl)
+    (sym c.is_intermediate.ensures ∙ c.if-is_intermediate.true) c.if-len-bytes.true
+    (sym c.is_final-then-len-bytes.ensures ∙ c.if-is_final-2.true) (still_text _ _ _ need.ground need.ground refl)
     c.dispatch_marked.ensures)
 
 pub returns-clause-reads : goal.returns-clause-reads
