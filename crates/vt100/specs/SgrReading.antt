@@ -1,5 +1,5 @@
 -- What an SGR sequence sets, group by group.
-use Rattle.std.specs.Prelude.{ℕ, Bool, true, false, List, drop, Option, Some, None, Result, Ok, Err}
+use Rattle.std.specs.Prelude.{ℕ, ◌+◌, Bool, true, false, List, drop, Option, Some, None, Result, Ok, Err}
 use Rattle.vt100_forms.specs.declared.attrs.Attrs.{Attrs}
 use Rattle.vt100_forms.specs.declared.attrs.Color.{Color}
 use Rattle.vte_core.specs.Store.{each_alone}
@@ -31,10 +31,19 @@ abbrev pub code_applied : Option (Attrs → Attrs) → Attrs → Attrs
 code_applied None a = a
 code_applied (Some f) a = f a
 
--- a number is read, with these attributes afterwards; so many of the numbers that follow belong to it
-abbrev pub number_led : Result (Bool × ℕ) End → Attrs → List ℕ → Read
-number_led (Ok (true, k)) a ns = read_groups (each_alone (drop k ns)) 0 a
-number_led (Ok (false, k)) a ns = one_more (read_groups (each_alone (drop k ns)) 0 a)
+-- a group that has no row is unhandled
+abbrev pub unhandled_of : Option (Attrs → Attrs) → ℕ
+unhandled_of None = 1
+unhandled_of (Some f) = 0
+
+-- so many more groups are unhandled
+abbrev pub more_unhandled : ℕ → Read → Read
+more_unhandled n x = read_of x.attrs (x.unhandled + n)
+
+-- a number is read, with these attributes afterwards, and so many groups are unhandled; so many of the numbers that
+-- follow belong to it
+abbrev pub number_led : Result (ℕ × ℕ) End → Attrs → List ℕ → Read
+number_led (Ok (n, k)) a ns = more_unhandled n (read_groups (each_alone (drop k ns)) 0 a)
 number_led (Err e) a ns = ended e a
 
 -- what the numbers at the start ask for, with the 38 or 48 before them: a colour, with so many of them

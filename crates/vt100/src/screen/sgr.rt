@@ -1,5 +1,5 @@
 //! SGR: the drawing attributes (ECMA-48 8.3.117; colours by ITU-T T.416).
-ghost use Rattle.std.specs.Prelude.{◌≡◌, ◌≢◌, ◌≤◌, ◌∷◌, [], Bool, false, length, drop, ok_or, is_some, IfOk};
+ghost use Rattle.std.specs.Prelude.{◌≡◌, ◌≢◌, ◌≤◌, ◌∷◌, [], Bool, false, length, drop, ok_or, IfOk};
 ghost use Rattle.std.specs.Int.{is_in_range};
 ghost use Rattle.vte_core.specs.Store.{each_alone};
 ghost use Rattle.vt100_forms.specs.declared.attrs.Attrs.{Attrs};
@@ -7,6 +7,7 @@ ghost use Rattle.screen_model.specs.Sgr.{value, value_at, rgb, separate_color, c
 ghost use Rattle.screen_model.specs.Sgr.{sgr_read};
 ghost use Rattle.screen_model.specs.Effect.{attributes_read};
 ghost use Rattle.vt100.specs.SgrReading.{read_of, group_led, color_led, code_applied, number_led, color_asked};
+ghost use Rattle.vt100.specs.SgrReading.{unhandled_of};
 ghost use Rattle.vt100.specs.Tries.{Counts};
 ghost use Rattle.vt100.specs.declared.screen.sgr.End.TheVariants.{Value};
 
@@ -51,7 +52,7 @@ fn read_alone(attrs: &mut PackedAttrs, code: u16) -> usize
     ensures { read_of attrs.new result ≡ sgr_read ((code ∷ []) ∷ []) attrs.old }
 {
     match read_number(attrs, code, &[]) {
-        Ok((is_handled, _)) => usize::from(!is_handled),
+        Ok((unhandled, _)) => unhandled,
         Err(End::Value) => 0,
         Err(End::Kind) => 1,
     }
@@ -111,7 +112,7 @@ fn read_group(
     match group {
         [38] => attrs.set_fgcolor(color_in_groups(groups)?),
         [48] => attrs.set_bgcolor(color_in_groups(groups)?),
-        [code] => return Ok(read_code(attrs, *code)),
+        [code] => return Ok(read_code(attrs, *code) == 0),
         [38, 2, r, g, b] => attrs.set_fgcolor(rgb(*r, *g, *b)?),
         [38, 5, i] => attrs.set_fgcolor(Color::Idx(value(*i)?)),
         [48, 2, r, g, b] => attrs.set_bgcolor(rgb(*r, *g, *b)?),
@@ -129,8 +130,8 @@ fn read_numbers(attrs: &mut PackedAttrs, numbers: &[u16]) -> usize
     let mut rest = numbers;
     while let [code, others @ ..] = rest {
         match read_number(attrs, *code, others) {
-            Ok((is_handled, len)) => {
-                unhandled += usize::from(!is_handled);
+            Ok((more, len)) => {
+                unhandled += more;
                 rest = &others[len..];
             }
             Err(End::Value) => return unhandled,
@@ -140,24 +141,25 @@ fn read_numbers(attrs: &mut PackedAttrs, numbers: &[u16]) -> usize
     unhandled
 }
 
-/// Reads a number, and of those after it the ones that a colour takes. Answers whether it is handled, and how many it
-/// takes.
+/// Reads a number, and of those after it the ones that a colour takes. Answers how many groups are unhandled, and how
+/// many numbers it takes.
 #[inline(always)]
-fn read_number(attrs: &mut PackedAttrs, code: u16, others: &[u16]) -> Result<(bool, usize), End>
+fn read_number(attrs: &mut PackedAttrs, code: u16, others: &[u16]) -> Result<(usize, usize), End>
     ensures reads { read_groups ((code ∷ []) ∷ each_alone others.now) 0 attrs.old
         ≡ number_led result attrs.new others.now }
+    ensures few { IfOk result (λ x. x.0 ≤ 1) }
     ensures within { IfOk result (λ x. x.1 ≤ length others.now) }
 {
     match code {
         38 => {
             let (color, len) = color_in_numbers(others)?;
             attrs.set_fgcolor(color);
-            Ok((true, len))
+            Ok((0, len))
         }
         48 => {
             let (color, len) = color_in_numbers(others)?;
             attrs.set_bgcolor(color);
-            Ok((true, len))
+            Ok((0, len))
         }
         _ => Ok((read_code(attrs, code), 0)),
     }
@@ -170,19 +172,24 @@ fn color_in_numbers(numbers: &[u16]) -> Result<(Color, usize), End>
     ensures within { IfOk result (λ x. x.1 ≤ length numbers.now) }
 {
     match numbers {
-        [5, i, ..] => Ok((Color::Idx(value(*i)?), 2)),
-        [2, r, g, b, ..] => Ok((rgb(*r, *g, *b)?, 4)),
-        [] | [5] | [2, ..] => Err(End::Value),
+        [kind, first, rest @ ..] => match (*kind, rest) {
+            (5, _) => Ok((Color::Idx(value(*first)?), 2)),
+            (2, [green, blue, ..]) => Ok((rgb(*first, *green, *blue)?, 4)),
+            (2, _) => Err(End::Value),
+            _ => Err(End::Kind),
+        },
+        [] | [2 | 5] => Err(End::Value),
         _ => Err(End::Kind),
     }
 }
 
-/// What a group of one number does, but for 38 and 48. Answers whether it does something. The numbers that most streams
-/// have most of are told apart by comparisons: a jump by a table costs more where its target changes.
+/// What a group of one number does, but for 38 and 48. Answers how many groups are unhandled. The numbers that most
+/// streams have most of are told apart by comparisons: a jump by a table costs more where its target changes.
 // It isn't inlined, so that it stands once for the two that call it.
 #[inline(never)]
-fn read_code(attrs: &mut PackedAttrs, code: u16) -> bool
-    ensures handled { result ≡ is_some (code_row code) }
+fn read_code(attrs: &mut PackedAttrs, code: u16) -> usize
+    ensures unhandled { result ≡ unhandled_of (code_row code) }
+    ensures few { result ≤ 1 }
     ensures attrs { attrs.new ≡ code_applied (code_row code) attrs.old }
 {
     match code {
@@ -191,14 +198,16 @@ fn read_code(attrs: &mut PackedAttrs, code: u16) -> bool
         30..=37 => attrs.set_fgcolor(Color::Idx((code - 30) as u8)),
         _ => return read_any_code(attrs, code),
     }
-    true
+    0
 }
 
-/// What any group of one number does, but for 38 and 48, by the whole table. Answers whether it does something.
+/// What any group of one number does, but for 38 and 48, by the whole table. Answers how many groups
+/// are unhandled.
 // It isn't inlined, so that no jump by a table stands before the frequent numbers.
 #[inline(never)]
-fn read_any_code(attrs: &mut PackedAttrs, code: u16) -> bool
-    ensures handled { result ≡ is_some (code_row code) }
+fn read_any_code(attrs: &mut PackedAttrs, code: u16) -> usize
+    ensures unhandled { result ≡ unhandled_of (code_row code) }
+    ensures few { result ≤ 1 }
     ensures attrs { attrs.new ≡ code_applied (code_row code) attrs.old }
 {
     match code {
@@ -218,9 +227,9 @@ fn read_any_code(attrs: &mut PackedAttrs, code: u16) -> bool
         49 => attrs.set_bgcolor(Color::Default),
         90..=97 => attrs.set_fgcolor(Color::Idx((code - 82) as u8)),
         100..=107 => attrs.set_bgcolor(Color::Idx((code - 92) as u8)),
-        _ => return false,
+        _ => return 1,
     }
-    true
+    0
 }
 
 /// A colour in groups of its own: its kind, and its values.
@@ -270,5 +279,8 @@ fn rgb(red: u16, green: u16, blue: u16) -> Result<Color, End>
 fn value(number: u16) -> Result<u8, End>
     ensures { result ≡ ok_or (value number) Value }
 {
-    u8::try_from(number).map_err(|_| End::Value)
+    if number > 0xFF {
+        return Err(End::Value);
+    }
+    Ok(number as u8)
 }
