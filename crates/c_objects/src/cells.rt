@@ -8,7 +8,7 @@ ghost use Rattle.c_objects.specs.Looks.{cell_of};
 ghost use Rattle.c_objects.specs.Texts.{with_prefix};
 
 use crate::code::{NO_CELL, OK};
-use crate::look::{cell_of, switch};
+use crate::look::{set_cell, switch};
 use crate::plain::CCell;
 use termview::{UntilCleared, View};
 use vt100::{Cell, Screen};
@@ -19,7 +19,7 @@ fn copy_cells(cells: &[Cell], to: &mut [CCell])
 {
     let n = cells.len().min(to.len());
     for i in 0..n {
-        to[i] = cell_of(&cells[i]);
+        set_cell(&cells[i], &mut to[i]);
     }
 }
 
@@ -48,14 +48,14 @@ pub(crate) fn copy_screen_cells(
     }
 }
 
-/// The cell at a place that a view has.
-fn view_cell(view: &View<UntilCleared>, row: u16, col: u16) -> CCell
+/// Sets `to` to the cell at a place that a view has.
+fn set_view_cell(view: &View<UntilCleared>, row: u16, col: u16, to: &mut CCell)
     requires row { row < (view_size view.now).rows }
     requires col { col < (view_size view.now).cols }
-    ensures { result ≡ cell_of ((shown_by view.now).cell row col) }
+    ensures { to.new ≡ cell_of ((shown_by view.now).cell row col) }
 {
     match view.cell(row, col) {
-        Some(cell) => cell_of(cell),
+        Some(cell) => set_cell(cell, to),
         None => unreachable!(),
     }
 }
@@ -68,7 +68,7 @@ fn copy_view_row(view: &View<UntilCleared>, row: u16, cols: u16, to: &mut [CCell
 {
     let n = usize::from(cols).min(to.len());
     for col in 0..n {
-        to[col] = view_cell(view, row, col as u16);
+        set_view_cell(view, row, col as u16, &mut to[col]);
     }
 }
 

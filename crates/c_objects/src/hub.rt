@@ -16,7 +16,7 @@ use crate::code::{
     code_of, frame_code, refusal_code,
 };
 use crate::copy::{copy_prefix, copy_text};
-use crate::look::{cell_of, screen_look};
+use crate::look::{screen_look, set_cell};
 use crate::object::Object;
 use crate::plain::{CCell, CLook};
 use crate::sent::SoMany;
@@ -307,7 +307,7 @@ pub(crate) fn copy_cell(screen: &Screen, row: u16, col: u16, to: &mut CCell) -> 
 {
     match screen.cell(row, col) {
         Some(cell) => {
-            *to = cell_of(cell);
+            set_cell(cell, to);
             OK
         }
         None => NO_CELL,

@@ -57,32 +57,47 @@ fn byte_of(length: usize) -> u8
     length as u8
 }
 
-/// A text, padded with zeros.
-fn padded(contents: &[u8]) -> [u8; 32]
-    ensures { result ≡ with_prefix contents.now (replicate 32 0) }
+/// Sets `text` to a text, padded with zeros.
+// Most texts are one character of at most three bytes, which costs no call of `memcpy`.
+#[inline(always)]
+fn pad(contents: &[u8], text: &mut [u8; 32])
+    ensures { text.new ≡ with_prefix contents.now (replicate 32 0) }
 {
-    let mut text = [0; 32];
-    let mut length = 0;
-    copy_prefix(contents, &mut text, &mut length);
-    text
+    *text = [0; 32];
+    match contents {
+        [] => {}
+        [byte] => text[0] = *byte,
+        [first, second] => {
+            text[0] = *first;
+            text[1] = *second;
+        }
+        [first, second, third] => {
+            text[0] = *first;
+            text[1] = *second;
+            text[2] = *third;
+        }
+        _ => {
+            let mut length = 0;
+            copy_prefix(contents, text, &mut length);
+        }
+    }
 }
 
-/// A cell as C reads it.
-pub(crate) fn cell_of(cell: &Cell) -> CCell
-    ensures { result ≡ cell_of cell.now }
+/// Sets `to` to a cell as C reads it.
+// In its place: what is stored by bytes and then moved in larger pieces waits for these stores.
+#[inline(always)]
+pub(crate) fn set_cell(cell: &Cell, to: &mut CCell)
+    ensures { to.new ≡ cell_of cell.now }
 {
     let width = width_of(cell);
     let contents = cell.contents().as_bytes();
-    let attrs = cell.attrs();
-    CCell {
-        text: padded(contents),
-        length: byte_of(contents.len()),
-        width,
-        attributes: attrs.mode,
-        reserved: 0,
-        foreground: color_of(attrs.fgcolor),
-        background: color_of(attrs.bgcolor),
-    }
+    pad(contents, &mut to.text);
+    to.length = byte_of(contents.len());
+    to.width = width;
+    to.attributes = cell.attrs().mode;
+    to.reserved = 0;
+    to.foreground = color_of(cell.fgcolor());
+    to.background = color_of(cell.bgcolor());
 }
 
 fn mouse_number(mode: MouseProtocolMode) -> u8

@@ -9,7 +9,7 @@ ghost use Rattle.c_objects.specs.Views.{IsNewViewOf, Advances, Stops, Holds, Loo
 use crate::cells::copy_view_cells;
 use crate::code::{BAD_SIZE, MEMORY, NO_CELL, OK, OTHER_KIND};
 use crate::copy::copy_prefix;
-use crate::look::{cell_of, view_look};
+use crate::look::{set_cell, view_look};
 use crate::object::Object;
 use crate::plain::{CCell, CLook};
 use std::alloc::Global;
@@ -94,7 +94,7 @@ fn copy_cell(view: &View<UntilCleared>, row: u16, col: u16, to: &mut CCell) -> i
 {
     match view.cell(row, col) {
         Some(cell) => {
-            *to = cell_of(cell);
+            set_cell(cell, to);
             OK
         }
         None => NO_CELL,

@@ -6,8 +6,8 @@ use Rattle.c_objects.proofs.cells.copy_cells.Goals as goal
 
 pub loop-i-preserved : goal.loop-i-preserved
 loop-i-preserved c =
-    mapped-more cell_of c.args.cells.now c.args.to.now c.loop-i.to c.loop-i.i c.index-cells-i.result c.cell_of.result
-    (omega arith) (omega arith) c.index-cells-i.is c.cell_of.ensures c.loop-i.invariant
+    mapped-more cell_of c.args.cells.now c.args.to.now c.loop-i.to c.loop-i.i c.index-cells-i.result c.set_cell.new.to
+    (omega arith) (omega arith) c.index-cells-i.is c.set_cell.ensures c.loop-i.invariant
 
 pub returns : goal.returns
 returns c =

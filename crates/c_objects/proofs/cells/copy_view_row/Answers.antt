@@ -7,7 +7,7 @@ use Rattle.c_objects.proofs.cells.copy_view_row.Goals as goal
 pub loop-col-preserved : goal.loop-col-preserved
 loop-col-preserved c =
     positioned-more cell_of ((shown_by c.args.view.now).cell c.args.row) c.args.cols c.args.to.now c.loop-col.to
-    c.loop-col.col c.view_cell.result (omega arith) (omega arith) c.view_cell.ensures c.loop-col.invariant
+    c.loop-col.col c.set_view_cell.new.to (omega arith) (omega arith) c.set_view_cell.ensures c.loop-col.invariant
 
 pub returns : goal.returns
 returns c =
