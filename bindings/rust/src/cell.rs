@@ -33,10 +33,6 @@ pub struct Cell {
 }
 
 impl Cell {
-    pub(crate) fn of(raw: RawCell) -> Cell {
-        Cell { raw }
-    }
-
     /// A character and the zero-width ones that joined it, or nothing.
     #[inline]
     pub fn contents(&self) -> &str {
@@ -295,6 +291,7 @@ pub struct Drawing {
 }
 
 impl Drawing {
+    #[inline]
     pub(crate) fn of(raw: &RawDrawing) -> Drawing {
         Drawing {
             fgcolor: Color::of(raw.foreground),
@@ -309,6 +306,7 @@ impl Drawing {
 }
 
 impl Look {
+    #[inline]
     pub(crate) fn of(raw: &RawLook) -> Look {
         Look {
             rows: raw.rows,

@@ -16,8 +16,13 @@ const ABI: u32 = 1;
 /// The library's answer to a place outside of the screen.
 const NO_CELL: i32 = -8;
 
+const ARE_UTF_8: &str = "the library's texts are UTF-8";
+
 /// A text of up to so many bytes is made once, where it doesn't yet say how many it has.
 const ROOM: usize = 16 * 1024;
+
+/// Short texts have at most so many bytes, as a rule.
+const SHORT: usize = 64;
 
 /// The functions that all kinds with a screen have.
 pub(crate) struct Functions {
@@ -107,13 +112,31 @@ impl Owned {
         &self,
         function: impl FnMut(*mut Word, *mut u8, usize, *mut usize) -> i32,
     ) -> Result<String> {
-        Ok(String::from_utf8(self.bytes(function)?).expect("the library's texts are UTF-8"))
+        Ok(String::from_utf8(self.bytes(function)?).expect(ARE_UTF_8))
     }
 
     /// The text that a function without further parameters copies.
     pub(crate) fn whole_text(&self, function: GetText) -> Result<String> {
         // SAFETY, here and below: the word is as the last call left it, and what is lent is lent for the call.
         self.text(|word, to, room, length| unsafe { function(word, to, room, length) })
+    }
+
+    /// Sets `text` to a short text that such a function copies. The room that it has is used again.
+    pub(crate) fn read_text(&self, function: GetText, text: &mut String) -> Result<()> {
+        let mut bytes = std::mem::take(text).into_bytes();
+        bytes.clear();
+        let mut length = SHORT;
+        loop {
+            bytes.reserve(length);
+            let most = bytes.capacity();
+            self.act(|word| unsafe { function(word, bytes.as_mut_ptr(), most, &mut length) })?;
+            if length <= most {
+                // SAFETY: so many bytes have been copied into the room.
+                unsafe { bytes.set_len(length) };
+                *text = String::from_utf8(bytes).expect(ARE_UTF_8);
+                return Ok(());
+            }
+        }
     }
 }
 
@@ -153,27 +176,49 @@ impl Object {
         self.text(|word, to, room, length| unsafe { function(word, row, to, room, length) })
     }
 
+    /// Reads the look into its place.
+    #[inline]
+    pub(crate) fn read_look(&self, look: &mut RawLook) {
+        self.call(|word| unsafe { (self.functions.look)(word, look) })
+            .expect("a look is never refused");
+    }
+
     pub(crate) fn look(&self) -> Look {
         let mut look = RawLook::default();
-        self.call(|word| unsafe { (self.functions.look)(word, &mut look) })
-            .expect("a look is never refused");
+        self.read_look(&mut look);
         Look::of(&look)
     }
 
     pub(crate) fn cell(&self, row: u16, col: u16) -> Option<Cell> {
-        let mut cell = RawCell::default();
-        let code = unsafe { (self.functions.cell)(self.word(), row, col, &mut cell) };
-        if code == NO_CELL {
-            return None;
-        }
-        answer(code).expect("a cell is never refused");
-        Some(Cell::of(cell))
+        let mut cell = Cell::default();
+        self.read_cell(row, col, &mut cell).then_some(cell)
     }
 
-    /// The cells of a row, in one call, and whether its text goes on in the next row; nothing past the last row.
+    /// Sets `cell` to the one at a place, and says whether there is one.
+    pub(crate) fn read_cell(&self, row: u16, col: u16, cell: &mut Cell) -> bool {
+        let to = ptr::from_mut(cell).cast();
+        // SAFETY: a `Cell` is a `RawCell`; the rest is as in other calls.
+        let code = unsafe { (self.functions.cell)(self.word(), row, col, to) };
+        if code == NO_CELL {
+            return false;
+        }
+        answer(code).expect("a cell is never refused");
+        true
+    }
+
+    /// The cells of a row and whether its text goes on in the next row; nothing past the last row.
     pub(crate) fn row(&self, row: u16, cols: u16) -> Option<(Vec<Cell>, bool)> {
+        let mut cells = Vec::new();
+        let wrapped = self.read_row(row, cols, &mut cells)?;
+        Some((cells, wrapped))
+    }
+
+    /// Sets `cells` to those of a row, in one call, and answers whether its text goes on in the next row; nothing past
+    /// the last row.
+    pub(crate) fn read_row(&self, row: u16, cols: u16, cells: &mut Vec<Cell>) -> Option<bool> {
         let most = usize::from(cols);
-        let mut cells = Vec::<Cell>::with_capacity(most);
+        cells.clear();
+        cells.reserve(most);
         let (mut count, mut wrapped) = (0, 0);
         // SAFETY: a `Cell` is a `RawCell`, and there is room for as many as is said; the rest is as in other calls.
         let code = unsafe {
@@ -186,7 +231,7 @@ impl Object {
         answer(code).expect("cells are never refused");
         // SAFETY: as many as fit have been copied into the room.
         unsafe { cells.set_len(count.min(most)) };
-        Some((cells, wrapped != 0))
+        Some(wrapped != 0)
     }
 
     /// The cells of a row; none past the last row.

@@ -8,7 +8,7 @@ pub(crate) struct Word {
 
 /// `jeihpal_color`.
 #[repr(C)]
-#[derive(Clone, Copy, Default)]
+#[derive(Clone, Copy, Default, PartialEq)]
 pub(crate) struct RawColor {
     pub(crate) kind: u8,
     pub(crate) red_or_index: u8,
@@ -31,7 +31,7 @@ pub(crate) struct RawCell {
 
 /// `jeihpal_drawing`.
 #[repr(C)]
-#[derive(Default)]
+#[derive(Clone, Copy, Default, PartialEq)]
 pub(crate) struct RawDrawing {
     pub(crate) foreground: RawColor,
     pub(crate) background: RawColor,

@@ -78,6 +78,12 @@ impl Screen {
         })
     }
 
+    /// What calls the library.
+    #[inline]
+    pub(crate) fn object(&self) -> &Object {
+        &self.object
+    }
+
     /// A copy that shows the same and keeps the same rows: without a mark, requests, and what was read of a character or
     /// a sequence.
     pub fn try_clone(&self) -> Result<Screen> {
@@ -135,10 +141,15 @@ impl Screen {
     /// How the next character is drawn.
     pub fn drawing(&self) -> Drawing {
         let mut drawing = RawDrawing::default();
-        self.object
-            .call(|word| unsafe { raw::jeihpal_screen_drawing(word, &mut drawing) })
-            .expect("it is never refused");
+        self.read_drawing(&mut drawing);
         Drawing::of(&drawing)
+    }
+
+    /// Reads it into its place.
+    pub(crate) fn read_drawing(&self, drawing: &mut RawDrawing) {
+        self.object
+            .call(|word| unsafe { raw::jeihpal_screen_drawing(word, drawing) })
+            .expect("it is never refused");
     }
 
     /// The text of the rows that are shown.

@@ -20,29 +20,39 @@
 //! - redraws and differences lead a terminal to the picture only where no kept row is shown, as in `vt100`;
 //! - where no memory is found a call panics. [`crate::Screen`] answers an error there.
 pub mod capture;
+mod kept;
 mod osc;
 
 use crate::cell::{Drawing, Look};
 use crate::error::Result;
+use crate::raw::{self, RawDrawing, RawLook};
 use crate::screen::Request;
 use crate::stops::Stops;
 use capture::{BasicFormattedCaptureRange, BasicFormattedCaptureState, RowContents};
+use kept::Kept;
 use std::fmt;
 use std::io;
 use std::num::NonZeroU16;
-use std::sync::atomic::{AtomicBool, Ordering};
 use std::sync::{Mutex, MutexGuard, OnceLock, PoisonError};
 
 pub use crate::cell::{Cell, Color, CursorStyle, MouseProtocolEncoding, MouseProtocolMode};
 
-/// A row as it was read: its cells, and whether its text goes on in the next row.
-type Row = (Vec<Cell>, bool);
-
-/// A cell as it was read by itself: its row, its column, and what it is.
-type Single = (u16, u16, Cell);
+/// A cell that was read by itself: its row and its column, and what it is.
+#[derive(Default)]
+struct Single {
+    place: (u16, u16),
+    cell: Cell,
+}
 
 /// So many cells are read by themselves before rows are.
 const SINGLES: usize = 4;
+
+/// A row: its cells, and whether its text goes on in the next row.
+#[derive(Default)]
+struct Row {
+    cells: Kept<Vec<Cell>>,
+    wrapped: Kept<bool>,
+}
 
 /// A screen that is read. A clone is a copy of its own.
 ///
@@ -52,12 +62,20 @@ pub struct Screen {
     screen: Mutex<crate::Screen>,
     rows_and_cols: (NonZeroU16, NonZeroU16),
     capacity: usize,
-    /// Whether something that is kept may have been read since the last change.
-    is_read: AtomicBool,
-    look: OnceLock<Look>,
-    drawing: OnceLock<Drawing>,
-    singles: [OnceLock<Single>; SINGLES],
-    rows: OnceLock<Box<[OnceLock<Row>]>>,
+    /// How many changes there were, and one more.
+    turn: u64,
+    /// Read at each change, where nobody else has the screen.
+    look: RawLook,
+    /// The same, once it has been asked for.
+    drawing: OnceLock<RawDrawing>,
+    /// What sets the modes, while they stay as they are.
+    modes_text: OnceLock<String>,
+    /// What sets how the next character is drawn, while this stays as it is.
+    drawing_text: OnceLock<String>,
+    cursor_text: Kept<String>,
+    singles: [Kept<Single>; SINGLES],
+    /// Made once a row is asked for. Room for cells is used again.
+    rows: OnceLock<Box<[Row]>>,
 }
 
 impl Screen {
@@ -66,96 +84,169 @@ impl Screen {
         rows_and_cols: (NonZeroU16, NonZeroU16),
         capacity: usize,
     ) -> Screen {
+        let mut look = RawLook::default();
+        screen.object().read_look(&mut look);
         Screen {
             screen: Mutex::new(screen),
             rows_and_cols,
             capacity,
-            is_read: AtomicBool::new(false),
-            look: OnceLock::new(),
+            turn: 1,
+            look,
             drawing: OnceLock::new(),
+            modes_text: OnceLock::new(),
+            drawing_text: OnceLock::new(),
+            cursor_text: Kept::default(),
             singles: Default::default(),
             rows: OnceLock::new(),
         }
-    }
-
-    /// The screen, to be read and kept.
-    fn lock_to_keep(&self) -> MutexGuard<'_, crate::Screen> {
-        self.is_read.store(true, Ordering::Relaxed); // a change has the screen alone
-        self.lock()
     }
 
     fn lock(&self) -> MutexGuard<'_, crate::Screen> {
         self.screen.lock().unwrap_or_else(PoisonError::into_inner)
     }
 
-    /// The screen, to be changed: what was read of it is forgotten.
-    fn changed(&mut self) -> &mut crate::Screen {
-        if std::mem::take(self.is_read.get_mut()) {
-            self.look.take();
-            self.drawing.take();
-            self.singles = Default::default();
-            self.rows.take();
-        }
+    /// The library's screen, for what changes nothing that is read.
+    fn inner(&mut self) -> &mut crate::Screen {
         self.screen
             .get_mut()
             .unwrap_or_else(PoisonError::into_inner)
     }
 
+    /// Changes the screen: what was read of it is forgotten, or read again.
+    #[inline]
+    fn change<T>(&mut self, change: impl FnOnce(&mut crate::Screen) -> T) -> T {
+        let screen = self.screen.get_mut();
+        let screen = screen.unwrap_or_else(PoisonError::into_inner);
+        let answer = change(screen);
+        self.turn += 1;
+        let modes = modes_of(&self.look);
+        screen.object().read_look(&mut self.look);
+        if modes != modes_of(&self.look) {
+            self.modes_text.take();
+        }
+        if let Some(drawing) = self.drawing.get_mut() {
+            let earlier = *drawing;
+            screen.read_drawing(drawing);
+            if self.drawing_text.get().is_some() && *drawing != earlier {
+                self.drawing_text.take();
+            }
+        }
+        answer
+    }
+
     /// Gives it another size, and has the library's queue get what isn't known, or rows, from now on.
     fn resized(&mut self, rows: NonZeroU16, cols: NonZeroU16, unknown: bool, of_rows: bool) {
-        let screen = self.changed();
-        screen.tell(unknown, of_rows);
-        screen.resize(rows, cols).unwrap();
+        let resized = self.change(|screen| {
+            screen.tell(unknown, of_rows);
+            screen.resize(rows, cols)
+        });
+        resized.unwrap();
         self.rows_and_cols = (rows, cols);
+        self.rows.take();
     }
 
     #[inline]
-    fn look(&self) -> &Look {
-        match self.look.get() {
-            Some(look) => look,
-            None => self.look.get_or_init(|| self.lock_to_keep().look()),
-        }
+    fn look(&self) -> Look {
+        Look::of(&self.look)
+    }
+
+    /// The cells of a row, where they have been read.
+    #[inline]
+    fn cells_read(&self, row: u16) -> Option<&Vec<Cell>> {
+        let row = self.rows.get()?.get(usize::from(row))?;
+        row.cells.get(self.turn)
     }
 
     fn row(&self, row: u16) -> Option<&Row> {
         let rows = self.rows.get_or_init(|| {
-            self.is_read.store(true, Ordering::Relaxed);
-            let rows = (0..self.rows_and_cols.0.get()).map(|_| OnceLock::new());
+            let rows = (0..self.rows_and_cols.0.get()).map(|_| Row::default());
             rows.collect()
         });
-        let row_of = || self.lock_to_keep().row(row).unwrap_or_default();
-        Some(rows.get(usize::from(row))?.get_or_init(row_of))
+        rows.get(usize::from(row))
     }
 
-    /// The row, where it has been read.
-    #[inline]
-    fn row_read(&self, row: u16) -> Option<&Row> {
-        self.rows.get()?.get(usize::from(row))?.get()
+    /// Reads the cells of a row.
+    fn read_cells(&self, row: u16) -> Option<&Vec<Cell>> {
+        let kept = self.row(row)?;
+        let (screen, cols) = (self.lock(), self.rows_and_cols.1.get());
+        // SAFETY, here and below: the lock and the turn are the screen's, and a change of it borrows it alone.
+        let cells = unsafe {
+            kept.cells.get_or_read(self.turn, |cells| {
+                let wrapped = screen.object().read_row(row, cols, cells);
+                kept.wrapped
+                    .get_or_read(self.turn, |kept| *kept = wrapped.unwrap_or_default());
+            })
+        };
+        Some(cells)
+    }
+
+    /// Reads whether the text of a row goes on in the next one.
+    fn read_wrapped(&self, row: u16) -> bool {
+        let Some(kept) = self.row(row) else {
+            return false;
+        };
+        if let Some(wrapped) = kept.wrapped.get(self.turn) {
+            return *wrapped;
+        }
+        let screen = self.lock();
+        let read = |kept: &mut bool| {
+            let wrapped = screen.object().read_row(row, 0, &mut Vec::new());
+            *kept = wrapped.unwrap_or_default();
+        };
+        unsafe { *kept.wrapped.get_or_read(self.turn, read) }
     }
 
     /// A cell of a row that hasn't been read. Who reads a few cells has these read, and who reads more has rows read.
-    #[cold]
     fn unread_cell(&self, row: u16, col: u16) -> Option<&Cell> {
         let (rows, cols) = self.rows_and_cols;
         if row >= rows.get() || col >= cols.get() {
             return None;
         }
-        let cell = || self.lock_to_keep().cell(row, col).unwrap_or_default();
-        for single in &self.singles {
-            let (its_row, its_col, its_cell) = single.get_or_init(|| (row, col, cell()));
-            if (*its_row, *its_col) == (row, col) {
-                return Some(its_cell);
+        let (place, mut count) = ((row, col), 0);
+        for single in self.singles.iter().map_while(|it| it.get(self.turn)) {
+            if single.place == place {
+                return Some(&single.cell);
+            }
+            count += 1;
+        }
+        if count < SINGLES {
+            if let Some(cell) = self.read_single(place) {
+                return Some(cell);
             }
         }
-        self.row(row)?.0.get(usize::from(col))
+        self.read_cells(row)?.get(usize::from(col))
+    }
+
+    /// Reads a cell by itself; nothing where as many have been read as can.
+    fn read_single(&self, place: (u16, u16)) -> Option<&Cell> {
+        let screen = self.lock();
+        let read = |single: &mut Single| {
+            let ((row, col), cell) = (place, &mut single.cell);
+            if !screen.object().read_cell(row, col, cell) {
+                *cell = Cell::default();
+            }
+            single.place = place;
+        };
+        for single in &self.singles {
+            // Those before it may have been read by other threads.
+            let single = unsafe { single.get_or_read(self.turn, read) };
+            if single.place == place {
+                return Some(&single.cell);
+            }
+        }
+        None
     }
 
     #[inline]
-    fn drawing(&self) -> &Drawing {
-        match self.drawing.get() {
-            Some(drawing) => drawing,
-            None => self.drawing.get_or_init(|| self.lock_to_keep().drawing()),
-        }
+    fn drawing(&self) -> Drawing {
+        Drawing::of(self.drawing.get_or_init(|| self.first_drawing()))
+    }
+
+    #[cold]
+    fn first_drawing(&self) -> RawDrawing {
+        let mut drawing = RawDrawing::default();
+        self.lock().read_drawing(&mut drawing);
+        drawing
     }
 
     /// What a call reads of this screen and an earlier one. Two threads may compare two screens the other way round, so
@@ -195,7 +286,7 @@ impl Screen {
 
     /// Shows the newest `rows` of the rows that have scrolled off, or all where there are fewer.
     pub fn set_scrollback(&mut self, rows: usize) {
-        self.changed().scroll(rows).unwrap();
+        self.change(|screen| screen.scroll(rows)).unwrap();
     }
 
     /// How many of the rows that have scrolled off are shown.
@@ -224,7 +315,7 @@ impl Screen {
 
     /// Drops the rows that have scrolled off.
     pub fn clear_scrollback(&mut self) {
-        self.changed().clear_scrollback().unwrap();
+        self.change(crate::Screen::clear_scrollback).unwrap();
     }
 
     /// The text.
@@ -343,7 +434,8 @@ impl Screen {
     /// What sets the modes.
     #[must_use]
     pub fn input_mode_formatted(&self) -> String {
-        self.lock().input_mode_formatted().unwrap()
+        let read = || self.lock().input_mode_formatted().unwrap();
+        self.modes_text.get_or_init(read).clone()
     }
 
     /// What changes the modes from those of an earlier screen to these.
@@ -355,7 +447,9 @@ impl Screen {
     /// What sets how the next character is drawn.
     #[must_use]
     pub fn attributes_formatted(&self) -> String {
-        self.lock().attributes_formatted().unwrap()
+        self.drawing(); // so that changes read it again
+        let read = || self.lock().attributes_formatted().unwrap();
+        self.drawing_text.get_or_init(read).clone()
     }
 
     /// The cursor's row and column. The column is the width where the next character goes to the next row.
@@ -368,7 +462,15 @@ impl Screen {
     /// What brings the cursor to where it is, and hides or shows it.
     #[must_use]
     pub fn cursor_state_formatted(&self) -> String {
-        self.lock().cursor_state_formatted().unwrap()
+        if let Some(text) = self.cursor_text.get(self.turn) {
+            return text.clone();
+        }
+        let screen = self.lock();
+        let read = |text: &mut String| {
+            let function = raw::jeihpal_screen_cursor_state_formatted;
+            screen.object().read_text(function, text).unwrap();
+        };
+        unsafe { self.cursor_text.get_or_read(self.turn, read).clone() }
     }
 
     /// How the cursor looks.
@@ -382,8 +484,8 @@ impl Screen {
     #[must_use]
     #[inline]
     pub fn cell(&self, row: u16, col: u16) -> Option<&Cell> {
-        match self.row_read(row) {
-            Some((cells, _)) => cells.get(usize::from(col)),
+        match self.cells_read(row) {
+            Some(cells) => cells.get(usize::from(col)),
             None => self.unread_cell(row, col),
         }
     }
@@ -392,8 +494,7 @@ impl Screen {
     #[must_use]
     #[inline]
     pub fn row_wrapped(&self, row: u16) -> bool {
-        let row = self.row_read(row).or_else(|| self.row(row));
-        row.is_some_and(|row| row.1)
+        self.read_wrapped(row)
     }
 
     /// Whether the alternate screen is shown.
@@ -495,8 +596,21 @@ impl Screen {
     }
 }
 
-/// The cells of a row, also those past the screen's columns, which a kept row may have.
-fn whole_row(screen: &crate::Screen, row: u16) -> Row {
+/// The modes that [`Screen::input_mode_formatted`] sets, and the cursor's style.
+#[inline]
+fn modes_of(look: &RawLook) -> [u8; 6] {
+    [
+        look.keypad,
+        look.cursor_keys,
+        look.paste,
+        look.mouse,
+        look.encoding,
+        look.style,
+    ]
+}
+
+/// The cells of a row, also those past the screen's columns, which a kept row may have, and whether its text goes on.
+fn whole_row(screen: &crate::Screen, row: u16) -> (Vec<Cell>, bool) {
     let (mut cells, wrapped) = screen.row(row).unwrap_or_default();
     while let Some(cell) = u16::try_from(cells.len())
         .ok()
@@ -646,17 +760,16 @@ impl<CB: Callbacks> Parser<CB> {
     /// Reads the program's next bytes. They may be cut anywhere.
     pub fn process(&mut self, bytes: &[u8]) {
         if !self.callbacks.are_wanted() {
-            return self.screen.changed().process(bytes).unwrap();
+            return self.screen.change(|screen| screen.process(bytes)).unwrap();
         }
         let (mut rest, mut is_told) = (bytes, false);
         while !rest.is_empty() {
             let (piece, left) = rest.split_at(self.stops.next(rest));
             rest = left;
-            let screen = self.screen.changed();
             if !is_told {
-                screen.tell(true, !self.are_rows_unread);
+                self.screen.inner().tell(true, !self.are_rows_unread);
             }
-            screen.process(piece).unwrap();
+            self.screen.change(|screen| screen.process(piece)).unwrap();
             let command = self.stops.command();
             if let Some(command) = &command {
                 osc::call(&mut self.callbacks, &mut self.screen, command);
@@ -670,7 +783,7 @@ impl<CB: Callbacks> Parser<CB> {
     /// elsewhere.
     fn call_back(&mut self) -> bool {
         let mut requests = std::mem::take(&mut self.requests);
-        requests.extend(self.screen.changed().requests());
+        requests.extend(self.screen.inner().requests());
         for request in &requests {
             self.call(request);
         }

@@ -543,6 +543,98 @@ mod as_vt100 {
         );
     }
 
+    /// All that a screen says, each asked twice.
+    fn said(screen: &vt100::Screen) -> Vec<String> {
+        let (rows, cols) = screen.size();
+        let mut said = Vec::new();
+        for _ in 0..2 {
+            said.push(format!("{:?}", screen.cell(1, 1).cloned()));
+            said.push(format!("{:?}", screen.cell(0, 2).cloned()));
+            said.push(format!(
+                "{:?}",
+                (0..rows.get())
+                    .map(|row| screen.row_wrapped(row))
+                    .collect::<Vec<_>>()
+            ));
+            let places = (0..rows.get()).flat_map(|row| (0..cols.get()).map(move |col| (row, col)));
+            said.extend(places.map(|(row, col)| format!("{:?}", screen.cell(row, col))));
+            said.push(format!(
+                "{:?} {:?} {}",
+                screen.cursor_position(),
+                screen.cursor_style(),
+                screen.hide_cursor()
+            ));
+            said.push(format!(
+                "{:?} {} {}",
+                screen.fgcolor(),
+                screen.bold(),
+                screen.scrollback()
+            ));
+            said.extend([
+                screen.input_mode_formatted(),
+                screen.attributes_formatted(),
+                screen.cursor_state_formatted(),
+            ]);
+        }
+        said
+    }
+
+    /// What is read again is what a copy says, which has read nothing.
+    #[test]
+    fn what_is_read_follows_each_change() {
+        let mut parser = vt100::Parser::new(super::size(3), super::size(4), 9);
+        let pieces: [&[u8]; 12] = [
+            b"ab",
+            b"cdef",
+            b"\x1b[31m",
+            b"\x1b[?1h\x1b=",
+            b"\x1b[m\r\n",
+            b"gh\x1b[?2004h",
+            b"\x1b[?25l",
+            b"\x1b[4 q\x1b[1m",
+            b"\x1b[H\x1b[J",
+            "ä米".as_bytes(),
+            b"\x1b[?1000h\x1b[?1006h",
+            b"ijklmnopqrstuvw",
+        ];
+        for piece in pieces {
+            parser.process(piece);
+            assert_eq!(said(parser.screen()), said(&parser.screen().clone()));
+        }
+        let changes: [fn(&mut vt100::Screen); 4] = [
+            |screen| screen.set_scrollback(2),
+            |screen| screen.set_size(super::size(5), super::size(3)),
+            |screen| screen.set_size(super::size(2), super::size(6)),
+            vt100::Screen::clear_scrollback,
+        ];
+        for change in changes {
+            change(parser.screen_mut());
+            assert_eq!(said(parser.screen()), said(&parser.screen().clone()));
+        }
+    }
+
+    #[test]
+    fn threads_read_one_screen() {
+        let mut parser = vt100::Parser::new(super::size(3), super::size(4), 9);
+        for n in 0..50 {
+            parser.process(format!("line {n}\x1b[3{}m", n % 8).as_bytes());
+            let (screen, want) = (parser.screen(), said(&parser.screen().clone()));
+            std::thread::scope(|scope| {
+                let readers = [(); 4].map(|()| scope.spawn(|| said(screen)));
+                for reader in readers {
+                    assert_eq!(reader.join().unwrap(), want);
+                }
+            });
+        }
+    }
+
+    #[test]
+    fn what_a_screen_may_be_given_to() {
+        use std::panic::{RefUnwindSafe, UnwindSafe};
+        fn may_be_shared<T: Send + Sync + Unpin + UnwindSafe + RefUnwindSafe>() {}
+        may_be_shared::<vt100::Parser>();
+    }
+
     #[test]
     fn a_parser_is_shared() {
         use std::sync::{Arc, Mutex};
