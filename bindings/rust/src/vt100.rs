@@ -21,6 +21,7 @@
 //! - where no memory is found a call panics. [`crate::Screen`] answers an error there.
 pub mod capture;
 mod kept;
+mod lock;
 mod osc;
 
 use crate::cell::{Drawing, Look};
@@ -30,10 +31,11 @@ use crate::screen::Request;
 use crate::stops::Stops;
 use capture::{BasicFormattedCaptureRange, BasicFormattedCaptureState, RowContents};
 use kept::Kept;
+use lock::{Lock, Taken};
 use std::fmt;
 use std::io;
 use std::num::NonZeroU16;
-use std::sync::{Mutex, MutexGuard, OnceLock, PoisonError};
+use std::sync::OnceLock;
 
 pub use crate::cell::{Cell, Color, CursorStyle, MouseProtocolEncoding, MouseProtocolMode};
 
@@ -59,7 +61,7 @@ struct Row {
 /// It is `Send` and `Sync`. What is read of it is kept until the screen changes, so that a cell can be lent.
 pub struct Screen {
     /// There is one call of the library at a time.
-    screen: Mutex<crate::Screen>,
+    screen: Lock<crate::Screen>,
     rows_and_cols: (NonZeroU16, NonZeroU16),
     capacity: usize,
     /// How many changes there were, and one more.
@@ -87,7 +89,7 @@ impl Screen {
         let mut look = RawLook::default();
         screen.object().read_look(&mut look);
         Screen {
-            screen: Mutex::new(screen),
+            screen: Lock::new(screen),
             rows_and_cols,
             capacity,
             turn: 1,
@@ -101,22 +103,20 @@ impl Screen {
         }
     }
 
-    fn lock(&self) -> MutexGuard<'_, crate::Screen> {
-        self.screen.lock().unwrap_or_else(PoisonError::into_inner)
+    #[inline]
+    fn lock(&self) -> Taken<'_, crate::Screen> {
+        self.screen.take()
     }
 
     /// The library's screen, for what changes nothing that is read.
     fn inner(&mut self) -> &mut crate::Screen {
-        self.screen
-            .get_mut()
-            .unwrap_or_else(PoisonError::into_inner)
+        self.screen.get_mut()
     }
 
     /// Changes the screen: what was read of it is forgotten, or read again.
     #[inline]
     fn change<T>(&mut self, change: impl FnOnce(&mut crate::Screen) -> T) -> T {
         let screen = self.screen.get_mut();
-        let screen = screen.unwrap_or_else(PoisonError::into_inner);
         let answer = change(screen);
         self.turn += 1;
         let modes = modes_of(&self.look);
