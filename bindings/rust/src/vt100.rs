@@ -64,6 +64,8 @@ pub struct Screen {
     screen: Lock<crate::Screen>,
     rows_and_cols: (NonZeroU16, NonZeroU16),
     capacity: usize,
+    /// Whether the library's queue gets what isn't known, and rows.
+    told: (bool, bool),
     /// How many changes there were, and one more.
     turn: u64,
     /// Read at each change, where nobody else has the screen.
@@ -92,6 +94,7 @@ impl Screen {
             screen: Lock::new(screen),
             rows_and_cols,
             capacity,
+            told: (false, false),
             turn: 1,
             look,
             drawing: OnceLock::new(),
@@ -134,13 +137,17 @@ impl Screen {
         answer
     }
 
-    /// Gives it another size, and has the library's queue get what isn't known, or rows, from now on.
-    fn resized(&mut self, rows: NonZeroU16, cols: NonZeroU16, unknown: bool, of_rows: bool) {
-        let resized = self.change(|screen| {
-            screen.tell(unknown, of_rows);
-            screen.resize(rows, cols)
-        });
-        resized.unwrap();
+    /// Has the library's queue get what isn't known, or rows, from now on.
+    fn tell(&mut self, unknown: bool, rows: bool) {
+        if self.told != (unknown, rows) {
+            self.inner().tell(unknown, rows);
+            self.told = (unknown, rows);
+        }
+    }
+
+    /// Gives it another size.
+    fn resized(&mut self, rows: NonZeroU16, cols: NonZeroU16) {
+        self.change(|screen| screen.resize(rows, cols)).unwrap();
         self.rows_and_cols = (rows, cols);
         self.rows.take();
     }
@@ -281,7 +288,8 @@ impl Screen {
     /// Gives it another size, without calls of [`Callbacks::on_scroll`]. Other than in `vt100` the program's
     /// synchronized update ends.
     pub fn set_size(&mut self, rows: NonZeroU16, cols: NonZeroU16) {
-        self.resized(rows, cols, false, false);
+        self.tell(false, false);
+        self.resized(rows, cols);
     }
 
     /// Shows the newest `rows` of the rows that have scrolled off, or all where there are fewer.
@@ -762,35 +770,29 @@ impl<CB: Callbacks> Parser<CB> {
         if !self.callbacks.are_wanted() {
             return self.screen.change(|screen| screen.process(bytes)).unwrap();
         }
-        let (mut rest, mut is_told) = (bytes, false);
+        let mut rest = bytes;
         while !rest.is_empty() {
             let (piece, left) = rest.split_at(self.stops.next(rest));
             rest = left;
-            if !is_told {
-                self.screen.inner().tell(true, !self.are_rows_unread);
-            }
+            // A callback may have put another screen into its place.
+            self.screen.tell(true, !self.are_rows_unread);
             self.screen.change(|screen| screen.process(piece)).unwrap();
-            let command = self.stops.command();
-            if let Some(command) = &command {
-                osc::call(&mut self.callbacks, &mut self.screen, command);
+            if let Some(command) = self.stops.command() {
+                osc::call(&mut self.callbacks, &mut self.screen, &command);
             }
-            // A callback may put another screen into its place.
-            is_told = !self.call_back() && command.is_none();
+            self.call_back();
         }
     }
 
-    /// Calls the callbacks for what waits, and says whether something did. Operating system commands are read whole
-    /// elsewhere.
-    fn call_back(&mut self) -> bool {
+    /// Calls the callbacks for what waits. Operating system commands are read whole elsewhere.
+    fn call_back(&mut self) {
         let mut requests = std::mem::take(&mut self.requests);
         requests.extend(self.screen.inner().requests());
         for request in &requests {
             self.call(request);
         }
-        let is_called = !requests.is_empty();
         requests.clear();
         self.requests = requests;
-        is_called
     }
 
     fn call(&mut self, request: &Request) {
@@ -835,8 +837,8 @@ impl<CB: Callbacks> Parser<CB> {
         if !self.callbacks.are_wanted() {
             return self.screen.set_size(rows, cols);
         }
-        let (unknown, of_rows) = (true, !self.are_rows_unread);
-        self.screen.resized(rows, cols, unknown, of_rows);
+        self.screen.tell(true, !self.are_rows_unread);
+        self.screen.resized(rows, cols);
         self.call_back();
     }
 

@@ -237,3 +237,30 @@ fn rows_are_told_though_others_do_not_read_them() {
     (0..100).for_each(|_| parser.process(b"a\r\n"));
     assert_eq!(parser.screen().contents(), "a");
 }
+
+/// At each bell the screen is exchanged.
+#[derive(Default)]
+struct Exchanging {
+    other: Parser,
+    escapes: Vec<u8>,
+}
+
+impl Callbacks for Exchanging {
+    fn audible_bell(&mut self, screen: &mut Screen) {
+        std::mem::swap(self.other.screen_mut(), screen);
+    }
+
+    fn unhandled_escape(&mut self, _: &mut Screen, _: Option<u8>, _: Option<u8>, b: u8) {
+        self.escapes.push(b);
+    }
+}
+
+#[test]
+fn another_screen_tells_as_well() {
+    let mut parser = Parser::new_with_callbacks(size(24), size(80), 0, Exchanging::default());
+    parser.process(b"a\x1bp\x07b\x1bq\x07c\x1bt");
+    assert_eq!(parser.callbacks().escapes, b"pqt");
+    assert_eq!(parser.screen().contents(), "ac");
+    assert_eq!(parser.screen().cell(0, 1).unwrap().contents(), "c");
+    assert_eq!(parser.callbacks().other.screen().contents(), "b");
+}
