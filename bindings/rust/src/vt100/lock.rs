@@ -7,7 +7,7 @@ use std::time::Duration;
 use std::{hint, thread};
 
 /// A value for one thread at a time, which has it for a short call. That several threads want it is rare.
-// A `Mutex` takes two exchanges where this takes one. Of reading a cell they are a third.
+// A `Mutex` exchanges twice, and this once: a change and a cell's reading take an eighth less time.
 pub(super) struct Lock<T> {
     is_taken: AtomicBool,
     value: UnsafeCell<T>,
