@@ -16,8 +16,6 @@ const ABI: u32 = 1;
 /// The library's answer to a place outside of the screen.
 const NO_CELL: i32 = -8;
 
-const ARE_UTF_8: &str = "the library's texts are UTF-8";
-
 /// A text of up to so many bytes is made once, where it doesn't yet say how many it has.
 const ROOM: usize = 16 * 1024;
 
@@ -112,7 +110,7 @@ impl Owned {
         &self,
         function: impl FnMut(*mut Word, *mut u8, usize, *mut usize) -> i32,
     ) -> Result<String> {
-        Ok(String::from_utf8(self.bytes(function)?).expect(ARE_UTF_8))
+        Ok(text_of(self.bytes(function)?))
     }
 
     /// The text that a function without further parameters copies.
@@ -133,11 +131,19 @@ impl Owned {
             if length <= most {
                 // SAFETY: so many bytes have been copied into the room.
                 unsafe { bytes.set_len(length) };
-                *text = String::from_utf8(bytes).expect(ARE_UTF_8);
+                *text = text_of(bytes);
                 return Ok(());
             }
         }
     }
+}
+
+/// What is copied of a screen, as a text.
+// To look at each character would take a third more time where they are beyond ASCII.
+fn text_of(bytes: Vec<u8>) -> String {
+    debug_assert!(std::str::from_utf8(&bytes).is_ok());
+    // SAFETY: the library makes texts and escape sequences as strings, whose bytes are UTF-8.
+    unsafe { String::from_utf8_unchecked(bytes) }
 }
 
 impl Drop for Owned {
