@@ -1,5 +1,6 @@
 //! Control sequences (CSI: ECMA-48, the DEC terminals and xterm).
-ghost use Rattle.std.specs.Prelude.{◌≡◌, ◌≢◌, ◌≤◌, ◌<◌, ◌-◌, ℕ, pos, [], Option, length, map};
+ghost use Rattle.std.specs.Prelude.{◌≡◌, ◌≢◌, ◌≤◌, ◌<◌, ◌-◌, ℕ, pos, [], Option, length, map, true};
+ghost use Rattle.std.specs.Int.{is_in_range};
 ghost use Rattle.std.specs.List.{list_any};
 ghost use Rattle.vte_types.specs.Call.{Calls, set_mode as set_mode_call, unset_mode as unset_mode_call};
 ghost use Rattle.vte_types.specs.Call.{set_private_mode as set_private_call, unset_private_mode as unset_private_call};
@@ -142,31 +143,46 @@ fn identify_terminal<H: Handler>(handler: &mut H, params: &Params, intermediates
     }
 }
 
-/// Sequences without intermediates: those that most streams have most of, and any other. They are compared one by one,
-/// since a jump by a table is often mispredicted.
+/// Sequences without intermediates: those that most streams have most of, and any other. They are told apart by
+/// comparisons, since a jump by a table is often mispredicted.
 #[inline(always)]
 fn unmarked<H: Handler>(handler: &mut H, last: Option<char>, params: &Params, action: char)
     ensures { Calls H.step handler.old (csi_calls last params.now [] action) handler.new }
 {
+    if action >= 'a' {
+        return lower_unmarked(handler, last, params, action);
+    }
     match action {
-        'm' => sgr(handler, params),
+        'A'..='D' => move_cursor(handler, params, action),
         'H' => goto(handler, params),
         'K' => clear_line(handler, first_or(params, 0)),
-        _ => moving_unmarked(handler, last, params, action),
+        _ => any_unmarked(handler, last, params, action),
     }
 }
 
-/// Sequences without intermediates: those that move the cursor by a count, and any other.
-// It isn't inlined, and needs no stack. By the table alone text that is put here and there takes 7 % more instructions.
-#[inline(never)]
-fn moving_unmarked<H: Handler>(handler: &mut H, last: Option<char>, params: &Params, action: char)
+/// The same of a final byte past the capital letters: SGR, and any other.
+#[inline(always)]
+fn lower_unmarked<H: Handler>(handler: &mut H, last: Option<char>, params: &Params, action: char)
     ensures { Calls H.step handler.old (csi_calls last params.now [] action) handler.new }
 {
     match action {
-        'A' => handler.move_up(count_in(params)),
-        'C' => handler.move_forward(count_in(params)),
-        'D' => handler.move_backward(count_in(params)),
+        'm' => sgr(handler, params),
         _ => any_unmarked(handler, last, params, action),
+    }
+}
+
+/// CUU, CUD, CUF and CUB: moves the cursor by a count.
+#[inline(always)]
+fn move_cursor<H: Handler>(handler: &mut H, params: &Params, action: char)
+    requires { is_in_range 0x41 0x44 action ≡ true }
+    ensures { (last : Option ℕ) → Calls H.step handler.old (csi_calls last params.now [] action) handler.new }
+{
+    let count = count_in(params);
+    match action {
+        'A' => handler.move_up(count),
+        'B' => handler.move_down(count),
+        'C' => handler.move_forward(count),
+        _ => handler.move_backward(count),
     }
 }
 
