@@ -50,6 +50,8 @@ pub fn new_screen(
     }
 }
 
+// It isn't inlined: with the caller's values beside it, the reader of bytes runs out of registers.
+#[inline(never)]
 fn process_marked(marked: &mut Marked, bytes: &[u8]) -> i32
     ensures { Processes bytes.now marked.old result marked.new }
 {
