@@ -21,7 +21,6 @@
 //! - where no memory is found a call panics. [`crate::Screen`] answers an error there.
 pub mod capture;
 mod kept;
-mod lock;
 mod osc;
 
 use crate::cell::{Drawing, Look};
@@ -31,11 +30,10 @@ use crate::screen::Request;
 use crate::stops::Stops;
 use capture::{BasicFormattedCaptureRange, BasicFormattedCaptureState, RowContents};
 use kept::Kept;
-use lock::{Lock, Taken};
 use std::fmt;
 use std::io;
 use std::num::NonZeroU16;
-use std::sync::OnceLock;
+use std::sync::{Mutex, MutexGuard, OnceLock, PoisonError};
 
 pub use crate::cell::{Cell, Color, CursorStyle, MouseProtocolEncoding, MouseProtocolMode};
 
@@ -61,7 +59,7 @@ struct Row {
 /// It is `Send` and `Sync`. What is read of it is kept until the screen changes, so that a cell can be lent.
 pub struct Screen {
     /// There is one call of the library at a time.
-    screen: Lock<crate::Screen>,
+    screen: Mutex<crate::Screen>,
     rows_and_cols: (NonZeroU16, NonZeroU16),
     capacity: usize,
     /// Whether the library's queue gets what isn't known, and rows.
@@ -91,7 +89,7 @@ impl Screen {
         let mut look = RawLook::default();
         screen.object().read_look(&mut look);
         Screen {
-            screen: Lock::new(screen),
+            screen: Mutex::new(screen),
             rows_and_cols,
             capacity,
             told: (false, false),
@@ -107,19 +105,24 @@ impl Screen {
     }
 
     #[inline]
-    fn lock(&self) -> Taken<'_, crate::Screen> {
-        self.screen.take()
+    fn lock(&self) -> MutexGuard<'_, crate::Screen> {
+        self.screen.lock().unwrap_or_else(PoisonError::into_inner)
     }
 
     /// The library's screen, for what changes nothing that is read.
     fn inner(&mut self) -> &mut crate::Screen {
-        self.screen.get_mut()
+        self.screen
+            .get_mut()
+            .unwrap_or_else(PoisonError::into_inner)
     }
 
     /// Changes the screen: what was read of it is forgotten, or read again.
     #[inline]
     fn change<T>(&mut self, change: impl FnOnce(&mut crate::Screen) -> T) -> T {
-        let screen = self.screen.get_mut();
+        let screen = self
+            .screen
+            .get_mut()
+            .unwrap_or_else(PoisonError::into_inner);
         let answer = change(screen);
         self.turn += 1;
         let modes = modes_of(&self.look);
