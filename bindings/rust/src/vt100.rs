@@ -68,8 +68,9 @@ pub struct Screen {
     turn: u64,
     /// Read at each change, where nobody else has the screen.
     look: RawLook,
-    /// The same, once it has been asked for.
-    drawing: OnceLock<RawDrawing>,
+    /// How the next character is drawn, as the library says it and as it is asked for. Once asked for it is read at each
+    /// change.
+    drawing: OnceLock<(RawDrawing, Drawing)>,
     /// What sets the modes, while they stay as they are.
     modes_text: OnceLock<String>,
     /// What sets how the next character is drawn, while this stays as it is.
@@ -130,10 +131,11 @@ impl Screen {
         if modes != modes_of(&self.look) {
             self.modes_text.take();
         }
-        if let Some(drawing) = self.drawing.get_mut() {
-            let earlier = *drawing;
-            screen.read_drawing(drawing);
-            if self.drawing_text.get().is_some() && *drawing != earlier {
+        if let Some((raw, drawing)) = self.drawing.get_mut() {
+            let earlier = *raw;
+            screen.read_drawing(raw);
+            if *raw != earlier {
+                *drawing = Drawing::of(raw);
                 self.drawing_text.take();
             }
         }
@@ -190,22 +192,6 @@ impl Screen {
         Some(cells)
     }
 
-    /// Reads whether the text of a row goes on in the next one.
-    fn read_wrapped(&self, row: u16) -> bool {
-        let Some(kept) = self.row(row) else {
-            return false;
-        };
-        if let Some(wrapped) = kept.wrapped.get(self.turn) {
-            return *wrapped;
-        }
-        let screen = self.lock();
-        let read = |kept: &mut bool| {
-            let wrapped = screen.object().read_row(row, 0, &mut Vec::new());
-            *kept = wrapped.unwrap_or_default();
-        };
-        unsafe { *kept.wrapped.get_or_read(self.turn, read) }
-    }
-
     /// A cell of a row that hasn't been read. Who reads a few cells has these read, and who reads more has rows read.
     fn unread_cell(&self, row: u16, col: u16) -> Option<&Cell> {
         let (rows, cols) = self.rows_and_cols;
@@ -248,15 +234,15 @@ impl Screen {
     }
 
     #[inline]
-    fn drawing(&self) -> Drawing {
-        Drawing::of(self.drawing.get_or_init(|| self.first_drawing()))
+    fn drawing(&self) -> &Drawing {
+        &self.drawing.get_or_init(|| self.first_drawing()).1
     }
 
     #[cold]
-    fn first_drawing(&self) -> RawDrawing {
-        let mut drawing = RawDrawing::default();
-        self.lock().read_drawing(&mut drawing);
-        drawing
+    fn first_drawing(&self) -> (RawDrawing, Drawing) {
+        let mut raw = RawDrawing::default();
+        self.lock().read_drawing(&mut raw);
+        (raw, Drawing::of(&raw))
     }
 
     /// What a call reads of this screen and an earlier one. Two threads may compare two screens the other way round, so
@@ -503,9 +489,20 @@ impl Screen {
 
     /// Whether the text of a row goes on in the next one.
     #[must_use]
-    #[inline]
     pub fn row_wrapped(&self, row: u16) -> bool {
-        self.read_wrapped(row)
+        let Some(kept) = self.row(row) else {
+            return false;
+        };
+        if let Some(wrapped) = kept.wrapped.get(self.turn) {
+            return *wrapped;
+        }
+        let screen = self.lock();
+        let read = |kept: &mut bool| {
+            let wrapped = screen.object().read_row(row, 0, &mut Vec::new());
+            *kept = wrapped.unwrap_or_default();
+        };
+        // SAFETY: as where cells are read.
+        unsafe { *kept.wrapped.get_or_read(self.turn, read) }
     }
 
     /// Whether the alternate screen is shown.
