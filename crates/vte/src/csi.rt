@@ -160,7 +160,7 @@ fn unmarked<H: Handler>(handler: &mut H, last: Option<char>, params: &Params, ac
     }
 }
 
-/// The same of a final byte past the capital letters: SGR, and any other.
+/// A sequence without marks whose final byte comes after the capital letters: SGR, and any other.
 #[inline(always)]
 fn lower_unmarked<H: Handler>(handler: &mut H, last: Option<char>, params: &Params, action: char)
     ensures { Calls H.step handler.old (csi_calls last params.now [] action) handler.new }

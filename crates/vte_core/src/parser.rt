@@ -466,8 +466,8 @@ impl<const N: usize> Parser<N> {
         self.read_private(performer, bytes)
     }
 
-    /// Reads an escape sequence with one intermediate or none, if it stands whole at the start and opens no longer one.
-    /// Returns how many bytes it is, or else 0.
+    /// Reads an escape sequence with one intermediate or none, or an operating system command that BEL ends, if it stands
+    /// whole at the start. Returns how many bytes it is, or else 0.
     #[inline(always)]
     fn read_whole_escape<P: Perform>(&self, performer: &mut P, bytes: &[u8]) -> usize
         requires { IsAtEsc N self.now bytes.now }
