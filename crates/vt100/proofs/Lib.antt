@@ -16,6 +16,7 @@ pub mod ShortLists
 pub mod RefusedWrites
 pub mod RenewLemmas
 pub mod CopyLemmas
+pub mod DeferringLemmas
 pub mod VisibleCopies
 mod LendTwo
 mod ParserParts

@@ -19,7 +19,7 @@ use Rattle.screen_model.specs.Made.{Act, Fed, Resized, played, events_added, byt
 use Rattle.vt100.specs.declared.screen.wrapped.WrappedScreen.{WrappedScreen}
 use Rattle.vt100.specs.declared.error.ScreenError.{ScreenError}
 use Rattle.vt100.specs.Tries.{Tries, SameBounds, alive}
-use Rattle.vt100.specs.Goes.{MakesCalls, Fails, Goes, GoesThrough}
+use Rattle.vt100.specs.Goes.{MakesCalls, Fails, Goes, GoesThrough, Steps}
 use Rattle.vt100.specs.Memory.{may_allocate, some_may_allocate}
 use Rattle.vt100.specs.Parsing.{ParserView, ParserIsAfter, KeepsScreens}
 use Rattle.vt100.specs.Laws.{PlaysEvents, FeedsMake, FeedsJoin, FeedsNothing, ActsFollow, ResizedScreensArePutIn}
@@ -34,10 +34,6 @@ use Rattle.vt100.proofs.LimitsLemmas.{bounds_same, bounds_trans}
 use Rattle.vt100.proofs.EventLemmas.{is_alive}
 
 -- ---- a performer's steps
-
-abbrev pub Steps : {C : Type 0} → (C → ScreenView → Call → C → ScreenView → Type 0) → (C → RowView → Bool → C → Type 0)
-    → WrappedScreen C → Event → WrappedScreen C → Type 0
-Steps step scrolls p e q = Goes step scrolls e p.callbacks p.screen q.callbacks q.screen
 
 pub goes_through : {C : Type 0} (step : C → ScreenView → Call → C → ScreenView → Type 0)
     (scrolls : C → RowView → Bool → C → Type 0) (es : List Event) (p q : WrappedScreen C)

@@ -38,7 +38,7 @@ use Rattle.vt100.specs.declared.error.ScreenError.TheVariants.{Memory, Failed}
 use Rattle.vt100.specs.declared.screen.wrapped.WrappedScreen.{WrappedScreen}
 use Rattle.vt100.specs.Memory.{keeps_row}
 use Rattle.vt100.specs.Tries.{MayScroll, SameBounds, ReceivesPrefix, alive}
-use Rattle.vt100.specs.Goes.{Fails, Goes, GoesThrough}
+use Rattle.vt100.specs.Goes.{Fails, Goes, GoesThrough, Steps}
 use Rattle.vt100.specs.Runs.{IsHandled, typed_all, last_of, PrintsPrefix}
 use Rattle.vt100.specs.Draws.{Draws}
 use Rattle.vt100.specs.declared.screen.reported.Reporter.{Reporter}
@@ -47,7 +47,6 @@ use Rattle.vt100.proofs.ReceiveLemmas.{not_grown}
 use Rattle.printable.proofs.PrintableLemmas.{printable-ascii, printable-chars}
 use Rattle.vt100.proofs.EventLemmas.{is_alive, does_as, does_live, does_none, does_where}
 use Rattle.vt100.proofs.LimitsLemmas.{bounds_typed, bounds_back, capacity_typed}
-use Rattle.vt100.proofs.PlayLemmas.{Steps}
 
 -- ---- a character that stands in a cell of its own
 
@@ -370,14 +369,15 @@ module _ {C : Type 0} (step : C → ScreenView → Call → C → ScreenView →
         ]
       ]
 
-  pub goes-typed_all : (xs : List ℕ) {p q : WrappedScreen C} (result : Result (Unit {0}) ScreenError) → 0 < length xs
-      → All IsHandled xs → (p.screen.failed ≡ false → IsState p.screen.state)
+  -- a run, where the kept rows are such as a sheet's are
+  pub goes-kept : (xs : List ℕ) {p q : WrappedScreen C} (result : Result (Unit {0}) ScreenError) → 0 < length xs
+      → All IsHandled xs → (p.screen.failed ≡ false → IsKept p.screen.state.shown.kept)
       → MayScroll scrolls (typed_all xs) p result q
       → GoesThrough step scrolls (map Print xs) p.callbacks p.screen q.callbacks q.screen
-  goes-typed_all xs {p} {q} (Ok a) some h is x =
+  goes-kept xs {p} {q} (Ok a) some h is x =
       goes-run xs p.callbacks p.screen q.callbacks q.screen h x.tries.live x.tries.receives x.tries.screen
-  goes-typed_all [] (Err Memory) some h is x = absurd (omega arith)
-  goes-typed_all (y ∷ ys) {p} {q} (Err Memory) some h is x =
+  goes-kept [] (Err Memory) some h is x = absurd (omega arith)
+  goes-kept (y ∷ ys) {p} {q} (Err Memory) some h is x =
       elim (cases_Bool p.screen.failed) [
         | inl f ↦ absurd (cc ((x.tries.dead f).0))
         | inr f ↦
@@ -385,12 +385,18 @@ module _ {C : Type 0} (step : C → ScreenView → Call → C → ScreenView →
             let keeps = refused_keeps {A = Unit {0}} s.shown.kept.capacity s.shown.kept.scrolled_off
             (typed_all (y ∷ ys) s).state.shown.kept.scrolled_off (Err Memory) x.keeps_none x.stays f refl in
             goes-refused y ys p.callbacks p.screen q.callbacks q.screen h f (x.tries.memory refl)
-            (IsKeeping-of s (is f).shown.kept (and_parts (nat_lt 0 s.shown.kept.capacity) _ keeps).0) keeps x.bounds
+            (IsKeeping-of s (is f) (and_parts (nat_lt 0 s.shown.kept.capacity) _ keeps).0) keeps x.bounds
             (x.tries.reported refl)
       ]
-  goes-typed_all xs {p} {q} (Err Failed) some h is x =
+  goes-kept xs {p} {q} (Err Failed) some h is x =
       let f = x.tries.refused refl in
       rw ((x.tries.dead f).2, (x.tries.dead f).1) (goes-failed xs p.callbacks p.screen f)
+
+  pub goes-typed_all : (xs : List ℕ) {p q : WrappedScreen C} (result : Result (Unit {0}) ScreenError) → 0 < length xs
+      → All IsHandled xs → (p.screen.failed ≡ false → IsState p.screen.state)
+      → MayScroll scrolls (typed_all xs) p result q
+      → GoesThrough step scrolls (map Print xs) p.callbacks p.screen q.callbacks q.screen
+  goes-typed_all xs result some h is x = goes-kept xs result some h (λ f. (is f).shown.kept) x
 
   -- ---- a performer's steps
 

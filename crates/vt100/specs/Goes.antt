@@ -63,3 +63,8 @@ abbrev pub GoesThrough : {C : Type 0} → (C → ScreenView → Call → C → S
 GoesThrough step scrolls [] c v d w = (d ≡ c) × (w ≡ v)
 GoesThrough {C} step scrolls (e ∷ es) c v d w =
     (b : C) × (u : ScreenView) × Goes step scrolls e c v b u × GoesThrough step scrolls es b u d w
+
+-- an event, as what a performer does
+abbrev pub Steps : {C : Type 0} → (C → ScreenView → Call → C → ScreenView → Type 0) → (C → RowView → Bool → C → Type 0)
+    → WrappedScreen C → Event → WrappedScreen C → Type 0
+Steps step scrolls p e q = Goes step scrolls e p.callbacks p.screen q.callbacks q.screen

@@ -1,5 +1,6 @@
 pub mod CallOf
 pub mod Copies
+pub mod Deferring
 pub mod Draws
 pub mod Goes
 pub mod Laws

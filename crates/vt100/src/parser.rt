@@ -16,6 +16,7 @@ ghost use Rattle.vt100.specs.declared.error.ScreenError.TheVariants.{Memory, Fai
 
 use crate::callbacks::Callbacks;
 use crate::error::ScreenError;
+use crate::screen::deferring::advance;
 use crate::screen::{Screen, WrappedScreen};
 use std::alloc::Global;
 use std::io;
@@ -144,7 +145,7 @@ impl<CB: Callbacks> Parser<CB> {
         if self.screen.screen.failed() {
             return Err(ScreenError::Failed);
         }
-        self.parser.advance(&mut self.screen, bytes);
+        advance(&mut self.parser, &mut self.screen, bytes);
         if self.screen.screen.failed() {
             return Err(ScreenError::Memory);
         }

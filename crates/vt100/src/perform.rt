@@ -1,7 +1,8 @@
 //! The events of a byte stream, on a screen (ECMA-48; DEC's VT100 to VT510; xterm's control sequences).
 ghost use Rattle.std.specs.Prelude.{◌≡◌, ◌≢◌, [], ◌∷◌, replicate, map, nat_eq, true, false, None};
-ghost use Rattle.std.specs.Prelude.{if◌then◌else◌, unwrap_or, ◌<◌, length};
+ghost use Rattle.std.specs.Prelude.{if◌then◌else◌, unwrap_or, ◌<◌, length, IfSome};
 ghost use Rattle.std.specs.List.{list_all};
+ghost use Rattle.std.specs.Int.{is_in_range};
 ghost use Rattle.screen_model.specs.Effect.{calling, partly, number_or, given, later, csi_call, plain_effect};
 ghost use Rattle.screen_model.specs.Effect.{plain_rows};
 ghost use Rattle.screen_model.specs.Effect.{row_effect, other_rows, private_rows, window_effect, styled};
@@ -59,8 +60,7 @@ impl<CB: Callbacks> Perform for WrappedScreen<CB> {
         false
     }
 
-    // A function of its own, so that the parser's loop stays short.
-    #[inline(never)]
+    #[inline(always)]
     fn print(&mut self, c: char) {
         if self.screen.failed() {
             return;
@@ -265,7 +265,7 @@ impl<CB: Callbacks> WrappedScreen<CB> {
 
     /// SGR. `csi_dispatch` asks for it first, since most streams have more of it than of any other sequence.
     #[inline(always)]
-    fn sgr_csi(&mut self, params: &Params)
+    pub(crate) fn sgr_csi(&mut self, params: &Params)
         requires { self.old.screen.failed ≡ false }
         ensures { Handles CB.step CB.scrolls (plain_effect (lookup 0x6D plain_rows) params.now 0x6D)
             (plain_may_allocate params.now 0x6D self.old.screen.state) self.old self.new }
@@ -274,9 +274,9 @@ impl<CB: Callbacks> WrappedScreen<CB> {
         self.unhandled_groups(unhandled, params, &[], 'm');
     }
 
-    /// EL. It isn't inlined, so that the sequences that move the cursor need no stack.
+    /// EL.
     #[inline(never)]
-    fn el_csi(&mut self, params: &Params)
+    pub(crate) fn el_csi(&mut self, params: &Params)
         requires { self.old.screen.failed ≡ false }
         ensures { Handles CB.step CB.scrolls (plain_effect (lookup 0x4B plain_rows) params.now 0x4B)
             (plain_may_allocate params.now 0x4B self.old.screen.state) self.old self.new }
@@ -287,35 +287,51 @@ impl<CB: Callbacks> WrappedScreen<CB> {
 
     /// A control sequence without intermediates: those that most streams have most of, and any other. They are told
     /// apart by comparisons: a jump by a table costs more where its target changes.
-    // It isn't inlined, so that SGR, which is asked for before, needs no stack for the others.
-    #[inline(never)]
-    fn plain_csi(&mut self, params: &Params, action: char)
+    // Each is a function of its own, so that none needs stack for the others.
+    #[inline(always)]
+    pub(crate) fn plain_csi(&mut self, params: &Params, action: char)
         requires { self.old.screen.failed ≡ false }
         ensures { Handles CB.step CB.scrolls (plain_effect (lookup action plain_rows) params.now action)
             (plain_may_allocate params.now action self.old.screen.state) self.old self.new }
     {
         match action {
-            'C' => self.cuf(canonicalize_params_1(params, 1)),
-            'H' => self.cup(canonicalize_params_2(params, 1, 1)),
+            'A'..='D' => self.moving_csi(params, action),
+            'H' => self.cup_csi(params),
             'K' => self.el_csi(params),
-            _ => self.moving_csi(params, action),
+            _ => self.any_csi(params, action),
         }
     }
 
-    /// A control sequence without intermediates: those that move the cursor by a count, and any other.
-    // It isn't inlined, and needs no stack. By the table alone text that is put here and there takes 3 % more
-    // instructions.
+    /// CUU, CUD, CUF and CUB: moves the cursor by a count.
     #[inline(never)]
     fn moving_csi(&mut self, params: &Params, action: char)
-        requires { self.old.screen.failed ≡ false }
+        requires live { self.old.screen.failed ≡ false }
+        requires moving { is_in_range 0x41 0x44 action ≡ true }
         ensures { Handles CB.step CB.scrolls (plain_effect (lookup action plain_rows) params.now action)
             (plain_may_allocate params.now action self.old.screen.state) self.old self.new }
     {
+        let count = match count_alone(params) {
+            Some(count) => count,
+            None => return self.any_csi(params, action),
+        };
         match action {
-            'A' => self.cuu(canonicalize_params_1(params, 1)),
-            'B' => self.cud(canonicalize_params_1(params, 1)),
-            'D' => self.cub(canonicalize_params_1(params, 1)),
-            _ => self.any_csi(params, action),
+            'A' => self.cuu(count),
+            'B' => self.cud(count),
+            'C' => self.cuf(count),
+            _ => self.cub(count),
+        }
+    }
+
+    /// CUP.
+    #[inline(never)]
+    fn cup_csi(&mut self, params: &Params)
+        requires { self.old.screen.failed ≡ false }
+        ensures { Handles CB.step CB.scrolls (plain_effect (lookup 0x48 plain_rows) params.now 0x48)
+            (plain_may_allocate params.now 0x48 self.old.screen.state) self.old self.new }
+    {
+        match place_alone(params) {
+            Some(place) => self.cup(place),
+            None => self.any_csi(params, 'H'),
         }
     }
 
@@ -655,7 +671,7 @@ fn next_or(groups: &mut ParamsIter<'_>, default: u16) -> u16
 
 /// The first number, or the default where it is absent or 0.
 #[inline(always)]
-fn canonicalize_params_1(params: &Params, default: u16) -> u16
+pub(crate) fn canonicalize_params_1(params: &Params, default: u16) -> u16
     ensures { result ≡ number_or default params.now }
 {
     match params.numbers() {
@@ -679,6 +695,29 @@ fn number_or(number: u16, default: u16) -> u16
     ensures { result ≡ (if nat_eq number 0 then default else number) }
 {
     if number == 0 { default } else { number }
+}
+
+/// The first number, or 1 where it is absent or 0, if each group is one number.
+#[inline(always)]
+fn count_alone(params: &Params) -> Option<u16>
+    ensures { IfSome result (λ n. n ≡ number_or 1 params.now) }
+{
+    match params.numbers()? {
+        [number, ..] => Some(number_or(*number, 1)),
+        [] => Some(1),
+    }
+}
+
+/// The first two numbers, each or 1 where it is 0, if both are there and each group is one number.
+#[inline(always)]
+fn place_alone(params: &Params) -> Option<(u16, u16)>
+    ensures row { IfSome result (λ n. n.0 ≡ number_or 1 params.now) }
+    ensures col { IfSome result (λ n. n.1 ≡ number_or 1 (later params.now)) }
+{
+    match params.numbers()? {
+        [row, col, ..] => Some((number_or(*row, 1), number_or(*col, 1))),
+        _ => None,
+    }
 }
 
 /// The first numbers of the first two groups, each or its default where it is absent or 0.

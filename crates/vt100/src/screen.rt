@@ -6,6 +6,7 @@ ghost use Rattle.vt100.specs.declared.error.ScreenError.TheVariants.{Memory};
 
 mod controls;
 mod copy;
+pub(crate) mod deferring;
 mod erase;
 mod getters;
 mod modes;

@@ -10,7 +10,7 @@ returns-clause-goes g c = rw (← c.self.view_is) (λ live. goes_reported c.adva
 
 pub returns-clause-made : goal.returns-clause-made
 returns-clause-made g c =
-    let lives : c.advance.new.performer.screen.failed ≡ false = grind arith in
+    let lives : c.advance.new.screen.screen.failed ≡ false = grind arith in
     rw (← c.self.view_is) (λ keeps. state_after_fed g.CB.Callbacks.step g.CB.Callbacks.scrolls keeps _ _ _
     c.advance.ensures.state_after (goes_reported c.advance.ensures.reported) lives)
 

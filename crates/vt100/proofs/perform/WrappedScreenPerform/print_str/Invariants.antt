@@ -1,7 +1,7 @@
 use Rattle.std.proofs.Common.{map, length}
 use Rattle.std.specs.Str.{chars}
 use Rattle.vte_core.specs.Event.{Print, Performs}
-use Rattle.vt100.proofs.PlayLemmas.{Steps}
+use Rattle.vt100.specs.Goes.{Steps}
 use Rattle.vt100.proofs.perform.WrappedScreenPerform.print_str.Given as goal
 use denote.Text.{Utf8}
 use denote.Shadow.{shadow}

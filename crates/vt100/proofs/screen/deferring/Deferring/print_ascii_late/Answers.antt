@@ -1,0 +1,15 @@
+use Rattle.std.proofs.Common.{◌≡◌, ◌<◌, length, arith}
+use Rattle.std.proofs.lemmas.Bool.Decides.{nat_tests}
+use Rattle.vt100.proofs.DeferringLemmas.{no_text, performs_text}
+use Rattle.vt100.proofs.screen.deferring.Deferring.print_ascii_late.Goals as goal
+
+pub returns-then-is_empty : goal.returns-then-is_empty
+returns-then-is_empty g c =
+    let none : length c.args.text.now ≡ 0 = grind (arith, nat_tests, c.is_empty.ensures, c.if-is_empty.true) in
+    no_text g.CB.Callbacks.step g.CB.Callbacks.scrolls c.args.text.now _ none
+
+pub returns-else-has_room_for : goal.returns-else-has_room_for
+returns-else-has_room_for g c =
+    let some : 0 < length c.args.text.now = grind (arith, nat_tests, c.is_empty.ensures, c.if-is_empty.false) in
+    performs_text g.CB.Callbacks.step g.CB.Callbacks.scrolls c.args.text.now _ _ c.utf8.text some c.erase.ensures.same
+    (rw (c.erase.ensures.none, ← c.erase.ensures.screen) c.print_ascii.ensures)
