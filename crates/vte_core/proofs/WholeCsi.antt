@@ -1,6 +1,6 @@
 -- Control sequences of lone numbers, read at once.
 use Rattle.std.proofs.Common.{◌≡◌, ◌∙◌, ℕ, ◌+◌, ◌-◌, ◌<◌, ◌≤◌, true, false, List, [], ◌∷◌, ◌++◌, length, take}
-use Rattle.std.proofs.Common.{drop, get_or, nat_lt, refl, suc, ap, arith, length-drop, length-take, subst}
+use Rattle.std.proofs.Common.{drop, get_or, nat_lt, refl, suc, ap, arith, length-drop, subst}
 use Rattle.std.proofs.lemmas.Bool.Decides.{nat_tests}
 use Rattle.std.proofs.lemmas.List.{take_more, get_or-drop}
 use Rattle.std.specs.Int.{is_in_range}

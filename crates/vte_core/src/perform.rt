@@ -70,6 +70,17 @@ pub trait Perform {
         self.event(Event::Execute(byte));
     }
 
+    /// A run of controls of ASCII, one after another. It comes in the place of `execute` of each. An implementation may
+    /// write it, to save a look at each control.
+    #[inline(always)]
+    fn execute_all(&mut self, controls: &[u8])
+        ensures { Performs step self.old (map e.Execute controls.now) self.new }
+    {
+        for byte in controls {
+            self.execute(*byte);
+        }
+    }
+
     /// The final byte of a device control string's header. `ignore` says that there were more numbers or
     /// intermediates than are kept.
     fn hook(&mut self, params: &Params, intermediates: &[u8], ignore: bool, action: char)

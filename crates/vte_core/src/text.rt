@@ -385,14 +385,17 @@ fn are_controls(bytes: &[u8]) -> bool
     are_controls
 }
 
-/// Executes controls of ASCII.
+/// How many bytes stand in whole blocks of controls of ASCII.
 #[inline(always)]
-fn execute_all<P: Perform>(performer: &mut P, bytes: &[u8])
-    ensures { Performs P.step performer.old (map Execute bytes.now) performer.new }
+fn control_block_len(bytes: &[u8]) -> usize
+    ensures within { result ≤ length bytes.now }
+    ensures controls { each is_c0 (take result bytes.now) ≡ true }
 {
-    for byte in bytes {
-        performer.execute(*byte);
+    let mut len = 0;
+    while bytes.len() - len >= BLOCK_LEN && are_controls(&bytes[len..len + BLOCK_LEN]) {
+        len += BLOCK_LEN;
     }
+    len
 }
 
 /// Executes the controls of ASCII at the start, up to ESC, and returns how many they are.
@@ -400,11 +403,8 @@ fn execute_all<P: Perform>(performer: &mut P, bytes: &[u8])
 fn execute_controls<P: Perform>(performer: &mut P, bytes: &[u8]) -> usize
     ensures { TellsEach P.step is_c0 Execute performer.old bytes.now result performer.new }
 {
-    let mut read = 0;
-    while bytes.len() - read >= BLOCK_LEN && are_controls(&bytes[read..read + BLOCK_LEN]) {
-        execute_all(performer, &bytes[read..read + BLOCK_LEN]);
-        read += BLOCK_LEN;
-    }
+    let mut read = control_block_len(bytes);
+    performer.execute_all(&bytes[..read]);
     while read < bytes.len() && bytes[read] < 0x20 && bytes[read] != 0x1B {
         performer.execute(bytes[read]);
         read += 1;

@@ -9,9 +9,3 @@ invariant-loop-read g l = TellsEach g.P.Perform.step is_c0 Execute l.fn.performe
 
 abbrev pub decreases-loop-read : goal.decreases-loop-read
 decreases-loop-read g l = length l.bytes - l.read
-
-abbrev pub invariant-loop-read-2 : goal.invariant-loop-read-2
-invariant-loop-read-2 g l = TellsEach g.P.Perform.step is_c0 Execute l.fn.performer l.bytes l.read l.performer
-
-abbrev pub decreases-loop-read-2 : goal.decreases-loop-read-2
-decreases-loop-read-2 g l = length l.bytes - l.read
