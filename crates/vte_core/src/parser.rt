@@ -18,6 +18,7 @@ ghost use Rattle.vte_core.specs.Reported.{Reported};
 use crate::header::{Header, is_intermediate};
 use crate::intermediates::Intermediates;
 use crate::osc_data::{OscData, data_len, report_whole};
+use crate::params::Params;
 use crate::perform::Perform;
 use crate::table::{Action, step_of};
 use crate::text::Unfinished;
@@ -402,16 +403,6 @@ impl<const N: usize> Parser<N> {
         quiet + 1
     }
 
-    /// The final byte of a control sequence whose numbers are read, and of which one other byte is kept: a private byte
-    /// or an intermediate.
-    // Never inlined: the performer's `csi_dispatch` would stand in each of its two rare callers.
-    #[inline(never)]
-    fn dispatch_marked<P: Perform>(&self, performer: &mut P, mark: u8, byte: u8)
-        ensures { P.step performer.old (e.Csi self.now.header.numbers.params (mark ∷ []) false byte) performer.new }
-    {
-        performer.csi_dispatch(&self.header.numbers.params, &[mark], false, byte as char);
-    }
-
     /// Reads a control sequence of a private byte and lone numbers, if it stands whole at the start. Returns how many
     /// bytes it is, or else 0.
     // Never inlined, so that the more frequent sequences without a private byte keep the registers.
@@ -434,7 +425,7 @@ impl<const N: usize> Parser<N> {
         if !is_final(rest[len]) {
             return 0;
         }
-        self.dispatch_marked(performer, *mark, rest[len]);
+        dispatch_marked(&self.header.numbers.params, performer, *mark, rest[len]);
         len + 4
     }
 
@@ -460,7 +451,7 @@ impl<const N: usize> Parser<N> {
             return len + 1;
         }
         if is_intermediate(byte) && len + 1 < bytes.len() && is_final(bytes[len + 1]) {
-            self.dispatch_marked(performer, byte, bytes[len + 1]);
+            dispatch_marked(&self.header.numbers.params, performer, byte, bytes[len + 1]);
             return len + 2;
         }
         self.read_private(performer, bytes)
@@ -764,6 +755,16 @@ impl<const N: usize> Parser<N> {
         }
         bytes.len()
     }
+}
+
+/// The final byte of a control sequence with these numbers, of which one other byte is kept: a private byte or an
+/// intermediate.
+// Never inlined: the performer's `csi_dispatch` would stand in each of its two rare callers.
+#[inline(never)]
+fn dispatch_marked<P: Perform>(params: &Params, performer: &mut P, mark: u8, byte: u8)
+    ensures { P.step performer.old (e.Csi params.now (mark ∷ []) false byte) performer.new }
+{
+    performer.csi_dispatch(params, &[mark], false, byte as char);
 }
 
 /// How many bytes at the start are ESC, of which the first one is.
