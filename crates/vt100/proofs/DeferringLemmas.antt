@@ -30,7 +30,7 @@ use Rattle.vt100_core.specs.Text.{printed_all}
 use Rattle.vt100_core.proofs.EraseLemmas.{cursor_row_of}
 use Rattle.vt100_core.proofs.TextLemmas.{span_of-cell, span_of-wide}
 use Rattle.vt100_core.proofs.RunLemmas.{run-of, text_at, in-row}
-use Rattle.vte_core.specs.Event.{Event, Print, Performs}
+use Rattle.vte_core.specs.Event.{Event, Print, Execute, Performs}
 use Rattle.vte_core.proofs.Telling.{same_events}
 use Rattle.vte_core.specs.Store.{each_alone}
 use Rattle.vte_core.specs.Reported.{Reported}
@@ -423,6 +423,19 @@ module _ {C : Type 0} (step : C → ScreenView → Call → C → ScreenView →
   no_text [] p none =
       same_events (Defers step scrolls) p p [] (map Print (chars [])) (ap (map Print) (sym chars-nil)) refl
   no_text (x ∷ xs) p none = absurd (omega arith)
+
+  pub no_controls : (bs : List ℕ) (p : Deferring C) → length bs ≡ 0
+      → Performs (Defers step scrolls) p (map Execute bs) p
+  no_controls [] p none = refl
+  no_controls (x ∷ xs) p none = absurd (omega arith)
+
+  -- controls that are executed, whether or not something is put off before them and behind them
+  pub performs_controls : (bs : List ℕ) (p q : Deferring C) → 0 < length bs
+      → q.screen.ghost_name ≡ p.screen.ghost_name
+      → Performs (Steps step scrolls) (settled p) (map Execute bs) (settled q)
+      → Performs (Defers step scrolls) p (map Execute bs) q
+  performs_controls [] p q some same h = absurd (omega arith)
+  performs_controls (b ∷ bs) p q some same h = some-late (Execute b) (map Execute bs) p q same h
 
   -- a text that is printed, whether or not something is put off before it and behind it
   pub performs_text : (bs : List ℕ) (p q : Deferring C) → IsUtf8 bs → 0 < length bs

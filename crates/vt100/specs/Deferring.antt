@@ -9,10 +9,11 @@ use Rattle.screen_model.specs.State.{State}
 use Rattle.screen_model.specs.Step.{with_shown}
 use Rattle.screen_model.specs.Sgr.{sgr_read}
 use Rattle.screen_model.specs.Call.{Call, ScreenView}
-use Rattle.screen_model.specs.Effect.{Effect}
+use Rattle.screen_model.specs.Effect.{Effect, effect}
 use Rattle.vt100.specs.declared.screen.wrapped.WrappedScreen.{WrappedScreen}
 use Rattle.vt100.specs.declared.screen.deferring.Deferring.{Deferring}
-use Rattle.vt100.specs.Goes.{Does, Goes}
+use Rattle.vt100.specs.Goes.{Does}
+use Rattle.vt100.specs.Memory.{may_allocate}
 
 -- the cursor's row is empty from the cursor on, with these attributes
 abbrev pub erased_by : Attrs → State → State
@@ -41,9 +42,7 @@ DefersEffect step scrolls f takes p q =
 -- an event
 abbrev pub Defers : {C : Type 0} → (C → ScreenView → Call → C → ScreenView → Type 0)
     → (C → RowView → Bool → C → Type 0) → Deferring C → Event → Deferring C → Type 0
-Defers step scrolls p e q =
-    Goes step scrolls e (settled p).callbacks (settled p).screen (settled q).callbacks (settled q).screen
-    × (q.screen.ghost_name ≡ p.screen.ghost_name)
+Defers step scrolls p e q = DefersEffect step scrolls (effect e) (may_allocate e) p q
 
 -- the numbers of SGR that are asked for most: none, bold, and the eight colours
 abbrev pub is_frequent : ℕ → Bool

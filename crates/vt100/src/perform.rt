@@ -1,5 +1,5 @@
 //! The events of a byte stream, on a screen (ECMA-48; DEC's VT100 to VT510; xterm's control sequences).
-ghost use Rattle.std.specs.Prelude.{◌≡◌, ◌≢◌, [], ◌∷◌, replicate, map, nat_eq, true, false, None};
+ghost use Rattle.std.specs.Prelude.{◌≡◌, ◌≢◌, [], ◌∷◌, replicate, map, nat_eq, true, false, None, Some};
 ghost use Rattle.std.specs.Prelude.{if◌then◌else◌, unwrap_or, ◌<◌, length, IfSome};
 ghost use Rattle.std.specs.List.{list_all};
 ghost use Rattle.std.specs.Int.{is_in_range};
@@ -9,11 +9,11 @@ ghost use Rattle.screen_model.specs.Effect.{row_effect, other_rows, private_rows
 ghost use Rattle.screen_model.specs.Effect.{first, second, effect_or, escape_rows, osc_calls, is_unhandled};
 ghost use Rattle.screen_model.specs.Effect.{is_selector, is_question, is_base64};
 ghost use Rattle.screen_model.specs.Lookup.{lookup};
-ghost use Rattle.screen_model.specs.Effect.{effect};
+ghost use Rattle.screen_model.specs.Effect.{effect, csi_effect};
 ghost use Rattle.screen_model.specs.Call as said;
 ghost use Rattle.vte_core.specs.Event as e;
 ghost use Rattle.vt100.specs.Goes.{Handles, MakesCalls};
-ghost use Rattle.vt100.specs.Memory.{may_allocate, plain_may_allocate, private_may_allocate};
+ghost use Rattle.vt100.specs.Memory.{may_allocate, plain_may_allocate, private_may_allocate, csi_may_allocate};
 ghost use Rattle.vt100.specs.Runs.{PrintsPrefix};
 
 use crate::callbacks::Callbacks;
@@ -122,9 +122,7 @@ impl<CB: Callbacks> Perform for WrappedScreen<CB> {
         match intermediates.first().copied() {
             None if action == 'm' => self.sgr_csi(params),
             None => self.plain_csi(params, action),
-            Some(b' ') => self.space_csi(params, intermediates, action),
-            Some(b'?') => self.private_csi(params, intermediates, action),
-            Some(_) => self.unhandled_csi(params, intermediates, action),
+            Some(mark) => self.marked_csi(mark, params, intermediates, action),
         }
     }
 
@@ -332,6 +330,28 @@ impl<CB: Callbacks> WrappedScreen<CB> {
         match place_alone(params) {
             Some(place) => self.cup(place),
             None => self.any_csi(params, 'H'),
+        }
+    }
+
+    /// A control sequence with a private byte or intermediates, of which `mark` is the first.
+    // The mark comes by itself, so that the bytes need no memory where no callback reads them.
+    #[inline(always)]
+    pub(crate) fn marked_csi(
+        &mut self,
+        mark: u8,
+        params: &Params,
+        intermediates: &[u8],
+        action: char,
+    )
+        requires live { self.old.screen.failed ≡ false }
+        requires mark { first intermediates.now ≡ Some mark }
+        ensures { Handles CB.step CB.scrolls (csi_effect params.now intermediates.now action)
+            (csi_may_allocate params.now intermediates.now action self.old.screen.state) self.old self.new }
+    {
+        match mark {
+            b' ' => self.space_csi(params, intermediates, action),
+            b'?' => self.private_csi(params, intermediates, action),
+            _ => self.unhandled_csi(params, intermediates, action),
         }
     }
 

@@ -1,18 +1,18 @@
 //! A screen on which the erasing of a row's end is put off. Programs that colour their messages erase it at each change
 //! of colour (EL), and print over it next: so the cells are written once.
-ghost use Rattle.std.specs.Prelude.{◌≡◌, ◌<◌, ◌+◌, ◌++◌, ℕ, List, All, IsTrue, None, false, length, map};
+ghost use Rattle.std.specs.Prelude.{◌≡◌, ◌<◌, ◌+◌, ◌++◌, ℕ, List, All, IsTrue, Some, None, false, length, map};
 ghost use Rattle.std.specs.Str.{chars};
 ghost use Rattle.std.specs.List.{list_all};
 ghost use Rattle.vt100_forms.specs.Attrs.{default_attrs};
 ghost use Rattle.printable.specs.Printable.{IsPrintable};
 ghost use Rattle.screen_model.specs.Lookup.{lookup};
-ghost use Rattle.screen_model.specs.Effect.{plain_effect, plain_rows};
+ghost use Rattle.screen_model.specs.Effect.{plain_effect, plain_rows, csi_effect, first};
 ghost use Rattle.vte_core.specs.Event as e;
 ghost use Rattle.vte_core.specs.Event.{Performs};
 ghost use Rattle.vte_core.specs.Reported.{Reported};
 ghost use Rattle.vte_core.specs.Standing.{IsAfter};
 ghost use Rattle.vt100.specs.Goes.{Steps};
-ghost use Rattle.vt100.specs.Memory.{plain_may_allocate};
+ghost use Rattle.vt100.specs.Memory.{plain_may_allocate, csi_may_allocate};
 ghost use Rattle.vt100.specs.Deferring.{erased_on, settled, Defers, DefersEffect, is_frequent, AreHandled};
 
 use crate::callbacks::Callbacks;
@@ -125,7 +125,7 @@ impl<'a, CB: Callbacks> Deferring<'a, CB> {
         self.erasing = None;
     }
 
-    /// Prints a character, and does before what is put off.
+    /// Does what is put off, and then prints a character.
     #[cold]
     #[inline(never)]
     fn print_late(&mut self, c: char)
@@ -223,6 +223,20 @@ impl<'a, CB: Callbacks> Deferring<'a, CB> {
             }
         }
     }
+
+    /// Does what is put off, and then what a control sequence with a private byte or intermediates asks for, of which
+    /// `mark` is the first.
+    #[cold]
+    #[inline(never)]
+    fn marked_late(&mut self, mark: u8, params: &Params, intermediates: &[u8], action: char)
+        requires live { self.old.screen.now.screen.failed ≡ false }
+        requires mark { first intermediates.now ≡ Some mark }
+        ensures { DefersEffect CB.step CB.scrolls (csi_effect params.now intermediates.now action)
+            (csi_may_allocate params.now intermediates.now action) self.old self.new }
+    {
+        self.erase();
+        self.screen.marked_csi(mark, params, intermediates, action);
+    }
 }
 
 impl<'a, CB: Callbacks> Perform for Deferring<'a, CB> {
@@ -274,18 +288,26 @@ impl<'a, CB: Callbacks> Perform for Deferring<'a, CB> {
     }
 
     #[inline(always)]
-    fn csi_dispatch(&mut self, params: &Params, intermediates: &[u8], ignore: bool, action: char) {
+    fn execute_all(&mut self, controls: &[u8]) {
+        if controls.is_empty() {
+            return;
+        }
+        self.settle();
+        self.screen.execute_all(controls);
+    }
+
+    #[inline(always)]
+    fn csi_dispatch(&mut self, params: &Params, intermediates: &[u8], _ignore: bool, action: char) {
         if self.screen.screen.failed() {
             return;
         }
         match intermediates.first().copied() {
             None if action == 'm' && self.erasing.is_none() => self.screen.sgr_csi(params),
             None => self.plain_csi(params, action),
-            Some(_) => {
-                self.settle();
-                self.screen
-                    .csi_dispatch(params, intermediates, ignore, action);
+            Some(mark) if self.erasing.is_some() => {
+                self.marked_late(mark, params, intermediates, action)
             }
+            Some(mark) => self.screen.marked_csi(mark, params, intermediates, action),
         }
     }
 
