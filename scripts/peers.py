@@ -3,6 +3,7 @@ import os
 import re
 import shutil
 import subprocess
+import tempfile
 
 HERE = os.path.dirname(os.path.realpath(__file__))
 MADE = f"{os.path.dirname(HERE)}/crates/speed/out/peers"
@@ -66,21 +67,46 @@ def peers():
 
 
 def instructions(words, file):
-    """How many instructions a run takes, as callgrind counts them."""
-    with open(file, "rb") as stream:
-        done = subprocess.run(
-            ["valgrind", "--tool=callgrind", "--callgrind-out-file=/dev/null", *words],
-            stdin=stream,
-            stdout=subprocess.DEVNULL,
-            stderr=subprocess.PIPE,
-            env={**os.environ, "PYTHONHASHSEED": "0"},
-            check=True,
-            text=True,
-        )
-    return int(re.search(r"Collected : (\d+)", done.stderr).group(1))
+    """How many instructions a run takes, as callgrind counts them, and how many of them clear or move memory."""
+    with tempfile.TemporaryDirectory() as folder:
+        profile = f"{folder}/profile"
+        with open(file, "rb") as stream:
+            done = subprocess.run(
+                ["valgrind", "--tool=callgrind", f"--callgrind-out-file={profile}", *words],
+                stdin=stream,
+                stdout=subprocess.DEVNULL,
+                stderr=subprocess.PIPE,
+                env={**os.environ, "PYTHONHASHSEED": "0"},
+                check=True,
+                text=True,
+            )
+        total = int(re.search(r"Collected : (\d+)", done.stderr).group(1))
+        with open(profile) as lines:
+            return total, clearing(lines)
+
+
+def clearing(lines):
+    """How many instructions of a profile are in `memset`, `memcpy` and `memmove`. A name is written once, with a number."""
+    names, total, is_clearing, is_call = {}, 0, False, False
+    for line in lines:
+        if found := re.match(r"(c?fn)=\((\d+)\)(?: (.*))?", line):
+            kind, number, name = found.groups()
+            if name:
+                names[number] = name
+            if kind == "fn":
+                is_clearing = re.search(r"mem(set|cpy|move)", names[number]) is not None
+        elif line.startswith("calls="):
+            is_call = True
+        elif line[0] in "+-*0123456789":
+            # The line behind a call has what the called function took.
+            if is_clearing and not is_call:
+                total += int(line.split()[-1])
+            is_call = False
+    return total
 
 
 def instructions_a_byte(words, work, size, file):
-    """The instructions of a run that does the work three times, less those of one that does it once, by the byte."""
+    """The instructions by the byte of a run that does the work three times, less those of one that does it once; and
+    those of them that clear or move memory."""
     once, thrice = (instructions([*words, work, *size, times], file) for times in ("1", "3"))
-    return (thrice - once) / 2 / os.path.getsize(file)
+    return [(high - low) / 2 / os.path.getsize(file) for low, high in zip(once, thrice)]
