@@ -1,9 +1,9 @@
 -- Erasing that is put off, and what is printed, set and erased before it is done.
-use Rattle.std.proofs.Common.{◌≡◌, ◌∙◌, ◌^◌, ◌<◌, ◌≤◌, ◌==◌, ◌+◌, ◌-◌, ◌*◌, ℕ, zero, suc, Bool, true, false, cond, List, []}
-use Rattle.std.proofs.Common.{sym, Option, Some, None, length, map, refl, subst, inl, inr, arith, ◌++◌, replicate, not}
-use Rattle.std.proofs.Common.{nat_lt, nat_le, nat_eq, ◌⊎◌, ◌&&◌, ◌||◌, Result, Ok, Err, ◌∷◌, ap, rules, set, length-set}
+use Rattle.std.proofs.Common.{◌≡◌, ◌∙◌, ◌<◌, ◌+◌, ◌-◌, ◌*◌, ℕ, zero, suc, Bool, true, false, cond, List, []}
+use Rattle.std.proofs.Common.{sym, Option, Some, None, length, map, refl, subst, inl, inr, arith, replicate, not}
+use Rattle.std.proofs.Common.{nat_le, nat_eq, ◌&&◌, Result, Ok, Err, ◌∷◌, ap, set, length-set}
 use Rattle.std.proofs.Common.{get_or}
-use Rattle.std.specs.Prelude.{All, if◌then◌else◌}
+use Rattle.std.specs.Prelude.{All}
 use Rattle.std.specs.List.{list_all}
 use Rattle.std.specs.Int.{is_in_range}
 use Rattle.std.specs.Str.{IsUtf8, chars}
@@ -17,7 +17,7 @@ use Rattle.printable.proofs.PrintableLemmas.{printable-ascii}
 use Rattle.vt100_forms.specs.declared.attrs.Attrs.{Attrs}
 use Rattle.vt100_forms.specs.declared.attrs.Color.TheVariants.{Idx}
 use Rattle.vt100_forms.specs.Attrs.{default_attrs, with_bold}
-use Rattle.vt100_cells.specs.Cell.{CellView, cell_of, empty_cell}
+use Rattle.vt100_cells.specs.Cell.{CellView, cell_of}
 use Rattle.vt100_cells.specs.Cells.{cell_at, by_position}
 use Rattle.vt100_cells.specs.Line.{span_of, put, wiped, wipe_unflags, put_unflags}
 use Rattle.vt100_cells.proofs.ListLemmas.{cell_at-by_position, length-by_position, by_position_is}
@@ -25,7 +25,7 @@ use Rattle.vt100_cells.proofs.WidthLemmas.{drawn-is, drawn-ascii}
 use Rattle.vt100_rows.specs.Row.{RowView, blank_row, placed, placed_each, wiped_row}
 use Rattle.vt100_core.specs.Grid.{GridView, IsKept, row_of_cursor}
 use Rattle.vt100_core.specs.Erase.{columns_erased}
-use Rattle.vt100_core.specs.Scroll.{Scrolled, wrapped_on, ScrollsNoneOff}
+use Rattle.vt100_core.specs.Scroll.{Scrolled, wrapped_on}
 use Rattle.vt100_core.specs.Text.{printed_all}
 use Rattle.vt100_core.proofs.EraseLemmas.{cursor_row_of}
 use Rattle.vt100_core.proofs.TextLemmas.{span_of-cell, span_of-wide}
@@ -37,7 +37,7 @@ use Rattle.vte_core.specs.Reported.{Reported}
 use Rattle.vte_core.specs.declared.parser.Parser.{Parser}
 use Rattle.screen_model.specs.State.{State, IsState}
 use Rattle.screen_model.specs.Step.{Stepped, erased_right}
-use Rattle.screen_model.specs.Call.{Call, ScreenView, Receives}
+use Rattle.screen_model.specs.Call.{Call, ScreenView}
 use Rattle.screen_model.specs.Effect.{Effect, plain_effect, partly, line_erased, csi_call, number_or}
 use Rattle.screen_model.specs.Sgr.{Asks, change, asks, colored, read_on, read_groups}
 use Rattle.vt100.specs.declared.error.ScreenError.{ScreenError}

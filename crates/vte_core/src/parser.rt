@@ -425,7 +425,12 @@ impl<const N: usize> Parser<N> {
         if !is_final(rest[len]) {
             return 0;
         }
-        dispatch_marked(&self.header.numbers.params, performer, *mark, rest[len]);
+        dispatch_marked(
+            &self.header.numbers.params,
+            performer,
+            *mark,
+            rest[len] as char,
+        );
         len + 4
     }
 
@@ -451,7 +456,12 @@ impl<const N: usize> Parser<N> {
             return len + 1;
         }
         if is_intermediate(byte) && len + 1 < bytes.len() && is_final(bytes[len + 1]) {
-            dispatch_marked(&self.header.numbers.params, performer, byte, bytes[len + 1]);
+            dispatch_marked(
+                &self.header.numbers.params,
+                performer,
+                byte,
+                bytes[len + 1] as char,
+            );
             return len + 2;
         }
         self.read_private(performer, bytes)
@@ -757,14 +767,14 @@ impl<const N: usize> Parser<N> {
     }
 }
 
-/// The final byte of a control sequence with these numbers, of which one other byte is kept: a private byte or an
+/// A control sequence with these numbers and this final byte, of which one other byte is kept: a private byte or an
 /// intermediate.
 // Never inlined: the performer's `csi_dispatch` would stand in each of its two rare callers.
 #[inline(never)]
-fn dispatch_marked<P: Perform>(params: &Params, performer: &mut P, mark: u8, byte: u8)
-    ensures { P.step performer.old (e.Csi params.now (mark ∷ []) false byte) performer.new }
+fn dispatch_marked<P: Perform>(params: &Params, performer: &mut P, mark: u8, action: char)
+    ensures { P.step performer.old (e.Csi params.now (mark ∷ []) false action) performer.new }
 {
-    performer.csi_dispatch(params, &[mark], false, byte as char);
+    performer.csi_dispatch(params, &[mark], false, action);
 }
 
 /// How many bytes at the start are ESC, of which the first one is.

@@ -304,10 +304,11 @@ impl<'a, CB: Callbacks> Perform for Deferring<'a, CB> {
         match intermediates.first().copied() {
             None if action == 'm' && self.erasing.is_none() => self.screen.sgr_csi(params),
             None => self.plain_csi(params, action),
-            Some(mark) if self.erasing.is_some() => {
-                self.marked_late(mark, params, intermediates, action)
+            // Where each group is one number, nothing is saved for a call that reads groups.
+            Some(mark) if self.erasing.is_none() && params.numbers().is_some() => {
+                self.screen.marked_csi(mark, params, intermediates, action)
             }
-            Some(mark) => self.screen.marked_csi(mark, params, intermediates, action),
+            Some(mark) => self.marked_late(mark, params, intermediates, action),
         }
     }
 
