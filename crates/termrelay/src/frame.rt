@@ -134,8 +134,8 @@ impl Frame {
         &self.base
     }
 
-    /// The copy of the screen, unless another frame has it too.
-    pub(crate) fn into_screen(self) -> Option<Screen> {
-        Arc::into_inner(self.base.screen)
+    /// The copy of the screen, which another frame may have too.
+    pub(crate) fn into_screen(self) -> Arc<Screen> {
+        self.base.screen
     }
 }

@@ -43,7 +43,7 @@ pub(crate) struct SharedFrames {
     /// How many moments have a number. If all numbers are given, no frame is kept for others.
     moments: u64,
     /// A copy that no client needs any more. The next one is made in its memory.
-    spare: Option<Screen>,
+    spare: Option<Arc<Screen>>,
     alloc: Global,
 }
 
@@ -81,7 +81,10 @@ impl SharedFrames {
     pub(crate) fn reuse(&mut self, frame: Option<Arc<Frame>>)
         ensures { self.new ≡ self.old }
     {
-        if let Some(screen) = frame.and_then(Arc::into_inner).and_then(Frame::into_screen) {
+        let Some(mut screen) = frame.and_then(Arc::into_inner).map(Frame::into_screen) else {
+            return;
+        };
+        if Arc::get_mut(&mut screen).is_some() {
             self.spare = Some(screen);
         }
     }
@@ -214,18 +217,21 @@ impl SharedFrames {
 }
 
 /// A copy of what the screen shows, in the memory of an earlier one if there is one. Fails only if an allocation fails.
-fn copy_in(spare: Option<Screen>, screen: &Screen, alloc: Global) -> Result<Arc<Screen>, HubError>
+fn copy_in(
+    spare: Option<Arc<Screen>>,
+    screen: &Screen,
+    alloc: Global,
+) -> Result<Arc<Screen>, HubError>
     ensures copy { IfOk result (λ copy. copy.value ≡ copy_of screen.now) }
     ensures memory { OnErr result (result ≡ Err Memory) }
 {
-    let copy = match spare {
-        Some(mut copy) => {
-            copy.copy_shown(screen)?;
-            copy
-        }
-        None => screen.clone_shown()?,
-    };
-    match Arc::new(alloc, copy) {
+    if let Some(mut shared) = spare
+        && let Some(copy) = Arc::get_mut(&mut shared)
+    {
+        copy.copy_shown(screen)?;
+        return Ok(shared);
+    }
+    match Arc::new(alloc, screen.clone_shown()?) {
         Ok(copy) => Ok(copy),
         Err(_) => Err(HubError::Memory),
     }

@@ -104,8 +104,9 @@ fn has_same_cells(screen: &Screen, other: &Screen, row: u16) -> bool
     ensures { result ≡ all_below screen.now.state.shown.width (λ k. cell_eq
         ((shown_state screen.now.state).cell row k) ((shown_state other.now.state).cell row k)) }
 {
-    let filled = filled_cols(screen, row).max(filled_cols(other, row));
-    are_same(cells_of(screen, row), cells_of(other, row), filled)
+    let (cells, filled) = (cells_of(screen, row), filled_cols(screen, row));
+    let (others, other_filled) = (cells_of(other, row), filled_cols(other, row));
+    are_same(cells, others, filled.max(other_filled))
 }
 
 /// Like [`is_row_unsure`], given a screen without U+FE0F: a row that equals its row there is skipped.
