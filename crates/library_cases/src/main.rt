@@ -8,6 +8,7 @@ mod grids;
 mod screens;
 mod stage;
 mod streams;
+mod words;
 
 use case_player::play;
 use stage::Stage;

@@ -2,7 +2,7 @@
 
 use crate::grids::GridPlayer;
 use crate::screens::ScreenPlayer;
-use crate::streams::StreamPlayer;
+use crate::streams;
 use case_player::{Answer, Player, StepError, Words};
 use std::alloc::Global;
 
@@ -14,11 +14,11 @@ enum Subject {
     Screens,
 }
 
-/// A player for each folder of cases, and whose turn it is.
+/// What cases work on, and what they are about.
 #[derive(Drop)]
 pub struct Stage {
+    alloc: Global,
     subject: Subject,
-    streams: StreamPlayer,
     grids: GridPlayer,
     screens: ScreenPlayer,
 }
@@ -27,8 +27,8 @@ impl Stage {
     /// Players that have taken no step.
     pub fn new(alloc: Global) -> Stage {
         Stage {
+            alloc,
             subject: Subject::Streams,
-            streams: StreamPlayer::new(alloc),
             grids: GridPlayer::new(alloc),
             screens: ScreenPlayer::new(alloc),
         }
@@ -42,14 +42,13 @@ impl Player for Stage {
             "screens" => Subject::Screens,
             _ => Subject::Streams,
         };
-        self.streams.begin();
         self.grids.begin();
         self.screens.begin();
     }
 
     fn take(&mut self, name: &str, words: &Words, answer: &mut Answer) -> Result<(), StepError> {
         match self.subject {
-            Subject::Streams => self.streams.take(name, words, answer),
+            Subject::Streams => streams::take(self.alloc, name, words, answer),
             Subject::Grids => self.grids.take(name, words, answer),
             Subject::Screens => self.screens.take(name, words, answer),
         }

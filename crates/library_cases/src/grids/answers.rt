@@ -28,18 +28,8 @@ pub fn push_row(answer: &mut Answer, row: &Row) {
 fn push_color(answer: &mut Answer, name: &str, color: Color) {
     match color {
         Color::Default => {}
-        Color::Idx(index) => push_numbers(answer, name, " idx", &[index]),
-        Color::Rgb(red, green, blue) => push_numbers(answer, name, " rgb", &[red, green, blue]),
-    }
-}
-
-/// Appends two words, and numbers.
-fn push_numbers(answer: &mut Answer, name: &str, kind: &str, numbers: &[u8]) {
-    answer.push(name);
-    answer.push(kind);
-    for number in numbers {
-        answer.push(" ");
-        answer.number(u64::from(*number));
+        Color::Idx(index) => write!(answer, "{name} {index}"),
+        Color::Rgb(red, green, blue) => write!(answer, "{name} {red};{green};{blue}"),
     }
 }
 
@@ -94,14 +84,7 @@ pub fn push_cell(answer: &mut Answer, cell: &Cell) {
 
 /// Appends a row and a column.
 pub fn push_pos(answer: &mut Answer, pos: Pos) {
-    answer.number(u64::from(pos.row));
-    answer.push(" ");
-    answer.number(u64::from(pos.col));
-}
-
-/// Appends a text as a quoted line.
-pub fn tell_text(answer: &mut Answer, text: &str) {
-    answer.quoted_line(text.as_bytes());
+    write!(answer, "{} {}", pos.row, pos.col);
 }
 
 /// Whether something draws with the default attributes.

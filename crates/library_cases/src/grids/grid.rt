@@ -5,20 +5,18 @@ mod moves;
 mod recovery;
 mod reports;
 mod whole;
-mod writers;
 
 use calls::{parse_call, take_call};
 use case_player::{Answer, StepError, Words};
 use edits::edit;
-use reports::tell;
+use reports::{tell, write};
 use std::alloc::Global;
 use std::mem;
 use vt100_core::{Grid, Row, RowSink, Scrollback, Size};
 use whole::{made, refused_whole};
-use writers::write;
 
 /// Counts the rows that it takes.
-#[derive(Default, Drop)]
+#[derive(Drop)]
 pub struct Counter {
     rows: u64,
 }
@@ -34,53 +32,37 @@ impl RowSink for Counter {
 /// A grid, the earlier one, and how many rows have left the grid for good.
 #[derive(Drop)]
 pub struct GridStage {
-    grid: Grid,
+    grid: Option<Grid>,
     earlier: Option<Grid>,
     gone: Counter,
 }
 
 impl GridStage {
-    /// A new grid with its rows.
-    pub fn new(alloc: Global, size: Size, scrollback: Scrollback) -> Result<Self, StepError> {
-        Ok(GridStage {
-            grid: made(alloc, size, scrollback)?,
+    /// No grid.
+    pub fn new() -> GridStage {
+        GridStage {
+            grid: None,
             earlier: None,
-            gone: Counter::default(),
-        })
+            gone: Counter { rows: 0 },
+        }
     }
 
-    /// The grid of this stage is the earlier one.
-    pub fn follow(&mut self, before: GridStage) {
-        let GridStage {
-            grid,
-            earlier: _,
-            gone: _,
-        } = before;
-        self.earlier = Some(grid);
-    }
-
-    /// The grid is the earlier one, and a copy of it the grid.
-    fn copy(&mut self) -> Result<(), StepError> {
-        match self.grid.clone() {
-            Ok(copy) => {
-                self.replace(copy);
-                Ok(())
+    /// Makes a grid. The grid before it is the earlier one then.
+    pub fn renew(&mut self, alloc: Global, words: &Words) -> Result<(), StepError> {
+        let size = Size {
+            rows: words.size(),
+            cols: words.size(),
+        };
+        let scrollback = if words.is_empty() {
+            Scrollback::Disabled
+        } else {
+            Scrollback::Enabled {
+                capacity: words.count(),
             }
-            Err(_) => Err(refused_whole(&self.grid)),
-        }
-    }
-
-    /// The grid is the earlier one, and another takes its place.
-    fn replace(&mut self, other: Grid) {
-        self.earlier = Some(mem::replace(&mut self.grid, other));
-    }
-
-    /// The grid is the earlier one, and the earlier one the grid.
-    fn exchange(&mut self) -> Result<(), StepError> {
-        match &mut self.earlier {
-            Some(earlier) => mem::swap(&mut self.grid, earlier),
-            None => return Err(StepError::Wrong("there is no earlier grid")),
-        }
+        };
+        let grid = made(alloc, size, scrollback)?;
+        self.earlier = self.grid.replace(grid);
+        self.gone = Counter { rows: 0 };
         Ok(())
     }
 
@@ -92,40 +74,55 @@ impl GridStage {
         words: &Words,
         answer: &mut Answer,
     ) -> Result<(), StepError> {
+        let Some(grid) = &mut self.grid else {
+            return Err(StepError::Wrong("a step `row` or `grid` has to come before"));
+        };
         match name {
-            "copy" => self.copy(),
-            "exchange" => self.exchange(),
+            "copy" => {
+                let copy = copy_of(grid)?;
+                self.earlier = Some(mem::replace(grid, copy));
+                Ok(())
+            }
+            "exchange" => {
+                mem::swap(&mut self.grid, &mut self.earlier);
+                Ok(())
+            }
             "write_contents"
             | "write_contents_formatted"
             | "write_contents_diff"
             | "write_cursor_position_formatted" => {
-                write(alloc, &self.grid, &self.earlier, name, words, answer)
+                write(alloc, grid, &self.earlier, name, words, answer)
             }
             "rows" | "cursor" | "kept" | "capacity" | "visible_cell" | "whole" => {
-                tell(&self.grid, self.gone.rows, name, words, answer);
+                tell(grid, self.gone.rows, name, words, answer);
                 Ok(())
             }
-            _ => self.change(alloc, name, words, answer),
+            _ => change(alloc, grid, &mut self.gone, name, words, answer),
         }
     }
+}
 
-    /// Takes a step that changes the grid.
-    fn change(
-        &mut self,
-        alloc: Global,
-        name: &str,
-        words: &Words,
-        answer: &mut Answer,
-    ) -> Result<(), StepError> {
-        if !self.grid.is_allocated() {
-            return Err(StepError::Wrong("the grid has no rows"));
-        }
-        match parse_call(name, words) {
-            Some(call) => take_call(alloc, &mut self.grid, call, &mut self.gone, answer),
-            None => {
-                edit(&mut self.grid, name, words, &mut self.gone);
-                Ok(())
-            }
+fn copy_of(grid: &Grid) -> Result<Grid, StepError> {
+    grid.clone().map_err(|_| refused_whole(grid))
+}
+
+/// Takes a step that changes the grid.
+fn change(
+    alloc: Global,
+    grid: &mut Grid,
+    gone: &mut Counter,
+    name: &str,
+    words: &Words,
+    answer: &mut Answer,
+) -> Result<(), StepError> {
+    if !grid.is_allocated() {
+        return Err(StepError::Wrong("the grid has no rows"));
+    }
+    match parse_call(name, words) {
+        Some(call) => take_call(alloc, grid, call, gone, answer),
+        None => {
+            edit(grid, name, words, gone);
+            Ok(())
         }
     }
 }

@@ -3,10 +3,11 @@ mod edits;
 mod printing;
 mod reports;
 
-use crate::grids::refused::refused;
+use crate::grids::texts::refused;
+use crate::words::attributes;
 use case_player::{Answer, StepError, Words};
 use edits::{change, lengthen};
-use printing::{print, print_at, set_pen};
+use printing::{print, print_at};
 use reports::{tell, write};
 use std::alloc::Global;
 use std::mem;
@@ -16,46 +17,27 @@ use vt100_core::attrs::Attrs;
 /// A row, the earlier one, and the attributes to draw with.
 #[derive(Drop)]
 pub struct RowStage {
-    row: Row,
+    row: Option<Row>,
     earlier: Option<Row>,
     pen: Attrs,
 }
 
 impl RowStage {
-    /// A row with a text printed on it.
-    pub fn new(alloc: Global, cols: u16, text: &str) -> Result<Self, StepError> {
-        let mut row = Row::new(alloc, cols).map_err(refused)?;
-        print(&mut row, 0, text, Attrs::new());
-        Ok(RowStage {
-            row,
+    /// No row.
+    pub fn new() -> RowStage {
+        RowStage {
+            row: None,
             earlier: None,
             pen: Attrs::new(),
-        })
-    }
-
-    /// The row of this stage is the earlier one.
-    pub fn follow(&mut self, before: RowStage) {
-        let RowStage {
-            row,
-            earlier: _,
-            pen: _,
-        } = before;
-        self.earlier = Some(row);
-    }
-
-    /// The row is the earlier one, and a copy of it the row.
-    fn copy(&mut self) -> Result<(), StepError> {
-        let copy = self.row.clone().map_err(refused)?;
-        self.earlier = Some(mem::replace(&mut self.row, copy));
-        Ok(())
-    }
-
-    /// The row is the earlier one, and the earlier one the row.
-    fn exchange(&mut self) -> Result<(), StepError> {
-        match &mut self.earlier {
-            Some(earlier) => mem::swap(&mut self.row, earlier),
-            None => return Err(StepError::Wrong("there is no earlier row")),
         }
+    }
+
+    /// Makes a row, and prints a text on it. The row before it is the earlier one then.
+    pub fn renew(&mut self, alloc: Global, words: &Words) -> Result<(), StepError> {
+        let mut row = Row::new(alloc, words.place()).map_err(refused)?;
+        print(&mut row, 0, words.text(), Attrs::new());
+        self.earlier = self.row.replace(row);
+        self.pen = Attrs::new();
         Ok(())
     }
 
@@ -67,28 +49,26 @@ impl RowStage {
         words: &Words,
         answer: &mut Answer,
     ) -> Result<(), StepError> {
+        let Some(row) = &mut self.row else {
+            return Err(StepError::Wrong("a step `row` or `grid` has to come before"));
+        };
         match name {
-            "copy" => self.copy(),
-            "exchange" => self.exchange(),
-            "grow" | "resize" => lengthen(&mut self.row, name, words),
+            "copy" => {
+                let copy = row.clone().map_err(refused)?;
+                self.earlier = Some(mem::replace(row, copy));
+            }
+            "exchange" => mem::swap(&mut self.row, &mut self.earlier),
+            "pen" => self.pen = attributes(words),
+            "grow" | "resize" => return lengthen(row, name, words),
             "write_contents" | "write_contents_formatted" | "write_contents_diff" => {
-                write(alloc, &self.row, &self.earlier, name, words, answer)
+                return write(alloc, row, &self.earlier, name, words, answer);
             }
-            _ => {
-                self.change_or_tell(name, words, answer);
-                Ok(())
-            }
-        }
-    }
-
-    fn change_or_tell(&mut self, name: &str, words: &Words, answer: &mut Answer) {
-        match name {
-            "pen" => set_pen(&mut self.pen, words),
-            "print" | "put" | "join" => print_at(&mut self.row, self.pen, name, words, answer),
+            "print" | "put" | "join" => print_at(row, self.pen, name, words, answer),
             "shown" | "counts" | "cell" | "same_cell" => {
-                tell(&self.row, &self.earlier, name, words, answer);
+                tell(row, &self.earlier, name, words, answer);
             }
-            _ => change(&mut self.row, self.pen, name, words),
+            _ => change(row, self.pen, name, words),
         }
+        Ok(())
     }
 }

@@ -3,11 +3,6 @@ use case_player::{Answer, StepError};
 use std::fmt;
 use vt100::{GridError, ScreenError};
 
-/// Appends a text as a line in quotes.
-pub fn tell_text(answer: &mut Answer, text: &str) {
-    answer.quoted_line(text.as_bytes());
-}
-
 /// Appends the lines of a text, each with escapes.
 pub fn tell_lines(answer: &mut Answer, text: &str) {
     for line in text.lines() {

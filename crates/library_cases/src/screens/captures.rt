@@ -1,5 +1,5 @@
 //! Captures: what is written of rows, and what is read of it.
-use crate::screens::answers::{tell_lines, tell_text, written};
+use crate::screens::answers::{tell_lines, written};
 use crate::screens::log::Log;
 use case_player::{Answer, StepError, Words};
 use std::alloc::Global;
@@ -34,7 +34,7 @@ pub fn tell_capture(
     if whole {
         return tell_whole(alloc, log, parser.screen(), answer);
     }
-    tell_text(answer, log.capture.as_str());
+    answer.quoted_line(log.capture.as_bytes());
     Ok(())
 }
 
@@ -45,44 +45,32 @@ fn tell_whole(
     answer: &mut Answer,
 ) -> Result<(), StepError> {
     let mut text = String::from_str(alloc, log.capture.as_str())?;
-    push_rest(log, screen, &mut text)?;
-    tell_text(answer, text.as_str());
-    Ok(())
-}
-
-/// Appends the capture of all that is left.
-fn push_rest(log: &Log, screen: &Screen, text: &mut String) -> Result<(), StepError> {
     let mut state = log.state.clone()?;
     let range = BasicFormattedCaptureRange::Full(&mut state);
-    written(screen.write_contents_formatted_basic(text, range))
+    written(screen.write_contents_formatted_basic(&mut text, range))?;
+    answer.quoted_line(text.as_bytes());
+    Ok(())
 }
 
 /// Reads a capture: its rows, its plain pieces, or these with their places.
 pub fn read_capture(name: &str, words: &Words, answer: &mut Answer) {
     let capture = words.text();
     match name {
-        "cut" => tell_cut(capture, words.place(), answer),
-        "plain" => tell_plain(capture, answer),
-        _ => tell_pieces(capture, answer),
-    }
-}
-
-fn tell_cut(capture: &str, width: u16, answer: &mut Answer) {
-    for row in basic_formatted_rows(capture, width) {
-        tell_text(answer, row);
-    }
-}
-
-fn tell_plain(capture: &str, answer: &mut Answer) {
-    for piece in basic_formatted_to_plain(capture) {
-        tell_text(answer, piece);
-    }
-}
-
-fn tell_pieces(capture: &str, answer: &mut Answer) {
-    for (place, piece) in basic_formatted_to_plain_indexed(capture) {
-        answer.number(place as u64);
-        answer.push(" ");
-        tell_text(answer, piece);
+        "cut" => {
+            for row in basic_formatted_rows(capture, words.place()) {
+                answer.quoted_line(row.as_bytes());
+            }
+        }
+        "plain" => {
+            for piece in basic_formatted_to_plain(capture) {
+                answer.quoted_line(piece.as_bytes());
+            }
+        }
+        _ => {
+            for (place, piece) in basic_formatted_to_plain_indexed(capture) {
+                write!(answer, "{place} ");
+                answer.quoted_line(piece.as_bytes());
+            }
+        }
     }
 }

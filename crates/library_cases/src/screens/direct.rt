@@ -1,4 +1,5 @@
 //! Direct calls on a screen.
+use crate::words::character;
 use case_player::Words;
 use vt100::{ScreenError, WrappedScreen};
 
@@ -19,9 +20,4 @@ pub fn call(wrapped: &mut WrappedScreen<()>, words: &Words) -> Result<(), Screen
         _ => words.want("the name of a call"),
     }
     Ok(())
-}
-
-fn character(words: &Words) -> char {
-    let first = words.text().chars().next();
-    words.named(first, "a character", ' ')
 }

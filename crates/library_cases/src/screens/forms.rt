@@ -2,10 +2,10 @@
 use crate::screens::answers::{BEGUN, appended};
 use crate::screens::attributes::named_attributes;
 use crate::screens::limited::tell_written;
-use crate::screens::modes::{cursor_style, mouse_encoding, mouse_mode, switch};
+use crate::screens::modes::{cursor_style, mouse_encoding, mouse_mode};
+use crate::words::{flag, pos};
 use case_player::{Answer, StepError, Words};
 use std::alloc::Global;
-use vt100_forms::Pos;
 use vt100_forms::term::{self, BufWrite};
 
 /// Tells a form.
@@ -60,13 +60,6 @@ fn tell_default(
     }
 }
 
-fn place(words: &Words) -> Pos {
-    Pos {
-        row: words.place(),
-        col: words.place(),
-    }
-}
-
 fn tell_moving(
     alloc: Global,
     name: &str,
@@ -76,9 +69,9 @@ fn tell_moving(
     match name {
         "erase_char" => tell(alloc, &term::EraseChar::new(words.place()), answer),
         "move_right" => tell(alloc, &term::MoveRight::new(words.place()), answer),
-        "move_to" => tell(alloc, &term::MoveTo::new(place(words)), answer),
+        "move_to" => tell(alloc, &term::MoveTo::new(pos(words)), answer),
         "move_from_to" => {
-            let form = term::MoveFromTo::new(place(words), place(words));
+            let form = term::MoveFromTo::new(pos(words), pos(words));
             tell(alloc, &form, answer)
         }
         _ => tell_mode(alloc, name, words, answer),
@@ -92,16 +85,16 @@ fn tell_mode(
     answer: &mut Answer,
 ) -> Result<(), StepError> {
     match name {
-        "hide_cursor" => tell(alloc, &term::HideCursor::new(switch(words)), answer),
+        "hide_cursor" => tell(alloc, &term::HideCursor::new(flag(words)), answer),
         "application_keypad" => {
-            let form = term::ApplicationKeypad::new(switch(words));
+            let form = term::ApplicationKeypad::new(flag(words));
             tell(alloc, &form, answer)
         }
         "application_cursor" => {
-            let form = term::ApplicationCursor::new(switch(words));
+            let form = term::ApplicationCursor::new(flag(words));
             tell(alloc, &form, answer)
         }
-        "bracketed_paste" => tell(alloc, &term::BracketedPaste::new(switch(words)), answer),
+        "bracketed_paste" => tell(alloc, &term::BracketedPaste::new(flag(words)), answer),
         _ => tell_choice(alloc, name, words, answer),
     }
 }

@@ -1,5 +1,5 @@
 //! A writer that has only so much room.
-use crate::screens::answers::{check, tell_text};
+use crate::screens::answers::check;
 use case_player::{Answer, StepError};
 use std::alloc::Global;
 use std::fmt;
@@ -34,26 +34,13 @@ impl Limited {
     }
 }
 
-/// Tells a text that is also written to a writer.
+/// Tells a text that is also written to a writer. One with room for this text gets it in one call, or in no call if it is
+/// empty. A second time it refuses the text, and that is told.
 pub fn tell_written<F: Fn(&mut Limited) -> fmt::Result>(
     alloc: Global,
     text: &str,
     write: F,
     answer: &mut Answer,
-) -> Result<(), StepError>
-    requires { F.IsAlwaysCallable write }
-{
-    check_writes(alloc, text, write)?;
-    tell_text(answer, text);
-    Ok(())
-}
-
-/// A writer with room for this text gets it in one call, or in no call if it is empty. A second time it refuses the
-/// text, and that is told.
-fn check_writes<F: Fn(&mut Limited) -> fmt::Result>(
-    alloc: Global,
-    text: &str,
-    write: F,
 ) -> Result<(), StepError>
     requires { F.IsAlwaysCallable write }
 {
@@ -64,6 +51,7 @@ fn check_writes<F: Fn(&mut Limited) -> fmt::Result>(
     };
     let is_taken = write(&mut writer).is_ok() && writer.has_taken(text);
     let is_refused = write(&mut writer).is_err();
+    answer.quoted_line(text.as_bytes());
     check(
         is_taken && is_refused != text.is_empty(),
         "a writer doesn't get the text in one call, or its refusal isn't told",

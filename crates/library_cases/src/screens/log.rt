@@ -3,7 +3,7 @@
 ghost use Rattle.std.specs.Prelude.{⊤};
 
 use std::alloc::{AllocError, Global};
-use std::fmt::{Debug, Display};
+use std::fmt::Display;
 use std::num::NonZeroU16;
 use std::str;
 use vt100::capture::{BasicFormattedCaptureState, RowContents};
@@ -40,27 +40,13 @@ impl Log {
         })
     }
 
-    fn push(&mut self, text: &str) {
-        self.is_cut |= self.calls.push_str(text).is_err();
-    }
-
-    fn display<D: Display>(&mut self, value: &D) {
-        self.is_cut |= write!(self.calls, "{value} ").is_err();
-    }
-
-    fn debug<D: Debug>(&mut self, value: &D) {
-        self.is_cut |= write!(self.calls, "{value:?} ").is_err();
+    /// Writes down what is given to `write!`.
+    fn write_fmt<D: Display + Drop>(&mut self, value: D) {
+        self.is_cut |= self.calls.write_fmt(value).is_err();
     }
 
     fn word(&mut self, word: &str) {
-        self.push(word);
-        self.push(" ");
-    }
-
-    /// A word, and then this piece.
-    fn piece(&mut self, word: &str, piece: &[u8]) {
-        self.word(word);
-        self.word(str::from_utf8(piece).unwrap_or("?"));
+        write!(self, "{word} ");
     }
 
     /// A word, and then each of these pieces.
@@ -71,39 +57,21 @@ impl Log {
         }
     }
 
-    fn number(&mut self, word: &str, number: u32) {
-        self.word(word);
-        self.display(&number);
-    }
-
-    fn escape(&mut self, i1: Option<u8>, i2: Option<u8>, b: u8) {
-        self.word("escape");
-        self.debug(&i1);
-        self.debug(&i2);
-        self.display(&b);
-    }
-
-    fn csi(&mut self, i1: Option<u8>, i2: Option<u8>, params: &[&[u16]], c: char) {
-        self.word("csi");
-        self.debug(&i1);
-        self.debug(&i2);
-        self.debug(&params);
-        self.display(&c);
-    }
-
     /// A call that asks nothing of the screen.
     fn reported(&mut self, call: Call<'_>) {
         match call {
             Call::AudibleBell => self.word("bell by a detour"),
             Call::VisualBell => self.word("flash"),
-            Call::SetWindowIconName(name) => self.piece("icon", name),
-            Call::SetWindowTitle(title) => self.piece("title", title),
+            Call::SetWindowIconName(name) => self.pieces("icon", &[name]),
+            Call::SetWindowTitle(title) => self.pieces("title", &[title]),
             Call::CopyToClipboard(ty, data) => self.pieces("copy", &[ty, data]),
-            Call::PasteFromClipboard(ty) => self.piece("paste", ty),
-            Call::UnhandledChar(c) => self.number("char", c as u32),
-            Call::UnhandledControl(b) => self.number("control", u32::from(b)),
-            Call::UnhandledEscape(i1, i2, b) => self.escape(i1, i2, b),
-            Call::UnhandledCsi(i1, i2, params, c) => self.csi(i1, i2, params, c),
+            Call::PasteFromClipboard(ty) => self.pieces("paste", &[ty]),
+            Call::UnhandledChar(c) => write!(self, "char {} ", c as u32),
+            Call::UnhandledControl(b) => write!(self, "control {b} "),
+            Call::UnhandledEscape(i1, i2, b) => write!(self, "escape {i1:?} {i2:?} {b} "),
+            Call::UnhandledCsi(i1, i2, params, c) => {
+                write!(self, "csi {i1:?} {i2:?} {params:?} {c} ");
+            }
             Call::UnhandledOsc(params) => self.pieces("osc", params),
             Call::Resize(_, _) => {}
         }
@@ -112,25 +80,18 @@ impl Log {
     /// What the screen has come to when a call is made.
     fn place(&mut self, screen: &Screen) {
         let (row, col) = screen.cursor_position();
-        self.word("at");
-        self.display(&row);
-        self.is_cut |= write!(self.calls, "{col}").is_err();
-        self.push(if screen.bold() { "b\n" } else { "\n" });
+        let bold = if screen.bold() { "b" } else { "" };
+        writeln!(self, "at {row} {col}{bold}");
     }
 
     /// Grants a size, of which 0 counts as 1. Where memory is refused the screen has failed.
     fn grant(&mut self, screen: &mut Screen, rows: u16, cols: u16) {
-        self.word("resize");
-        self.display(&rows);
-        self.display(&cols);
+        write!(self, "resize {rows} {cols} ");
         self.is_resized = true;
-        let granted = screen.set_size(at_least_one(rows), at_least_one(cols));
-        self.is_cut |= granted.is_err();
+        let rows = NonZeroU16::new(rows).unwrap_or(NonZeroU16::MIN);
+        let cols = NonZeroU16::new(cols).unwrap_or(NonZeroU16::MIN);
+        self.is_cut |= screen.set_size(rows, cols).is_err();
     }
-}
-
-fn at_least_one(number: u16) -> NonZeroU16 {
-    NonZeroU16::new(number).unwrap_or(NonZeroU16::MIN)
 }
 
 impl Callbacks for Log {

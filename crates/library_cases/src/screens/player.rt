@@ -1,12 +1,11 @@
 //! What plays the steps of a case.
-use crate::screens::attributes::{Change, attributes, tell_change};
+use crate::screens::attributes::tell_change;
 use crate::screens::captures::{read_capture, tell_calls, tell_capture};
 use crate::screens::forms::tell_form;
 use crate::screens::questions::ask;
 use crate::screens::stage::Stage;
 use case_player::{Answer, StepError, Words};
 use std::alloc::Global;
-use vt100_forms::attrs::Attrs;
 
 /// Plays steps on a parser and its screen, and tells forms and what captures are.
 #[derive(Drop)]
@@ -14,51 +13,17 @@ pub struct ScreenPlayer {
     alloc: Global,
     /// What the step `new` made.
     stage: Option<Stage>,
-    /// The attributes that a change begins with.
-    old: Attrs,
 }
 
 impl ScreenPlayer {
     /// A player with nothing on its stage.
     pub fn new(alloc: Global) -> ScreenPlayer {
-        ScreenPlayer {
-            alloc,
-            stage: None,
-            old: Attrs::new(),
-        }
-    }
-
-    /// A stage is made.
-    fn renew(&mut self, words: &Words) -> Result<(), StepError> {
-        let stage = Stage::new(self.alloc, words)?;
-        self.stage = Some(stage);
-        Ok(())
-    }
-
-    /// Takes a step that needs no screen.
-    fn take_alone(
-        &mut self,
-        name: &str,
-        words: &Words,
-        answer: &mut Answer,
-    ) -> Result<(), StepError> {
-        match name {
-            "new" => return self.renew(words),
-            "form" => return tell_form(self.alloc, words, answer),
-            "from" => self.old = attributes(words),
-            "to" => {
-                let (old, new) = (self.old, attributes(words));
-                return tell_change(self.alloc, &Change { old, new }, answer);
-            }
-            _ => read_capture(name, words, answer),
-        }
-        Ok(())
+        ScreenPlayer { alloc, stage: None }
     }
 
     /// Begins a case.
     pub fn begin(&mut self) {
         self.stage = None;
-        self.old = Attrs::new();
     }
 
     /// Takes a step.
@@ -69,11 +34,13 @@ impl ScreenPlayer {
         answer: &mut Answer,
     ) -> Result<(), StepError> {
         match name {
-            "new" | "form" | "from" | "to" | "cut" | "plain" | "pieces" => {
-                self.take_alone(name, words, answer)
-            }
-            _ => self.take_on_screen(name, words, answer),
+            "new" => self.stage = Some(Stage::new(self.alloc, words)?),
+            "form" => return tell_form(self.alloc, words, answer),
+            "change" => return tell_change(self.alloc, words, answer),
+            "cut" | "plain" | "pieces" => read_capture(name, words, answer),
+            _ => return self.take_on_screen(name, words, answer),
         }
+        Ok(())
     }
 
     fn take_on_screen(
@@ -105,19 +72,6 @@ fn take_on_stage(
             stage.change_base(alloc, name, words),
         "call" => stage.call(alloc, words),
         "copy" | "redraw" | "redraw_visible" => stage.check(alloc, name),
-        _ => tell_on_stage(alloc, stage, name, words, answer),
-    }
-}
-
-/// Takes a step that tells of a stage.
-fn tell_on_stage(
-    alloc: Global,
-    stage: &mut Stage,
-    name: &str,
-    words: &Words,
-    answer: &mut Answer,
-) -> Result<(), StepError> {
-    match name {
         "calls" => tell_calls(&mut stage.parser, answer),
         "captured" => tell_capture(alloc, &stage.parser, false, answer),
         "capture" => tell_capture(alloc, &stage.parser, true, answer),

@@ -1,8 +1,8 @@
 //! What a screen is asked.
-use crate::screens::answers::{BEGUN, check, refused, tell_lines, tell_text};
+use crate::screens::answers::{BEGUN, check, refused, tell_lines};
 use crate::screens::stage::Stage;
 use crate::screens::states::tell_state;
-use crate::screens::texts::{Text, parse_text, text_of};
+use crate::screens::texts::{place_of, text_of};
 use case_player::{Answer, StepError, Words};
 use std::alloc::Global;
 use vt100::Screen;
@@ -33,7 +33,7 @@ fn answer_of(
 ) -> Result<(), StepError> {
     match name {
         "is" => tell_state(answer, screen, words),
-        "shows_same" => tell_bool(answer, screen.shows_same(prev)),
+        "shows_same" => writeln!(answer, "{}", screen.shows_same(prev)),
         "appended" => return tell_appended(alloc, screen, prev, words.word(), answer),
         _ => return tell_asked(alloc, screen, prev, name, words, answer),
     }
@@ -53,41 +53,21 @@ fn tell_asked(
         "length" | "ends" => words.word(),
         _ => name,
     };
-    let Some(text) = parse_text(asked, words) else {
-        return Err(StepError::Unknown);
-    };
-    let made = text_of(alloc, screen, prev, text)?;
+    let made = text_of(alloc, screen, prev, asked, place_of(asked, words))?;
     match name {
-        "length" => tell_length(answer, made.as_str()),
+        "length" => writeln!(answer, "{}", made.len()),
         "ends" => tell_ends(answer, made.as_str()),
-        _ => tell(answer, made.as_str(), text),
+        "rows" | "rows_formatted" | "rows_diff" => tell_lines(answer, made.as_str()),
+        _ => answer.quoted_line(made.as_bytes()),
     }
     Ok(())
 }
 
-fn tell_bool(answer: &mut Answer, is_true: bool) {
-    answer.line(if is_true { "true" } else { "false" });
-}
-
-/// Tells a text as one line, or as a line for each row.
-fn tell(answer: &mut Answer, made: &str, text: Text) {
-    if text.has_lines() {
-        tell_lines(answer, made);
-    } else {
-        tell_text(answer, made);
-    }
-}
-
-fn tell_length(answer: &mut Answer, text: &str) {
-    answer.number(text.len() as u64);
-    answer.end_line();
-}
-
 /// The first two bytes of a text, and the last two.
 fn tell_ends(answer: &mut Answer, text: &str) {
-    tell_text(answer, text.get(..2).unwrap_or(""));
+    answer.quoted_line(text.get(..2).unwrap_or("").as_bytes());
     let last = text.len().saturating_sub(2);
-    tell_text(answer, text.get(last..).unwrap_or(""));
+    answer.quoted_line(text.get(last..).unwrap_or("").as_bytes());
 }
 
 /// Tells what a text that holds something before holds after a call that appends to it.
@@ -100,7 +80,7 @@ fn tell_appended(
 ) -> Result<(), StepError> {
     let mut text = String::from_str(alloc, BEGUN)?;
     append(screen, prev, name, &mut text)?;
-    tell_text(answer, text.as_str());
+    answer.quoted_line(text.as_bytes());
     Ok(())
 }
 

@@ -1,94 +1,96 @@
 //! What writes down the events of a stream, or the calls of a handler.
+//!
+//! An implementation of `vte`'s `Handler` is proved method by method. So all steps share this one.
 
-ghost use Rattle.std.specs.Prelude.{⊤, ◌≡◌};
+ghost use Rattle.std.specs.Prelude.{⊤};
 
-use super::call_log::CallLog;
-use case_player::StepError;
-use std::alloc::Global;
+use case_player::{Answer, StepError};
+use std::alloc::{AllocError, Global};
+use std::cell::Cell;
+use vte::ansi::{Call, Handler};
 use vte_core::{Event, Params, Perform};
-
-/// When a log asks the parser to stop.
-#[derive(Clone, Copy)]
-pub enum Until {
-    /// Never.
-    Never,
-    /// After any event.
-    Event,
-    /// After a control sequence.
-    ControlSequence,
-}
-
-/// How many bytes a log has room for.
-pub const ROOM: usize = 65_536;
 
 /// The events or calls so far, each as a few words.
 #[derive(Drop)]
-pub struct Log {
-    /// What is written down. As a handler it writes down its calls.
-    pub calls: CallLog<'static>,
-    until: Until,
+pub struct Log<'a> {
+    /// What is written down.
+    pub text: Answer,
+    /// After how many more events the parser is asked to stop.
+    pub left: usize,
     terminated: bool,
+    /// The byte whose number is written as `#` where a stream tells it first.
+    pub own: Option<u8>,
+    // The same, until the stream has told it.
+    awaited: Option<u8>,
+    /// Whether text is written in short: a character as itself or as its number between `<` and `>`, and a control as its
+    /// number behind `^`.
+    pub is_brief: bool,
+    /// How many inputs there were, if they are counted. Then they aren't written down.
+    pub inputs: Option<usize>,
+    /// The flag that is watched. Each call has `true` or `false` behind it: whether the flag is up.
+    pub flag: Option<&'a Cell<bool>>,
+    /// Whether memory was refused to what reads a stream.
+    pub refused: bool,
 }
 
-impl Log {
-    /// An empty log.
-    pub fn new(alloc: Global) -> Log {
-        Log {
-            calls: CallLog::new(alloc),
-            until: Until::Never,
+impl<'a> Log<'a> {
+    /// An empty log with room.
+    pub fn new(alloc: Global) -> Result<Log<'a>, AllocError> {
+        Ok(Log {
+            text: Answer::new(alloc)?,
+            left: usize::MAX,
             terminated: false,
-        }
+            own: None,
+            awaited: None,
+            is_brief: false,
+            inputs: None,
+            flag: None,
+            refused: false,
+        })
     }
 
-    /// A step begins: no memory was refused yet.
-    pub fn begin(&mut self) {
-        self.calls.refused = false;
-    }
-
-    /// Forgets what is written down, and makes room. Then the parser is asked to stop where it says.
-    pub fn restart(&mut self, until: Until) {
-        self.until = until;
-        self.terminated = false;
-        self.calls.restart(ROOM);
-    }
-
-    /// Forgets the events so far.
-    pub fn clear(&mut self) {
-        self.calls.text.clear();
+    /// Forgets what is written down: a stream begins.
+    pub fn restart(&mut self) {
+        self.refused |= self.text.is_refused();
+        self.text.clear();
+        self.awaited = self.own;
     }
 
     /// The events or calls so far.
     pub fn told(&self) -> &str {
-        self.calls.text.as_str().trim_end()
+        self.text.as_str().trim_end()
     }
 
-    /// No memory was refused since the step began.
+    /// No memory was refused since the log was made.
     pub fn check(&self) -> Result<(), StepError> {
-        if self.calls.refused {
+        if self.refused || self.text.is_refused() {
             Err(StepError::Memory)
         } else {
             Ok(())
         }
     }
 
-    /// Writes down a text as it is.
-    pub fn push(&mut self, text: &str) {
-        self.calls.push(text);
-    }
-
     /// Writes down a word.
     pub fn word(&mut self, word: &str) {
-        self.calls.push(word);
-        self.calls.push(" ");
+        self.text.push(word);
+        self.text.push(" ");
     }
 
     /// Writes down a number.
     pub fn number(&mut self, number: u32) {
-        write!(self.calls, "{number} ");
+        match self.awaited {
+            Some(byte) if number == u32::from(byte) => {
+                self.awaited = None;
+                self.word("#");
+            }
+            Some(byte) if number > 0xFF && number != 0xFFFD => {
+                write!(self.text, "#+{} ", number - u32::from(byte))
+            }
+            _ => write!(self.text, "{number} "),
+        }
     }
 
-    /// Writes down a word and a number.
-    pub fn tell(&mut self, word: &str, number: u32) {
+    fn tell(&mut self, word: &str, number: u32) {
         self.word(word);
         self.number(number);
     }
@@ -100,31 +102,14 @@ impl Log {
         self.word("|");
     }
 
+    // A final byte, behind the intermediates.
     fn ending(&mut self, intermediates: &[u8], ignore: bool, number: u32) {
         self.bytes(intermediates);
         self.tell(if ignore { "ignored" } else { "kept" }, number);
     }
 
-    fn sequence(
-        &mut self,
-        word: &str,
-        params: &Params,
-        intermediates: &[u8],
-        ignore: bool,
-        action: char,
-    ) {
-        self.params(word, params);
-        self.ending(intermediates, ignore, action as u32);
-    }
-
-    fn escape(&mut self, intermediates: &[u8], ignore: bool, byte: u8) {
-        self.word("esc");
-        self.ending(intermediates, ignore, u32::from(byte));
-    }
-
     fn params(&mut self, word: &str, params: &Params) {
-        self.word(word);
-        write!(self.calls, "{params:?} ");
+        write!(self.text, "{word} {params:?} ");
     }
 
     fn command(&mut self, bell_terminated: bool, pieces: &[&[u8]]) {
@@ -134,23 +119,25 @@ impl Log {
         }
     }
 
-    fn meets(&self, event: Event<'_>) -> bool {
-        match (self.until, event) {
-            (Until::Event, _) => true,
-            (Until::ControlSequence, Event::CsiDispatch { .. }) => true,
-            _ => false,
+    fn brief(&mut self, c: char) {
+        match c {
+            ' '..='~' | '\u{FFFD}' => write!(self.text, "{c}"),
+            _ => write!(self.text, "<{:X}>", c as u32),
         }
     }
 }
 
-impl Perform for Log {
+impl Perform for Log<'_> {
     ghost step = { λ _ _ _. ⊤ };
 
     ghost is_terminated = { λ log. log.terminated };
 
     fn event(&mut self, event: Event<'_>) {
-        self.terminated |= self.meets(event);
+        self.left = self.left.saturating_sub(1);
+        self.terminated = self.left == 0;
         match event {
+            Event::Print(c) if self.is_brief => self.brief(c),
+            Event::Execute(byte) if self.is_brief => write!(self.text, "^{byte:02X}"),
             Event::Print(c) => self.tell("print", c as u32),
             Event::Execute(byte) => self.tell("execute", byte as u32),
             Event::Hook {
@@ -158,7 +145,10 @@ impl Perform for Log {
                 intermediates,
                 ignore,
                 action,
-            } => self.sequence("hook", params, intermediates, ignore, action),
+            } => {
+                self.params("hook", params);
+                self.ending(intermediates, ignore, action as u32);
+            }
             Event::Put(byte) => self.tell("put", byte as u32),
             Event::Unhook => self.word("unhook"),
             Event::OscDispatch {
@@ -170,16 +160,37 @@ impl Perform for Log {
                 intermediates,
                 ignore,
                 action,
-            } => self.sequence("csi", params, intermediates, ignore, action),
+            } => {
+                self.params("csi", params);
+                self.ending(intermediates, ignore, action as u32);
+            }
             Event::EscDispatch {
                 intermediates,
                 ignore,
                 byte,
-            } => self.escape(intermediates, ignore, byte),
+            } => {
+                self.word("esc");
+                self.ending(intermediates, ignore, byte as u32);
+            }
         }
     }
 
     fn terminated(&self) -> bool {
         self.terminated
+    }
+}
+
+impl Handler for Log<'_> {
+    ghost step = { λ _ _ _. ⊤ };
+
+    fn call(&mut self, call: Call<'_>) {
+        if let (Some(count), Call::Input(_)) = (self.inputs, call) {
+            self.inputs = Some(count.saturating_add(1));
+            return;
+        }
+        write!(self.text, "{call:?} ");
+        if let Some(flag) = self.flag {
+            self.word(if flag.get() { "true" } else { "false" });
+        }
     }
 }

@@ -2,21 +2,17 @@
 
 ghost use Rattle.std.specs.Prelude.{⊤, false};
 
-use crate::streams::log::Log;
+use super::log::Log;
 use vte_core::{Event, Perform};
 
 /// Writes down events, and before each run of text what it's handed over as.
 #[derive(Drop)]
-pub struct Runs<'a> {
-    log: &'a mut Log,
+pub struct Runs<'a, 'b> {
+    /// What writes down.
+    pub log: &'a mut Log<'b>,
 }
 
-impl<'a> Runs<'a> {
-    /// Writes into this log.
-    pub fn new(log: &'a mut Log) -> Self {
-        Runs { log }
-    }
-
+impl Runs<'_, '_> {
     fn character(&mut self, word: &str, c: char, is_first: bool) {
         if is_first {
             self.log.word(word);
@@ -25,7 +21,7 @@ impl<'a> Runs<'a> {
     }
 }
 
-impl Perform for Runs<'_> {
+impl Perform for Runs<'_, '_> {
     ghost step = { λ _ _ _. ⊤ };
 
     ghost is_terminated = { λ _. false };

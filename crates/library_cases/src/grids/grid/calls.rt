@@ -4,8 +4,8 @@ ghost use Rattle.vt100_core.specs.Grid.{IsAllocated};
 
 use super::Counter;
 use super::recovery::recovery;
-use crate::grids::refused::refused;
-use crate::grids::words::{character, flag, size};
+use crate::grids::texts::refused;
+use crate::words::{character, flag};
 use case_player::{Answer, StepError, Words};
 use std::alloc::Global;
 use vt100_core::attrs::Attrs;
@@ -18,25 +18,14 @@ pub enum Call<'a> {
     Print(&'a str),
     Text(char),
     RowIncScroll(u16),
-    Change(Change),
-}
-
-/// A call that tells nothing.
-#[derive(Clone, Copy)]
-pub enum Change {
     ScrollUp(u16),
     ColWrap(u16, bool),
     SetSize(Size),
     SetScrollback(usize),
 }
 
-/// What a call tells.
-#[derive(Clone, Copy)]
-pub enum Told {
-    Nothing,
-    Lines(u16),
-    Printed(Printed),
-}
+/// What a call tells, if it does: by how many lines the region scrolled, or what became of a character.
+type Told = (Option<u16>, Option<Printed>);
 
 /// The call that a step is, if it is one.
 pub fn parse_call<'a>(name: &str, words: &'a Words) -> Option<Call<'a>> {
@@ -44,29 +33,26 @@ pub fn parse_call<'a>(name: &str, words: &'a Words) -> Option<Call<'a>> {
         "print" => Some(Call::Print(words.text())),
         "text" => Some(Call::Text(character(words))),
         "row_inc_scroll" => Some(Call::RowIncScroll(words.place())),
-        _ => Some(Call::Change(parse_change(name, words)?)),
-    }
-}
-
-fn parse_change(name: &str, words: &Words) -> Option<Change> {
-    match name {
-        "scroll_up" => Some(Change::ScrollUp(words.place())),
-        "col_wrap" => Some(Change::ColWrap(words.place(), flag(words))),
-        "set_size" => Some(Change::SetSize(size(words))),
-        "set_scrollback" => Some(Change::SetScrollback(words.count())),
+        "scroll_up" => Some(Call::ScrollUp(words.place())),
+        "col_wrap" => Some(Call::ColWrap(words.place(), flag(words))),
+        "set_size" => Some(Call::SetSize(Size {
+            rows: words.size(),
+            cols: words.size(),
+        })),
+        "set_scrollback" => Some(Call::SetScrollback(words.count())),
         _ => None,
     }
 }
 
 /// Prints a text, where `\r` goes to the first column and `\n` to the next row.
-fn print(grid: &mut Grid, text: &str, gone: &mut Counter) -> Result<Told, GridError>
+fn print(grid: &mut Grid, text: &str, gone: &mut Counter) -> Result<(), GridError>
     requires { IsAllocated grid.old }
     ensures { IsAllocated grid.new }
 {
     for c in text.chars() {
         print_character(grid, c, gone)?;
     }
-    Ok(Told::Nothing)
+    Ok(())
 }
 
 fn print_character(grid: &mut Grid, c: char, gone: &mut Counter) -> Result<Told, GridError>
@@ -78,7 +64,7 @@ fn print_character(grid: &mut Grid, c: char, gone: &mut Counter) -> Result<Told,
         '\n' => return row_inc_scroll(grid, 1, gone),
         _ => return draw(grid, c, gone),
     }
-    Ok(Told::Nothing)
+    Ok((None, None))
 }
 
 /// Draws a character, with the default attributes.
@@ -86,14 +72,16 @@ fn draw(grid: &mut Grid, c: char, gone: &mut Counter) -> Result<Told, GridError>
     requires { IsAllocated grid.old }
     ensures { IsAllocated grid.new }
 {
-    grid.text(c, Attrs::new(), gone).map(Told::Printed)
+    let printed = grid.text(c, Attrs::new(), gone)?;
+    Ok((None, Some(printed)))
 }
 
 fn row_inc_scroll(grid: &mut Grid, count: u16, gone: &mut Counter) -> Result<Told, GridError>
     requires { IsAllocated grid.old }
     ensures { IsAllocated grid.new }
 {
-    grid.row_inc_scroll(count, gone).map(Told::Lines)
+    let lines = grid.row_inc_scroll(count, gone)?;
+    Ok((Some(lines), None))
 }
 
 /// Makes a call.
@@ -102,28 +90,18 @@ pub fn make(grid: &mut Grid, call: Call<'_>, gone: &mut Counter) -> Result<Told,
     ensures { IsAllocated grid.new }
 {
     match call {
-        Call::Print(text) => print(grid, text, gone),
-        Call::Text(c) => draw(grid, c, gone),
-        Call::RowIncScroll(count) => row_inc_scroll(grid, count, gone),
-        Call::Change(change) => change_grid(grid, change, gone),
-    }
-}
-
-/// Makes a call that tells nothing.
-fn change_grid(grid: &mut Grid, change: Change, gone: &mut Counter) -> Result<Told, GridError>
-    requires { IsAllocated grid.old }
-    ensures { IsAllocated grid.new }
-{
-    match change {
-        Change::ScrollUp(count) => grid.scroll_up(count, gone)?,
-        Change::ColWrap(width, wrap) => {
+        Call::Text(c) => return draw(grid, c, gone),
+        Call::RowIncScroll(count) => return row_inc_scroll(grid, count, gone),
+        Call::Print(text) => print(grid, text, gone)?,
+        Call::ScrollUp(count) => grid.scroll_up(count, gone)?,
+        Call::ColWrap(width, wrap) => {
             let width = width.min(grid.size().cols());
             grid.col_wrap(width, wrap, gone)?;
         }
-        Change::SetSize(size) => grid.set_size(size, gone)?,
-        Change::SetScrollback(rows) => grid.set_scrollback(rows)?,
+        Call::SetSize(size) => grid.set_size(size, gone)?,
+        Call::SetScrollback(rows) => grid.set_scrollback(rows)?,
     }
-    Ok(Told::Nothing)
+    Ok((None, None))
 }
 
 /// Makes a call, and tells its answer. Where it is refused memory, the grid is put back as it was.
@@ -152,12 +130,11 @@ pub fn take_call(
     }
 }
 
-fn tell(told: Told, answer: &mut Answer) {
-    match told {
-        Told::Nothing => {}
-        Told::Lines(count) => writeln!(answer, "{count}"),
-        Told::Printed(Printed::Nothing) => answer.line("nothing"),
-        Told::Printed(Printed::Spacing) => answer.line("spacing"),
-        Told::Printed(Printed::Joined) => answer.line("joined"),
+fn tell((lines, printed): Told, answer: &mut Answer) {
+    if let Some(lines) = lines {
+        writeln!(answer, "{lines}");
+    }
+    if let Some(printed) = printed {
+        writeln!(answer, "{printed:?}");
     }
 }

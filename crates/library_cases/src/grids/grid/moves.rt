@@ -2,7 +2,7 @@
 ghost use Rattle.std.specs.Prelude.{◌<◌, length};
 ghost use Rattle.vt100_core.specs.Grid.{IsAllocated};
 
-use crate::grids::words::{flag, pos};
+use crate::words::{flag, pos};
 use case_player::{StepError, Words};
 use vt100_core::Grid;
 

@@ -33,7 +33,7 @@ fn is_made(grid: &mut Grid, call: Call<'_>) -> bool
     requires { IsAllocated grid.old }
     ensures { IsAllocated grid.new }
 {
-    make(grid, call, &mut Counter::default()).is_ok()
+    make(grid, call, &mut Counter { rows: 0 }).is_ok()
 }
 
 /// Whether a call does to a cleared grid what it does to a new one.

@@ -1,9 +1,9 @@
 //! Edits of a row.
-use crate::grids::refused::refused;
-use crate::grids::words::{flag, two};
+use crate::grids::texts::refused;
+use crate::words::flag;
 use case_player::{StepError, Words};
 use vt100_core::attrs::Attrs;
-use vt100_core::{Cell, GridError, Row};
+use vt100_core::{Cell, Row};
 
 /// Takes a step that edits a row.
 pub fn change(row: &mut Row, pen: Attrs, name: &str, words: &Words) {
@@ -13,89 +13,51 @@ pub fn change(row: &mut Row, pen: Attrs, name: &str, words: &Words) {
         "trim" => row.trim(),
         "truncate" => row.truncate(words.place()),
         "wrap" => row.wrap(flag(words)),
-        _ => edit_cells(row, pen, name, words),
+        "erase" | "clear_wide" => edit_cell(row, pen, name, words),
+        "insert" | "remove" | "erase_range" => edit_cells(row, pen, name, words),
+        _ => words.fail(StepError::Unknown),
     }
 }
 
-/// A step on cells of a row.
-#[derive(Clone, Copy)]
-enum Edit {
-    Insert,
-    Remove,
-    EraseRange,
-    Erase,
-    ClearWide,
-}
-
-fn parse_edit(name: &str) -> Option<Edit> {
+/// Takes a step that edits a cell of a row.
+fn edit_cell(row: &mut Row, pen: Attrs, name: &str, words: &Words) {
+    let col = words.place();
+    if col >= row.cols() {
+        return words.want("a column of the row");
+    }
     match name {
-        "insert" => Some(Edit::Insert),
-        "remove" => Some(Edit::Remove),
-        "erase" => Some(Edit::Erase),
-        "erase_range" => Some(Edit::EraseRange),
-        "clear_wide" => Some(Edit::ClearWide),
-        _ => None,
+        "erase" => row.erase(col, pen),
+        _ => row.clear_wide(col),
     }
 }
 
 /// Takes a step that edits cells of a row.
 fn edit_cells(row: &mut Row, pen: Attrs, name: &str, words: &Words) {
-    let Some(edit) = parse_edit(name) else {
-        return words.fail(StepError::Unknown);
-    };
-    let (first, second) = match edit {
-        Edit::Erase | Edit::ClearWide => (words.place(), 0),
-        Edit::Insert | Edit::Remove | Edit::EraseRange => two(words),
-    };
-    if !make(row, pen, edit, first, second) {
-        words.want("a column of the row");
-    }
-}
-
-/// Makes an edit, and tells whether the row has the columns for it.
-fn make(row: &mut Row, pen: Attrs, edit: Edit, first: u16, second: u16) -> bool {
-    let cols = row.cols();
-    match edit {
-        Edit::Insert if first <= cols => row.insert(first, second),
-        Edit::Remove if second <= cols => row.remove(first..second),
-        Edit::EraseRange if second <= cols => row.erase_range(first..second, pen),
-        Edit::Erase if first < cols => row.erase(first, pen),
-        Edit::ClearWide if first < cols => row.clear_wide(first),
-        _ => return false,
-    }
-    true
-}
-
-/// How a row is made longer.
-#[derive(Clone, Copy)]
-enum Length {
-    Grow(u16),
-    Resize(u16),
-}
-
-fn set_length(row: &mut Row, length: Length) -> Result<(), GridError> {
-    match length {
-        Length::Grow(len) => row.grow(len, Cell::new()),
-        Length::Resize(len) => row.resize(len, Cell::new()),
+    let (cols, first, second) = (row.cols(), words.place(), words.place());
+    match name {
+        "insert" if first <= cols => row.insert(first, second),
+        "remove" if second <= cols => row.remove(first..second),
+        "erase_range" if second <= cols => row.erase_range(first..second, pen),
+        _ => words.want("a column of the row"),
     }
 }
 
 /// Takes a step that makes a row longer.
 pub fn lengthen(row: &mut Row, name: &str, words: &Words) -> Result<(), StepError> {
-    let length = match name {
-        "grow" => Length::Grow(words.place()),
-        _ => Length::Resize(words.place()),
-    };
+    let len = words.place();
     let before = row.clone().map_err(refused)?;
-    match set_length(row, length) {
+    let lengthened = match name {
+        "grow" => row.grow(len, Cell::new()),
+        _ => row.resize(len, Cell::new()),
+    };
+    match lengthened {
         Ok(()) => Ok(()),
-        Err(_) => Err(unchanged(&before, row, length)),
+        Err(_) => Err(unchanged(&before, row, len)),
     }
 }
 
 /// The error of a row that was refused memory: it is as before, and was to become longer.
-fn unchanged(before: &Row, row: &Row, length: Length) -> StepError {
-    let (Length::Grow(len) | Length::Resize(len)) = length;
+fn unchanged(before: &Row, row: &Row, len: u16) -> StepError {
     if len <= before.cols() {
         return StepError::Wrong("a row that isn't to become longer was refused memory");
     }

@@ -1,6 +1,6 @@
 //! Characters that are printed on a row.
 use crate::grids::answers::push_cell;
-use crate::grids::words::{character, color};
+use crate::words::character;
 use case_player::{Answer, Words};
 use vt100_core::Row;
 use vt100_core::attrs::Attrs;
@@ -42,30 +42,17 @@ fn join_at(row: &mut Row, col: u16, c: char, attrs: Attrs) -> Option<Join> {
     }
 }
 
-/// Puts a character that takes columns.
-fn put(row: &mut Row, attrs: Attrs, words: &Words) {
-    if put_at(row, words.place(), character(words), attrs) == 0 {
-        words.want("a character that fits there");
-    }
-}
-
 /// Joins a character that takes no column, and tells what became of it.
 fn join(row: &mut Row, attrs: Attrs, words: &Words, answer: &mut Answer) {
     match join_at(row, words.place(), character(words), attrs) {
-        Some(join) => tell_join(join, answer),
-        None => words.want("a character that joins one there"),
-    }
-}
-
-fn tell_join(join: Join, answer: &mut Answer) {
-    match join {
-        Join::InPlace => answer.line("in place"),
-        Join::Ignored => answer.line("ignored"),
-        Join::Widened => answer.line("widened"),
-        Join::Carried(cell) => {
+        Some(Join::InPlace) => answer.line("in place"),
+        Some(Join::Ignored) => answer.line("ignored"),
+        Some(Join::Widened) => answer.line("widened"),
+        Some(Join::Carried(cell)) => {
             answer.push("carried ");
             push_cell(answer, &cell);
         }
+        None => words.want("a character that joins one there"),
     }
 }
 
@@ -73,34 +60,11 @@ fn tell_join(join: Join, answer: &mut Answer) {
 pub fn print_at(row: &mut Row, pen: Attrs, name: &str, words: &Words, answer: &mut Answer) {
     match name {
         "print" => print(row, words.place(), words.text(), pen),
-        "put" => put(row, pen, words),
-        _ => join(row, pen, words, answer),
-    }
-}
-
-/// Sets the attributes to draw with: two colours, and modes.
-pub fn set_pen(pen: &mut Attrs, words: &Words) {
-    let mut attrs = Attrs {
-        fgcolor: color(words),
-        bgcolor: color(words),
-        mode: 0,
-    };
-    for _ in 0..u64::MAX {
-        if words.is_empty() {
-            break;
+        "put" => {
+            if put_at(row, words.place(), character(words), pen) == 0 {
+                words.want("a character that fits there");
+            }
         }
-        add_mode(&mut attrs, words);
-    }
-    *pen = attrs;
-}
-
-fn add_mode(attrs: &mut Attrs, words: &Words) {
-    match words.word() {
-        "bold" => attrs.set_bold(),
-        "dim" => attrs.set_dim(),
-        "italic" => attrs.set_italic(true),
-        "underline" => attrs.set_underline(true),
-        "inverse" => attrs.set_inverse(true),
-        _ => words.want("bold, dim, italic, underline or inverse"),
+        _ => join(row, pen, words, answer),
     }
 }

@@ -1,10 +1,11 @@
-//! What a row tells.
+//! What a row tells, and what it appends to a text.
 use crate::grids::answers::{push_cell, push_row};
-use crate::grids::forms::{Columns, Form, tell_form};
-use crate::grids::words::{flag, optional_pos, pos, two};
+use crate::grids::texts::{Left, tell_appended};
+use crate::words::{flag, pos};
 use case_player::{Answer, StepError, Words};
 use std::alloc::Global;
-use vt100_core::{Cell, Row};
+use vt100_core::attrs::Attrs;
+use vt100_core::{Cell, GridError, Pos, Row};
 
 /// Tells what a step asks of a row.
 pub fn tell(row: &Row, earlier: &Option<Row>, name: &str, words: &Words, answer: &mut Answer) {
@@ -12,7 +13,7 @@ pub fn tell(row: &Row, earlier: &Option<Row>, name: &str, words: &Words, answer:
         "shown" => push_row(answer, row),
         "counts" => push_counts(row, answer),
         "cell" => return tell_cell(row, words, answer),
-        "same_cell" => answer.push(same_cell(row, earlier, two(words))),
+        "same_cell" => tell_same(row, earlier.as_ref().unwrap_or(row), words, answer),
         _ => return words.fail(StepError::Unknown),
     }
     answer.end_line();
@@ -32,10 +33,7 @@ fn blank_cells(row: &Row) -> u32 {
 
 /// How many columns a row has, how many of its cells are default ones, and whether it is wrapped.
 fn push_counts(row: &Row, answer: &mut Answer) {
-    answer.number(u64::from(row.cols()));
-    answer.push(" columns, ");
-    answer.number(u64::from(blank_cells(row)));
-    answer.push(" blank");
+    write!(answer, "{} columns, {} blank", row.cols(), blank_cells(row));
     if row.wrapped() {
         answer.push(", wrapped");
     }
@@ -48,54 +46,49 @@ fn tell_cell(row: &Row, words: &Words, answer: &mut Answer) {
     }
 }
 
-/// Whether a cell of the row is a cell of the earlier one.
-fn same_cell(row: &Row, earlier: &Option<Row>, (col, earlier_col): (u16, u16)) -> &'static str {
-    match earlier {
-        Some(earlier) if row.get(col) == earlier.get(earlier_col) => "yes",
-        _ => "no",
-    }
+/// Whether a cell of the row is equal to a cell of the earlier one.
+fn tell_same(row: &Row, earlier: &Row, words: &Words, answer: &mut Answer) {
+    let is_same = row.get(words.place()) == earlier.get(words.place());
+    answer.push(if is_same { "yes" } else { "no" });
 }
 
-/// The columns of a step: the first one, how many, the row's number, and whether the row above goes on in this one.
-fn columns(words: &Words) -> Columns {
+/// Columns of a row, and what is known of the terminal.
+#[derive(Drop)]
+struct Columns {
+    /// The first one.
+    start: u16,
+    /// How many.
+    width: u16,
+    /// The row's number.
+    row: u16,
+    /// Whether the row above goes on in this one.
+    wrapping: bool,
+    /// Whether it went on in the earlier row.
+    was_wrapping: bool,
+    /// Where the cursor stands, if that is known.
+    place: Option<Pos>,
+}
+
+fn parse_columns(name: &str, words: &Words) -> Columns {
     Columns {
         start: words.place(),
         width: words.place(),
         row: words.place(),
         wrapping: flag(words),
+        was_wrapping: name == "write_contents_diff" && flag(words),
+        place: optional_pos(words),
     }
 }
 
-/// The call that a step is. The text of columns needs no row's number, and a difference needs an earlier row.
-fn parse_form<'a>(
-    row: &'a Row,
-    earlier: &'a Option<Row>,
-    name: &str,
-    words: &Words,
-) -> Option<Form<'a>> {
-    match (name, earlier) {
-        ("write_contents", _) => Some(Form::RowContents(row, contents_columns(words))),
-        ("write_contents_formatted", _) => {
-            Some(Form::RowFormatted(row, columns(words), optional_pos(words)))
-        }
-        ("write_contents_diff", Some(earlier)) => {
-            let columns = columns(words);
-            Some(Form::RowDiff(row, earlier, columns, flag(words), pos(words)))
-        }
-        _ => None,
+fn optional_pos(words: &Words) -> Option<Pos> {
+    if words.is_empty() {
+        None
+    } else {
+        Some(pos(words))
     }
 }
 
-fn contents_columns(words: &Words) -> Columns {
-    Columns {
-        start: words.place(),
-        width: words.place(),
-        row: 0,
-        wrapping: flag(words),
-    }
-}
-
-/// Takes a step that writes a row.
+/// Takes a step that writes a row. A difference is one from the earlier row, if there is one.
 pub fn write(
     alloc: Global,
     row: &Row,
@@ -104,8 +97,62 @@ pub fn write(
     words: &Words,
     answer: &mut Answer,
 ) -> Result<(), StepError> {
-    match parse_form(row, earlier, name, words) {
-        Some(form) => tell_form(alloc, form, answer),
-        None => Err(StepError::Wrong("there is no earlier row")),
+    let earlier = earlier.as_ref().unwrap_or(row);
+    let columns = parse_columns(name, words);
+    tell_appended(
+        alloc,
+        |text| append(row, earlier, name, &columns, text),
+        answer,
+    )
+}
+
+/// Makes the call of this name, which appends to a text.
+fn append(
+    row: &Row,
+    earlier: &Row,
+    name: &str,
+    columns: &Columns,
+    text: &mut String,
+) -> Result<Left, GridError> {
+    match name {
+        "write_contents" => {
+            row.write_contents(text, columns.start, columns.width, columns.wrapping)?;
+            Ok((None, None))
+        }
+        "write_contents_formatted" => append_formatted(row, columns, text),
+        _ => append_diff(row, earlier, columns, text),
     }
+}
+
+fn append_formatted(row: &Row, columns: &Columns, text: &mut String) -> Result<Left, GridError> {
+    let (pos, attrs) = row.write_contents_formatted(
+        text,
+        columns.start,
+        columns.width,
+        columns.row,
+        columns.wrapping,
+        columns.place,
+        None,
+    )?;
+    Ok((Some(pos), Some(attrs)))
+}
+
+fn append_diff(
+    row: &Row,
+    earlier: &Row,
+    columns: &Columns,
+    text: &mut String,
+) -> Result<Left, GridError> {
+    let (pos, attrs) = row.write_contents_diff(
+        text,
+        earlier,
+        columns.start,
+        columns.width,
+        columns.row,
+        columns.wrapping,
+        columns.was_wrapping,
+        columns.place.unwrap_or(Pos { row: 0, col: 0 }),
+        Attrs::new(),
+    )?;
+    Ok((Some(pos), Some(attrs)))
 }
