@@ -7,7 +7,7 @@ use case_player::{Answer, Player, StepError, Words};
 use std::alloc::Global;
 
 /// What cases are about.
-#[derive(Clone, Copy)]
+#[derive(Drop)]
 enum Subject {
     Streams,
     Grids,
