@@ -47,7 +47,7 @@ fn parse_color(word: &str) -> Option<Color> {
     match word.split_once(';') {
         _ if word == "default" => Some(Color::Default),
         Some((red, rest)) => parse_rgb(red, rest),
-        None => word.parse::<u8>().ok().map(Color::Idx),
+        None => Some(Color::Idx(word.parse::<u8>().ok()?)),
     }
 }
 

@@ -103,7 +103,10 @@ impl GridStage {
 }
 
 fn copy_of(grid: &Grid) -> Result<Grid, StepError> {
-    grid.clone().map_err(|_| refused_whole(grid))
+    match grid.clone() {
+        Ok(copy) => Ok(copy),
+        Err(_) => Err(refused_whole(grid)),
+    }
 }
 
 /// Takes a step that changes the grid.

@@ -1,5 +1,5 @@
 //! What plays the steps of a case.
-use crate::screens::attributes::tell_change;
+use crate::screens::attributes::{parse_change, tell_change};
 use crate::screens::captures::{read_capture, tell_calls, tell_capture};
 use crate::screens::forms::tell_form;
 use crate::screens::questions::ask;
@@ -36,7 +36,7 @@ impl ScreenPlayer {
         match name {
             "new" => self.stage = Some(Stage::new(self.alloc, words)?),
             "form" => return tell_form(self.alloc, words, answer),
-            "change" => return tell_change(self.alloc, words, answer),
+            "change" => return tell_change(self.alloc, &parse_change(words), answer),
             "cut" | "plain" | "pieces" => read_capture(name, words, answer),
             _ => return self.take_on_screen(name, words, answer),
         }

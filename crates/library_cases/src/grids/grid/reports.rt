@@ -1,7 +1,7 @@
 //! What a grid tells, and what it appends to a text.
 use super::whole::is_whole;
 use crate::grids::answers::{push_cell, push_pos, push_row};
-use crate::grids::texts::{Left, refused, tell_appended};
+use crate::grids::texts::{BEGUN, Left, refused, refused_append, tell_appended};
 use crate::words::pos;
 use case_player::{Answer, StepError, Words};
 use std::alloc::Global;
@@ -59,7 +59,15 @@ pub fn write(
         return tell_contents_behind(alloc, grid, words.text(), answer);
     }
     let earlier = earlier.as_ref().unwrap_or(grid);
-    tell_appended(alloc, |text| append(grid, earlier, name, text), answer)
+    let mut text = String::from_str(alloc, BEGUN)?;
+    if let Ok(left) = append(grid, earlier, name, &mut text) {
+        return tell_appended(text.as_str(), left, answer);
+    }
+    let mut whole = String::from_str(alloc, BEGUN)?;
+    match append(grid, earlier, name, &mut whole) {
+        Ok(_) => Err(refused_append(text.as_str(), whole.as_str())),
+        Err(error) => Err(refused(error)),
+    }
 }
 
 /// Makes the call of this name, which appends to a text.

@@ -45,14 +45,20 @@ fn join_at(row: &mut Row, col: u16, c: char, attrs: Attrs) -> Option<Join> {
 /// Joins a character that takes no column, and tells what became of it.
 fn join(row: &mut Row, attrs: Attrs, words: &Words, answer: &mut Answer) {
     match join_at(row, words.place(), character(words), attrs) {
-        Some(Join::InPlace) => answer.line("in place"),
-        Some(Join::Ignored) => answer.line("ignored"),
-        Some(Join::Widened) => answer.line("widened"),
-        Some(Join::Carried(cell)) => {
+        Some(join) => tell_join(join, answer),
+        None => words.want("a character that joins one there"),
+    }
+}
+
+fn tell_join(join: Join, answer: &mut Answer) {
+    match join {
+        Join::InPlace => answer.line("in place"),
+        Join::Ignored => answer.line("ignored"),
+        Join::Widened => answer.line("widened"),
+        Join::Carried(cell) => {
             answer.push("carried ");
             push_cell(answer, &cell);
         }
-        None => words.want("a character that joins one there"),
     }
 }
 

@@ -1,6 +1,6 @@
 //! What a row tells, and what it appends to a text.
 use crate::grids::answers::{push_cell, push_row};
-use crate::grids::texts::{Left, tell_appended};
+use crate::grids::texts::{BEGUN, Left, refused, refused_append, tell_appended};
 use crate::words::{flag, pos};
 use case_player::{Answer, StepError, Words};
 use std::alloc::Global;
@@ -99,11 +99,15 @@ pub fn write(
 ) -> Result<(), StepError> {
     let earlier = earlier.as_ref().unwrap_or(row);
     let columns = parse_columns(name, words);
-    tell_appended(
-        alloc,
-        |text| append(row, earlier, name, &columns, text),
-        answer,
-    )
+    let mut text = String::from_str(alloc, BEGUN)?;
+    if let Ok(left) = append(row, earlier, name, &columns, &mut text) {
+        return tell_appended(text.as_str(), left, answer);
+    }
+    let mut whole = String::from_str(alloc, BEGUN)?;
+    match append(row, earlier, name, &columns, &mut whole) {
+        Ok(_) => Err(refused_append(text.as_str(), whole.as_str())),
+        Err(error) => Err(refused(error)),
+    }
 }
 
 /// Makes the call of this name, which appends to a text.
