@@ -34,8 +34,8 @@ impl Limited {
     }
 }
 
-/// Tells a text that is also written to a writer. One with room for this text gets it in one call, or in no call if it is
-/// empty. A second time it refuses the text, and that is told.
+/// Tells a text that is also written to a writer. One with room for this text gets it in one call, or in no call if it
+/// is empty. A second time it refuses the text, and that is told.
 pub fn tell_written<F: Fn(&mut Limited) -> fmt::Result>(
     alloc: Global,
     text: &str,

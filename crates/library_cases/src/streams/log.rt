@@ -22,8 +22,8 @@ pub struct Log<'a> {
     pub own: Option<u8>,
     // The same, until the stream has told it.
     awaited: Option<u8>,
-    /// Whether text is written in short: a character as itself or as its number between `<` and `>`, and a control as its
-    /// number behind `^`.
+    /// Whether text is written in short: a character as itself or as its number between `<` and `>`, and a control as
+    /// its number behind `^`.
     pub is_brief: bool,
     /// How many inputs there were, if they are counted. Then they aren't written down.
     pub inputs: Option<usize>,

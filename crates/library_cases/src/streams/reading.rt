@@ -49,7 +49,16 @@ fn parse<P: Perform, const N: usize>(parser: &mut Parser<N>, performer: &mut P, 
 
 fn call(alloc: Global, log: &mut Log<'_>, pieces: &[&[u8]]) -> Result<(), StepError> {
     let flag = Cell::new(false);
-    let mut processor = new_processor(alloc, Flagged::new(&flag))?;
+    call_flagged(&flag, alloc, log, pieces)
+}
+
+fn call_flagged(
+    flag: &Cell<bool>,
+    alloc: Global,
+    log: &mut Log<'_>,
+    pieces: &[&[u8]],
+) -> Result<(), StepError> {
+    let mut processor = new_processor(alloc, Flagged::new(flag))?;
     for piece in pieces {
         advance(&mut processor, log, piece);
     }

@@ -80,10 +80,10 @@ fn stop<T: Timeout + Drop>(processor: &mut Processor<T, Global>, log: &mut Log<'
     processor.stop_sync(log);
 }
 
-/// Plays words on a processor whose timeout is a flag. `give PIECE`, `times N PIECE` and `stop` answer the calls that the
-/// processor makes then, and how many bytes it holds. `pending` and `sets` answer whether the timeout is pending, and
-/// how often it was set. `up` and `down` set the flag. After `watch` each call has `true` or `false` behind it, whether
-/// the flag is up, and after `count` inputs are counted, and not told.
+/// Plays words on a processor whose timeout is a flag. `give PIECE`, `times N PIECE` and `stop` answer the calls that
+/// the processor makes then, and how many bytes it holds. `pending` and `sets` answer whether the timeout is pending,
+/// and how often it was set. `up` and `down` set the flag. After `watch` each call has `true` or `false` behind it,
+/// whether the flag is up, and after `count` inputs are counted, and not told.
 pub fn tell_updates(alloc: Global, words: &Words, answer: &mut Answer) -> Result<(), StepError> {
     let flag = Cell::new(false);
     play_words(&flag, alloc, words, answer)
