@@ -110,3 +110,9 @@ def instructions_a_byte(words, work, size, file):
     those of them that clear or move memory."""
     once, thrice = (instructions([*words, work, *size, times], file) for times in ("1", "3"))
     return [(high - low) / 2 / os.path.getsize(file) for low, high in zip(once, thrice)]
+
+
+def instructions_a_call(words, work, size, file):
+    """The same by the call, of work that reads the stream once, before: of a run with 40 calls more."""
+    (few, few_clearing), (many, many_clearing) = (instructions([*words, work, *size, it], file) for it in ("1", "41"))
+    return (many - few) / 40, (many_clearing - few_clearing) / 40
