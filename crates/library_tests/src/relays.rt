@@ -1,4 +1,3 @@
-//! Of `termview`, `termrelay` and `relay_streams`: the texts of errors, and runs whose log finds no memory.
+//! Of `termrelay`: runs whose log finds no memory.
 
-mod errors;
 mod refusals;

@@ -3,12 +3,8 @@
 use std::fmt::Debug;
 use std::process::Abort;
 
-/// The value found is the one wanted. A test calls this in place of `assert_eq!`, whose proof is then done once.
-pub fn same<R: Abort, T: PartialEq + Debug>(rt: &R, reported: &T, wanted: &T) {
-    assert_eq!(rt; reported, wanted);
-}
-
-/// The value found is the one wanted; a failure names what was asked.
+/// The value found is the one wanted; a failure names what was asked. A test calls this in place of `assert_eq!`, whose
+/// proof is then done once.
 pub fn same_for<R: Abort, A: Debug, T: PartialEq + Debug>(
     rt: &R,
     asked: &A,

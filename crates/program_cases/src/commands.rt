@@ -2,7 +2,6 @@
 //! refusals of memory.
 
 mod named_files;
-mod outputs;
 mod player;
 mod programs;
 

@@ -6,7 +6,7 @@ use std::io::{ErrorKind, Read};
 
 /// A piece of an input.
 #[derive(Drop)]
-enum Piece {
+pub enum Piece {
     /// Bytes, for as many reads as they fill.
     Bytes(Vec<u8>),
     /// A read that fails with an error of this kind.
@@ -16,7 +16,8 @@ enum Piece {
 /// The input of a program. Each run of the program reads it from its start.
 #[derive(Drop)]
 pub struct Input {
-    pieces: Vec<Piece>,
+    /// What reads give.
+    pub pieces: Vec<Piece>,
     /// How many bytes a read gives at most.
     pub most: usize,
 }
@@ -30,12 +31,10 @@ impl Input {
         }
     }
 
-    /// From here on these bytes are the whole input. If memory is refused, it stays as it was.
-    pub fn set(&mut self, alloc: Global, bytes: Vec<u8>) -> Result<(), AllocError> {
-        let mut pieces = Vec::new(alloc);
-        pieces.push(Piece::Bytes(bytes))?;
-        self.pieces = pieces;
-        Ok(())
+    /// From here on these bytes are the whole input.
+    pub fn set(&mut self, bytes: Vec<u8>) -> Result<(), AllocError> {
+        self.pieces.clear();
+        self.push(Piece::Bytes(bytes))
     }
 
     /// Puts bytes behind the input. A read may give them together with the bytes before them.
@@ -43,18 +42,12 @@ impl Input {
         if let Some(Piece::Bytes(last)) = self.pieces.last_mut() {
             return last.extend_from_slice(&bytes);
         }
-        self.push_read(bytes)
+        self.push(Piece::Bytes(bytes))
     }
 
-    /// Puts a read behind the input that gives these bytes.
-    pub fn push_read(&mut self, bytes: Vec<u8>) -> Result<(), AllocError> {
-        self.pieces.push(Piece::Bytes(bytes))?;
-        Ok(())
-    }
-
-    /// Puts a read behind the input that fails.
-    pub fn push_fault(&mut self, kind: ErrorKind) -> Result<(), AllocError> {
-        self.pieces.push(Piece::Fault(kind))?;
+    /// Puts a piece behind the input.
+    pub fn push(&mut self, piece: Piece) -> Result<(), AllocError> {
+        self.pieces.push(piece)?;
         Ok(())
     }
 
@@ -72,47 +65,26 @@ impl Input {
 /// A reader of an input. A read gives bytes of one piece, and none behind the last one.
 #[derive(Drop)]
 pub struct InputReader<'a> {
-    /// What is left of the piece that was begun.
+    // What is left of the piece that was begun.
     left: &'a [u8],
-    /// The pieces behind it.
+    // The pieces behind it.
     pieces: &'a [Piece],
     most: usize,
     /// How many reads were made, also those that failed and those at the end.
     pub reads: u64,
 }
 
-impl<'a> InputReader<'a> {
-    /// A reader of these bytes alone.
-    pub fn of(left: &'a [u8], most: usize) -> InputReader<'a> {
-        InputReader {
-            left,
-            pieces: &[],
-            most,
-            reads: 0,
-        }
-    }
-
-    // Begins the next piece, or fails if it is a fault.
-    fn begin_piece(&mut self) -> io::Result<()> {
-        let [piece, rest @ ..] = self.pieces else {
-            return Ok(());
-        };
-        self.pieces = rest;
-        match piece {
-            Piece::Bytes(bytes) => {
-                self.left = bytes;
-                Ok(())
-            }
-            Piece::Fault(kind) => Err(io::Error::from(*kind)),
-        }
-    }
-}
-
 impl Read for InputReader<'_> {
     fn read(&mut self, buf: &mut [u8]) -> io::Result<usize> {
         self.reads = self.reads.saturating_add(1);
-        if self.left.is_empty() {
-            self.begin_piece()?;
+        if self.left.is_empty()
+            && let [piece, rest @ ..] = self.pieces
+        {
+            self.pieces = rest;
+            match piece {
+                Piece::Bytes(bytes) => self.left = bytes,
+                Piece::Fault(kind) => return Err(io::Error::from(*kind)),
+            }
         }
         let n = self.left.len().min(buf.len()).min(self.most);
         buf[..n].copy_from_slice(&self.left[..n]);

@@ -1,5 +1,6 @@
 //! A writer with a limit.
 
+use std::alloc::{AllocError, Global};
 use std::io;
 use std::io::{ErrorKind, Write};
 
@@ -22,16 +23,23 @@ pub struct LimitedWriter {
 }
 
 impl LimitedWriter {
-    /// A writer that takes all in one write, and keeps it behind these bytes.
-    pub fn new(kept: Vec<u8>, room: usize) -> LimitedWriter {
+    /// A writer that takes so many bytes, and fails then. It has no memory yet.
+    pub fn new(alloc: Global, room: usize) -> LimitedWriter {
         LimitedWriter {
-            kept,
+            kept: Vec::new(alloc),
             room,
             step: usize::MAX,
-            fault: None,
+            fault: Some(ErrorKind::BrokenPipe),
             flushes: true,
             flushed: 0,
         }
+    }
+
+    /// Forgets what it took, and asks for its memory, so that no write asks for any.
+    pub fn clear(&mut self) -> Result<(), AllocError> {
+        self.kept.clear();
+        self.flushed = 0;
+        self.kept.reserve(self.room)
     }
 }
 

@@ -5,6 +5,7 @@
 #![tactic(auto)]
 
 mod commands;
+mod faults;
 mod input;
 mod limited;
 mod relays;

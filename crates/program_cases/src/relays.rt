@@ -1,4 +1,4 @@
-//! Cases of hubs with their clients, views, and relayed streams.
+//! Cases of hubs with their clients, of views, and of what these stand on: a parser, readers, and values with their texts.
 
 mod asks;
 mod calls;
@@ -9,13 +9,11 @@ mod far;
 mod hub_steps;
 mod hubs;
 mod many;
-mod pieces;
+mod parsers;
 mod player;
 mod readers;
-mod seats;
-mod streams;
 mod sums;
-mod told;
+mod values;
 mod views;
 mod wordings;
 mod writers;

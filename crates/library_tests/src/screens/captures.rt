@@ -1,5 +1,4 @@
 //! Captures that a writer of one's own refuses.
-use crate::same::same;
 use std::alloc::Global;
 use std::fmt;
 use std::num::NonZeroU16;
@@ -51,18 +50,15 @@ enum Capture {
 
 fn write_capture(grid: &Grid, capture: Capture, writer: &mut Limited) -> fmt::Result {
     let mut state = BasicFormattedCaptureState::new();
-    match (capture, grid.visible_row(0)) {
-        (Capture::Row, Some(row)) => {
-            RowContents::new(row).write_formatted_basic(writer, &mut state)
+    let range = match capture {
+        Capture::Row => {
+            let row = grid.visible_row(0).ok_or(fmt::Error)?;
+            return RowContents::new(row).write_formatted_basic(writer, &mut state);
         }
-        (Capture::Visible, _) => {
-            grid.write_contents_formatted_basic(writer, BasicFormattedCaptureRange::Visible)
-        }
-        _ => {
-            let range = BasicFormattedCaptureRange::Full(&mut state);
-            grid.write_contents_formatted_basic(writer, range)
-        }
-    }
+        Capture::Full => BasicFormattedCaptureRange::Full(&mut state),
+        Capture::Visible => BasicFormattedCaptureRange::Visible,
+    };
+    grid.write_contents_formatted_basic(writer, range)
 }
 
 /// The capture of `a`, a blank cell in inverse, and a character of two columns in red.
@@ -77,24 +73,11 @@ fn check_room(rt: &(impl Abort + AllocGlobal), grid: &Grid, capture: Capture, ro
     let is_written = write_capture(grid, capture, &mut writer).is_ok();
     let taken = writer.taken.as_str();
     let has_room = room == COLOURED_ROW.len();
-    same(
-        rt,
-        &(
-            is_written,
-            taken == COLOURED_ROW,
-            COLOURED_ROW.starts_with(taken),
-            taken.is_empty(),
-        ),
-        &(has_room, has_room, true, room == 0),
-    );
-}
-
-fn check_captures(rt: &(impl Abort + AllocGlobal), grid: &Grid) {
-    for capture in [Capture::Row, Capture::Full, Capture::Visible] {
-        for room in [0, 3, 8, COLOURED_ROW.len()] {
-            check_room(rt, grid, capture, room);
-        }
-    }
+    let is_right = is_written == has_room
+        && (taken == COLOURED_ROW) == has_room
+        && COLOURED_ROW.starts_with(taken)
+        && taken.is_empty() == (room == 0);
+    assert!(rt; is_right, "with room for {room} bytes {taken:?} is taken");
 }
 
 /// A grid of one row that is so.
@@ -116,6 +99,10 @@ fn coloured_row(alloc: Global) -> Result<Grid, GridError> {
 #[test]
 fn writers_may_refuse(rt: HostRuntime) -> Result<(), Fail> {
     let grid = coloured_row(rt.alloc())?;
-    check_captures(&rt, &grid);
+    for capture in [Capture::Row, Capture::Full, Capture::Visible] {
+        for room in [0, 3, 8, COLOURED_ROW.len()] {
+            check_room(&rt, &grid, capture, room);
+        }
+    }
     Ok(())
 }

@@ -1,7 +1,7 @@
 //! The files that a program's words name.
 
 use screentext_command::{Files, TextError};
-use std::alloc::{AllocError, Global};
+use std::alloc::Global;
 
 /// A file: its name, and its bytes.
 #[derive(Drop)]
@@ -14,28 +14,11 @@ pub struct NamedFile {
 
 /// Files by their names. No other file can be read.
 #[derive(Drop)]
-pub struct NamedFiles {
-    files: Vec<NamedFile>,
-}
-
-impl NamedFiles {
-    /// No file.
-    pub fn new(alloc: Global) -> NamedFiles {
-        NamedFiles {
-            files: Vec::new(alloc),
-        }
-    }
-
-    /// One more file.
-    pub fn push(&mut self, file: NamedFile) -> Result<(), AllocError> {
-        self.files.push(file)?;
-        Ok(())
-    }
-}
+pub struct NamedFiles(pub Vec<NamedFile>);
 
 impl Files for NamedFiles {
     fn read(&self, alloc: Global, path: &str) -> Result<Vec<u8>, TextError> {
-        for file in &self.files {
+        for file in &self.0 {
             if file.name.as_str() == path {
                 return Ok(file.bytes.to_vec(alloc)?);
             }

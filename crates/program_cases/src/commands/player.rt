@@ -1,13 +1,15 @@
 //! The steps of a case.
 
 use crate::commands::named_files::{NamedFile, NamedFiles};
-use crate::commands::outputs::{Limits, Outputs};
-use crate::commands::programs::Program;
-use crate::input::Input;
+use crate::commands::programs::{relayer, run};
+use crate::faults::fault_named;
+use crate::input::{Input, Piece};
 use crate::limited::LimitedWriter;
 use case_player::{Answer, Disk, Files, StepError, Words};
+use relay_streams::RelayError;
 use std::alloc::{AllocError, Global};
 use std::io::ErrorKind;
+use std::mem;
 
 /// What the programs of a case are run on, and what the last of them did.
 #[derive(Drop)]
@@ -16,62 +18,68 @@ pub struct CommandPlayer<'a> {
     // Where the files of the cases lie.
     data: Disk<'a>,
     input: Input,
-    limits: Limits,
+    // What the programs write to.
+    output: LimitedWriter,
+    errors: LimitedWriter,
+    // What the last program wrote to its output, if memory was refused to it.
+    refused: Vec<u8>,
+    // How many lines of output are answered.
+    lines: usize,
     // The files that words may name.
     files: NamedFiles,
     // A file whose name stands for its bytes in answers.
     known: Option<NamedFile>,
-    // How often the last program read, and flushed its output.
+    // How often the last program read.
     reads: u64,
-    flushes: u64,
 }
 
 impl<'a> CommandPlayer<'a> {
-    /// A stage for cases whose files lie on this disk.
+    /// A stage for cases whose files lie on this disk. Its writers take all that the programs write here.
     pub fn new(alloc: Global, data: Disk<'a>) -> CommandPlayer<'a> {
         CommandPlayer {
             alloc,
             data,
             input: Input::new(alloc),
-            limits: Limits::WIDE,
-            files: NamedFiles::new(alloc),
+            output: LimitedWriter::new(alloc, 65_536),
+            errors: LimitedWriter::new(alloc, 4_096),
+            refused: Vec::new(alloc),
+            lines: usize::MAX,
+            files: NamedFiles(Vec::new(alloc)),
             known: None,
             reads: 0,
-            flushes: 0,
         }
     }
 
-    fn set_input(&mut self, words: &Words) -> Result<(), StepError> {
-        let bytes = words.bytes().to_vec(self.alloc)?;
-        Ok(self.input.set(self.alloc, bytes)?)
-    }
-
-    fn read_input(&mut self, words: &Words) -> Result<(), StepError> {
-        let bytes = self.file_in_data(words.word())?;
-        Ok(self.input.set(self.alloc, bytes)?)
-    }
-
-    fn extend_input(&mut self, words: &Words) -> Result<(), StepError> {
-        let times = words.count();
+    // The bytes of a word, so many times where there may be more of them, or of a file.
+    fn bytes_of(&self, name: &str, words: &Words) -> Result<Vec<u8>, StepError> {
+        if name == "input-file" {
+            return self.file_in_data(words.word());
+        }
+        let times = if name == "more" { words.count() } else { 1 };
         let bytes = words.bytes();
-        let more = repeated(self.alloc, times, bytes)?;
-        Ok(self.input.extend(more)?)
+        let mut all = Vec::new(self.alloc);
+        for _ in 0..times {
+            all.extend_from_slice(bytes)?;
+        }
+        Ok(all)
     }
 
-    fn push_read(&mut self, words: &Words) -> Result<(), StepError> {
-        let bytes = words.bytes().to_vec(self.alloc)?;
-        Ok(self.input.push_read(bytes)?)
-    }
-
-    fn push_fault(&mut self, words: &Words) -> Result<(), StepError> {
-        let kind = error_kind(words.word())?;
-        Ok(self.input.push_fault(kind)?)
+    // Puts bytes behind the input, or makes them the whole of it.
+    fn put(&mut self, name: &str, words: &Words) -> Result<(), StepError> {
+        let bytes = self.bytes_of(name, words)?;
+        let outcome = match name {
+            "read" => self.input.push(Piece::Bytes(bytes)),
+            "more" => self.input.extend(bytes),
+            _ => self.input.set(bytes),
+        };
+        Ok(outcome?)
     }
 
     fn add_file(&mut self, words: &Words) -> Result<(), StepError> {
         let name = String::from_str(self.alloc, words.text())?;
         let bytes = words.bytes().to_vec(self.alloc)?;
-        Ok(self.files.push(NamedFile { name, bytes })?)
+        self.files.0.push(NamedFile { name, bytes })?;
+        Ok(())
     }
 
     fn know_file(&mut self, words: &Words) -> Result<(), StepError> {
@@ -94,62 +102,115 @@ impl<'a> CommandPlayer<'a> {
 
     // Runs a program on the rest of the words, and answers its status. It reads the input from its start, so that it
     // may be run again if it found no memory.
-    fn run(
-        &mut self,
-        program: Program,
-        words: &Words,
-        outputs: &mut Outputs,
-    ) -> Result<u8, StepError> {
+    fn run(&mut self, name: &str, words: &Words) -> Result<u8, StepError> {
         let texts = texts(self.alloc, words)?;
+        self.output.clear()?;
+        self.errors.clear()?;
         let mut input = self.input.reader();
-        let status = program.run(self.alloc, &texts, &self.files, &mut input, outputs);
-        if outputs.report_refusal() {
+        let status = run(
+            self.alloc,
+            (name, &texts),
+            &self.files,
+            &mut input,
+            &mut self.output,
+            &mut self.errors,
+        );
+        self.reads = input.reads;
+        status.ok_or(StepError::Unknown)
+    }
+
+    // What was written where memory was refused is a beginning of what is written then.
+    fn check_run(&mut self) -> Result<(), StepError> {
+        if self.errors.kept.ends_with(b": memory\n") {
+            mem::swap(&mut self.refused, &mut self.output.kept);
             return Err(StepError::Memory);
         }
-        if outputs.errors.flushed > 0 {
+        if self.errors.flushed > 0 {
             return Err(StepError::Wrong("the error output was flushed"));
         }
-        self.reads = input.reads;
-        self.flushes = outputs.output.flushed;
-        Ok(status)
+        if !self.output.kept.starts_with(&self.refused) {
+            return Err(StepError::Wrong("other bytes were written before the refusal"));
+        }
+        self.refused.clear();
+        Ok(())
     }
 
-    // Runs a program, and answers all that it wrote.
+    // Runs a program, and answers all that it wrote. The output of a pipe is the input from here on instead.
     fn show(
         &mut self,
-        program: Program,
+        name: &str,
         words: &Words,
+        is_pipe: bool,
         answer: &mut Answer,
     ) -> Result<(), StepError> {
-        let mut outputs = Outputs::new(self.alloc, self.limits)?;
-        let status = self.run(program, words, &mut outputs)?;
-        push_status(status, self.reads, answer);
-        outputs.push_output(self.known.as_ref(), answer);
-        outputs.push_errors(self.known.as_ref(), answer);
+        let status = self.run(name, words)?;
+        self.check_run()?;
+        self.push_status(status, answer);
+        if is_pipe {
+            let output = mem::replace(&mut self.output.kept, Vec::new(self.alloc));
+            self.input.set(output)?;
+        } else {
+            self.push_output(answer);
+        }
+        self.push_errors(answer);
         Ok(())
     }
 
-    // Runs a program whose output is the input from here on.
-    fn pipe(&mut self, words: &Words, answer: &mut Answer) -> Result<(), StepError> {
-        let program = program_of(words)?;
-        let mut outputs = Outputs::new(self.alloc, self.limits)?;
-        let status = self.run(program, words, &mut outputs)?;
-        push_status(status, self.reads, answer);
-        outputs.push_errors(self.known.as_ref(), answer);
-        let LimitedWriter { kept, .. } = outputs.output;
-        Ok(self.input.set(self.alloc, kept)?)
-    }
-
-    // Answers what a program tells of an input that doesn't end.
+    // Answers what a program tells of an input that didn't end after very many reads, which a test can't wait for.
     fn too_many_reads(&mut self, words: &Words, answer: &mut Answer) -> Result<(), StepError> {
-        let program = program_of(words)?;
-        let mut outputs = Outputs::new(self.alloc, self.limits)?;
-        let Some(status) = program.report_too_many_reads(&mut outputs.errors) else {
-            return Err(StepError::Wrong("this program has no such fault"));
+        let Some(program) = relayer(words.word()) else {
+            return Err(StepError::Word("the name of a program that relays"));
         };
-        push_status(status, u64::MAX, answer);
-        outputs.push_errors(self.known.as_ref(), answer);
+        self.errors.clear()?;
+        self.reads = 1 << 40;
+        let status = program.report_fault(&mut self.errors, RelayError::TooManyReads);
+        self.push_status(status, answer);
+        self.push_errors(answer);
         Ok(())
+    }
+
+    fn push_status(&self, status: u8, answer: &mut Answer) {
+        write!(answer, "status {status}");
+        answer.line(if self.reads == 0 {
+            ", nothing read"
+        } else {
+            ""
+        });
+    }
+
+    // Appends the output: a line for each of its first lines, and dots if there are more. Of a known file it is the name.
+    fn push_output(&self, answer: &mut Answer) {
+        if self.push_known("output", &self.output.kept, answer) {
+            return;
+        }
+        let lines = self.output.kept.split_inclusive(|byte| *byte == b'\n');
+        for (index, line) in lines.enumerate() {
+            if index >= self.lines {
+                answer.line("..");
+                return;
+            }
+            answer.quoted_line(line);
+        }
+    }
+
+    // Appends the error output, if there is any.
+    fn push_errors(&self, answer: &mut Answer) {
+        let errors = &self.errors.kept;
+        if !errors.is_empty() && !self.push_known("errors", errors, answer) {
+            answer.push("errors ");
+            answer.quoted_line(errors);
+        }
+    }
+
+    // Appends the name of the known file in place of these bytes. Answers whether they are the file's.
+    fn push_known(&self, stream: &str, bytes: &[u8], answer: &mut Answer) -> bool {
+        match &self.known {
+            Some(file) if file.bytes.as_slice() == bytes => {
+                writeln!(answer, "{stream} as {}", file.name.as_str());
+                true
+            }
+            _ => false,
+        }
     }
 
     /// Begins a case.
@@ -165,32 +226,42 @@ impl<'a> CommandPlayer<'a> {
         answer: &mut Answer,
     ) -> Result<(), StepError> {
         match name {
-            "input" => self.set_input(words),
-            "input-file" => self.read_input(words),
-            "more" => self.extend_input(words),
-            "read" => self.push_read(words),
-            "read-fails" => self.push_fault(words),
-            "reads-of" => {
-                self.input.most = words.count();
-                Ok(())
+            "input" | "input-file" | "more" | "read" => self.put(name, words),
+            "read-fails" => {
+                let fault = fault_named(words.word(), words);
+                Ok(self.input.push(Piece::Fault(fault))?)
             }
             "file" => self.add_file(words),
             "known" => self.know_file(words),
-            "pipe" => self.pipe(words, answer),
+            "pipe" => self.show(words.word(), words, true, answer),
+            "too-many-reads" => self.too_many_reads(words, answer),
             "reads" => {
-                writeln!(answer, "{}", self.reads);
+                answer.number(self.reads);
                 Ok(())
             }
             "flushes" => {
-                writeln!(answer, "{}", self.flushes);
+                answer.number(self.output.flushed);
                 Ok(())
             }
-            "too-many-reads" => self.too_many_reads(words, answer),
-            _ => match Program::named(name) {
-                Some(program) => self.show(program, words, answer),
-                None => self.limits.take(name, words),
-            },
+            _ => self.limit(name, words, answer),
         }
+    }
+
+    // Takes a step that changes a limit, or runs a program.
+    fn limit(&mut self, name: &str, words: &Words, answer: &mut Answer) -> Result<(), StepError> {
+        match name {
+            "reads-of" => self.input.most = words.count(),
+            "room" => self.output.room = words.count(),
+            "errors-room" => self.errors.room = words.count(),
+            "writes-of" => {
+                self.output.step = words.count();
+                self.errors.step = self.output.step;
+            }
+            "flush-fails" => self.output.flushes = false,
+            "lines" => self.lines = words.count(),
+            _ => return self.show(name, words, false, answer),
+        }
+        Ok(())
     }
 }
 
@@ -205,35 +276,4 @@ fn texts<'a>(alloc: Global, words: &'a Words) -> Result<Vec<&'a str>, AllocError
         texts.push(words.text())?;
     }
     Ok(texts)
-}
-
-fn program_of(words: &Words) -> Result<Program, StepError> {
-    match Program::named(words.word()) {
-        Some(program) => Ok(program),
-        None => Err(StepError::Word("the name of a program")),
-    }
-}
-
-fn error_kind(name: &str) -> Result<ErrorKind, StepError> {
-    match name {
-        "broken-pipe" => Ok(ErrorKind::BrokenPipe),
-        "interrupted" => Ok(ErrorKind::Interrupted),
-        "out-of-memory" => Ok(ErrorKind::OutOfMemory),
-        _ => Err(StepError::Word("broken-pipe, interrupted or out-of-memory")),
-    }
-}
-
-// The bytes, so many times.
-fn repeated(alloc: Global, times: usize, bytes: &[u8]) -> Result<Vec<u8>, AllocError> {
-    let mut all = Vec::new(alloc);
-    for _ in 0..times {
-        all.extend_from_slice(bytes)?;
-    }
-    Ok(all)
-}
-
-fn push_status(status: u8, reads: u64, answer: &mut Answer) {
-    answer.push("status ");
-    answer.number(u64::from(status));
-    answer.line(if reads == 0 { ", nothing read" } else { "" });
 }

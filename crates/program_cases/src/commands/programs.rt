@@ -1,66 +1,59 @@
 //! The programs, by their command lines.
 
-use crate::commands::outputs::Outputs;
+use crate::commands::named_files::NamedFiles;
 use crate::input::InputReader;
 use crate::limited::LimitedWriter;
-use relay_commands::Program as Relayer;
-use relay_streams::RelayError;
-use screentext_command::Files;
+use command_line::{SUCCESS, USAGE, parse_size};
+use relay_commands::Program;
+use relay_streams::relay_live;
 use std::alloc::Global;
 
-/// A program.
-#[derive(Clone, Copy)]
-pub enum Program {
-    /// Relays a stream, or shows what comes of that.
-    Relayer(Relayer),
-    /// Prints what a recording shows.
-    Screentext,
-    /// Prints the whole state of a screen.
-    ScreenProbe,
+/// The program of this name that relays a stream, or shows what comes of that.
+pub fn relayer(name: &str) -> Option<Program> {
+    match name {
+        "screenrelay" => Some(Program::Screenrelay),
+        "screenlive" => Some(Program::Screenlive),
+        "screencat" => Some(Program::Screencat),
+        _ => None,
+    }
 }
 
-impl Program {
-    /// The program of this name.
-    pub fn named(name: &str) -> Option<Program> {
-        match name {
-            "screenrelay" => Some(Program::Relayer(Relayer::Screenrelay)),
-            "screenlive" => Some(Program::Relayer(Relayer::Screenlive)),
-            "screencat" => Some(Program::Relayer(Relayer::Screencat)),
-            "screentext" => Some(Program::Screentext),
-            "screen_probe" => Some(Program::ScreenProbe),
-            _ => None,
-        }
+/// Runs the program of this name on the words after it, and answers its status. There may be no such program.
+pub fn run(
+    alloc: Global,
+    (name, words): (&str, &[&str]),
+    files: &NamedFiles,
+    input: &mut InputReader<'_>,
+    output: &mut LimitedWriter,
+    errors: &mut LimitedWriter,
+) -> Option<u8> {
+    match name {
+        "screentext" => Some(screentext_command::command_with(
+            alloc, words, files, input, output, errors,
+        )),
+        "screen_probe" => Some(screen_probe_command::command(alloc, words, input, output, errors)),
+        "relay_live" => Some(run_relay_live(alloc, words, input, output, errors)),
+        _ => Some(relayer(name)?.command(alloc, words, input, output, errors)),
     }
+}
 
-    /// Runs the program on the words after its name, and answers its status.
-    pub fn run<F: Files>(
-        self,
-        alloc: Global,
-        words: &[&str],
-        files: &F,
-        input: &mut InputReader<'_>,
-        outputs: &mut Outputs,
-    ) -> u8 {
-        let Outputs { output, errors, .. } = outputs;
-        match self {
-            Program::Relayer(program) => program.command(alloc, words, input, output, errors),
-            Program::Screentext => {
-                screentext_command::command_with(alloc, words, files, input, output, errors)
-            }
-            Program::ScreenProbe => {
-                screen_probe_command::command(alloc, words, input, output, errors)
-            }
-        }
-    }
-
-    /// Reports that an input didn't end after very many reads, which a test can't wait for. Answers the status, if
-    /// the program has such a fault of its own.
-    pub fn report_too_many_reads(self, errors: &mut LimitedWriter) -> Option<u8> {
-        match self {
-            Program::Relayer(program) => {
-                Some(program.report_fault(errors, RelayError::TooManyReads))
-            }
-            Program::Screentext | Program::ScreenProbe => None,
-        }
+// Runs the library's function of this name as if it were a program: its words are rows and columns. It reports faults as
+// `screenlive` does.
+fn run_relay_live(
+    alloc: Global,
+    words: &[&str],
+    input: &mut InputReader<'_>,
+    output: &mut LimitedWriter,
+    errors: &mut LimitedWriter,
+) -> u8 {
+    let [rows, cols] = words else {
+        return USAGE;
+    };
+    let (Some(rows), Some(cols)) = (parse_size(rows), parse_size(cols)) else {
+        return USAGE;
+    };
+    match relay_live(alloc, rows, cols, input, output) {
+        Ok(()) => SUCCESS,
+        Err(error) => Program::Screenlive.report_fault(errors, error),
     }
 }

@@ -1,11 +1,10 @@
 //! Steps that tell of hubs and change nothing.
 
+use crate::relays::calls::{is_no_memory, push_reply};
 use crate::relays::hubs::Hubs;
-use crate::relays::seats::Side;
-use crate::relays::told::{Told, told_in, told_of};
 use crate::relays::wordings::push_text;
 use case_player::{Answer, StepError, Words};
-use termrelay::{HubError, Screen};
+use termrelay::runs::Reply;
 
 impl Hubs {
     /// Takes a step that changes nothing.
@@ -13,12 +12,15 @@ impl Hubs {
         match name {
             "owed" => push_text(answer, self.owed(words.count())),
             "writes" => answer.number(self.pumped.writes as u64),
-            "screen" => self.push_screen(answer)?,
-            "color" => self.push_color(words.place(), words.place(), answer),
+            "screen" => return self.push_screen(answer),
+            "color" => match self.hub.screen().cell(words.place(), words.place()) {
+                Some(cell) => write!(answer, "{:?}", cell.fgcolor()),
+                None => answer.push("no cell"),
+            },
             "session" => self.push_session(words.count(), answer),
+            "longer" => self.check_longer(words.count(), words.count(), answer),
             "replies" => self.push_replies(answer),
-            "redraw_text" => self.push_redraw(words.count(), answer)?,
-            "whole" => self.push_whole(words.count(), answer)?,
+            "whole" => return self.push_whole(words.count(), answer),
             _ => return Err(StepError::Unknown),
         }
         Ok(())
@@ -26,21 +28,17 @@ impl Hubs {
 
     // The text that both screens show, and where the cursor is.
     fn push_screen(&self, answer: &mut Answer) -> Result<(), StepError> {
-        let shown = contents(self.hub.screen())?;
-        let also_shown = contents(self.logged.screen())?;
+        let (Ok(shown), Ok(also_shown)) = (
+            self.hub.screen().contents(),
+            self.logged.screen().contents(),
+        ) else {
+            return Err(StepError::Memory);
+        };
         answer.check(shown == also_shown, "the logged hub shows something else");
         answer.quoted(shown.as_bytes());
         let (row, col) = self.hub.screen().cursor_position();
         write!(answer, " {row} {col}");
         Ok(())
-    }
-
-    // The colour in which a cell's text is drawn.
-    fn push_color(&self, row: u16, col: u16, answer: &mut Answer) {
-        match self.hub.screen().cell(row, col) {
-            Some(cell) => write!(answer, "{:?}", cell.fgcolor()),
-            None => answer.push("no cell"),
-        }
     }
 
     // A client's size, how many bytes were pumped to it, and whether it has ended.
@@ -56,48 +54,30 @@ impl Hubs {
         }
     }
 
-    // What draws a client's screen on a fresh terminal.
-    fn push_redraw(&self, index: usize, answer: &mut Answer) -> Result<(), StepError> {
-        let client = self.seat(index).client(Side::Called);
-        push_made(self.hub.redraw(client), answer)
+    // More bytes than these were pumped to a client.
+    fn check_longer(&self, index: usize, count: usize, answer: &mut Answer) {
+        let pumped = self.seat(index).pumped;
+        answer.check(pumped.length > count, "no more bytes were pumped");
     }
 
-    // What draws it on any terminal.
+    // What draws a client's screen on any terminal.
     fn push_whole(&self, index: usize, answer: &mut Answer) -> Result<(), StepError> {
-        let client = self.seat(index).client(Side::Called);
-        push_made(self.hub.whole_frame(client), answer)
+        let whole = self.hub.whole_frame(self.seat(index).client);
+        let reply = whole.map_or_else(Reply::Refused, Reply::Redrawn);
+        if is_no_memory(&reply) {
+            return Err(StepError::Memory);
+        }
+        push_reply(answer, &reply);
+        Ok(())
     }
 
     // What the log replied, but for calls that were refused memory.
     fn push_replies(&self, answer: &mut Answer) {
         for reply in self.log.replies() {
-            let told = told_in(reply);
-            if told != Told::Memory {
-                told.push(answer);
+            if !is_no_memory(reply) {
+                push_reply(answer, reply);
                 answer.end_line();
             }
         }
     }
-}
-
-// Appends a text that was made, if there is one, or the refusal.
-fn push_made(
-    made: Result<Option<Vec<u8>>, HubError>,
-    answer: &mut Answer,
-) -> Result<(), StepError> {
-    match made {
-        Ok(Some(text)) => push_text(answer, &text),
-        Ok(None) => answer.push("none"),
-        Err(HubError::Memory) => return Err(StepError::Memory),
-        Err(error) => {
-            let told = told_of(&error);
-            told.push(answer);
-        }
-    }
-    Ok(())
-}
-
-// The text of a screen.
-fn contents(screen: &Screen) -> Result<String, StepError> {
-    screen.contents().map_err(|_| StepError::Memory)
 }

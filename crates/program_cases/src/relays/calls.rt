@@ -1,153 +1,100 @@
-//! The calls of a case, kept so that a far view can be made of them.
+//! Calls on hubs, and what they are replied to.
 
-use std::alloc::{AllocError, Global};
+use crate::relays::wordings::push_text;
+use crate::relays::writers::Writer;
+use case_player::Answer;
+use std::alloc::Global;
 use std::io::ErrorKind;
-use std::num::NonZeroU16;
-use termrelay::Client;
-use termrelay::runs::{Call, Take};
+use termrelay::runs::{Call, Reply, Take};
+use termrelay::{Hub, HubError};
 
-/// Where a part of what is kept stands.
-#[derive(Clone, Copy)]
-pub struct Part {
-    start: usize,
-    end: usize,
-}
-
-/// A pump.
-#[derive(Clone, Copy)]
-pub struct Pumping {
-    /// The client's number.
-    pub client: usize,
-    /// What the first writes take.
-    pub takes: Part,
-    /// What a later write takes at most.
+/// A call with what it borrows, kept so that it can be made again.
+#[derive(Drop)]
+pub struct Kept {
+    // The call, without its bytes and takes.
+    bare: Call<'static>,
+    /// The bytes of a feed.
+    pub bytes: Vec<u8>,
+    /// What the first writes of a pump take.
+    pub takes: Vec<Take>,
+    /// What a later write of a pump takes at most.
     pub most: usize,
-    /// What a write is answered that fails.
+    /// What a write of a pump is answered that fails.
     pub fault: ErrorKind,
 }
 
-/// A call, whose client is named by its number.
-#[derive(Clone, Copy)]
-pub enum Deed {
-    Feed(Part),
-    Resize(NonZeroU16, NonZeroU16),
-    Attach,
-    Detach(usize),
-    Frame(usize),
-    Pump(Pumping),
-    Fork(usize),
-    Redraw(usize),
-}
-
-impl Deed {
-    /// The number of the client. Where there is none it is one that no client has.
-    pub fn client(self) -> usize {
-        match self {
-            Deed::Feed(_) | Deed::Resize(..) | Deed::Attach => usize::MAX,
-            Deed::Detach(client)
-            | Deed::Frame(client)
-            | Deed::Fork(client)
-            | Deed::Redraw(client) => client,
-            Deed::Pump(pumping) => pumping.client,
-        }
-    }
-
-    // What the first writes of a pump take.
-    fn takes(self) -> Part {
-        match self {
-            Deed::Pump(pumping) => pumping.takes,
-            _ => Part { start: 0, end: 0 },
-        }
-    }
-
-    /// What a later write of a pump takes at most.
-    pub fn most(self) -> usize {
-        match self {
-            Deed::Pump(pumping) => pumping.most,
-            _ => usize::MAX,
-        }
-    }
-
-    /// What a write of a pump is answered that fails.
-    pub fn fault(self) -> ErrorKind {
-        match self {
-            Deed::Pump(pumping) => pumping.fault,
-            _ => ErrorKind::BrokenPipe,
-        }
-    }
-}
-
-/// Calls, with the bytes and the takes that they name.
-#[derive(Drop)]
-pub struct Calls {
-    bytes: Vec<u8>,
-    takes: Vec<Take>,
-    deeds: Vec<Deed>,
-}
-
-impl Calls {
-    /// No calls.
-    pub fn new(alloc: Global) -> Calls {
-        Calls {
+impl Kept {
+    /// This call: a feed has no bytes yet, and the writes of a pump take all.
+    pub fn new(alloc: Global, bare: Call<'static>) -> Kept {
+        Kept {
+            bare,
             bytes: Vec::new(alloc),
             takes: Vec::new(alloc),
-            deeds: Vec::new(alloc),
+            most: usize::MAX,
+            fault: ErrorKind::BrokenPipe,
         }
     }
 
-    /// Keeps bytes that a feed may name.
-    pub fn keep(&mut self, bytes: &[u8]) -> Result<Part, AllocError> {
-        let start = self.bytes.len();
-        self.bytes.extend_from_slice(bytes)?;
-        Ok(Part {
-            start,
-            end: self.bytes.len(),
-        })
-    }
-
-    /// Keeps takes that a pump may name.
-    pub fn keep_takes(&mut self, takes: &[Take]) -> Result<Part, AllocError> {
-        let start = self.takes.len();
-        self.takes.extend_from_slice(takes)?;
-        Ok(Part {
-            start,
-            end: self.takes.len(),
-        })
-    }
-
-    /// Makes room for one call more.
-    pub fn reserve(&mut self) -> Result<(), AllocError> {
-        self.deeds.reserve(1)
-    }
-
-    /// Keeps a call.
-    pub fn push(&mut self, deed: Deed) -> Result<(), AllocError> {
-        self.deeds.push(deed)?;
-        Ok(())
-    }
-
-    /// All calls.
-    pub fn deeds(&self) -> &[Deed] {
-        &self.deeds
-    }
-
-    /// The takes of a pump. Another call has none.
-    pub fn takes_of(&self, deed: Deed) -> &[Take] {
-        let part = deed.takes();
-        self.takes.get(part.start..part.end).unwrap_or(&[])
-    }
-
-    /// A call, with the key of its client.
-    pub fn call_of(&self, deed: Deed, client: Client) -> Call<'_> {
-        match deed {
-            Deed::Feed(part) => Call::Feed(self.bytes.get(part.start..part.end).unwrap_or(b"")),
-            Deed::Resize(rows, cols) => Call::Resize(rows, cols),
-            Deed::Attach => Call::Attach,
-            Deed::Detach(_) => Call::Detach(client),
-            Deed::Frame(_) => Call::Frame(client),
-            Deed::Pump(_) => Call::Pump(client, self.takes_of(deed)),
-            Deed::Fork(_) => Call::Fork(client),
-            Deed::Redraw(_) => Call::Redraw(client),
+    /// The call.
+    pub fn call(&self) -> Call<'_> {
+        match self.bare {
+            Call::Feed(_) => Call::Feed(&self.bytes),
+            Call::Pump(client, _) => Call::Pump(client, &self.takes),
+            call => call,
         }
+    }
+}
+
+/// Makes a call on a hub. What is pumped goes to the writer.
+pub fn called(hub: &mut Hub, call: &Call<'_>, writer: &mut Writer<'_>) -> Reply {
+    let made = match call {
+        Call::Feed(bytes) => hub.feed(bytes).map(done),
+        Call::Resize(rows, cols) => hub.resize(*rows, *cols).map(done),
+        Call::Attach => hub.attach().map(Reply::Attached),
+        Call::Detach(client) => hub.detach(*client).map(done),
+        Call::Frame(client) => hub.frame(*client).map(Reply::Answered),
+        Call::Pump(client, _) => hub.pump(*client, writer).map(done),
+        Call::Fork(client) => hub.fork(*client).map(Reply::Attached),
+        Call::Redraw(client) => hub.redraw(*client).map(Reply::Redrawn),
+    };
+    made.unwrap_or_else(Reply::Refused)
+}
+
+fn done(_nothing: ()) -> Reply {
+    Reply::Done
+}
+
+/// Whether a call was refused memory.
+pub fn is_no_memory(reply: &Reply) -> bool {
+    matches!(reply, Reply::Refused(HubError::Memory))
+}
+
+/// Whether a logged run replies what a call on another hub is answered. The fault of a run's writer is of kind `Other`.
+pub fn is_like(reply: &Reply, logged: &Reply) -> bool {
+    match (reply, logged) {
+        (Reply::Done, Reply::Done) => true,
+        (Reply::Attached(client), Reply::Attached(other)) => client == other,
+        (Reply::Answered(answer), Reply::Answered(other)) => answer == other,
+        (Reply::Redrawn(text), Reply::Redrawn(other)) => text == other,
+        (Reply::Refused(HubError::Write(fault)), Reply::Refused(HubError::Write(other))) => {
+            other.kind() == ErrorKind::Other || fault.kind() == other.kind()
+        }
+        (Reply::Refused(HubError::Failed), Reply::Refused(HubError::Failed))
+        | (Reply::Refused(HubError::UnknownClient), Reply::Refused(HubError::UnknownClient)) =>
+            true,
+        _ => false,
+    }
+}
+
+/// Appends a reply in words.
+pub fn push_reply(answer: &mut Answer, reply: &Reply) {
+    match reply {
+        Reply::Done => answer.push("done"),
+        Reply::Attached(_) => answer.push("attached"),
+        Reply::Answered(found) => write!(answer, "{found:?}"),
+        Reply::Redrawn(Some(text)) => push_text(answer, text),
+        Reply::Redrawn(None) => answer.push("none"),
+        Reply::Refused(HubError::Write(error)) => write!(answer, "{:?}", error.kind()),
+        Reply::Refused(error) => write!(answer, "{error}"),
     }
 }

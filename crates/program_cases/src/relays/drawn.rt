@@ -21,8 +21,7 @@ fn push_row(answer: &mut Answer, view: &View<UntilCleared>, row: u16) {
 }
 
 /// Appends a view's rows, `.` for an empty cell, `_` for the second half of a wide one, `>` where the row is wrapped
-/// and
-/// `/` after each; then the cursor's row and column, as in `"ab>/c./" 1 1`.
+/// and `/` after each; then the cursor's row and column, as in `"ab>/c./" 1 1`.
 pub fn push_shown(answer: &mut Answer, view: &View<UntilCleared>) {
     answer.push("\"");
     let (rows, _) = view.size();
@@ -67,12 +66,6 @@ fn push_set(answer: &mut Answer, letters: &[(bool, &str)]) {
 /// cursor, bracketed paste), the mouse's mode and encoding, the cursor's style, the two colours, and the letters of the
 /// attributes (bold, dim, italic, underlined, inverse).
 pub fn push_settings(answer: &mut Answer, view: &View<UntilCleared>) {
-    push_modes(answer, view);
-    push_mouse_and_colors(answer, view);
-    push_attributes(answer, view);
-}
-
-fn push_modes(answer: &mut Answer, view: &View<UntilCleared>) {
     let modes = [
         (view.application_keypad(), "k"),
         (view.application_cursor(), "c"),
@@ -80,9 +73,9 @@ fn push_modes(answer: &mut Answer, view: &View<UntilCleared>) {
         (view.bracketed_paste(), "p"),
     ];
     push_set(answer, &modes);
-}
-
-fn push_attributes(answer: &mut Answer, view: &View<UntilCleared>) {
+    let (mode, encoding) = (view.mouse_protocol_mode(), view.mouse_protocol_encoding());
+    write!(answer, " {mode:?} {encoding:?} {:?} ", view.cursor_style());
+    write!(answer, "{:?} {:?} ", view.fgcolor(), view.bgcolor());
     let attributes = [
         (view.bold(), "b"),
         (view.dim(), "d"),
@@ -93,32 +86,6 @@ fn push_attributes(answer: &mut Answer, view: &View<UntilCleared>) {
     push_set(answer, &attributes);
 }
 
-fn push_mouse_and_colors(answer: &mut Answer, view: &View<UntilCleared>) {
-    let (mode, encoding) = (view.mouse_protocol_mode(), view.mouse_protocol_encoding());
-    write!(answer, " {mode:?} {encoding:?} {:?} ", view.cursor_style());
-    write!(answer, "{:?} {:?} ", view.fgcolor(), view.bgcolor());
-}
-
-// The text of a row.
-fn text_of_row(alloc: Global, view: &View<UntilCleared>, row: u16) -> Result<Vec<u8>, StepError> {
-    let mut text = Vec::new(alloc);
-    match view.row_text(row, &mut text) {
-        Ok(()) => Ok(text),
-        Err(_) => Err(StepError::Memory),
-    }
-}
-
-/// Appends a row's text.
-pub fn push_row_text(
-    alloc: Global,
-    answer: &mut Answer,
-    view: &View<UntilCleared>,
-    row: u16,
-) -> Result<(), StepError> {
-    answer.quoted(&text_of_row(alloc, view, row)?);
-    Ok(())
-}
-
 /// Appends a line for each row: how often each of its bytes stands there, as in `80 "a"`.
 pub fn push_runs(
     alloc: Global,
@@ -127,20 +94,21 @@ pub fn push_runs(
 ) -> Result<(), StepError> {
     let (rows, _) = view.size();
     for row in 0..rows.get() {
-        push_row_runs(answer, &text_of_row(alloc, view, row)?);
+        let mut text = Vec::new(alloc);
+        if view.row_text(row, &mut text).is_err() {
+            return Err(StepError::Memory);
+        }
+        push_row_runs(answer, &text);
         answer.end_line();
     }
     Ok(())
 }
 
 fn push_row_runs(answer: &mut Answer, text: &[u8]) {
-    let mut is_first = true;
+    let mut space = "";
     for run in text.chunk_by(|byte, next| byte == next) {
-        if !is_first {
-            answer.push(" ");
-        }
-        is_first = false;
-        write!(answer, "{} ", run.len());
+        write!(answer, "{space}{} ", run.len());
         answer.quoted(run.get(..1).unwrap_or(run));
+        space = " ";
     }
 }

@@ -1,64 +1,61 @@
 //! What hubs refuse: those that were refused memory at a feed, and clients that aren't known.
 
-use crate::relays::seats::{Seat, Side};
-use crate::relays::sums::Sum;
-use crate::relays::told::{Told, told_by};
+use crate::relays::hubs::Seat;
 use crate::relays::writers::Writer;
 use case_player::StepError;
 use std::num::NonZeroU16;
-use termrelay::runs::Call;
 use termrelay::{Client, Hub, HubError};
 
-/// The hub has failed. It refuses what would change its screen or show it, and still knows and serves its clients.
-pub fn check_failed(hub: &mut Hub, side: Side, seats: &[Seat]) -> Result<(), StepError> {
-    check_refusals(hub)?;
-    for seat in seats {
-        if !seat.has_ended {
-            check_served(hub, seat.client(side), seat.owed)?;
-        }
+/// What a step is whose call was refused memory. A feed may have failed its hub, and must have if that is said; any
+/// other call changed nothing.
+pub fn refusal(hub: &mut Hub, seats: &[Seat], must_fail: bool) -> StepError {
+    if hub.screen().failed() {
+        return failed(hub, seats);
     }
-    Ok(())
+    if must_fail {
+        return StepError::Wrong("a feed was refused memory, and the hub goes on");
+    }
+    StepError::Memory
 }
 
-// Whether a call tells this.
-fn tells(hub: &mut Hub, call: &Call<'_>, told: Told) -> bool {
-    told_by(hub, call, &mut Writer::new()) == told
+// The hub has failed. It refuses what would change its screen or show it, and still knows and serves its clients.
+fn failed(hub: &mut Hub, seats: &[Seat]) -> StepError {
+    if !refuses(hub) {
+        return StepError::Wrong("a failed hub does what it has to refuse");
+    }
+    for seat in seats {
+        if !seat.has_ended && !serves(hub, seat) {
+            return StepError::Wrong("a failed hub doesn't send what it owed");
+        }
+    }
+    StepError::Ended
 }
 
 // A failed hub refuses everything, and knows nobody whom it didn't attach.
-fn check_refusals(hub: &mut Hub) -> Result<(), StepError> {
+fn refuses(hub: &mut Hub) -> bool {
     let one = NonZeroU16::MIN;
-    let nobody = Client::from_key(usize::MAX);
-    if tells(hub, &Call::Feed(b"x"), Told::Failed)
-        && tells(hub, &Call::Attach, Told::Failed)
-        && tells(hub, &Call::Resize(one, one), Told::Failed)
-        && tells(hub, &Call::Frame(nobody), Told::Unknown)
-        && tells(hub, &Call::Pump(nobody, &[]), Told::Unknown)
-    {
-        Ok(())
-    } else {
-        Err(StepError::Wrong("a failed hub does what it has to refuse"))
-    }
+    matches!(hub.feed(b"x"), Err(HubError::Failed))
+        && matches!(hub.attach(), Err(HubError::Failed))
+        && matches!(hub.resize(one, one), Err(HubError::Failed))
+        && is_unknown_to(hub, Client::from_key(usize::MAX))
 }
 
 // A client gets no frame, is sent what it was owed, and ends.
-fn check_served(hub: &mut Hub, client: Client, owed: Sum) -> Result<(), StepError> {
+fn serves(hub: &mut Hub, seat: &Seat) -> bool {
     let mut writer = Writer::new();
-    if tells(hub, &Call::Frame(client), Told::Failed)
-        && told_by(hub, &Call::Pump(client, &[]), &mut writer) == Told::Done
-        && tells(hub, &Call::Detach(client), Told::Done)
-        && writer.pumped.all == owed
-    {
-        Ok(())
-    } else {
-        Err(StepError::Wrong("a failed hub doesn't send what it owed"))
-    }
+    matches!(hub.frame(seat.client), Err(HubError::Failed))
+        && hub.pump(seat.client, &mut writer).is_ok()
+        && hub.detach(seat.client).is_ok()
+        && writer.pumped.all == seat.owed
 }
 
 /// No call of the hub knows the client.
 pub fn is_unknown_to(hub: &mut Hub, client: Client) -> bool {
     matches!(hub.owed(client), Err(HubError::UnknownClient))
-        && tells(hub, &Call::Frame(client), Told::Unknown)
-        && tells(hub, &Call::Pump(client, &[]), Told::Unknown)
-        && tells(hub, &Call::Detach(client), Told::Unknown)
+        && matches!(hub.frame(client), Err(HubError::UnknownClient))
+        && matches!(
+            hub.pump(client, &mut Writer::new()),
+            Err(HubError::UnknownClient)
+        )
+        && matches!(hub.detach(client), Err(HubError::UnknownClient))
 }

@@ -1,17 +1,16 @@
 //! Steps on hubs.
 
-use crate::relays::calls::{Deed, Pumping};
+use crate::faults::fault_named;
+use crate::relays::calls::{Kept, push_reply};
 use crate::relays::failing::is_unknown_to;
-use crate::relays::hubs::Hubs;
-use crate::relays::seats::{Seat, Side, logged_client};
+use crate::relays::hubs::{Hubs, Seat};
 use crate::relays::sums::Sum;
-use crate::relays::told::Told;
 use crate::relays::wordings::{MOST_WORDS, count_or, push_text};
+use crate::relays::writers::Pumped;
 use case_player::{Answer, StepError, Words};
-use std::alloc::{AllocError, Global};
-use std::io::ErrorKind;
-use termrelay::Client;
-use termrelay::runs::Take;
+use std::alloc::AllocError;
+use termrelay::Answer as Found;
+use termrelay::runs::{Call, Reply, Take};
 
 /// How many bytes a writer takes a write where a step doesn't say it.
 const MOST: usize = 7;
@@ -20,193 +19,199 @@ impl Hubs {
     /// Takes a step.
     pub fn take(
         &mut self,
-        alloc: Global,
         name: &str,
         words: &Words,
         answer: &mut Answer,
     ) -> Result<(), StepError> {
         match name {
-            "attach" => self.attach(),
-            "feed" => self.feed(words),
-            "resize" => self.resize(words),
-            "detach" => self.detach(words.count()),
+            "attach" => self.attach(count_or(words, 1)),
+            "feed" => self.feed(words.bytes(), count_or(words, 1)),
+            "resize" => {
+                let call = Call::Resize(words.size(), words.size());
+                self.end(call, 0, usize::MAX)
+            }
+            "detach" => {
+                let index = words.count();
+                self.end(Call::Detach(self.seat(index).client), index, 1)
+            }
+            "frame" => self.frame(words.count(), answer),
+            "take" => self.take_frame(words.count(), answer),
+            "frame_all" => self.frame_all(answer),
+            "fork" => self.fork(words.count()),
+            "redraw" => self.redraw(words.count(), answer),
+            "pump" => self.pump(words, answer),
             "unknown" => {
                 self.check_unknown(words.count(), answer);
                 Ok(())
             }
-            "frame" => self.frame(words.count(), answer),
-            "fork" => self.fork(words.count()),
-            "redraw" => self.redraw(words.count(), answer),
-            "pump" => self.pump(alloc, words, answer),
-            "attach_many" => self.attach_many(words),
-            "frame_all" => self.frame_all(answer),
-            "take" => self.take_frame(words.count(), answer),
             _ => self.tell(name, words, answer),
         }
     }
 
-    /// A client comes.
-    pub fn attach(&mut self) -> Result<(), StepError> {
-        self.seats.reserve(1)?;
-        let Told::Attached(key) = self.make(Deed::Attach)? else {
-            return Err(StepError::Wrong("no client comes"));
-        };
-        let logged = logged_client(&self.log, self.seats.len());
-        self.seats.push(Seat::new(Client::from_key(key), logged))?;
+    // So many clients come, one after another.
+    fn attach(&mut self, times: usize) -> Result<(), StepError> {
+        for _ in self.made..times {
+            self.seat_next(Call::Attach, Sum::NONE)?;
+            self.made = self.made.saturating_add(1);
+        }
+        self.made = 0;
         Ok(())
     }
 
     // A client is forked. The fork has been sent all that this one was sent and is owed.
     fn fork(&mut self, index: usize) -> Result<(), StepError> {
+        let seat = self.seat(index);
+        let pumped = seat.pumped.after(self.owed(index));
+        self.seat_next(Call::Fork(seat.client), pumped)
+    }
+
+    // The client of a call comes, to which all this was pumped.
+    fn seat_next(&mut self, call: Call<'static>, pumped: Sum) -> Result<(), StepError> {
         self.seats.reserve(1)?;
-        let Told::Attached(key) = self.make(Deed::Fork(index))? else {
-            return Err(StepError::Wrong("no fork comes"));
+        let Reply::Attached(client) = self.make(Kept::new(self.alloc, call))? else {
+            return Err(StepError::Wrong("no client comes"));
         };
-        let logged = logged_client(&self.log, self.seats.len());
-        let mut seat = Seat::new(Client::from_key(key), logged);
-        seat.pumped = self.seat(index).pumped.after(self.owed(index));
-        self.seats.push(seat)?;
+        self.seats.push(Seat {
+            client,
+            owed: Sum::NONE,
+            pumped,
+            has_ended: false,
+        })?;
         Ok(())
     }
 
-    // A client's redraw is asked for.
-    fn redraw(&mut self, index: usize, answer: &mut Answer) -> Result<(), StepError> {
-        let told = self.make(Deed::Redraw(index))?;
-        told.push(answer);
-        answer.end_line();
-        Ok(())
-    }
-
-    // Feeds bytes, so many times.
-    fn feed(&mut self, words: &Words) -> Result<(), StepError> {
-        let part = self.calls.keep(words.bytes())?;
-        let times = count_or(words, 1);
-        self.make_times(Deed::Feed(part), times)
-    }
-
-    fn resize(&mut self, words: &Words) -> Result<(), StepError> {
-        let deed = Deed::Resize(words.size(), words.size());
-        self.make_done(deed)?;
-        for seat in self.seats.iter_mut() {
-            seat.has_ended = true;
+    /// Feeds bytes, so many times.
+    pub fn feed(&mut self, bytes: &[u8], times: usize) -> Result<(), StepError> {
+        for _ in self.made..times {
+            let mut kept = Kept::new(self.alloc, Call::Feed(b""));
+            kept.bytes.extend_from_slice(bytes)?;
+            self.make_done(kept)?;
+            self.made = self.made.saturating_add(1);
         }
+        self.made = 0;
         Ok(())
     }
 
-    fn detach(&mut self, index: usize) -> Result<(), StepError> {
-        self.make_done(Deed::Detach(index))?;
-        if let Some(seat) = self.seats.get_mut(index) {
+    // Makes a call that ends so many clients, from the first of them on.
+    fn end(&mut self, call: Call<'static>, first: usize, count: usize) -> Result<(), StepError> {
+        self.make_done(Kept::new(self.alloc, call))?;
+        for seat in self.seats.iter_mut().skip(first).take(count) {
             seat.has_ended = true;
         }
         Ok(())
     }
 
     // Makes a call that isn't refused.
-    fn make_done(&mut self, deed: Deed) -> Result<(), StepError> {
-        match self.make(deed)? {
-            Told::Done => Ok(()),
+    fn make_done(&mut self, kept: Kept) -> Result<(), StepError> {
+        match self.make(kept)? {
+            Reply::Done => Ok(()),
             _ => Err(StepError::Wrong("the call is refused")),
         }
     }
 
+    // A client's redraw is asked for.
+    fn redraw(&mut self, index: usize, answer: &mut Answer) -> Result<(), StepError> {
+        let call = Call::Redraw(self.seat(index).client);
+        let reply = self.make(Kept::new(self.alloc, call))?;
+        push_reply(answer, &reply);
+        Ok(())
+    }
+
     // Neither hub knows the client.
     fn check_unknown(&mut self, index: usize, answer: &mut Answer) {
-        let seat = self.seat(index);
-        let is_unknown = is_unknown_to(&mut self.hub, seat.client(Side::Called));
+        let client = self.seat(index).client;
+        let is_unknown = is_unknown_to(&mut self.hub, client);
         answer.check(is_unknown, "a call knows the client");
-        let is_unknown = is_unknown_to(&mut self.logged, seat.client(Side::Logged));
+        let is_unknown = is_unknown_to(&mut self.logged, client);
         answer.check(is_unknown, "a call of the logged hub knows the client");
     }
 
     /// A client asks for a frame.
-    pub fn ask_frame(&mut self, index: usize) -> Result<Told, StepError> {
-        let told = self.make(Deed::Frame(index))?;
-        let owed = Sum::of(self.owed(index));
+    pub fn ask_frame(&mut self, index: usize) -> Result<Found, StepError> {
+        let call = Call::Frame(self.seat(index).client);
+        let Reply::Answered(found) = self.make(Kept::new(self.alloc, call))? else {
+            return Err(StepError::Wrong("the frame is refused"));
+        };
+        let owed = Sum::NONE.after(self.owed(index));
         if let Some(seat) = self.seats.get_mut(index)
-            && told.is_frame()
+            && found.is_frame()
         {
             seat.owed = owed;
         }
-        Ok(told)
+        Ok(found)
     }
 
     /// Appends what a client that asks for a frame is answered, and what it is owed then if that is a frame.
-    pub fn push_frame(&self, index: usize, told: Told, answer: &mut Answer) {
-        told.push(answer);
-        if told.is_frame() {
+    pub fn push_frame(&self, index: usize, found: Found, answer: &mut Answer) {
+        write!(answer, "{found:?}");
+        if found.is_frame() {
             answer.push(" ");
             push_text(answer, self.owed(index));
         }
-        answer.end_line();
     }
 
     fn frame(&mut self, index: usize, answer: &mut Answer) -> Result<(), StepError> {
-        let told = self.ask_frame(index)?;
-        self.push_frame(index, told, answer);
+        let found = self.ask_frame(index)?;
+        self.push_frame(index, found, answer);
         Ok(())
     }
 
     /// Pumps a client. What was taken and what it is owed then are what it was owed before.
-    pub fn make_pump(&mut self, pumping: Pumping) -> Result<Told, StepError> {
-        let told = self.make(Deed::Pump(pumping))?;
-        let before = self.seat(pumping.client).owed;
-        let left = self.owed(pumping.client);
-        if self.pumped.taken.after(left) != before {
+    pub fn make_pump(&mut self, index: usize, kept: Kept) -> Result<Reply, StepError> {
+        let before = self.seat(index);
+        if !self.is_pending() {
+            self.pumped = Pumped::after(before.pumped);
+        }
+        let reply = self.make(kept)?;
+        let left = self.owed(index);
+        if self.pumped.taken.after(left) != before.owed {
             return Err(StepError::Wrong("the writer got something else than was owed"));
         }
-        let owed = Sum::of(left);
-        if let Some(seat) = self.seats.get_mut(pumping.client) {
+        let owed = Sum::NONE.after(left);
+        if let Some(seat) = self.seats.get_mut(index) {
             seat.owed = owed;
             seat.pumped = self.pumped.all;
         }
-        Ok(told)
+        Ok(reply)
     }
 
-    fn pump(&mut self, alloc: Global, words: &Words, answer: &mut Answer) -> Result<(), StepError> {
-        let pumping = self.pumping(alloc, words)?;
-        let told = self.make_pump(pumping)?;
-        write!(answer, "{}", self.pumped.taken.length());
-        if told != Told::Done {
+    fn pump(&mut self, words: &Words, answer: &mut Answer) -> Result<(), StepError> {
+        let index = words.count();
+        let call = Call::Pump(self.seat(index).client, &[]);
+        let mut kept = Kept::new(self.alloc, call);
+        read_takes(&mut kept, words)?;
+        let reply = self.make_pump(index, kept)?;
+        answer.number(self.pumped.taken.length as u64);
+        if let Reply::Refused(_) = reply {
             answer.push(" ");
-            told.push(answer);
+            push_reply(answer, &reply);
         }
-        answer.end_line();
         Ok(())
-    }
-
-    // The client, and what the writes take: `by N` for each later one, a number for each of the first, `fault` or
-    // `interrupted` for one that fails.
-    fn pumping(&mut self, alloc: Global, words: &Words) -> Result<Pumping, AllocError> {
-        let client = words.count();
-        let mut takes = Vec::new(alloc);
-        let (mut most, mut fault) = (MOST, ErrorKind::BrokenPipe);
-        for _ in 0..MOST_WORDS {
-            if words.is_empty() {
-                break;
-            }
-            match words.word() {
-                "by" => most = words.count(),
-                "fault" => takes.push(Take::Fault)?,
-                "interrupted" => {
-                    fault = ErrorKind::Interrupted;
-                    takes.push(Take::Fault)?;
-                }
-                number => takes.push(Take::Bytes(take_of(words, number)))?,
-            }
-        }
-        Ok(Pumping {
-            client,
-            takes: self.calls.keep_takes(&takes)?,
-            most,
-            fault,
-        })
     }
 }
 
-fn take_of(words: &Words, word: &str) -> usize {
-    words.named(
-        word.parse::<usize>().ok(),
-        "by, fault, interrupted, or how many bytes a write takes",
-        0,
-    )
+// What the writes of a pump take: `by N` for each later one, a number for each of the first, the name of a fault for one
+// that fails.
+fn read_takes(kept: &mut Kept, words: &Words) -> Result<(), AllocError> {
+    kept.most = MOST;
+    for _ in 0..MOST_WORDS {
+        if words.is_empty() {
+            break;
+        }
+        let take = match words.word() {
+            "by" => {
+                kept.most = words.count();
+                continue;
+            }
+            word => match word.parse::<usize>() {
+                Ok(count) => Take::Bytes(count),
+                Err(_) => {
+                    kept.fault = fault_named(word, words);
+                    Take::Fault
+                }
+            },
+        };
+        kept.takes.push(take)?;
+    }
+    Ok(())
 }

@@ -1,11 +1,10 @@
 //! Steps that make many calls. Where memory is refused to one of them, the case ends.
 
-use crate::relays::calls::{Deed, Pumping};
+use crate::relays::calls::Kept;
 use crate::relays::hubs::Hubs;
-use crate::relays::sums::Sum;
-use crate::relays::told::Told;
+use crate::relays::wordings::counts;
 use case_player::{Answer, StepError, Words};
-use std::io::ErrorKind;
+use termrelay::runs::{Call, Reply};
 
 /// What a step is that can't be taken again.
 fn ended(error: StepError) -> StepError {
@@ -16,29 +15,18 @@ fn ended(error: StepError) -> StepError {
 }
 
 impl Hubs {
-    /// So many clients come.
-    pub fn attach_many(&mut self, words: &Words) -> Result<(), StepError> {
-        for _ in 0..words.count() {
-            self.attach().map_err(ended)?;
-        }
-        Ok(())
-    }
-
     /// Each client asks for a frame and is sent it. They are told the same.
     pub fn frame_all(&mut self, answer: &mut Answer) -> Result<(), StepError> {
         let mut first = None;
         for index in 0..self.seats.len() {
-            let told = self.ask_frame(index).map_err(ended)?;
-            let found = (told, Sum::of(self.owed(index)));
-            match first {
-                Some(first) if first != found => {
-                    return Err(StepError::Wrong("one client is told something else than another"));
-                }
-                Some(_) => (),
-                None => {
-                    self.push_frame(index, told, answer);
-                    first = Some(found);
-                }
+            let found = self.ask_frame(index).map_err(ended)?;
+            let told = Some((found, self.seat(index).owed));
+            if index == 0 {
+                self.push_frame(index, found, answer);
+                first = told;
+            }
+            if told != first {
+                return Err(StepError::Wrong("one client is told something else than another"));
             }
             self.send(index).map_err(ended)?;
         }
@@ -47,21 +35,16 @@ impl Hubs {
 
     /// A client asks for a frame and is sent it. Its answer is told.
     pub fn take_frame(&mut self, index: usize, answer: &mut Answer) -> Result<(), StepError> {
-        let told = self.ask_frame(index)?;
-        told.push(answer);
+        let found = self.ask_frame(index)?;
+        write!(answer, "{found:?}");
         self.send(index).map_err(ended)
     }
 
-    /// A client is sent all that it is owed.
-    pub fn send(&mut self, index: usize) -> Result<(), StepError> {
-        let pumping = Pumping {
-            client: index,
-            takes: self.calls.keep_takes(&[])?,
-            most: usize::MAX,
-            fault: ErrorKind::BrokenPipe,
-        };
-        match self.make_pump(pumping)? {
-            Told::Done => Ok(()),
+    // A client is sent all that it is owed.
+    fn send(&mut self, index: usize) -> Result<(), StepError> {
+        let call = Call::Pump(self.seat(index).client, &[]);
+        match self.make_pump(index, Kept::new(self.alloc, call))? {
+            Reply::Done => Ok(()),
             _ => Err(StepError::Wrong("the pump is refused")),
         }
     }
@@ -83,16 +66,28 @@ impl Hubs {
     pub fn letters(&mut self, words: &Words, sent: &mut Vec<u8>) -> Result<(), StepError> {
         let index = words.count();
         for line in 0..words.count() {
-            self.letter(index, b'a' + (line % 26) as u8, sent)
+            self.feed(&[b'a' + (line % 26) as u8; 80], 1)
                 .map_err(ended)?;
+            self.ask_frame(index).map_err(ended)?;
+            self.send_to(index, sent).map_err(ended)?;
         }
         Ok(())
     }
 
-    fn letter(&mut self, index: usize, letter: u8, sent: &mut Vec<u8>) -> Result<(), StepError> {
-        let part = self.calls.keep(&[letter; 80])?;
-        self.make_times(Deed::Feed(part), 1)?;
-        self.ask_frame(index)?;
-        self.send_to(index, sent)
+    /// One hub is fed the bytes at once, and the logged one in pieces of these lengths, again and again.
+    pub fn feed_pieces(&mut self, words: &Words, bytes: &[u8]) -> Result<(), StepError> {
+        let lengths = counts(self.alloc, words)?;
+        if self.hub.feed(bytes).is_err() {
+            return Err(StepError::Ended);
+        }
+        let mut left = bytes;
+        for length in lengths.iter().cycle().take(bytes.len()) {
+            let (piece, rest) = left.split_at((*length).min(left.len()));
+            if self.logged.feed(piece).is_err() {
+                return Err(StepError::Ended);
+            }
+            left = rest;
+        }
+        Ok(())
     }
 }

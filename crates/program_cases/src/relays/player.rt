@@ -1,28 +1,35 @@
 //! What the steps of a case work on.
 
-use super::{cuts, views};
-use crate::relays::cuts::new_view;
+use super::{parsers, views};
+use crate::relays::cuts::{advance, each_cut, each_stop, each_two_cuts, view_in_pieces};
 use crate::relays::hubs::Hubs;
 use crate::relays::readers::fill_piece;
-use crate::relays::streams::Streams;
-use crate::relays::views::view_in_pieces;
+use crate::relays::values::{push_attributes, push_errors, push_values};
+use crate::relays::wordings::counts;
 use case_player::{Answer, StepError, Words};
 use std::alloc::Global;
 use termview::{UntilCleared, View};
+use vt100::Parser;
 
-/// Hubs, a view and streams, as far as a case has them.
+/// Hubs, a view, a parser and an input, as far as a case has them.
 #[derive(Drop)]
 pub struct RelayPlayer {
     alloc: Global,
     hubs: Option<Hubs>,
     view: Option<View<UntilCleared>>,
-    streams: Streams,
+    parser: Option<Parser<()>>,
+    // What hubs are fed in pieces, and what was sent to clients.
+    input: Vec<u8>,
+    // How many bytes of it a view has got.
+    read: usize,
 }
 
 /// What a step lacks.
 const NO_HUB: StepError = StepError::Wrong("there is no hub yet");
 
 const NO_VIEW: StepError = StepError::Wrong("there is no view yet");
+
+const NO_PARSER: StepError = StepError::Wrong("there is no parser yet");
 
 impl RelayPlayer {
     /// A player with nothing on its stage.
@@ -31,7 +38,9 @@ impl RelayPlayer {
             alloc,
             hubs: None,
             view: None,
-            streams: Streams::new(alloc),
+            parser: None,
+            input: Vec::new(alloc),
+            read: 0,
         }
     }
 
@@ -40,23 +49,23 @@ impl RelayPlayer {
         Ok(())
     }
 
+    // The view from now on is one of this size, of bytes that come in pieces of these lengths.
     fn make_view(&mut self, words: &Words) -> Result<(), StepError> {
         let size = (words.size(), words.size());
-        self.view = Some(new_view(self.alloc, size)?);
+        let bytes = if words.is_empty() { b"" } else { words.bytes() };
+        let cuts = counts(self.alloc, words)?;
+        self.view = Some(view_in_pieces(self.alloc, size, bytes, &cuts)?);
         Ok(())
     }
 
-    fn make_view_of(&mut self, words: &Words) -> Result<(), StepError> {
-        self.view = Some(view_in_pieces(self.alloc, words)?);
-        Ok(())
-    }
-
-    // A far view of all calls so far is the view from now on.
+    // The view from now on is a far view of all calls so far.
     fn find_far(&mut self, words: &Words, answer: &mut Answer) -> Result<(), StepError> {
         let Some(hubs) = &self.hubs else {
             return Err(NO_HUB);
         };
-        self.view = hubs.find_far(self.alloc, words)?;
+        let (session, take) = (words.count(), words.count());
+        let cuts = counts(self.alloc, words)?;
+        self.view = hubs.far(session, take, &cuts)?;
         if self.view.is_none() {
             answer.push("none");
         }
@@ -74,10 +83,11 @@ impl RelayPlayer {
             return Err(NO_HUB);
         };
         let outcome = match name {
-            "far_cuts" => hubs.cut_far(self.alloc, words, answer),
-            "send" => hubs.send_to(words.count(), &mut self.streams.input),
-            "letters" => hubs.letters(words, &mut self.streams.input),
-            _ => hubs.take(self.alloc, name, words, answer),
+            "far_cuts" => hubs.cut_far(words, answer),
+            "send" => hubs.send_to(words.count(), &mut self.input),
+            "letters" => hubs.letters(words, &mut self.input),
+            "pieces" => hubs.feed_pieces(words, &self.input),
+            _ => hubs.take(name, words, answer),
         };
         match outcome {
             Err(StepError::Ended) => outcome,
@@ -88,7 +98,7 @@ impl RelayPlayer {
         }
     }
 
-    // A step on a view alone, or on a view and what is read.
+    // A step on a view alone, or on a view and the input.
     fn take_view(
         &mut self,
         name: &str,
@@ -98,12 +108,30 @@ impl RelayPlayer {
         let Some(view) = &mut self.view else {
             return Err(NO_VIEW);
         };
-        match name {
-            "read_but" => {
-                self.streams.read_but(view, words.count());
-                Ok(())
-            }
-            _ => views::take(self.alloc, view, name, words, answer),
+        if name != "read_but" {
+            return views::take(self.alloc, view, name, words, answer);
+        }
+        let end = self.input.len().saturating_sub(words.count());
+        advance(view, self.input.get(self.read..end).unwrap_or(b""));
+        self.read = end;
+        Ok(())
+    }
+
+    // A step on a parser.
+    fn take_parser(
+        &mut self,
+        name: &str,
+        words: &Words,
+        answer: &mut Answer,
+    ) -> Result<(), StepError> {
+        if name == "parser" {
+            self.parser = Some(parsers::new_parser(self.alloc, words)?);
+            return Ok(());
+        }
+        match &mut self.parser {
+            Some(parser) if name == "write" => parsers::write(parser, words.bytes(), answer),
+            Some(parser) => parsers::push_screen(parser, answer),
+            None => Err(NO_PARSER),
         }
     }
 
@@ -111,7 +139,9 @@ impl RelayPlayer {
     pub fn begin(&mut self) {
         self.hubs = None;
         self.view = None;
-        self.streams.clear();
+        self.parser = None;
+        self.input.clear();
+        self.read = 0;
     }
 
     /// Takes a step.
@@ -124,16 +154,16 @@ impl RelayPlayer {
         match name {
             "hub" => self.make_hubs(words),
             "view" => self.make_view(words),
-            "view_of" => self.make_view_of(words),
             "far" => self.find_far(words, answer),
-            "fill" => {
-                fill_piece(words.number(), answer);
+            "fill" | "errors" | "values" | "attributes" => {
+                tell_values(name, words, answer);
                 Ok(())
             }
-            "cuts" | "stops" | "two_cuts" => cuts::take(self.alloc, name, words, answer),
-            "input" | "parts" | "pieces" | "longer" | "turn" | "relay" | "relay_live" | "show" => {
-                self.streams.take(self.alloc, name, words, answer)
-            }
+            "parser" | "write" | "parsed" => self.take_parser(name, words, answer),
+            "input" => Ok(self.input.extend_from_slice(words.bytes())?),
+            "cuts" => each_cut(self.alloc, words, answer),
+            "stops" => each_stop(self.alloc, words, answer),
+            "two_cuts" => each_two_cuts(self.alloc, words, answer),
             "read_but"
             | "advance"
             | "stop"
@@ -145,9 +175,18 @@ impl RelayPlayer {
             | "text"
             | "wrapped"
             | "row"
-            | "row_to"
             | "runs" => self.take_view(name, words, answer),
             _ => self.take_hubs(name, words, answer),
         }
+    }
+}
+
+// A step that tells of values alone.
+fn tell_values(name: &str, words: &Words, answer: &mut Answer) {
+    match name {
+        "fill" => fill_piece(words.number(), answer),
+        "errors" => push_errors(answer),
+        "values" => push_values(answer),
+        _ => push_attributes(answer),
     }
 }

@@ -1,9 +1,10 @@
 //! Sums of bytes, by which texts are known again that nobody keeps.
 
 /// How many bytes there were, and a number that other bytes hardly give (the hash of Fowler, Noll and Vo).
-#[derive(Clone, Copy, Eq, PartialEq)]
+#[derive(Clone, Copy, PartialEq)]
 pub struct Sum {
-    length: usize,
+    /// How many bytes were summed.
+    pub length: usize,
     hash: u64,
 }
 
@@ -13,11 +14,6 @@ impl Sum {
         length: 0,
         hash: 0xcbf2_9ce4_8422_2325,
     };
-
-    /// The sum of these bytes.
-    pub fn of(bytes: &[u8]) -> Sum {
-        Sum::NONE.after(bytes)
-    }
 
     /// The sum of what was summed and these bytes behind it.
     pub fn after(self, bytes: &[u8]) -> Sum {
@@ -29,10 +25,5 @@ impl Sum {
             length: self.length.saturating_add(bytes.len()),
             hash,
         }
-    }
-
-    /// How many bytes were summed.
-    pub fn length(self) -> usize {
-        self.length
     }
 }

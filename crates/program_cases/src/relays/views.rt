@@ -1,24 +1,14 @@
 //! Steps on a view.
 
+use crate::faults::fault_named;
 use crate::limited::LimitedWriter;
 use crate::relays::cuts::advance;
-use crate::relays::drawn::{
-    push_cell, push_cursor, push_row_text, push_runs, push_settings, push_shown,
-};
-use crate::relays::wordings::{MOST_WORDS, counts};
+use crate::relays::drawn::{push_cell, push_cursor, push_runs, push_settings, push_shown};
+use crate::relays::wordings::{MOST_WORDS, count_or};
 use case_player::{Answer, StepError, Words};
-use relay_streams::{view_of, write_view};
+use relay_streams::write_view;
 use std::alloc::Global;
-use std::io::ErrorKind;
 use termview::{UntilCleared, View};
-
-/// What a view shows of bytes. The words are its size, the bytes, and how long the pieces are before the last one.
-pub fn view_in_pieces(alloc: Global, words: &Words) -> Result<View<UntilCleared>, StepError> {
-    let (rows, cols) = (words.size(), words.size());
-    let bytes = words.bytes();
-    let cuts = counts(alloc, words)?;
-    view_of(alloc, rows, cols, bytes, &cuts).map_err(|_| StepError::Memory)
-}
 
 /// Takes a step on a view.
 pub fn take(
@@ -36,10 +26,12 @@ pub fn take(
         "settings" => push_settings(answer, view),
         "cell" => push_cell(answer, view, words.place(), words.place()),
         "held" => answer.number(view.sync_bytes_count() as u64),
-        "wrapped" => push_wrapped(answer, view, words.place()),
+        "wrapped" => {
+            let is_wrapped = view.row_wrapped(words.place());
+            answer.push(if is_wrapped { "yes" } else { "no" });
+        }
         "text" => return push_text(alloc, answer, view),
-        "row" => return push_row_text(alloc, answer, view, words.place()),
-        "row_to" => return row_to(alloc, view, words, answer),
+        "row" => return push_row(alloc, answer, view, words),
         "runs" => return push_runs(alloc, answer, view),
         _ => return Err(StepError::Unknown),
     }
@@ -55,10 +47,6 @@ fn give_pieces(view: &mut View<UntilCleared>, words: &Words) {
     }
 }
 
-fn push_wrapped(answer: &mut Answer, view: &View<UntilCleared>, row: u16) {
-    answer.push(if view.row_wrapped(row) { "yes" } else { "no" });
-}
-
 // The text of all rows, and where the cursor is.
 fn push_text(
     alloc: Global,
@@ -66,40 +54,38 @@ fn push_text(
     view: &View<UntilCleared>,
 ) -> Result<(), StepError> {
     let mut text = Vec::new(alloc);
-    write_view(view, &mut text).map_err(|_| StepError::Memory)?;
+    if write_view(view, &mut text).is_err() {
+        return Err(StepError::Memory);
+    }
     answer.quoted(&text);
     answer.push(" ");
     push_cursor(answer, view);
     Ok(())
 }
 
+/// How many bytes a row's writer takes where a step doesn't say it.
+const ROOM: usize = 4096;
+
 // A row's text to a writer that takes a byte a write, has this room, and is at fault then or takes nothing.
-fn row_to(
+fn push_row(
     alloc: Global,
+    answer: &mut Answer,
     view: &View<UntilCleared>,
     words: &Words,
-    answer: &mut Answer,
 ) -> Result<(), StepError> {
-    let (row, room) = (words.place(), words.count());
-    let fault = fault(words);
-    let mut writer = LimitedWriter::new(Vec::with_capacity(alloc, room)?, room);
+    let row = words.place();
+    let mut writer = LimitedWriter::new(alloc, count_or(words, ROOM));
     writer.step = 1;
-    writer.fault = fault;
+    writer.fault = if words.is_empty() {
+        None
+    } else {
+        Some(fault_named(words.word(), words))
+    };
+    writer.clear()?;
     let written = view.row_text(row, &mut writer);
     answer.quoted(&writer.kept);
     if let Err(error) = written {
         write!(answer, " {:?}", error.kind());
     }
     Ok(())
-}
-
-// What a writer without room is at.
-fn fault(words: &Words) -> Option<ErrorKind> {
-    let fault = match words.word() {
-        "fault" => Some(Some(ErrorKind::BrokenPipe)),
-        "interrupted" => Some(Some(ErrorKind::Interrupted)),
-        "full" => Some(None),
-        _ => None,
-    };
-    words.named(fault, "fault, interrupted or full", None)
 }

@@ -6,14 +6,6 @@ use std::alloc::{AllocError, Global};
 /// How many words of one kind a step has at most.
 pub const MOST_WORDS: usize = 64;
 
-/// A number of things, or `all`.
-pub fn amount(words: &Words) -> usize {
-    match words.word() {
-        "all" => usize::MAX,
-        word => words.named(word.parse::<usize>().ok(), "a count, or all", 0),
-    }
-}
-
 /// A count, or this one where no word is left.
 pub fn count_or(words: &Words, count: usize) -> usize {
     if words.is_empty() {

@@ -16,6 +16,17 @@ pub struct Pumped {
     pub all: Sum,
 }
 
+impl Pumped {
+    /// Nothing was given, after this was taken earlier.
+    pub fn after(earlier: Sum) -> Pumped {
+        Pumped {
+            writes: 0,
+            taken: Sum::NONE,
+            all: earlier,
+        }
+    }
+}
+
 /// A writer whose first writes are given, and whose later ones take some bytes each. It keeps the sum of what it takes.
 #[derive(Drop)]
 pub struct Writer<'a> {
@@ -29,17 +40,6 @@ pub struct Writer<'a> {
     pub pumped: Pumped,
 }
 
-impl Pumped {
-    /// Nothing was given, after this was taken earlier.
-    pub fn after(earlier: Sum) -> Pumped {
-        Pumped {
-            writes: 0,
-            taken: Sum::NONE,
-            all: earlier,
-        }
-    }
-}
-
 impl Writer<'_> {
     /// A writer that takes all.
     pub fn new() -> Self {
@@ -50,25 +50,19 @@ impl Writer<'_> {
             pumped: Pumped::after(Sum::NONE),
         }
     }
-
-    // What the next write takes at most.
-    fn next_take(&mut self) -> Take {
-        match self.takes {
-            [] => Take::Bytes(self.most),
-            [take, rest @ ..] => {
-                self.takes = rest;
-                *take
-            }
-        }
-    }
 }
 
 impl Write for Writer<'_> {
     fn write(&mut self, buf: &[u8]) -> io::Result<usize> {
         self.pumped.writes = self.pumped.writes.saturating_add(1);
-        let Take::Bytes(most) = self.next_take() else {
-            return Err(io::Error::from(self.fault));
-        };
+        let mut most = self.most;
+        if let [take, rest @ ..] = self.takes {
+            self.takes = rest;
+            match take {
+                Take::Bytes(count) => most = *count,
+                Take::Fault => return Err(io::Error::from(self.fault)),
+            }
+        }
         let (taken, _) = buf.split_at(most.min(buf.len()));
         self.pumped.taken = self.pumped.taken.after(taken);
         self.pumped.all = self.pumped.all.after(taken);
