@@ -105,10 +105,13 @@ pub fn push_runs(
 }
 
 fn push_row_runs(answer: &mut Answer, text: &[u8]) {
-    let mut space = "";
+    let mut is_first = true;
     for run in text.chunk_by(|byte, next| byte == next) {
-        write!(answer, "{space}{} ", run.len());
+        if !is_first {
+            answer.push(" ");
+        }
+        is_first = false;
+        write!(answer, "{} ", run.len());
         answer.quoted(run.get(..1).unwrap_or(run));
-        space = " ";
     }
 }
