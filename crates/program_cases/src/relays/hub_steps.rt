@@ -9,6 +9,7 @@ use crate::relays::wordings::{MOST_WORDS, count_or, push_text};
 use crate::relays::writers::Pumped;
 use case_player::{Answer, StepError, Words};
 use std::alloc::AllocError;
+use std::ops::Range;
 use termrelay::Answer as Found;
 use termrelay::runs::{Call, Reply, Take};
 
@@ -27,12 +28,13 @@ impl Hubs {
             "attach" => self.attach(count_or(words, 1)),
             "feed" => self.feed(words.bytes(), count_or(words, 1)),
             "resize" => {
-                let call = Call::Resize(words.size(), words.size());
-                self.end(call, 0, usize::MAX)
+                let clients = 0..self.seats.len();
+                self.end(Call::Resize(words.size(), words.size()), clients)
             }
             "detach" => {
                 let index = words.count();
-                self.end(Call::Detach(self.seat(index).client), index, 1)
+                let call = Call::Detach(self.seat(index).client);
+                self.end(call, index..index.saturating_add(1))
             }
             "frame" => self.frame(words.count(), answer),
             "take" => self.take_frame(words.count(), answer),
@@ -92,11 +94,13 @@ impl Hubs {
         Ok(())
     }
 
-    // Makes a call that ends so many clients, from the first of them on.
-    fn end(&mut self, call: Call<'static>, first: usize, count: usize) -> Result<(), StepError> {
+    // Makes a call that ends these clients.
+    fn end(&mut self, call: Call<'static>, clients: Range<usize>) -> Result<(), StepError> {
         self.make_done(Kept::new(self.alloc, call))?;
-        for seat in self.seats.iter_mut().skip(first).take(count) {
-            seat.has_ended = true;
+        for index in clients {
+            if let Some(seat) = self.seats.get_mut(index) {
+                seat.has_ended = true;
+            }
         }
         Ok(())
     }
