@@ -5,14 +5,27 @@ use crate::relays::writers::Writer;
 use case_player::Answer;
 use std::alloc::Global;
 use std::io::ErrorKind;
+use std::num::NonZeroU16;
 use termrelay::runs::{Call, Reply, Take};
-use termrelay::{Hub, HubError};
+use termrelay::{Client, Hub, HubError};
+
+/// What a call is, without what it borrows.
+#[derive(Clone, Copy)]
+pub enum Kind {
+    Feed,
+    Resize(NonZeroU16, NonZeroU16),
+    Attach,
+    Detach(Client),
+    Frame(Client),
+    Pump(Client),
+    Fork(Client),
+    Redraw(Client),
+}
 
 /// A call with what it borrows, kept so that it can be made again.
 #[derive(Drop)]
 pub struct Kept {
-    // The call, without its bytes and takes.
-    bare: Call<'static>,
+    kind: Kind,
     /// The bytes of a feed.
     pub bytes: Vec<u8>,
     /// What the first writes of a pump take.
@@ -25,9 +38,9 @@ pub struct Kept {
 
 impl Kept {
     /// This call: a feed has no bytes yet, and the writes of a pump take all.
-    pub fn new(alloc: Global, bare: Call<'static>) -> Kept {
+    pub fn new(alloc: Global, kind: Kind) -> Kept {
         Kept {
-            bare,
+            kind,
             bytes: Vec::new(alloc),
             takes: Vec::new(alloc),
             most: usize::MAX,
@@ -37,10 +50,15 @@ impl Kept {
 
     /// The call.
     pub fn call(&self) -> Call<'_> {
-        match self.bare {
-            Call::Feed(_) => Call::Feed(&self.bytes),
-            Call::Pump(client, _) => Call::Pump(client, &self.takes),
-            call => call,
+        match self.kind {
+            Kind::Feed => Call::Feed(&self.bytes),
+            Kind::Resize(rows, cols) => Call::Resize(rows, cols),
+            Kind::Attach => Call::Attach,
+            Kind::Detach(client) => Call::Detach(client),
+            Kind::Frame(client) => Call::Frame(client),
+            Kind::Pump(client) => Call::Pump(client, &self.takes),
+            Kind::Fork(client) => Call::Fork(client),
+            Kind::Redraw(client) => Call::Redraw(client),
         }
     }
 }
@@ -62,6 +80,11 @@ pub fn called(hub: &mut Hub, call: &Call<'_>, writer: &mut Writer<'_>) -> Reply 
 
 fn done(_nothing: ()) -> Reply {
     Reply::Done
+}
+
+/// Whether a call was made, and has no answer.
+pub fn is_done(reply: &Reply) -> bool {
+    matches!(reply, Reply::Done)
 }
 
 /// Whether a call was refused memory.

@@ -1,9 +1,11 @@
 //! What hubs refuse: those that were refused memory at a feed, and clients that aren't known.
 
+use crate::relays::calls::{called, is_done};
 use crate::relays::hubs::Seat;
 use crate::relays::writers::Writer;
 use case_player::StepError;
 use std::num::NonZeroU16;
+use termrelay::runs::{Call, Reply};
 use termrelay::{Client, Hub, HubError};
 
 /// What a step is whose call was refused memory. A feed may have failed its hub, and must have if that is said; any
@@ -34,28 +36,35 @@ fn failed(hub: &mut Hub, seats: &[Seat]) -> StepError {
 // A failed hub refuses everything, and knows nobody whom it didn't attach.
 fn refuses(hub: &mut Hub) -> bool {
     let one = NonZeroU16::MIN;
-    matches!(hub.feed(b"x"), Err(HubError::Failed))
-        && matches!(hub.attach(), Err(HubError::Failed))
-        && matches!(hub.resize(one, one), Err(HubError::Failed))
+    is_failed(hub, &Call::Feed(b"x"))
+        && is_failed(hub, &Call::Attach)
+        && is_failed(hub, &Call::Resize(one, one))
         && is_unknown_to(hub, Client::from_key(usize::MAX))
 }
 
 // A client gets no frame, is sent what it was owed, and ends.
 fn serves(hub: &mut Hub, seat: &Seat) -> bool {
     let mut writer = Writer::new();
-    matches!(hub.frame(seat.client), Err(HubError::Failed))
-        && hub.pump(seat.client, &mut writer).is_ok()
-        && hub.detach(seat.client).is_ok()
+    is_failed(hub, &Call::Frame(seat.client))
+        && is_done(&called(hub, &Call::Pump(seat.client, &[]), &mut writer))
+        && is_done(&called(hub, &Call::Detach(seat.client), &mut writer))
         && writer.pumped.all == seat.owed
+}
+
+fn is_failed(hub: &mut Hub, call: &Call<'_>) -> bool {
+    let reply = called(hub, call, &mut Writer::new());
+    matches!(reply, Reply::Refused(HubError::Failed))
+}
+
+fn is_unknown(hub: &mut Hub, call: &Call<'_>) -> bool {
+    let reply = called(hub, call, &mut Writer::new());
+    matches!(reply, Reply::Refused(HubError::UnknownClient))
 }
 
 /// No call of the hub knows the client.
 pub fn is_unknown_to(hub: &mut Hub, client: Client) -> bool {
     matches!(hub.owed(client), Err(HubError::UnknownClient))
-        && matches!(hub.frame(client), Err(HubError::UnknownClient))
-        && matches!(
-            hub.pump(client, &mut Writer::new()),
-            Err(HubError::UnknownClient)
-        )
-        && matches!(hub.detach(client), Err(HubError::UnknownClient))
+        && is_unknown(hub, &Call::Frame(client))
+        && is_unknown(hub, &Call::Pump(client, &[]))
+        && is_unknown(hub, &Call::Detach(client))
 }

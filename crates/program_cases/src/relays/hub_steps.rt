@@ -1,7 +1,7 @@
 //! Steps on hubs.
 
 use crate::faults::fault_named;
-use crate::relays::calls::{Kept, push_reply};
+use crate::relays::calls::{Kept, Kind, push_reply};
 use crate::relays::failing::is_unknown_to;
 use crate::relays::hubs::{Hubs, Seat};
 use crate::relays::sums::Sum;
@@ -11,7 +11,7 @@ use case_player::{Answer, StepError, Words};
 use std::alloc::AllocError;
 use std::ops::Range;
 use termrelay::Answer as Found;
-use termrelay::runs::{Call, Reply, Take};
+use termrelay::runs::{Reply, Take};
 
 /// How many bytes a writer takes a write where a step doesn't say it.
 const MOST: usize = 7;
@@ -29,12 +29,12 @@ impl Hubs {
             "feed" => self.feed(words.bytes(), count_or(words, 1)),
             "resize" => {
                 let clients = 0..self.seats.len();
-                self.end(Call::Resize(words.size(), words.size()), clients)
+                self.end(Kind::Resize(words.size(), words.size()), clients)
             }
             "detach" => {
                 let index = words.count();
-                let call = Call::Detach(self.seat(index).client);
-                self.end(call, index..index.saturating_add(1))
+                let kind = Kind::Detach(self.seat(index).client);
+                self.end(kind, index..index.saturating_add(1))
             }
             "frame" => self.frame(words.count(), answer),
             "take" => self.take_frame(words.count(), answer),
@@ -53,7 +53,7 @@ impl Hubs {
     // So many clients come, one after another.
     fn attach(&mut self, times: usize) -> Result<(), StepError> {
         for _ in self.made..times {
-            self.seat_next(Call::Attach, Sum::NONE)?;
+            self.seat_next(Kind::Attach, Sum::NONE)?;
             self.made = self.made.saturating_add(1);
         }
         self.made = 0;
@@ -64,13 +64,13 @@ impl Hubs {
     fn fork(&mut self, index: usize) -> Result<(), StepError> {
         let seat = self.seat(index);
         let pumped = seat.pumped.after(self.owed(index));
-        self.seat_next(Call::Fork(seat.client), pumped)
+        self.seat_next(Kind::Fork(seat.client), pumped)
     }
 
     // The client of a call comes, to which all this was pumped.
-    fn seat_next(&mut self, call: Call<'static>, pumped: Sum) -> Result<(), StepError> {
+    fn seat_next(&mut self, kind: Kind, pumped: Sum) -> Result<(), StepError> {
         self.seats.reserve(1)?;
-        let Reply::Attached(client) = self.make(Kept::new(self.alloc, call))? else {
+        let Reply::Attached(client) = self.make(Kept::new(self.alloc, kind))? else {
             return Err(StepError::Wrong("no client comes"));
         };
         self.seats.push(Seat {
@@ -85,7 +85,7 @@ impl Hubs {
     /// Feeds bytes, so many times.
     pub fn feed(&mut self, bytes: &[u8], times: usize) -> Result<(), StepError> {
         for _ in self.made..times {
-            let mut kept = Kept::new(self.alloc, Call::Feed(b""));
+            let mut kept = Kept::new(self.alloc, Kind::Feed);
             kept.bytes.extend_from_slice(bytes)?;
             self.make_done(kept)?;
             self.made = self.made.saturating_add(1);
@@ -95,8 +95,8 @@ impl Hubs {
     }
 
     // Makes a call that ends these clients.
-    fn end(&mut self, call: Call<'static>, clients: Range<usize>) -> Result<(), StepError> {
-        self.make_done(Kept::new(self.alloc, call))?;
+    fn end(&mut self, kind: Kind, clients: Range<usize>) -> Result<(), StepError> {
+        self.make_done(Kept::new(self.alloc, kind))?;
         for index in clients {
             if let Some(seat) = self.seats.get_mut(index) {
                 seat.has_ended = true;
@@ -115,8 +115,8 @@ impl Hubs {
 
     // A client's redraw is asked for.
     fn redraw(&mut self, index: usize, answer: &mut Answer) -> Result<(), StepError> {
-        let call = Call::Redraw(self.seat(index).client);
-        let reply = self.make(Kept::new(self.alloc, call))?;
+        let kind = Kind::Redraw(self.seat(index).client);
+        let reply = self.make(Kept::new(self.alloc, kind))?;
         push_reply(answer, &reply);
         Ok(())
     }
@@ -132,8 +132,8 @@ impl Hubs {
 
     /// A client asks for a frame.
     pub fn ask_frame(&mut self, index: usize) -> Result<Found, StepError> {
-        let call = Call::Frame(self.seat(index).client);
-        let Reply::Answered(found) = self.make(Kept::new(self.alloc, call))? else {
+        let kind = Kind::Frame(self.seat(index).client);
+        let Reply::Answered(found) = self.make(Kept::new(self.alloc, kind))? else {
             return Err(StepError::Wrong("the frame is refused"));
         };
         let owed = Sum::NONE.after(self.owed(index));
@@ -181,8 +181,8 @@ impl Hubs {
 
     fn pump(&mut self, words: &Words, answer: &mut Answer) -> Result<(), StepError> {
         let index = words.count();
-        let call = Call::Pump(self.seat(index).client, &[]);
-        let mut kept = Kept::new(self.alloc, call);
+        let kind = Kind::Pump(self.seat(index).client);
+        let mut kept = Kept::new(self.alloc, kind);
         read_takes(&mut kept, words)?;
         let reply = self.make_pump(index, kept)?;
         answer.number(self.pumped.taken.length as u64);

@@ -1,8 +1,9 @@
 //! Steps that make many calls. Where memory is refused to one of them, the case ends.
 
-use crate::relays::calls::Kept;
+use crate::relays::calls::{Kept, Kind, called, is_done};
 use crate::relays::hubs::Hubs;
 use crate::relays::wordings::counts;
+use crate::relays::writers::Writer;
 use case_player::{Answer, StepError, Words};
 use termrelay::runs::{Call, Reply};
 
@@ -42,8 +43,8 @@ impl Hubs {
 
     // A client is sent all that it is owed.
     fn send(&mut self, index: usize) -> Result<(), StepError> {
-        let call = Call::Pump(self.seat(index).client, &[]);
-        match self.make_pump(index, Kept::new(self.alloc, call))? {
+        let kind = Kind::Pump(self.seat(index).client);
+        match self.make_pump(index, Kept::new(self.alloc, kind))? {
             Reply::Done => Ok(()),
             _ => Err(StepError::Wrong("the pump is refused")),
         }
@@ -77,13 +78,14 @@ impl Hubs {
     /// One hub is fed the bytes at once, and the logged one in pieces of these lengths, again and again.
     pub fn feed_pieces(&mut self, words: &Words, bytes: &[u8]) -> Result<(), StepError> {
         let lengths = counts(self.alloc, words)?;
-        if self.hub.feed(bytes).is_err() {
+        let mut writer = Writer::new();
+        if !is_done(&called(&mut self.hub, &Call::Feed(bytes), &mut writer)) {
             return Err(StepError::Ended);
         }
         let mut left = bytes;
         for length in lengths.iter().cycle().take(bytes.len()) {
             let (piece, rest) = left.split_at((*length).min(left.len()));
-            if self.logged.feed(piece).is_err() {
+            if !is_done(&called(&mut self.logged, &Call::Feed(piece), &mut writer)) {
                 return Err(StepError::Ended);
             }
             left = rest;
