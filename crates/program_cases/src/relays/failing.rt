@@ -35,11 +35,12 @@ fn failed(hub: &mut Hub, seats: &[Seat]) -> StepError {
 
 // A failed hub refuses everything, and knows nobody whom it didn't attach.
 fn refuses(hub: &mut Hub) -> bool {
-    let one = NonZeroU16::MIN;
+    let (one, nobody) = (NonZeroU16::MIN, Client::from_key(usize::MAX));
     is_failed(hub, &Call::Feed(b"x"))
         && is_failed(hub, &Call::Attach)
         && is_failed(hub, &Call::Resize(one, one))
-        && is_unknown_to(hub, Client::from_key(usize::MAX))
+        && is_unknown(hub, &Call::Frame(nobody))
+        && is_unknown(hub, &Call::Pump(nobody, &[]))
 }
 
 // A client gets no frame, is sent what it was owed, and ends.
