@@ -3,10 +3,23 @@
 use crate::relays::cuts::{end_cut, push_drawn};
 use crate::relays::hubs::Hubs;
 use case_player::{Answer, StepError, Words};
-use relay_streams::far_view;
+use relay_streams::{RelayError, far_view};
+use std::array;
+use termrelay::runs::Call;
 use termview::{UntilCleared, View};
 
+/// Of how many calls a far view is made at most.
+const MOST_CALLS: usize = 64;
+
 impl Hubs {
+    // The call with this number. Behind the last one there are attaches.
+    fn call(&self, index: usize) -> Call<'_> {
+        match self.calls.get(index) {
+            Some(kept) => kept.call(),
+            None => Call::Attach,
+        }
+    }
+
     /// What a view shows of the first bytes of a session, in pieces of these lengths and then the rest. The calls so far
     /// are made anew.
     pub fn far(
@@ -15,14 +28,15 @@ impl Hubs {
         take: usize,
         cuts: &[usize],
     ) -> Result<Option<View<UntilCleared>>, StepError> {
-        let mut calls = Vec::new(self.alloc);
-        for kept in &self.calls {
-            calls.push(kept.call())?;
-        }
+        let calls: [Call<'_>; MOST_CALLS] = array::from_fn(|index| self.call(index));
+        let Some(calls) = calls.get(..self.calls.len()) else {
+            return Err(StepError::Wrong("a far view is made of at most 64 calls"));
+        };
         let (rows, cols) = self.size;
-        match far_view(self.alloc, rows, cols, &calls, session, take, cuts) {
+        match far_view(self.alloc, rows, cols, calls, session, take, cuts) {
             Ok(found) => Ok(found),
-            Err(_) => Err(StepError::Memory),
+            Err(RelayError::Memory) => Err(StepError::Memory),
+            Err(_) => Err(StepError::Wrong("the far view fails otherwise than for memory")),
         }
     }
 
