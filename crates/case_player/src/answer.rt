@@ -1,7 +1,7 @@
 //! What a step answers.
 
 use std::alloc::{AllocError, Global};
-use std::fmt::Display;
+use std::fmt::{Debug, Display};
 
 /// What a step answers: some lines.
 ///
@@ -43,14 +43,39 @@ impl Answer {
         self.refused |= self.text.push_str(text).is_err();
     }
 
-    /// Appends what is written by `write!` and `writeln!`.
-    pub fn write_fmt<D: Display + Drop>(&mut self, value: D) {
+    /// Appends what is written by `write!`.
+    pub(crate) fn write_fmt<D: Display + Drop>(&mut self, value: D) {
         self.refused |= self.text.write_fmt(value).is_err();
     }
 
     /// Appends a number.
     pub fn number(&mut self, number: u64) {
         write!(self, "{number}");
+    }
+
+    /// Appends numbers with a space between them.
+    pub fn numbers(&mut self, numbers: &[u64]) {
+        let mut between = "";
+        for number in numbers {
+            self.push(between);
+            self.number(*number);
+            between = " ";
+        }
+    }
+
+    /// Appends a number in hexadecimal digits, two at least.
+    pub fn hexadecimal(&mut self, number: u32) {
+        write!(self, "{number:02X}");
+    }
+
+    /// Appends a value as its `Display`.
+    pub fn display<T: Display>(&mut self, value: &T) {
+        write!(self, "{value}");
+    }
+
+    /// Appends a value as its `Debug`.
+    pub fn debug<T: Debug>(&mut self, value: &T) {
+        write!(self, "{value:?}");
     }
 
     /// Appends a character as it is.

@@ -11,7 +11,7 @@ impl Answer {
     pub fn escaped(&mut self, bytes: &[u8]) {
         for chunk in bytes.utf8_chunks() {
             self.escaped_text(chunk.valid());
-            self.hexadecimal(chunk.invalid());
+            self.escaped_bytes(chunk.invalid());
         }
     }
 
@@ -27,7 +27,7 @@ impl Answer {
     fn escaped_char(&mut self, c: char) {
         match c {
             ' '..='~' => self.push_char(c),
-            '\0'..='\u{9F}' => self.hexadecimal(c.encode_utf8(&mut [0; 4]).as_bytes()),
+            '\0'..='\u{9F}' => self.escaped_bytes(c.encode_utf8(&mut [0; 4]).as_bytes()),
             _ if c.width() == Some(0) => self.code(u32::from(c)),
             _ => self.push_char(c),
         }
@@ -37,9 +37,10 @@ impl Answer {
         write!(self, "\\u{{{code:x}}}");
     }
 
-    fn hexadecimal(&mut self, bytes: &[u8]) {
+    fn escaped_bytes(&mut self, bytes: &[u8]) {
         for byte in bytes {
-            write!(self, "\\x{byte:02X}");
+            self.push("\\x");
+            self.hexadecimal(u32::from(*byte));
         }
     }
 }

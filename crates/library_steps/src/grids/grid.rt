@@ -1,0 +1,153 @@
+//! A grid at work.
+mod calls;
+mod captures;
+mod edits;
+mod moves;
+mod recovery;
+mod reports;
+mod whole;
+
+use calls::{parse_call, take_call};
+use captures::tell_capture;
+use case_player::{Answer, StepError, Words};
+use edits::edit;
+use reports::{tell, write};
+use std::alloc::Global;
+use std::mem;
+use vt100_core::{Grid, Row, RowSink, Scrollback, Size};
+use whole::{made, refused_whole};
+
+/// Counts the rows that it takes.
+#[derive(Drop)]
+pub struct Counter {
+    rows: u64,
+}
+
+impl RowSink for Counter {
+    ghost takes = { λ s v t. Unit {0} };
+
+    fn row(&mut self, _row: &Row) {
+        self.rows = self.rows.saturating_add(1);
+    }
+}
+
+/// A grid, the earlier one, and how many rows have left the grid for good.
+#[derive(Drop)]
+pub struct GridStage {
+    grid: Option<Grid>,
+    earlier: Option<Grid>,
+    gone: Counter,
+}
+
+impl GridStage {
+    /// No grid.
+    pub fn new() -> GridStage {
+        GridStage {
+            grid: None,
+            earlier: None,
+            gone: Counter { rows: 0 },
+        }
+    }
+
+    /// Makes a grid. The grid before it is the earlier one then.
+    pub fn renew(&mut self, alloc: Global, words: &Words) -> Result<(), StepError> {
+        let size = Size {
+            rows: words.size(),
+            cols: words.size(),
+        };
+        let scrollback = if words.is_empty() {
+            Scrollback::Disabled
+        } else {
+            Scrollback::Enabled {
+                capacity: words.count(),
+            }
+        };
+        let grid = made(alloc, size, scrollback)?;
+        self.earlier = self.grid.replace(grid);
+        self.gone = Counter { rows: 0 };
+        Ok(())
+    }
+
+    /// Takes a step.
+    pub fn take(
+        &mut self,
+        alloc: Global,
+        name: &str,
+        words: &Words,
+        answer: &mut Answer,
+    ) -> Result<(), StepError> {
+        let Some(grid) = &mut self.grid else {
+            return Err(StepError::Wrong("a step `row` or `grid` has to come before"));
+        };
+        match kind_of(name) {
+            Kind::Copy => return self.copy(),
+            Kind::Exchange => mem::swap(&mut self.grid, &mut self.earlier),
+            Kind::Write => return write(alloc, grid, &self.earlier, name, words, answer),
+            Kind::Capture => return tell_capture(alloc, grid, words, answer),
+            Kind::Tell => tell(grid, self.gone.rows, name, words, answer),
+            Kind::Change => return change(alloc, grid, &mut self.gone, name, words, answer),
+        }
+        Ok(())
+    }
+
+    fn copy(&mut self) -> Result<(), StepError> {
+        if let Some(grid) = &mut self.grid {
+            let copy = copy_of(grid)?;
+            self.earlier = Some(mem::replace(grid, copy));
+        }
+        Ok(())
+    }
+}
+
+/// What a step does.
+#[derive(Clone, Copy)]
+enum Kind {
+    Copy,
+    Exchange,
+    Write,
+    Capture,
+    Tell,
+    Change,
+}
+
+fn kind_of(name: &str) -> Kind {
+    match name {
+        "copy" => Kind::Copy,
+        "exchange" => Kind::Exchange,
+        "write_contents"
+        | "write_contents_formatted"
+        | "write_contents_diff"
+        | "write_cursor_position_formatted" => Kind::Write,
+        "capture" => Kind::Capture,
+        "rows" | "cursor" | "kept" | "capacity" | "visible_cell" | "whole" => Kind::Tell,
+        _ => Kind::Change,
+    }
+}
+
+fn copy_of(grid: &Grid) -> Result<Grid, StepError> {
+    match grid.clone() {
+        Ok(copy) => Ok(copy),
+        Err(_) => Err(refused_whole(grid)),
+    }
+}
+
+/// Takes a step that changes the grid.
+fn change(
+    alloc: Global,
+    grid: &mut Grid,
+    gone: &mut Counter,
+    name: &str,
+    words: &Words,
+    answer: &mut Answer,
+) -> Result<(), StepError> {
+    if !grid.is_allocated() {
+        return Err(StepError::Wrong("the grid has no rows"));
+    }
+    match parse_call(name, words) {
+        Some(call) => take_call(alloc, grid, call, gone, answer),
+        None => {
+            edit(grid, name, words, gone);
+            Ok(())
+        }
+    }
+}

@@ -1,0 +1,105 @@
+//! A row at work.
+mod edits;
+mod printing;
+mod reports;
+
+use crate::grids::texts::refused;
+use crate::words::attributes;
+use case_player::{Answer, StepError, Words};
+use edits::{change, lengthen};
+use printing::{print, print_at};
+use reports::{tell, write};
+use std::alloc::Global;
+use std::mem;
+use vt100_core::Row;
+use vt100_core::attrs::Attrs;
+
+/// A row, the earlier one, and the attributes to draw with.
+#[derive(Drop)]
+pub struct RowStage {
+    row: Option<Row>,
+    earlier: Option<Row>,
+    pen: Attrs,
+}
+
+impl RowStage {
+    /// No row.
+    pub fn new() -> RowStage {
+        RowStage {
+            row: None,
+            earlier: None,
+            pen: Attrs::new(),
+        }
+    }
+
+    /// Makes a row, and prints a text on it. The row before it is the earlier one then.
+    pub fn renew(&mut self, alloc: Global, words: &Words) -> Result<(), StepError> {
+        let mut row = Row::new(alloc, words.place()).map_err(refused)?;
+        print(&mut row, 0, words.text(), Attrs::new());
+        self.earlier = self.row.replace(row);
+        self.pen = Attrs::new();
+        Ok(())
+    }
+
+    /// Takes a step.
+    pub fn take(
+        &mut self,
+        alloc: Global,
+        name: &str,
+        words: &Words,
+        answer: &mut Answer,
+    ) -> Result<(), StepError> {
+        let Some(row) = &mut self.row else {
+            return Err(StepError::Wrong("a step `row` or `grid` has to come before"));
+        };
+        match kind_of(name) {
+            Kind::Copy => return self.copy(),
+            Kind::Exchange => mem::swap(&mut self.row, &mut self.earlier),
+            Kind::Pen => self.pen = attributes(words),
+            Kind::Lengthen => return lengthen(row, name, words),
+            Kind::Write => return write(alloc, row, &self.earlier, name, words, answer),
+            Kind::Print => print_at(row, self.pen, name, words, answer),
+            Kind::Tell => tell(row, &self.earlier, name, words, answer),
+            Kind::Change => change(row, self.pen, name, words),
+        }
+        Ok(())
+    }
+
+    fn copy(&mut self) -> Result<(), StepError> {
+        if let Some(row) = &mut self.row {
+            let copy = copy_of(row)?;
+            self.earlier = Some(mem::replace(row, copy));
+        }
+        Ok(())
+    }
+}
+
+/// What a step does.
+#[derive(Clone, Copy)]
+enum Kind {
+    Copy,
+    Exchange,
+    Pen,
+    Lengthen,
+    Write,
+    Print,
+    Tell,
+    Change,
+}
+
+fn kind_of(name: &str) -> Kind {
+    match name {
+        "copy" => Kind::Copy,
+        "exchange" => Kind::Exchange,
+        "pen" => Kind::Pen,
+        "grow" | "resize" => Kind::Lengthen,
+        "write_contents" | "write_contents_formatted" | "write_contents_diff" => Kind::Write,
+        "print" | "put" | "join" => Kind::Print,
+        "shown" | "counts" | "cell" | "same_cell" => Kind::Tell,
+        _ => Kind::Change,
+    }
+}
+
+fn copy_of(row: &Row) -> Result<Row, StepError> {
+    row.clone().map_err(refused)
+}

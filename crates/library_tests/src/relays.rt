@@ -1,3 +1,0 @@
-//! Of `termrelay`: runs whose log finds no memory.
-
-mod refusals;

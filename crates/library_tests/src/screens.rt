@@ -1,3 +1,0 @@
-//! Of `vt100_core`: writers of one's own.
-
-mod captures;

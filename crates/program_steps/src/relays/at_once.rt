@@ -1,0 +1,80 @@
+//! Calls that are all made by one run.
+
+use crate::relays::calls::{is_like, is_no_memory};
+use crate::relays::hubs::{Hubs, new_hub};
+use case_player::StepError;
+use termrelay::Hub;
+use termrelay::runs::{Call, Log, Reply, run};
+
+const OTHERWISE: StepError = StepError::Wrong("one run is replied otherwise");
+
+impl Hubs {
+    /// All calls so far are made anew by one run, on a fresh hub. It has to do what the hub does whose runs make one
+    /// call each. Where its log finds no room, the run ends before that call, and the rest can be made then.
+    pub fn run_at_once(&self) -> Result<(), StepError> {
+        let (rows, cols) = self.size;
+        let mut hub = new_hub(self.alloc, rows, cols)?;
+        let mut log = Log::new(self.alloc);
+        self.run_calls(&mut hub, &mut log)?;
+        self.check_alike(&hub, &log)
+    }
+
+    fn run_calls(&self, hub: &mut Hub, log: &mut Log) -> Result<(), StepError> {
+        let calls = self.all_calls();
+        match calls.get(..self.calls.len()) {
+            Some(calls) => run_all(hub, calls, log),
+            None => Err(StepError::Wrong("at most 64 calls are made at once")),
+        }
+    }
+
+    // These are the replies to the calls so far.
+    fn check_replies(&self, replies: &[Reply]) -> Result<(), StepError> {
+        let mut left = replies;
+        for wanted in self.log.replies() {
+            if is_no_memory(wanted) {
+                continue;
+            }
+            match left {
+                [reply, ..] if is_no_memory(reply) => return Err(StepError::Memory),
+                [reply, rest @ ..] if is_like(reply, wanted) => left = rest,
+                _ => return Err(OTHERWISE),
+            }
+        }
+        if left.is_empty() {
+            Ok(())
+        } else {
+            Err(OTHERWISE)
+        }
+    }
+
+    // A hub was replied the same, owes its clients what it has to, and its log has what was pumped.
+    fn check_alike(&self, hub: &Hub, log: &Log) -> Result<(), StepError> {
+        self.check_replies(log.replies())?;
+        let mut is_same = log.sessions().len() == self.log.sessions().len();
+        for (session, wanted) in log.sessions().iter().zip(self.log.sessions()) {
+            is_same &= session.pumped() == wanted.pumped();
+        }
+        for seat in &self.seats {
+            is_same &= seat.is_owed(hub);
+        }
+        if is_same {
+            Ok(())
+        } else {
+            Err(StepError::Wrong("one run sends or owes something else"))
+        }
+    }
+}
+
+// Makes calls by one run, and the rest by another one where the log found no room for a call.
+fn run_all(hub: &mut Hub, calls: &[Call<'_>], log: &mut Log) -> Result<(), StepError> {
+    if run(hub, calls, log).is_ok() {
+        return Ok(());
+    }
+    let Some(rest @ [_, ..]) = calls.get(log.replies().len()..) else {
+        return Err(StepError::Wrong("a run that ended early made all calls"));
+    };
+    match run(hub, rest, log) {
+        Ok(()) => Ok(()),
+        Err(_) => Err(StepError::Memory),
+    }
+}

@@ -1,0 +1,234 @@
+//! What the steps of a case work on.
+
+use super::{parsers, views};
+use crate::relays::cuts::{advance, each_cut, each_stop, each_two_cuts, view_in_pieces};
+use crate::relays::hubs::Hubs;
+use crate::relays::readers::fill_piece;
+use crate::relays::values::{push_attributes, push_errors, push_values};
+use crate::relays::wordings::counts;
+use case_player::{Answer, StepError, Words};
+use std::alloc::Global;
+use std::mem;
+use termview::{UntilCleared, View};
+use vt100::Parser;
+
+/// Hubs, a view, a parser and an input, as far as a case has them.
+#[derive(Drop)]
+pub struct RelayPlayer {
+    alloc: Global,
+    hubs: Option<Hubs>,
+    view: Option<View<UntilCleared>>,
+    parser: Option<Parser<()>>,
+    // What hubs are fed in pieces, and what was sent to clients.
+    input: Vec<u8>,
+    // How many bytes of it a view has got.
+    read: usize,
+}
+
+/// What a step lacks.
+const NO_HUB: StepError = StepError::Wrong("there is no hub yet");
+
+const NO_VIEW: StepError = StepError::Wrong("there is no view yet");
+
+const NO_PARSER: StepError = StepError::Wrong("there is no parser yet");
+
+impl RelayPlayer {
+    /// A player with nothing on its stage.
+    pub fn new(alloc: Global) -> RelayPlayer {
+        RelayPlayer {
+            alloc,
+            hubs: None,
+            view: None,
+            parser: None,
+            input: Vec::new(alloc),
+            read: 0,
+        }
+    }
+
+    fn make_hubs(&mut self, words: &Words) -> Result<(), StepError> {
+        let hubs = Hubs::new(self.alloc, words.size(), words.size())?;
+        drop(self.hubs.replace(hubs));
+        Ok(())
+    }
+
+    // The view from now on is one of this size, of bytes that come in pieces of these lengths.
+    fn make_view(&mut self, words: &Words) -> Result<(), StepError> {
+        let size = (words.size(), words.size());
+        let bytes = if words.is_empty() { b"" } else { words.bytes() };
+        let cuts = counts(self.alloc, words)?;
+        let view = view_in_pieces(self.alloc, size, bytes, &cuts)?;
+        drop(self.view.replace(view));
+        Ok(())
+    }
+
+    // The view from now on is a far view of all calls so far.
+    fn find_far(&mut self, words: &Words, answer: &mut Answer) -> Result<(), StepError> {
+        let Some(hubs) = &self.hubs else {
+            return Err(NO_HUB);
+        };
+        let (session, take) = (words.count(), words.count());
+        let cuts = counts(self.alloc, words)?;
+        let view = hubs.far(session, take, &cuts)?;
+        drop(mem::replace(&mut self.view, view));
+        if self.view.is_none() {
+            answer.push("none");
+        }
+        Ok(())
+    }
+
+    // A step on hubs. Then each client is owed what it has to be.
+    fn take_hubs(
+        &mut self,
+        name: &str,
+        words: &Words,
+        answer: &mut Answer,
+    ) -> Result<(), StepError> {
+        let Some(hubs) = &mut self.hubs else {
+            return Err(NO_HUB);
+        };
+        let outcome = match name {
+            "at_once" => hubs.run_at_once(),
+            "far_cuts" => hubs.cut_far(words, answer),
+            "send" => hubs.send_to(words.count(), &mut self.input),
+            "letters" => hubs.letters(words, &mut self.input),
+            "pieces" => hubs.feed_pieces(words, &self.input),
+            _ => hubs.take(name, words, answer),
+        };
+        match outcome {
+            Err(StepError::Ended) => outcome,
+            _ => {
+                hubs.check()?;
+                outcome
+            }
+        }
+    }
+
+    // A step on a view alone, or on a view and the input.
+    fn take_view(
+        &mut self,
+        name: &str,
+        words: &Words,
+        answer: &mut Answer,
+    ) -> Result<(), StepError> {
+        let Some(view) = &mut self.view else {
+            return Err(NO_VIEW);
+        };
+        if name != "read_but" {
+            return views::take(self.alloc, view, name, words, answer);
+        }
+        let end = self.input.len().saturating_sub(words.count());
+        advance(view, self.input.get(self.read..end).unwrap_or(b""));
+        self.read = end;
+        Ok(())
+    }
+
+    // A step on a parser.
+    fn take_parser(
+        &mut self,
+        name: &str,
+        words: &Words,
+        answer: &mut Answer,
+    ) -> Result<(), StepError> {
+        if name == "parser" {
+            let parser = parsers::new_parser(self.alloc, words)?;
+            drop(self.parser.replace(parser));
+            return Ok(());
+        }
+        match &mut self.parser {
+            Some(parser) if name == "write" => parsers::write(parser, words.bytes(), answer),
+            Some(parser) => parsers::push_screen(parser, answer),
+            None => Err(NO_PARSER),
+        }
+    }
+
+    /// Begins a case.
+    pub fn begin(&mut self) {
+        *self = RelayPlayer::new(self.alloc);
+    }
+
+    /// Takes a step.
+    pub fn take(
+        &mut self,
+        name: &str,
+        words: &Words,
+        answer: &mut Answer,
+    ) -> Result<(), StepError> {
+        match kind_of(name) {
+            Kind::Hub => self.make_hubs(words),
+            Kind::View => self.make_view(words),
+            Kind::Far => self.find_far(words, answer),
+            Kind::Values => {
+                tell_values(name, words, answer);
+                Ok(())
+            }
+            Kind::Parser => self.take_parser(name, words, answer),
+            Kind::Input => Ok(self.input.extend_from_slice(words.bytes())?),
+            Kind::Cuts => tell_cuts(self.alloc, name, words, answer),
+            Kind::OnView => self.take_view(name, words, answer),
+            Kind::OnHubs => self.take_hubs(name, words, answer),
+        }
+    }
+}
+
+// What a step does.
+#[derive(Clone, Copy)]
+enum Kind {
+    Hub,
+    View,
+    Far,
+    Values,
+    Parser,
+    Input,
+    Cuts,
+    OnView,
+    OnHubs,
+}
+
+fn kind_of(name: &str) -> Kind {
+    match name {
+        "hub" => Kind::Hub,
+        "view" => Kind::View,
+        "far" => Kind::Far,
+        "fill" | "errors" | "values" | "attributes" => Kind::Values,
+        "parser" | "write" | "parsed" => Kind::Parser,
+        "input" => Kind::Input,
+        "cuts" | "stops" | "two_cuts" => Kind::Cuts,
+        "read_but"
+        | "advance"
+        | "stop"
+        | "shown"
+        | "cursor"
+        | "settings"
+        | "cell"
+        | "held"
+        | "text"
+        | "wrapped"
+        | "row"
+        | "runs" => Kind::OnView,
+        _ => Kind::OnHubs,
+    }
+}
+
+// A step that cuts bytes everywhere.
+fn tell_cuts(
+    alloc: Global,
+    name: &str,
+    words: &Words,
+    answer: &mut Answer,
+) -> Result<(), StepError> {
+    match name {
+        "cuts" => each_cut(alloc, words, answer),
+        "stops" => each_stop(alloc, words, answer),
+        _ => each_two_cuts(alloc, words, answer),
+    }
+}
+
+// A step that tells of values alone.
+fn tell_values(name: &str, words: &Words, answer: &mut Answer) {
+    match name {
+        "fill" => fill_piece(words.number(), answer),
+        "errors" => push_errors(answer),
+        "values" => push_values(answer),
+        _ => push_attributes(answer),
+    }
+}
