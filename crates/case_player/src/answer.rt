@@ -119,6 +119,14 @@ impl Answer {
         self.text.is_empty()
     }
 
+    /// Whether the last lines are these, behind a place and a colon.
+    pub fn has_told(&self, lines: &str) -> bool {
+        match self.as_str().strip_suffix(lines) {
+            Some(before) => before.ends_with(": "),
+            None => false,
+        }
+    }
+
     /// The lines so far, each with its end.
     pub fn as_str(&self) -> &str {
         self.text.as_str()

@@ -18,11 +18,10 @@ pub(crate) fn parse_line(line: &str) -> Line<'_> {
     if line.is_empty() || line.starts_with('#') {
         return Line::Nothing;
     }
-    match line.split_once(' ') {
-        Some(("case", title)) => Line::Case(title),
-        Some(("=", wanted)) => Line::Wanted(wanted),
-        Some((name, words)) => Line::Step(name, words),
-        None if line == "=" => Line::Wanted(""),
-        None => Line::Step(line, ""),
+    let (name, words) = line.split_once(' ').unwrap_or((line, ""));
+    match name {
+        "case" => Line::Case(words),
+        "=" => Line::Wanted(words),
+        _ => Line::Step(name, words),
     }
 }

@@ -1,9 +1,14 @@
 //! Plays the cases: files of steps, each with the lines that it has to answer.
 //!
 //! The words are `[--may-refuse] [--list] [--case N] FILE..`. The folder that a file lies in says what its cases are
-//! about.
+//! about. `library_steps` has the steps of the libraries' cases, and this crate those of relays and programs.
 #![tactic(auto)]
 
+mod commands;
+mod faults;
+mod input;
+mod limited;
+mod relays;
 mod stage;
 
 use case_player::play;
@@ -11,5 +16,5 @@ use stage::Stage;
 use std::process::ExitCode;
 
 fn main(rt: HostRuntime) -> ExitCode {
-    play(&rt, Stage::new(&rt))
+    play(&rt, Stage::new(&rt, ""))
 }

@@ -2,6 +2,7 @@
 
 mod answers;
 mod grid;
+mod pair;
 mod player;
 mod row;
 mod texts;

@@ -3,18 +3,26 @@
 use crate::grids::GridPlayer;
 use crate::screens::ScreenPlayer;
 use crate::streams;
-use case_player::{Answer, Player, StepError, Words};
+use case_player::{Answer, StepError, Words};
 use std::alloc::Global;
 
-/// What cases are about.
-#[derive(Drop)]
+/// What a case is about.
+#[derive(Clone, Copy)]
 enum Subject {
     Streams,
     Grids,
     Screens,
 }
 
-/// What cases work on, and what they are about.
+fn subject_of(folder: &str) -> Subject {
+    match folder {
+        "grids" => Subject::Grids,
+        "screens" => Subject::Screens,
+        _ => Subject::Streams,
+    }
+}
+
+/// What a case works on, and what it is about.
 #[derive(Drop)]
 pub struct LibraryPlayer {
     alloc: Global,
@@ -24,29 +32,23 @@ pub struct LibraryPlayer {
 }
 
 impl LibraryPlayer {
-    /// Players that have taken no step.
-    pub fn new(alloc: Global) -> LibraryPlayer {
+    /// A player of a case of this folder that has taken no step.
+    pub fn new(alloc: Global, folder: &str) -> LibraryPlayer {
         LibraryPlayer {
             alloc,
-            subject: Subject::Streams,
+            subject: subject_of(folder),
             grids: GridPlayer::new(alloc),
             screens: ScreenPlayer::new(alloc),
         }
     }
-}
 
-impl Player for LibraryPlayer {
-    fn begin(&mut self, folder: &str) {
-        self.subject = match folder {
-            "grids" => Subject::Grids,
-            "screens" => Subject::Screens,
-            _ => Subject::Streams,
-        };
-        self.grids.begin();
-        self.screens.begin();
-    }
-
-    fn take(&mut self, name: &str, words: &Words, answer: &mut Answer) -> Result<(), StepError> {
+    /// Takes a step.
+    pub fn take(
+        &mut self,
+        name: &str,
+        words: &Words,
+        answer: &mut Answer,
+    ) -> Result<(), StepError> {
         match self.subject {
             Subject::Streams => streams::take(self.alloc, name, words, answer),
             Subject::Grids => self.grids.take(name, words, answer),

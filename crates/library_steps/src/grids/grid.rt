@@ -7,13 +7,13 @@ mod recovery;
 mod reports;
 mod whole;
 
+use crate::grids::pair::Pair;
 use calls::{parse_call, take_call};
 use captures::tell_capture;
 use case_player::{Answer, StepError, Words};
 use edits::edit;
 use reports::{tell, write};
 use std::alloc::Global;
-use std::mem;
 use vt100_core::{Grid, Row, RowSink, Scrollback, Size};
 use whole::{made, refused_whole};
 
@@ -34,8 +34,7 @@ impl RowSink for Counter {
 /// A grid, the earlier one, and how many rows have left the grid for good.
 #[derive(Drop)]
 pub struct GridStage {
-    grid: Option<Grid>,
-    earlier: Option<Grid>,
+    grids: Pair<Grid>,
     gone: Counter,
 }
 
@@ -43,8 +42,7 @@ impl GridStage {
     /// No grid.
     pub fn new() -> GridStage {
         GridStage {
-            grid: None,
-            earlier: None,
+            grids: Pair::none(),
             gone: Counter { rows: 0 },
         }
     }
@@ -63,7 +61,7 @@ impl GridStage {
             }
         };
         let grid = made(alloc, size, scrollback)?;
-        self.earlier = self.grid.replace(grid);
+        self.grids.put(grid);
         self.gone = Counter { rows: 0 };
         Ok(())
     }
@@ -76,24 +74,16 @@ impl GridStage {
         words: &Words,
         answer: &mut Answer,
     ) -> Result<(), StepError> {
-        let Some(grid) = &mut self.grid else {
+        let Some(grid) = &mut self.grids.now else {
             return Err(StepError::Wrong("a step `row` or `grid` has to come before"));
         };
         match kind_of(name) {
-            Kind::Copy => return self.copy(),
-            Kind::Exchange => mem::swap(&mut self.grid, &mut self.earlier),
-            Kind::Write => return write(alloc, grid, &self.earlier, name, words, answer),
+            Kind::Copy => return copy(&mut self.grids),
+            Kind::Exchange => self.grids.exchange(),
+            Kind::Write => return write(alloc, grid, &self.grids.earlier, name, words, answer),
             Kind::Capture => return tell_capture(alloc, grid, words, answer),
             Kind::Tell => tell(grid, self.gone.rows, name, words, answer),
             Kind::Change => return change(alloc, grid, &mut self.gone, name, words, answer),
-        }
-        Ok(())
-    }
-
-    fn copy(&mut self) -> Result<(), StepError> {
-        if let Some(grid) = &mut self.grid {
-            let copy = copy_of(grid)?;
-            self.earlier = Some(mem::replace(grid, copy));
         }
         Ok(())
     }
@@ -122,6 +112,14 @@ fn kind_of(name: &str) -> Kind {
         "rows" | "cursor" | "kept" | "capacity" | "visible_cell" | "whole" => Kind::Tell,
         _ => Kind::Change,
     }
+}
+
+fn copy(grids: &mut Pair<Grid>) -> Result<(), StepError> {
+    if let Some(grid) = &grids.now {
+        let copy = copy_of(grid)?;
+        grids.put(copy);
+    }
+    Ok(())
 }
 
 fn copy_of(grid: &Grid) -> Result<Grid, StepError> {

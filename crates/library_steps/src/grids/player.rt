@@ -24,11 +24,6 @@ impl GridPlayer {
         }
     }
 
-    /// Begins a case.
-    pub fn begin(&mut self) {
-        *self = GridPlayer::new(self.alloc);
-    }
-
     /// Takes a step.
     pub fn take(
         &mut self,

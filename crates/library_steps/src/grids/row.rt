@@ -3,6 +3,7 @@ mod edits;
 mod printing;
 mod reports;
 
+use crate::grids::pair::Pair;
 use crate::grids::texts::refused;
 use crate::words::attributes;
 use case_player::{Answer, StepError, Words};
@@ -10,15 +11,13 @@ use edits::{change, lengthen};
 use printing::{print, print_at};
 use reports::{tell, write};
 use std::alloc::Global;
-use std::mem;
 use vt100_core::Row;
 use vt100_core::attrs::Attrs;
 
 /// A row, the earlier one, and the attributes to draw with.
 #[derive(Drop)]
 pub struct RowStage {
-    row: Option<Row>,
-    earlier: Option<Row>,
+    rows: Pair<Row>,
     pen: Attrs,
 }
 
@@ -26,8 +25,7 @@ impl RowStage {
     /// No row.
     pub fn new() -> RowStage {
         RowStage {
-            row: None,
-            earlier: None,
+            rows: Pair::none(),
             pen: Attrs::new(),
         }
     }
@@ -36,7 +34,7 @@ impl RowStage {
     pub fn renew(&mut self, alloc: Global, words: &Words) -> Result<(), StepError> {
         let mut row = Row::new(alloc, words.place()).map_err(refused)?;
         print(&mut row, 0, words.text(), Attrs::new());
-        self.earlier = self.row.replace(row);
+        self.rows.put(row);
         self.pen = Attrs::new();
         Ok(())
     }
@@ -49,26 +47,18 @@ impl RowStage {
         words: &Words,
         answer: &mut Answer,
     ) -> Result<(), StepError> {
-        let Some(row) = &mut self.row else {
+        let Some(row) = &mut self.rows.now else {
             return Err(StepError::Wrong("a step `row` or `grid` has to come before"));
         };
         match kind_of(name) {
-            Kind::Copy => return self.copy(),
-            Kind::Exchange => mem::swap(&mut self.row, &mut self.earlier),
+            Kind::Copy => return copy(&mut self.rows),
+            Kind::Exchange => self.rows.exchange(),
             Kind::Pen => self.pen = attributes(words),
             Kind::Lengthen => return lengthen(row, name, words),
-            Kind::Write => return write(alloc, row, &self.earlier, name, words, answer),
+            Kind::Write => return write(alloc, row, &self.rows.earlier, name, words, answer),
             Kind::Print => print_at(row, self.pen, name, words, answer),
-            Kind::Tell => tell(row, &self.earlier, name, words, answer),
+            Kind::Tell => tell(row, &self.rows.earlier, name, words, answer),
             Kind::Change => change(row, self.pen, name, words),
-        }
-        Ok(())
-    }
-
-    fn copy(&mut self) -> Result<(), StepError> {
-        if let Some(row) = &mut self.row {
-            let copy = copy_of(row)?;
-            self.earlier = Some(mem::replace(row, copy));
         }
         Ok(())
     }
@@ -98,6 +88,14 @@ fn kind_of(name: &str) -> Kind {
         "shown" | "counts" | "cell" | "same_cell" => Kind::Tell,
         _ => Kind::Change,
     }
+}
+
+fn copy(rows: &mut Pair<Row>) -> Result<(), StepError> {
+    if let Some(row) = &rows.now {
+        let copy = copy_of(row)?;
+        rows.put(copy);
+    }
+    Ok(())
 }
 
 fn copy_of(row: &Row) -> Result<Row, StepError> {

@@ -7,24 +7,24 @@ use case_player::StepError;
 use std::alloc::Global;
 use vt100::Screen;
 
-/// What is said where a text of a copy differs. The first word is the call that makes the text.
-const FAULTS: &[&str] = &[
-    "contents of a copy differ",
-    "contents_between of a copy differ",
-    "contents_formatted_basic of a copy differ",
-    "all_rows_basic of a copy differ",
-    "contents_formatted of a copy differ",
-    "contents_diff of a copy differs",
-    "state_formatted of a copy differs",
-    "state_diff of a copy differs",
-    "input_mode_formatted of a copy differs",
-    "input_mode_diff of a copy differs",
-    "attributes_formatted of a copy differ",
-    "cursor_state_formatted of a copy differs",
-    "rows of a copy differ",
-    "rows_formatted of a copy differ",
-    "rows_diff of a copy differ",
-];
+/// What is said where a text of a copy differs: a line for each. Its first word is the call that makes the text.
+const FAULTS: &str = "\
+contents of a copy differ
+contents_between of a copy differ
+contents_formatted_basic of a copy differ
+all_rows_basic of a copy differ
+contents_formatted of a copy differ
+contents_diff of a copy differs
+state_formatted of a copy differs
+state_diff of a copy differs
+input_mode_formatted of a copy differs
+input_mode_diff of a copy differs
+attributes_formatted of a copy differ
+cursor_state_formatted of a copy differs
+rows of a copy differ
+rows_formatted of a copy differ
+rows_diff of a copy differ
+";
 
 /// The call that a fault is about.
 fn call_of(fault: &str) -> &str {
@@ -90,7 +90,7 @@ fn check_getters(screen: &Screen, copy: &Screen) -> Result<(), StepError> {
 fn check_alike(alloc: Global, screen: &Screen, copy: &Screen) -> Result<(), StepError> {
     check_getters(screen, copy)?;
     check_cells(screen, copy)?;
-    for fault in FAULTS {
+    for fault in FAULTS.lines() {
         check_text(alloc, screen, copy, fault)?;
     }
     Ok(())

@@ -92,6 +92,13 @@ impl Log {
             Call::SetWindowTitle(title) => self.pieces("title", &[title]),
             Call::CopyToClipboard(ty, data) => self.pieces("copy", &[ty, data]),
             Call::PasteFromClipboard(ty) => self.pieces("paste", &[ty]),
+            call => self.unhandled(call),
+        }
+    }
+
+    /// A call of what the screen doesn't know.
+    fn unhandled(&mut self, call: Call<'_>) {
+        match call {
             Call::UnhandledChar(c) => self.number("char", c as u32),
             Call::UnhandledControl(b) => self.number("control", u32::from(b)),
             Call::UnhandledEscape(i1, i2, b) => {
@@ -104,7 +111,7 @@ impl Log {
                 self.shown(&c);
             }
             Call::UnhandledOsc(params) => self.pieces("osc", params),
-            Call::Resize(_, _) => {}
+            _ => {}
         }
     }
 

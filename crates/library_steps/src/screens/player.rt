@@ -21,11 +21,6 @@ impl ScreenPlayer {
         ScreenPlayer { alloc, stage: None }
     }
 
-    /// Begins a case.
-    pub fn begin(&mut self) {
-        *self = ScreenPlayer::new(self.alloc);
-    }
-
     /// Takes a step.
     pub fn take(
         &mut self,

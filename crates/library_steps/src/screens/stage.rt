@@ -29,7 +29,10 @@ impl Stage {
     /// A new parser, and a copy of its screen. The words are its rows, its columns and how many rows it keeps at most.
     pub fn new(alloc: Global, words: &Words) -> Result<Stage, StepError> {
         let (rows, cols, capacity) = (words.size(), words.size(), words.count());
-        let parser = new_parser(alloc, rows, cols, capacity)?;
+        Stage::of(new_parser(alloc, rows, cols, capacity)?, capacity)
+    }
+
+    fn of(parser: Parser<Log>, capacity: usize) -> Result<Stage, StepError> {
         let base = copy_of(parser.screen())?;
         Ok(Stage {
             parser,

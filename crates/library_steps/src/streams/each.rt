@@ -4,7 +4,6 @@ use super::log::{Log, trimmed};
 use super::reading::{Reader, tell_cut, tell_pieces};
 use case_player::{Answer, StepError, Words};
 use std::alloc::Global;
-use std::mem;
 
 /// Answers the events of the 256 streams that have a byte between a prefix and an end. A line holds from the byte that
 /// it names up to the next line's. There `#` is the byte's own number where it's told first.
@@ -15,16 +14,13 @@ pub fn tell_each_byte(
     answer: &mut Answer,
 ) -> Result<(), StepError> {
     let (prefix, end) = (words.bytes(), words.bytes());
-    let (mut told, mut before) = (Answer::new(alloc)?, Answer::new(alloc)?);
+    let mut told = Answer::new(alloc)?;
     let mut stream = [prefix, b"\0", end].concat(alloc)?;
     for byte in 0..=255u8 {
         set_byte(&mut stream, prefix.len(), byte);
         log.own = Some(byte);
-        tell_whole_and_pieces(log, &stream, &[prefix, &[byte], end], &mut told);
-        if told.as_str() != before.as_str() {
-            push_from(byte, told.as_str(), answer);
-            mem::swap(&mut told, &mut before);
-        }
+        tell_around(log, &stream, prefix.len(), &mut told);
+        push_from(byte, told.as_str(), answer);
     }
     Ok(())
 }
@@ -35,14 +31,20 @@ fn set_byte(stream: &mut [u8], place: usize, byte: u8) {
     }
 }
 
-fn tell_whole_and_pieces(log: &mut Log, stream: &[u8], pieces: &[&[u8]], told: &mut Answer) {
+// Tells a stream whole and cut, and in three pieces: the byte at this place is the second one.
+fn tell_around(log: &mut Log, stream: &[u8], place: usize, told: &mut Answer) {
     told.clear();
     tell_cut(Reader::Events, log, stream, told);
-    tell_pieces(Reader::Events, log, pieces, told);
+    let (prefix, rest) = stream.split_at(place.min(stream.len()));
+    let (byte, end) = rest.split_at(rest.len().min(1));
+    tell_pieces(Reader::Events, log, &[prefix, byte, end], told);
 }
 
-// Appends what is told from this byte on.
+// Appends what is told from this byte on, unless it's told already.
 fn push_from(byte: u8, told: &str, answer: &mut Answer) {
+    if answer.has_told(told) {
+        return;
+    }
     answer.push("from ");
     answer.hexadecimal(u32::from(byte));
     answer.push(": ");

@@ -16,64 +16,79 @@ pub fn take(
     words: &Words,
     answer: &mut Answer,
 ) -> Result<(), StepError> {
-    match name {
-        "calls"
-        | "draws"
-        | "runs"
-        | "until"
-        | "events"
-        | "events_keeping_four"
-        | "each_byte"
-        | "text_of_four" => tell_stream(alloc, name, words, answer),
-        "updates" => tell_updates(alloc, words, answer),
-        "times" => tell_times(alloc, words, answer),
-        _ => {
+    match kind_of(name) {
+        Kind::Updates => tell_updates(alloc, words, answer),
+        Kind::Times => tell_times(alloc, words, answer),
+        Kind::Value => {
             tell_value(name, words, answer);
             Ok(())
         }
+        kind => tell_stream(alloc, kind, words, answer),
+    }
+}
+
+// What a step tells.
+#[derive(Clone, Copy)]
+enum Kind {
+    Calls,
+    EachByte,
+    Fours,
+    Until,
+    Runs,
+    Events,
+    EventsKeepingFour,
+    Draws,
+    Updates,
+    Times,
+    Value,
+}
+
+fn kind_of(name: &str) -> Kind {
+    match name {
+        "calls" => Kind::Calls,
+        "each_byte" => Kind::EachByte,
+        "text_of_four" => Kind::Fours,
+        "until" => Kind::Until,
+        "runs" => Kind::Runs,
+        "events" => Kind::Events,
+        "events_keeping_four" => Kind::EventsKeepingFour,
+        "draws" => Kind::Draws,
+        "updates" => Kind::Updates,
+        "times" => Kind::Times,
+        _ => Kind::Value,
     }
 }
 
 // Steps that read streams.
 fn tell_stream(
     alloc: Global,
-    name: &str,
+    kind: Kind,
     words: &Words,
     answer: &mut Answer,
 ) -> Result<(), StepError> {
     let mut log = Log::new(alloc)?;
-    match name {
-        "calls" | "each_byte" | "text_of_four" => {
-            tell_many(alloc, &mut log, name, words, answer)?;
-        }
-        "until" => tell_until(&mut log, words, answer),
-        "runs" => tell_runs(&mut log, words.bytes(), answer),
-        _ => tell_cut(reader_of(alloc, name), &mut log, words.bytes(), answer),
-    }
+    tell_logged(alloc, &mut log, kind, words, answer)?;
     log.check()
 }
 
-fn reader_of(alloc: Global, name: &str) -> Reader {
-    match name {
-        "draws" => Reader::Draws(alloc),
-        "events" => Reader::Events,
-        _ => Reader::EventsKeepingFour,
-    }
-}
-
-// Steps that read many streams, or a stream in many pieces.
-fn tell_many(
+fn tell_logged(
     alloc: Global,
     log: &mut Log,
-    name: &str,
+    kind: Kind,
     words: &Words,
     answer: &mut Answer,
 ) -> Result<(), StepError> {
-    match name {
-        "calls" => tell_calls(alloc, log, words.bytes(), answer),
-        "each_byte" => tell_each_byte(alloc, log, words, answer),
-        _ => tell_fours(alloc, log, words, answer),
+    match kind {
+        Kind::Calls => return tell_calls(alloc, log, words.bytes(), answer),
+        Kind::EachByte => return tell_each_byte(alloc, log, words, answer),
+        Kind::Fours => return tell_fours(alloc, log, words, answer),
+        Kind::Until => tell_until(log, words, answer),
+        Kind::Runs => tell_runs(log, words.bytes(), answer),
+        Kind::Draws => tell_cut(Reader::Draws(alloc), log, words.bytes(), answer),
+        Kind::EventsKeepingFour => tell_cut(Reader::EventsKeepingFour, log, words.bytes(), answer),
+        _ => tell_cut(Reader::Events, log, words.bytes(), answer),
     }
+    Ok(())
 }
 
 // Answers the calls of a stream, and those byte by byte where they are other ones.

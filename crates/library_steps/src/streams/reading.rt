@@ -7,6 +7,7 @@ use charset_filter::CharsetFilter;
 use std::alloc::{AllocError, Global};
 use std::cell::Cell;
 use std::rc::Rc;
+use vte::ansi::Processor;
 use vte_core::{Parser, Perform};
 
 /// What reads a stream.
@@ -63,13 +64,17 @@ fn read_piece<P: Perform, const N: usize>(parser: &mut Parser<N>, performer: &mu
 fn call(alloc: Global, log: &mut Log, pieces: &[&[u8]]) -> Result<(), StepError> {
     let flag = Rc::new(alloc, Cell::new(false))?;
     let mut processor = new_processor(alloc, Flagged::new(flag))?;
+    give(&mut processor, log, pieces);
+    Ok(())
+}
+
+fn give(processor: &mut Processor<Flagged, Global>, log: &mut Log, pieces: &[&[u8]]) {
     for piece in pieces {
-        advance(&mut processor, log, piece);
+        advance(processor, log, piece);
     }
     if processor.sync_bytes_count() > 0 {
         log.word("(bytes are held)");
     }
-    Ok(())
 }
 
 fn draw(alloc: Global, log: &mut Log, pieces: &[&[u8]]) -> Result<(), AllocError> {

@@ -1,14 +1,14 @@
 //! Two hubs, on which the same calls are made: one by one, and by runs that are logged. They tell the same.
 
-use crate::relays::calls::{Kept, called, is_like, is_no_memory};
+use crate::relays::calls::{Kept, called, is_like, is_no_memory, is_run};
+use crate::relays::cuts::Size;
 use crate::relays::failing::refusal;
 use crate::relays::sums::Sum;
 use crate::relays::writers::{Pumped, Writer};
 use case_player::StepError;
 use std::alloc::Global;
-use std::num::NonZeroU16;
 use std::slice;
-use termrelay::runs::{Call, Log, Reply, run};
+use termrelay::runs::{Call, Log, Reply};
 use termrelay::{Client, Hub};
 
 /// A client, and what has become of it.
@@ -46,7 +46,7 @@ pub struct Hubs {
     /// What the runs logged.
     pub log: Log,
     /// The size that the hubs began with.
-    pub size: (NonZeroU16, NonZeroU16),
+    pub size: Size,
     /// The clients that came, in the order of their coming.
     pub seats: Vec<Seat>,
     /// The calls so far.
@@ -60,7 +60,7 @@ pub struct Hubs {
 }
 
 /// A hub of this size, without clients.
-pub fn new_hub(alloc: Global, rows: NonZeroU16, cols: NonZeroU16) -> Result<Hub, StepError> {
+pub fn new_hub(alloc: Global, (rows, cols): Size) -> Result<Hub, StepError> {
     match Hub::new(alloc, rows, cols) {
         Ok(hub) => Ok(hub),
         Err(_) => Err(StepError::Memory),
@@ -68,15 +68,8 @@ pub fn new_hub(alloc: Global, rows: NonZeroU16, cols: NonZeroU16) -> Result<Hub,
 }
 
 impl Hubs {
-    /// Hubs of this size, without clients.
-    pub fn new(alloc: Global, rows: NonZeroU16, cols: NonZeroU16) -> Result<Hubs, StepError> {
-        let hub = new_hub(alloc, rows, cols)?;
-        let logged = new_hub(alloc, rows, cols)?;
-        Ok(Hubs::of(alloc, (rows, cols), hub, logged))
-    }
-
-    // These hubs, which have no clients.
-    fn of(alloc: Global, size: (NonZeroU16, NonZeroU16), hub: Hub, logged: Hub) -> Hubs {
+    /// These hubs of this size, which have no clients.
+    pub fn new(alloc: Global, size: Size, hub: Hub, logged: Hub) -> Hubs {
         Hubs {
             alloc,
             hub,
@@ -127,8 +120,8 @@ impl Hubs {
             Some(reply) => reply,
             None => self.make_directly(kept)?,
         };
-        if !self.is_run(kept) {
-            self.reply = Some(reply);
+        if !self.is_logged(kept) {
+            drop(self.reply.replace(reply));
             return Err(refusal(&mut self.logged, &self.seats, false));
         }
         match self.log.replies().last() {
@@ -155,9 +148,9 @@ impl Hubs {
     }
 
     // Makes a call by a run, which logs it. Answers whether there was memory for the call and for the log.
-    fn is_run(&mut self, kept: &Kept) -> bool {
+    fn is_logged(&mut self, kept: &Kept) -> bool {
         let call = kept.call();
-        if run(&mut self.logged, slice::from_ref(&call), &mut self.log).is_err() {
+        if !is_run(&mut self.logged, slice::from_ref(&call), &mut self.log) {
             return false;
         }
         match self.log.replies().last() {
@@ -166,8 +159,16 @@ impl Hubs {
         }
     }
 
-    /// Each client is owed what it has to be, and the log has what was pumped to it.
-    pub fn check(&self) -> Result<(), StepError> {
+    /// A step has this outcome. Unless the case has ended, the hubs owe and have sent what they have to.
+    pub fn checked(&self, outcome: Result<(), StepError>) -> Result<(), StepError> {
+        match outcome {
+            Err(StepError::Ended) => outcome,
+            _ => self.check().and(outcome),
+        }
+    }
+
+    // Each client is owed what it has to be, and the log has what was pumped to it.
+    fn check(&self) -> Result<(), StepError> {
         if self.log.sessions().len() != self.seats.len() {
             return Err(StepError::Wrong("the log has other sessions than clients came"));
         }

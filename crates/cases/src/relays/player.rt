@@ -1,8 +1,8 @@
 //! What the steps of a case work on.
 
 use super::{parsers, views};
-use crate::relays::cuts::{advance, each_cut, each_stop, each_two_cuts, view_in_pieces};
-use crate::relays::hubs::Hubs;
+use crate::relays::cuts::{advance, each_cut, each_two_cuts, view_in_pieces};
+use crate::relays::hubs::{Hubs, new_hub};
 use crate::relays::readers::fill_piece;
 use crate::relays::values::{push_attributes, push_errors, push_values};
 use crate::relays::wordings::counts;
@@ -46,9 +46,14 @@ impl RelayPlayer {
     }
 
     fn make_hubs(&mut self, words: &Words) -> Result<(), StepError> {
-        let hubs = Hubs::new(self.alloc, words.size(), words.size())?;
-        drop(self.hubs.replace(hubs));
-        Ok(())
+        let size = (words.size(), words.size());
+        match (new_hub(self.alloc, size), new_hub(self.alloc, size)) {
+            (Ok(hub), Ok(logged)) => {
+                drop(self.hubs.replace(Hubs::new(self.alloc, size, hub, logged)));
+                Ok(())
+            }
+            _ => Err(StepError::Memory),
+        }
     }
 
     // The view from now on is one of this size, of bytes that come in pieces of these lengths.
@@ -87,20 +92,12 @@ impl RelayPlayer {
             return Err(NO_HUB);
         };
         let outcome = match name {
-            "at_once" => hubs.run_at_once(),
-            "far_cuts" => hubs.cut_far(words, answer),
             "send" => hubs.send_to(words.count(), &mut self.input),
             "letters" => hubs.letters(words, &mut self.input),
             "pieces" => hubs.feed_pieces(words, &self.input),
             _ => hubs.take(name, words, answer),
         };
-        match outcome {
-            Err(StepError::Ended) => outcome,
-            _ => {
-                hubs.check()?;
-                outcome
-            }
-        }
+        hubs.checked(outcome)
     }
 
     // A step on a view alone, or on a view and the input.
@@ -139,11 +136,6 @@ impl RelayPlayer {
             Some(parser) => parsers::push_screen(parser, answer),
             None => Err(NO_PARSER),
         }
-    }
-
-    /// Begins a case.
-    pub fn begin(&mut self) {
-        *self = RelayPlayer::new(self.alloc);
     }
 
     /// Takes a step.
@@ -193,20 +185,27 @@ fn kind_of(name: &str) -> Kind {
         "parser" | "write" | "parsed" => Kind::Parser,
         "input" => Kind::Input,
         "cuts" | "stops" | "two_cuts" => Kind::Cuts,
-        "read_but"
-        | "advance"
-        | "stop"
-        | "shown"
-        | "cursor"
-        | "settings"
-        | "cell"
-        | "held"
-        | "text"
-        | "wrapped"
-        | "row"
-        | "runs" => Kind::OnView,
+        _ if is_on_view(name) => Kind::OnView,
         _ => Kind::OnHubs,
     }
+}
+
+fn is_on_view(name: &str) -> bool {
+    matches!(
+        name,
+        "read_but"
+            | "advance"
+            | "stop"
+            | "shown"
+            | "cursor"
+            | "settings"
+            | "cell"
+            | "held"
+            | "text"
+            | "wrapped"
+            | "row"
+            | "runs"
+    )
 }
 
 // A step that cuts bytes everywhere.
@@ -217,9 +216,8 @@ fn tell_cuts(
     answer: &mut Answer,
 ) -> Result<(), StepError> {
     match name {
-        "cuts" => each_cut(alloc, words, answer),
-        "stops" => each_stop(alloc, words, answer),
-        _ => each_two_cuts(alloc, words, answer),
+        "two_cuts" => each_two_cuts(alloc, words, answer),
+        _ => each_cut(alloc, name == "stops", words, answer),
     }
 }
 

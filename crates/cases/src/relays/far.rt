@@ -49,14 +49,26 @@ impl Hubs {
     /// the session, how many of its bytes are taken, and the cell's row and column.
     pub fn cut_far(&self, words: &Words, answer: &mut Answer) -> Result<(), StepError> {
         let (session, take) = (words.count(), words.count());
-        let (row, col) = (words.place(), words.place());
+        let place = (words.place(), words.place());
         let mut told = Answer::new(self.alloc)?;
         for cut in 0..=take {
-            match self.far(session, take, &[cut])? {
-                Some(view) => push_drawn(&mut told, &view, row, col),
-                None => told.push("no view"),
-            }
+            self.tell_far(session, take, cut, place, &mut told)?;
             end_cut(cut, &mut told, answer);
+        }
+        Ok(())
+    }
+
+    fn tell_far(
+        &self,
+        session: usize,
+        take: usize,
+        cut: usize,
+        (row, col): (u16, u16),
+        told: &mut Answer,
+    ) -> Result<(), StepError> {
+        match self.far(session, take, &[cut])? {
+            Some(view) => push_drawn(told, &view, row, col),
+            None => told.push("no view"),
         }
         Ok(())
     }

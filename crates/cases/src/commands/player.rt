@@ -209,11 +209,6 @@ impl CommandPlayer {
         }
     }
 
-    /// Begins a case.
-    pub fn begin(&mut self) {
-        *self = CommandPlayer::new(self.alloc);
-    }
-
     /// Takes a step. Files lie on this disk.
     pub fn take(
         &mut self,

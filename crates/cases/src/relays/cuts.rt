@@ -31,11 +31,7 @@ pub fn advance(view: &mut View<UntilCleared>, piece: &[u8]) {
 /// Ends a cut: appends what is told there, unless the cut before told the same. The line says the cut.
 pub fn end_cut(cut: usize, told: &mut Answer, answer: &mut Answer) {
     told.end_line();
-    let is_told = match answer.as_str().strip_suffix(told.as_str()) {
-        Some(before) => before.ends_with(": "),
-        None => false,
-    };
-    if !is_told {
+    if !answer.has_told(told.as_str()) {
         answer.number(cut as u64);
         answer.push(": ");
         answer.push(told.as_str());
@@ -43,20 +39,41 @@ pub fn end_cut(cut: usize, told: &mut Answer, answer: &mut Answer) {
     told.clear();
 }
 
-/// What is shown before each cut, and after all bytes. The words are the size and the bytes.
-pub fn each_cut(alloc: Global, words: &Words, answer: &mut Answer) -> Result<(), StepError> {
+/// What is shown before each cut, and after all bytes. Where updates are stopped, it is what is shown in the end when they
+/// are stopped after each byte. The words are the size and the bytes.
+pub fn each_cut(
+    alloc: Global,
+    are_stopped: bool,
+    words: &Words,
+    answer: &mut Answer,
+) -> Result<(), StepError> {
     let size = (words.size(), words.size());
     let bytes = words.bytes();
     let mut told = Answer::new(alloc)?;
     for cut in 0..bytes.len() {
-        let (prefix, rest) = bytes.split_at(cut);
-        let mut view = view_in_pieces(alloc, size, prefix, &[])?;
-        push_held(&mut told, &view, cut.saturating_sub(START_LEN));
-        told.push(", then ");
-        advance(&mut view, rest);
-        push_held(&mut told, &view, 0);
+        let cut = cut + usize::from(are_stopped);
+        tell_cut(alloc, size, bytes.split_at(cut), are_stopped, &mut told)?;
         end_cut(cut, &mut told, answer);
     }
+    Ok(())
+}
+
+fn tell_cut(
+    alloc: Global,
+    size: Size,
+    (prefix, rest): (&[u8], &[u8]),
+    are_stopped: bool,
+    told: &mut Answer,
+) -> Result<(), StepError> {
+    let mut view = view_in_pieces(alloc, size, prefix, &[])?;
+    if are_stopped {
+        view.stop_sync();
+    } else {
+        push_held(told, &view, prefix.len().saturating_sub(START_LEN));
+        told.push(", then ");
+    }
+    advance(&mut view, rest);
+    push_held(told, &view, 0);
     Ok(())
 }
 
@@ -73,37 +90,40 @@ fn push_held(told: &mut Answer, view: &View<UntilCleared>, held: usize) {
     }
 }
 
-/// What is shown in the end where updates are stopped after each byte. The words are the size and the bytes.
-pub fn each_stop(alloc: Global, words: &Words, answer: &mut Answer) -> Result<(), StepError> {
-    let size = (words.size(), words.size());
-    let bytes = words.bytes();
-    let mut told = Answer::new(alloc)?;
-    for cut in 0..bytes.len() {
-        let (prefix, rest) = bytes.split_at(cut + 1);
-        let mut view = view_in_pieces(alloc, size, prefix, &[])?;
-        view.stop_sync();
-        advance(&mut view, rest);
-        push_held(&mut told, &view, 0);
-        end_cut(cut + 1, &mut told, answer);
-    }
-    Ok(())
-}
-
 /// A cell and the cursor, where the bytes come in any three pieces. The words are the size, the cell's row and column,
 /// and the bytes.
 pub fn each_two_cuts(alloc: Global, words: &Words, answer: &mut Answer) -> Result<(), StepError> {
     let size = (words.size(), words.size());
-    let (row, col) = (words.place(), words.place());
+    let place = (words.place(), words.place());
     let bytes = words.bytes();
     let mut told = Answer::new(alloc)?;
     for cut in 0..bytes.len() + 1 {
         for earlier in 0..cut + 1 {
-            let cuts = [earlier, cut.saturating_sub(earlier)];
-            let view = view_in_pieces(alloc, size, bytes, &cuts)?;
-            push_drawn(&mut told, &view, row, col);
+            tell_pieces(
+                alloc,
+                size,
+                bytes,
+                &[earlier, cut - earlier],
+                place,
+                &mut told,
+            )?;
             end_cut(cut, &mut told, answer);
         }
     }
+    Ok(())
+}
+
+// What a cell shows where the bytes come in these pieces and the rest.
+fn tell_pieces(
+    alloc: Global,
+    size: Size,
+    bytes: &[u8],
+    cuts: &[usize],
+    (row, col): (u16, u16),
+    told: &mut Answer,
+) -> Result<(), StepError> {
+    let view = view_in_pieces(alloc, size, bytes, cuts)?;
+    push_drawn(told, &view, row, col);
     Ok(())
 }
 

@@ -1,10 +1,10 @@
 //! Calls that are all made by one run.
 
-use crate::relays::calls::{is_like, is_no_memory};
+use crate::relays::calls::{is_like, is_no_memory, is_run};
 use crate::relays::hubs::{Hubs, new_hub};
 use case_player::StepError;
 use termrelay::Hub;
-use termrelay::runs::{Call, Log, Reply, run};
+use termrelay::runs::{Call, Log, Reply};
 
 const OTHERWISE: StepError = StepError::Wrong("one run is replied otherwise");
 
@@ -12,11 +12,19 @@ impl Hubs {
     /// All calls so far are made anew by one run, on a fresh hub. It has to do what the hub does whose runs make one
     /// call each. Where its log finds no room, the run ends before that call, and the rest can be made then.
     pub fn run_at_once(&self) -> Result<(), StepError> {
-        let (rows, cols) = self.size;
-        let mut hub = new_hub(self.alloc, rows, cols)?;
+        let mut hub = new_hub(self.alloc, self.size)?;
         let mut log = Log::new(self.alloc);
-        self.run_calls(&mut hub, &mut log)?;
-        self.check_alike(&hub, &log)
+        self.run_on(&mut hub, &mut log)
+    }
+
+    fn run_on(&self, hub: &mut Hub, log: &mut Log) -> Result<(), StepError> {
+        self.run_calls(hub, log)?;
+        self.check_replies(log.replies())?;
+        if self.is_alike(hub, log) {
+            Ok(())
+        } else {
+            Err(StepError::Wrong("one run sends or owes something else"))
+        }
     }
 
     fn run_calls(&self, hub: &mut Hub, log: &mut Log) -> Result<(), StepError> {
@@ -47,9 +55,8 @@ impl Hubs {
         }
     }
 
-    // A hub was replied the same, owes its clients what it has to, and its log has what was pumped.
-    fn check_alike(&self, hub: &Hub, log: &Log) -> Result<(), StepError> {
-        self.check_replies(log.replies())?;
+    // A hub owes its clients what it has to, and its log has what was pumped.
+    fn is_alike(&self, hub: &Hub, log: &Log) -> bool {
         let mut is_same = log.sessions().len() == self.log.sessions().len();
         for (session, wanted) in log.sessions().iter().zip(self.log.sessions()) {
             is_same &= session.pumped() == wanted.pumped();
@@ -57,24 +64,21 @@ impl Hubs {
         for seat in &self.seats {
             is_same &= seat.is_owed(hub);
         }
-        if is_same {
-            Ok(())
-        } else {
-            Err(StepError::Wrong("one run sends or owes something else"))
-        }
+        is_same
     }
 }
 
 // Makes calls by one run, and the rest by another one where the log found no room for a call.
 fn run_all(hub: &mut Hub, calls: &[Call<'_>], log: &mut Log) -> Result<(), StepError> {
-    if run(hub, calls, log).is_ok() {
+    if is_run(hub, calls, log) {
         return Ok(());
     }
     let Some(rest @ [_, ..]) = calls.get(log.replies().len()..) else {
         return Err(StepError::Wrong("a run that ended early made all calls"));
     };
-    match run(hub, rest, log) {
-        Ok(()) => Ok(()),
-        Err(_) => Err(StepError::Memory),
+    if is_run(hub, rest, log) {
+        Ok(())
+    } else {
+        Err(StepError::Memory)
     }
 }

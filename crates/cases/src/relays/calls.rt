@@ -6,7 +6,7 @@ use case_player::Answer;
 use std::alloc::Global;
 use std::io::ErrorKind;
 use std::num::NonZeroU16;
-use termrelay::runs::{Call, Reply, Take};
+use termrelay::runs::{Call, Log, Reply, Take, run};
 use termrelay::{Client, Hub, HubError};
 
 /// What a call is, without what it borrows.
@@ -80,6 +80,11 @@ pub fn called(hub: &mut Hub, call: &Call<'_>, writer: &mut Writer<'_>) -> Reply 
 
 fn done(_nothing: ()) -> Reply {
     Reply::Done
+}
+
+/// Makes calls on a hub by a run. Answers whether the log found room for each of them.
+pub fn is_run(hub: &mut Hub, calls: &[Call<'_>], log: &mut Log) -> bool {
+    run(hub, calls, log).is_ok()
 }
 
 /// Whether a call was made, and has no answer.

@@ -81,14 +81,7 @@ pub fn push_settings(answer: &mut Answer, view: &View<UntilCleared>) {
         (view.bracketed_paste(), "p"),
     ];
     push_set(answer, &modes);
-    answer.push(" ");
-    answer.debug(&view.mouse_protocol_mode());
-    answer.push(" ");
-    answer.debug(&view.mouse_protocol_encoding());
-    answer.push(" ");
-    answer.debug(&view.cursor_style());
-    push_colors(answer, view.fgcolor(), view.bgcolor());
-    answer.push(" ");
+    push_choices(answer, view);
     let attributes = [
         (view.bold(), "b"),
         (view.dim(), "d"),
@@ -97,6 +90,18 @@ pub fn push_settings(answer: &mut Answer, view: &View<UntilCleared>) {
         (view.inverse(), "v"),
     ];
     push_set(answer, &attributes);
+}
+
+// Appends the mouse's mode and encoding, the cursor's style, and the two colours, with a space around each.
+fn push_choices(answer: &mut Answer, view: &View<UntilCleared>) {
+    answer.push(" ");
+    answer.debug(&view.mouse_protocol_mode());
+    answer.push(" ");
+    answer.debug(&view.mouse_protocol_encoding());
+    answer.push(" ");
+    answer.debug(&view.cursor_style());
+    push_colors(answer, view.fgcolor(), view.bgcolor());
+    answer.push(" ");
 }
 
 /// Appends a line for each row: how often each of its bytes stands there, as in `80 "a"`.

@@ -47,9 +47,13 @@ fn refuses(parser: &mut Parser<()>) -> bool {
 /// the same.
 pub fn push_screen(parser: &Parser<()>, answer: &mut Answer) -> Result<(), StepError> {
     let screen = parser.screen();
-    let Ok(copy) = screen.clone() else {
-        return Err(StepError::Memory);
-    };
+    match screen.clone() {
+        Ok(copy) => push_alike(screen, &copy, answer),
+        Err(_) => Err(StepError::Memory),
+    }
+}
+
+fn push_alike(screen: &Screen, copy: &Screen, answer: &mut Answer) -> Result<(), StepError> {
     let (Ok(shown), Ok(copied)) = (screen.contents(), copy.contents()) else {
         return Err(StepError::Memory);
     };

@@ -25,6 +25,8 @@ impl Hubs {
         answer: &mut Answer,
     ) -> Result<(), StepError> {
         match name {
+            "at_once" => self.run_at_once(),
+            "far_cuts" => self.cut_far(words, answer),
             "attach" => self.attach(count_or(words, 1)),
             "feed" => self.feed(words.bytes(), count_or(words, 1)),
             "resize" => {
