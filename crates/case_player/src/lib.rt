@@ -20,4 +20,4 @@ pub use answer::Answer;
 pub use files::{Disk, Files};
 pub use player::{Player, StepError};
 pub use running::play;
-pub use words::Words;
+pub use words::{Words, value_of};

@@ -101,6 +101,12 @@ impl Words {
         }
     }
 
+    /// Takes a bare word that is a name in a table, and answers its value. Any other word isn't the one that is wanted,
+    /// and this default is taken.
+    pub fn one_of<T: Copy>(&self, table: &[(&str, T)], wanted: &'static str, default: T) -> T {
+        self.named(value_of(table, self.word()), wanted, default)
+    }
+
     /// Why the step isn't done, if one of its words is a reason.
     pub(crate) fn error(&self) -> Option<StepError> {
         self.error.get()
@@ -167,6 +173,16 @@ impl Words {
         };
         self.named(text, wanted, "")
     }
+}
+
+/// The value that a name has in a table, if it stands there.
+pub fn value_of<T: Copy>(table: &[(&str, T)], name: &str) -> Option<T> {
+    for (known, value) in table {
+        if *known == name {
+            return Some(*value);
+        }
+    }
+    None
 }
 
 const PLACE: &str = "a number up to 65535";

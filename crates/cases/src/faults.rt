@@ -1,18 +1,18 @@
 //! Faults of readers and writers, by their names.
 
-use case_player::Words;
+use case_player::{Words, value_of};
 use std::io::ErrorKind;
+
+const FAULTS: &[(&str, ErrorKind)] = &[
+    ("broken-pipe", ErrorKind::BrokenPipe),
+    ("interrupted", ErrorKind::Interrupted),
+    ("out-of-memory", ErrorKind::OutOfMemory),
+];
 
 /// The fault that a word of a step names.
 pub fn fault_named(name: &str, words: &Words) -> ErrorKind {
-    let fault = match name {
-        "broken-pipe" => Some(ErrorKind::BrokenPipe),
-        "interrupted" => Some(ErrorKind::Interrupted),
-        "out-of-memory" => Some(ErrorKind::OutOfMemory),
-        _ => None,
-    };
     words.named(
-        fault,
+        value_of(FAULTS, name),
         "broken-pipe, interrupted or out-of-memory",
         ErrorKind::Other,
     )

@@ -2,24 +2,30 @@
 
 use crate::commands::CommandPlayer;
 use crate::relays::RelayPlayer;
-use case_player::{Answer, Disk, Player, StepError, Words};
-use library_steps::LibraryPlayer;
+use case_player::{Answer, Disk, Player, StepError, Words, value_of};
+use library_steps::{GridPlayer, ScreenPlayer, StreamPlayer};
 use std::mem;
 
 /// What a case is about.
 #[derive(Clone, Copy)]
 enum Subject {
-    Libraries,
+    Streams,
+    Grids,
+    Screens,
     Relays,
     Commands,
 }
 
+/// What cases are about by their folders. Those of any other folder are about streams.
+const SUBJECTS: &[(&str, Subject)] = &[
+    ("grids", Subject::Grids),
+    ("screens", Subject::Screens),
+    ("relays", Subject::Relays),
+    ("commands", Subject::Commands),
+];
+
 fn subject_of(folder: &str) -> Subject {
-    match folder {
-        "relays" => Subject::Relays,
-        "commands" => Subject::Commands,
-        _ => Subject::Libraries,
-    }
+    value_of(SUBJECTS, folder).unwrap_or(Subject::Streams)
 }
 
 /// A player for each subject, and which of them plays the case.
@@ -27,7 +33,9 @@ fn subject_of(folder: &str) -> Subject {
 pub struct Stage<'a> {
     rt: &'a HostRuntime,
     subject: Subject,
-    libraries: LibraryPlayer,
+    streams: StreamPlayer,
+    grids: GridPlayer,
+    screens: ScreenPlayer,
     relays: RelayPlayer,
     commands: CommandPlayer,
 }
@@ -39,7 +47,9 @@ impl<'a> Stage<'a> {
         Stage {
             rt,
             subject: subject_of(folder),
-            libraries: LibraryPlayer::new(alloc, folder),
+            streams: StreamPlayer::new(alloc),
+            grids: GridPlayer::new(alloc),
+            screens: ScreenPlayer::new(alloc),
             relays: RelayPlayer::new(alloc),
             commands: CommandPlayer::new(alloc),
         }
@@ -54,7 +64,9 @@ impl Player for Stage<'_> {
 
     fn take(&mut self, name: &str, words: &Words, answer: &mut Answer) -> Result<(), StepError> {
         match self.subject {
-            Subject::Libraries => self.libraries.take(name, words, answer),
+            Subject::Streams => self.streams.take(name, words, answer),
+            Subject::Grids => self.grids.take(name, words, answer),
+            Subject::Screens => self.screens.take(name, words, answer),
             Subject::Relays => self.relays.take(name, words, answer),
             Subject::Commands => self.commands.take(&Disk(self.rt), name, words, answer),
         }

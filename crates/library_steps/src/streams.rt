@@ -7,4 +7,4 @@ mod reading;
 mod updates;
 mod values;
 
-pub use player::take;
+pub use player::StreamPlayer;

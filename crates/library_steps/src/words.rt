@@ -12,16 +12,11 @@ pub fn pos(words: &Words) -> Pos {
     }
 }
 
+const FLAGS: &[(&str, bool)] = &[("on", true), ("off", false)];
+
 /// The words `on` and `off`.
 pub fn flag(words: &Words) -> bool {
-    match words.word() {
-        "on" => true,
-        "off" => false,
-        _ => {
-            words.want("on or off");
-            false
-        }
-    }
+    words.one_of(FLAGS, "on or off", false)
 }
 
 /// A text of one character.

@@ -3,19 +3,21 @@
 use crate::commands::named_files::NamedFiles;
 use crate::input::InputReader;
 use crate::limited::LimitedWriter;
+use case_player::value_of;
 use command_line::{SUCCESS, USAGE, parse_size};
 use relay_commands::Program;
 use relay_streams::relay_live;
 use std::alloc::Global;
 
+const RELAYERS: &[(&str, Program)] = &[
+    ("screenrelay", Program::Screenrelay),
+    ("screenlive", Program::Screenlive),
+    ("screencat", Program::Screencat),
+];
+
 /// The program of this name that relays a stream, or shows what comes of that.
 pub fn relayer(name: &str) -> Option<Program> {
-    match name {
-        "screenrelay" => Some(Program::Screenrelay),
-        "screenlive" => Some(Program::Screenlive),
-        "screencat" => Some(Program::Screencat),
-        _ => None,
-    }
+    value_of(RELAYERS, name)
 }
 
 /// Runs the program of this name on the words after it, and answers its status. There may be no such program.

@@ -6,7 +6,7 @@ use crate::relays::hubs::{Hubs, new_hub};
 use crate::relays::readers::fill_piece;
 use crate::relays::values::{push_attributes, push_errors, push_values};
 use crate::relays::wordings::counts;
-use case_player::{Answer, StepError, Words};
+use case_player::{Answer, StepError, Words, value_of};
 use std::alloc::Global;
 use std::mem;
 use termview::{UntilCleared, View};
@@ -176,36 +176,38 @@ enum Kind {
     OnHubs,
 }
 
-fn kind_of(name: &str) -> Kind {
-    match name {
-        "hub" => Kind::Hub,
-        "view" => Kind::View,
-        "far" => Kind::Far,
-        "fill" | "errors" | "values" | "attributes" => Kind::Values,
-        "parser" | "write" | "parsed" => Kind::Parser,
-        "input" => Kind::Input,
-        "cuts" | "stops" | "two_cuts" => Kind::Cuts,
-        _ if is_on_view(name) => Kind::OnView,
-        _ => Kind::OnHubs,
-    }
-}
+// What the steps do by their names. Any other one is a step on hubs.
+const KINDS: &[(&str, Kind)] = &[
+    ("hub", Kind::Hub),
+    ("view", Kind::View),
+    ("far", Kind::Far),
+    ("fill", Kind::Values),
+    ("errors", Kind::Values),
+    ("values", Kind::Values),
+    ("attributes", Kind::Values),
+    ("parser", Kind::Parser),
+    ("write", Kind::Parser),
+    ("parsed", Kind::Parser),
+    ("input", Kind::Input),
+    ("cuts", Kind::Cuts),
+    ("stops", Kind::Cuts),
+    ("two_cuts", Kind::Cuts),
+    ("read_but", Kind::OnView),
+    ("advance", Kind::OnView),
+    ("stop", Kind::OnView),
+    ("shown", Kind::OnView),
+    ("cursor", Kind::OnView),
+    ("settings", Kind::OnView),
+    ("cell", Kind::OnView),
+    ("held", Kind::OnView),
+    ("text", Kind::OnView),
+    ("wrapped", Kind::OnView),
+    ("row", Kind::OnView),
+    ("runs", Kind::OnView),
+];
 
-fn is_on_view(name: &str) -> bool {
-    matches!(
-        name,
-        "read_but"
-            | "advance"
-            | "stop"
-            | "shown"
-            | "cursor"
-            | "settings"
-            | "cell"
-            | "held"
-            | "text"
-            | "wrapped"
-            | "row"
-            | "runs"
-    )
+fn kind_of(name: &str) -> Kind {
+    value_of(KINDS, name).unwrap_or(Kind::OnHubs)
 }
 
 // A step that cuts bytes everywhere.

@@ -10,7 +10,7 @@ mod whole;
 use crate::grids::pair::Pair;
 use calls::{parse_call, take_call};
 use captures::tell_capture;
-use case_player::{Answer, StepError, Words};
+use case_player::{Answer, StepError, Words, value_of};
 use edits::edit;
 use reports::{tell, write};
 use std::alloc::Global;
@@ -100,18 +100,25 @@ enum Kind {
     Change,
 }
 
+/// What the steps do by their names. Any other one changes the grid.
+const KINDS: &[(&str, Kind)] = &[
+    ("copy", Kind::Copy),
+    ("exchange", Kind::Exchange),
+    ("write_contents", Kind::Write),
+    ("write_contents_formatted", Kind::Write),
+    ("write_contents_diff", Kind::Write),
+    ("write_cursor_position_formatted", Kind::Write),
+    ("capture", Kind::Capture),
+    ("rows", Kind::Tell),
+    ("cursor", Kind::Tell),
+    ("kept", Kind::Tell),
+    ("capacity", Kind::Tell),
+    ("visible_cell", Kind::Tell),
+    ("whole", Kind::Tell),
+];
+
 fn kind_of(name: &str) -> Kind {
-    match name {
-        "copy" => Kind::Copy,
-        "exchange" => Kind::Exchange,
-        "write_contents"
-        | "write_contents_formatted"
-        | "write_contents_diff"
-        | "write_cursor_position_formatted" => Kind::Write,
-        "capture" => Kind::Capture,
-        "rows" | "cursor" | "kept" | "capacity" | "visible_cell" | "whole" => Kind::Tell,
-        _ => Kind::Change,
-    }
+    value_of(KINDS, name).unwrap_or(Kind::Change)
 }
 
 fn copy(grids: &mut Pair<Grid>) -> Result<(), StepError> {

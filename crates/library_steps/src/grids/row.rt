@@ -6,7 +6,7 @@ mod reports;
 use crate::grids::pair::Pair;
 use crate::grids::texts::refused;
 use crate::words::attributes;
-use case_player::{Answer, StepError, Words};
+use case_player::{Answer, StepError, Words, value_of};
 use edits::{change, lengthen};
 use printing::{print, print_at};
 use reports::{tell, write};
@@ -77,17 +77,27 @@ enum Kind {
     Change,
 }
 
+/// What the steps do by their names. Any other one changes the row.
+const KINDS: &[(&str, Kind)] = &[
+    ("copy", Kind::Copy),
+    ("exchange", Kind::Exchange),
+    ("pen", Kind::Pen),
+    ("grow", Kind::Lengthen),
+    ("resize", Kind::Lengthen),
+    ("write_contents", Kind::Write),
+    ("write_contents_formatted", Kind::Write),
+    ("write_contents_diff", Kind::Write),
+    ("print", Kind::Print),
+    ("put", Kind::Print),
+    ("join", Kind::Print),
+    ("shown", Kind::Tell),
+    ("counts", Kind::Tell),
+    ("cell", Kind::Tell),
+    ("same_cell", Kind::Tell),
+];
+
 fn kind_of(name: &str) -> Kind {
-    match name {
-        "copy" => Kind::Copy,
-        "exchange" => Kind::Exchange,
-        "pen" => Kind::Pen,
-        "grow" | "resize" => Kind::Lengthen,
-        "write_contents" | "write_contents_formatted" | "write_contents_diff" => Kind::Write,
-        "print" | "put" | "join" => Kind::Print,
-        "shown" | "counts" | "cell" | "same_cell" => Kind::Tell,
-        _ => Kind::Change,
-    }
+    value_of(KINDS, name).unwrap_or(Kind::Change)
 }
 
 fn copy(rows: &mut Pair<Row>) -> Result<(), StepError> {

@@ -59,14 +59,12 @@ fn with_next(attrs: term::Attrs, words: &Words) -> term::Attrs {
     }
 }
 
+const INTENSITIES: &[(&str, Intensity)] = &[
+    ("normal", Intensity::Normal),
+    ("bold", Intensity::Bold),
+    ("dim", Intensity::Dim),
+];
+
 fn intensity(words: &Words) -> Intensity {
-    match words.word() {
-        "normal" => Intensity::Normal,
-        "bold" => Intensity::Bold,
-        "dim" => Intensity::Dim,
-        _ => {
-            words.want("normal, bold or dim");
-            Intensity::Normal
-        }
-    }
+    words.one_of(INTENSITIES, "normal, bold or dim", Intensity::Normal)
 }

@@ -111,7 +111,7 @@ impl Log {
                 self.shown(&c);
             }
             Call::UnhandledOsc(params) => self.pieces("osc", params),
-            _ => {}
+            _ => self.word("another call"),
         }
     }
 

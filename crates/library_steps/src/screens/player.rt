@@ -4,7 +4,7 @@ use crate::screens::captures::{read_capture, tell_calls, tell_capture};
 use crate::screens::forms::tell_form;
 use crate::screens::questions::ask;
 use crate::screens::stage::Stage;
-use case_player::{Answer, StepError, Words};
+use case_player::{Answer, StepError, Words, value_of};
 use std::alloc::Global;
 
 /// Plays steps on a parser and its screen, and tells forms and what captures are.
@@ -90,18 +90,28 @@ enum Kind {
     Ask,
 }
 
+/// What the steps do by their names. Any other one asks the screen.
+const KINDS: &[(&str, Kind)] = &[
+    ("feed", Kind::Change),
+    ("print", Kind::Change),
+    ("fill", Kind::Change),
+    ("set_size", Kind::Change),
+    ("set_screen_size", Kind::Change),
+    ("set_scrollback", Kind::Change),
+    ("set_base", Kind::ChangeBase),
+    ("set_base_shown", Kind::ChangeBase),
+    ("set_base_visible", Kind::ChangeBase),
+    ("copy_shown", Kind::ChangeBase),
+    ("set_base_scrollback", Kind::ChangeBase),
+    ("call", Kind::Call),
+    ("copy", Kind::Check),
+    ("redraw", Kind::Check),
+    ("redraw_visible", Kind::Check),
+    ("calls", Kind::Calls),
+    ("captured", Kind::Captured),
+    ("capture", Kind::Capture),
+];
+
 fn kind_of(name: &str) -> Kind {
-    match name {
-        "feed" | "print" | "fill" | "set_size" | "set_screen_size" | "set_scrollback" => {
-            Kind::Change
-        }
-        "set_base" | "set_base_shown" | "set_base_visible" | "copy_shown" | "set_base_scrollback" =>
-            Kind::ChangeBase,
-        "call" => Kind::Call,
-        "copy" | "redraw" | "redraw_visible" => Kind::Check,
-        "calls" => Kind::Calls,
-        "captured" => Kind::Captured,
-        "capture" => Kind::Capture,
-        _ => Kind::Ask,
-    }
+    value_of(KINDS, name).unwrap_or(Kind::Ask)
 }

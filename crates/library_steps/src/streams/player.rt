@@ -5,25 +5,33 @@ use super::log::Log;
 use super::reading::{Reader, tell_cut, tell_pieces};
 use super::updates::{tell_times, tell_updates};
 use super::values::tell_value;
-use case_player::{Answer, StepError, Words};
+use case_player::{Answer, StepError, Words, value_of};
 use std::alloc::Global;
 use vte_core::Parser;
 
-/// Takes a step.
-pub fn take(
+/// Tells what streams say. It keeps nothing from a step to the next one.
+#[derive(Clone, Copy)]
+pub struct StreamPlayer {
     alloc: Global,
-    name: &str,
-    words: &Words,
-    answer: &mut Answer,
-) -> Result<(), StepError> {
-    match kind_of(name) {
-        Kind::Updates => tell_updates(alloc, words, answer),
-        Kind::Times => tell_times(alloc, words, answer),
-        Kind::Value => {
-            tell_value(name, words, answer);
-            Ok(())
+}
+
+impl StreamPlayer {
+    /// A player whose steps allocate here.
+    pub fn new(alloc: Global) -> StreamPlayer {
+        StreamPlayer { alloc }
+    }
+
+    /// Takes a step.
+    pub fn take(self, name: &str, words: &Words, answer: &mut Answer) -> Result<(), StepError> {
+        match kind_of(name) {
+            Kind::Updates => tell_updates(self.alloc, words, answer),
+            Kind::Times => tell_times(self.alloc, words, answer),
+            Kind::Value => {
+                tell_value(name, words, answer);
+                Ok(())
+            }
+            kind => tell_stream(self.alloc, kind, words, answer),
         }
-        kind => tell_stream(alloc, kind, words, answer),
     }
 }
 
@@ -43,20 +51,22 @@ enum Kind {
     Value,
 }
 
+// What the steps tell by their names. Any other one tells a value.
+const KINDS: &[(&str, Kind)] = &[
+    ("calls", Kind::Calls),
+    ("each_byte", Kind::EachByte),
+    ("text_of_four", Kind::Fours),
+    ("until", Kind::Until),
+    ("runs", Kind::Runs),
+    ("events", Kind::Events),
+    ("events_keeping_four", Kind::EventsKeepingFour),
+    ("draws", Kind::Draws),
+    ("updates", Kind::Updates),
+    ("times", Kind::Times),
+];
+
 fn kind_of(name: &str) -> Kind {
-    match name {
-        "calls" => Kind::Calls,
-        "each_byte" => Kind::EachByte,
-        "text_of_four" => Kind::Fours,
-        "until" => Kind::Until,
-        "runs" => Kind::Runs,
-        "events" => Kind::Events,
-        "events_keeping_four" => Kind::EventsKeepingFour,
-        "draws" => Kind::Draws,
-        "updates" => Kind::Updates,
-        "times" => Kind::Times,
-        _ => Kind::Value,
-    }
+    value_of(KINDS, name).unwrap_or(Kind::Value)
 }
 
 // Steps that read streams.
