@@ -30,9 +30,10 @@ pub struct PieceFilter {
 }
 
 impl PieceFilter {
-    /// A filter that nothing has passed.
+    /// A filter that nothing has passed, and that gives nothing for nothing.
     pub fn new(alloc: Global, lines: LineDrawing) -> Self
-        ensures { HasPassed result lines [] }
+        ensures passed { HasPassed result lines [] }
+        ensures given { piece_of result [] ≡ [] }
     {
         PieceFilter {
             lines,

@@ -217,17 +217,19 @@ pub fn whole_frames_are_reported()
     ensures whole { EachWholeMatches }
 {}
 
-/// A screen of a session's size is fed any prefix of the session's bytes, in any pieces. While it is in no synchronized
-/// update, it shows the program's screen at the request for the last frame that lies wholly in the prefix, or a blank
-/// screen if none does (`screens`). The same holds of the screen of a hub after any calls, wherever its answer isn't
-/// `Held` (`hubs`). This holds unless the program's screen showed U+FE0F.
+/// A new screen of a session's size that keeps no rows is fed any prefix of the session's bytes, from the first one on,
+/// in any pieces. While it is in no synchronized update, it shows the program's screen at the request for the last frame
+/// that lies wholly in the prefix, or a blank screen if none does (`screens`). The same holds of the screen of a new hub
+/// of that size that is fed so and never resized, whatever its other calls, wherever its answer isn't `Held` (`hubs`).
+/// This holds unless the program's screen showed U+FE0F.
 pub fn fed_screens_are_right()
     ensures screens { EachFedScreenIsRight }
     ensures hubs { EachFedHubIsRight }
 {}
 
-/// A tree of hubs: a second hub of a session's size is fed any prefix of the session's bytes, in any pieces, and has
-/// clients of its own. A new view reads any prefix of the bytes pumped to one of these, in any pieces.
+/// A tree of hubs: a new second hub of a session's size is fed any prefix of the session's bytes, from the first one on,
+/// in any pieces. It is never resized, and has clients of its own. A new view reads any prefix of the bytes pumped to
+/// one of these, in any pieces.
 ///
 /// It shows the program's screen at the request for a whole frame, or a blank screen. The frame is the last one that
 /// the second hub had been fed wholly when it made the last frame that the view has read wholly. This holds unless the

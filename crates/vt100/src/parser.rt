@@ -49,18 +49,22 @@ const ROWS: u16 = 24;
 const COLS: u16 = 80;
 
 impl<CB> Parser<CB> {
-    /// How many rows a parser of [`new_default`](Parser::new_default) has.
+    /// How many rows a parser of [`new_default`](Parser::new_default) has: 24.
     pub const DEFAULT_ROWS: NonZeroU16 = match NonZeroU16::new(ROWS) {
         Some(rows) => rows,
         None => NonZeroU16::MIN,
     };
 
-    /// How many columns it has.
+    /// How many columns it has: 80.
     pub const DEFAULT_COLS: NonZeroU16 = match NonZeroU16::new(COLS) {
         Some(cols) => cols,
         None => NonZeroU16::MIN,
     };
 }
+
+const _: () = prove!(Parser::<()>::DEFAULT_ROWS.get() == 24);
+
+const _: () = prove!(Parser::<()>::DEFAULT_COLS.get() == 80);
 
 impl Parser<()> {
     ghost use Rattle.vt100.specs.Parsing.{ParserIsAfter};
