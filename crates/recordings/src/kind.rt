@@ -1,11 +1,12 @@
 //! Which kind of recording a file is.
 
-ghost use Rattle.std.specs.Prelude.{◌≡◌, ◌⊎◌, None, IfOk, IfErr};
+ghost use Rattle.std.specs.Prelude.{◌≡◌, ◌⊎◌, None, Some, Err, IfOk, IfErr};
 ghost use Rattle.std.specs.Option.{option_copied};
 ghost use Rattle.std.specs.Vec.{vec_items};
 ghost use Rattle.recordings.specs.Kinds.{IsFaultOfKind, IsOfKind, IsPacked, IsRaw, IsReadOfKind, IsUnreadOfKind};
 ghost use Rattle.recordings.specs.Kinds.{kind_guessed, kind_taken, packer_in, packer_met};
-ghost use Rattle.recordings.specs.declared.error.RecordingError.TheVariants.{Memory};
+ghost use Rattle.recordings.specs.declared.error.Packer.{Packer};
+ghost use Rattle.recordings.specs.declared.error.RecordingError.TheVariants.{Memory, Packed};
 
 use crate::asciicast::{begins_asciicast, parse_asciicast, read_asciicast};
 use crate::error::{Packer, RecordingError};
@@ -30,6 +31,8 @@ pub fn parse_recording(
         ⊎ IsFaultOfKind (kind_taken kind lines (vec_items bytes)) (vec_items bytes) lines e)) }
     ensures unpacked { let lines = option_copied timing.entry in
         IfOk result (λ r. packer_met kind lines (vec_items bytes) ≡ None) }
+    ensures packed { let lines = option_copied timing.entry in
+        (packer : Packer) → packer_met kind lines (vec_items bytes) ≡ Some packer → result ≡ Err (Packed packer) }
 {
     let kind = kind_of(alloc, &bytes, timing, kind)?;
     match (kind, timing) {
@@ -57,6 +60,8 @@ pub fn read_recording(
         ⊎ IsUnreadOfKind (kind_taken kind lines (vec_items bytes)) (vec_items bytes) lines e)) }
     ensures unpacked { let lines = option_copied timing.entry in
         IfOk result (λ r. packer_met kind lines (vec_items bytes) ≡ None) }
+    ensures packed { let lines = option_copied timing.entry in
+        (packer : Packer) → packer_met kind lines (vec_items bytes) ≡ Some packer → result ≡ Err (Packed packer) }
 {
     let kind = kind_of(alloc, &bytes, timing, kind)?;
     match (kind, timing) {
@@ -82,6 +87,8 @@ fn kind_of(
         IfOk result (λ k. (k ≡ kind_taken kind lines bytes.now) × (packer_met kind lines bytes.now ≡ None)) }
     ensures fault { let lines = option_copied timing.entry in
         IfErr result (λ e. (e ≡ Memory) ⊎ IsPacked (packer_met kind lines bytes.now) e) }
+    ensures packed { let lines = option_copied timing.entry in
+        (packer : Packer) → packer_met kind lines bytes.now ≡ Some packer → result ≡ Err (Packed packer) }
 {
     match (kind, timing) {
         (Some(kind), _) => Ok(kind),
