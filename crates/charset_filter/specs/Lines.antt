@@ -1,5 +1,5 @@
 -- A program's output as it passes to a screen: as it is, or with the line drawing set's characters as Unicode.
-use Rattle.std.specs.Prelude.{◌≡◌, ℕ, List, [], ◌∷◌, ◌++◌, ⊤}
+use Rattle.std.specs.Prelude.{◌≡◌, ℕ, List, [], ◌∷◌, ◌++◌, ⊤, vec_capacity}
 use Rattle.charset_filter.specs.Filter.{HasRead}
 use Rattle.charset_filter.specs.Given.{given_after}
 use Rattle.charset_filter.specs.declared.filter.CharsetFilter.{CharsetFilter}
@@ -38,3 +38,7 @@ given_where Drawn drawn piece = drawn
 -- what a filter answers for the piece that passed last
 abbrev pub piece_of : PieceFilter → List ℕ → List ℕ
 piece_of filter piece = given_where filter.lines filter.drawn.items piece
+
+-- how many bytes a piece may give without memory being asked for
+abbrev pub room_of : PieceFilter → ℕ
+room_of filter = vec_capacity filter.drawn

@@ -60,6 +60,7 @@ impl CharsetFilter {
             (vec_capacity output.old < vec_len output.old + (8 * length bytes.now + 512)) }
         ensures short { (past : List ℕ) → HasRead self.old past
             → vec_len output.new ≤ vec_len output.old + (8 * length bytes.now + 512) }
+        ensures capacity { vec_capacity output.old ≤ vec_capacity output.new }
     {
         let mut read = 0;
         while read < bytes.len() {

@@ -3,8 +3,8 @@
 ghost use Rattle.std.specs.Prelude.{◌≡◌, ◌≤◌, ◌*◌, ◌++◌, [], ℕ, List, ◌<◌, length, IsOk, OnErr, OnOk, ◌+◌};
 ghost use Rattle.std.specs.Prelude.{vec_capacity, vec_len};
 ghost use Rattle.charset_filter.specs.Filter.{Gives, HasRead};
-ghost use Rattle.charset_filter.specs.Lines.{HasPassed, passed, piece_of};
-ghost use Rattle.charset_filter.specs.declared.lines.LineDrawing.TheVariants.{Kept};
+ghost use Rattle.charset_filter.specs.Lines.{HasPassed, passed, piece_of, room_of};
+ghost use Rattle.charset_filter.specs.declared.lines.LineDrawing.TheVariants.{Drawn, Kept};
 
 use crate::CharsetFilter;
 use std::alloc::{AllocError, Global};
@@ -45,8 +45,8 @@ impl PieceFilter {
     /// Reads the next piece. Then [`given`](PieceFilter::given) answers what it gives.
     ///
     /// Where lines are drawn, it takes room for eight times as many bytes as the piece has, and 512 more, and fails
-    /// only if there is no memory for that. Then the piece has not passed, and may be handed over again. Where they are
-    /// kept it doesn't fail.
+    /// only if there is no memory for that. Then the piece has not passed, and may be handed over again. It keeps that
+    /// room, so a piece that is no longer than one before it never fails. Where lines are kept none does.
     pub fn pass(&mut self, piece: &[u8]) -> Result<(), AllocError>
         ensures passed { OnOk result ((lines : LineDrawing) (past : List ℕ) → HasPassed self.old lines past
             → HasPassed self.new lines (past ++ piece.now)
@@ -55,6 +55,11 @@ impl PieceFilter {
             → length (piece_of self.new piece.now) ≤ 8 * length piece.now + 512) }
         ensures kept { (past : List ℕ) → HasPassed self.old Kept past → IsOk result }
         ensures none { piece.now ≡ [] → IsOk result }
+        ensures full { OnErr result ((lines : LineDrawing) (past : List ℕ) → HasPassed self.old lines past
+            → room_of self.old < 8 * length piece.now + 512) }
+        ensures room { (past : List ℕ) → HasPassed self.old Drawn past → OnOk result (0 < length piece.now
+            → 8 * length piece.now + 512 ≤ room_of self.new) }
+        ensures keeps { room_of self.old ≤ room_of self.new }
         ensures same { OnErr result ((lines : LineDrawing) (past : List ℕ) → HasPassed self.old lines past
             → HasPassed self.new lines past) }
     {
@@ -72,6 +77,11 @@ impl PieceFilter {
         ensures drawn { OnOk result (Gives self.old.filter piece.now (length piece.now) self.new.filter []
             self.new.drawn.items) }
         ensures none { piece.now ≡ [] → IsOk result }
+        ensures full { OnErr result ((past : List ℕ) → HasRead self.old.filter past
+            → vec_capacity self.old.drawn < 8 * length piece.now + 512) }
+        ensures room { OnOk result (0 < length piece.now
+            → 8 * length piece.now + 512 ≤ vec_capacity self.new.drawn) }
+        ensures keeps { vec_capacity self.old.drawn ≤ vec_capacity self.new.drawn }
         ensures same { OnErr result ((past : List ℕ) → HasRead self.old.filter past → HasRead self.new.filter past) }
     {
         self.drawn.clear();
@@ -98,6 +108,8 @@ fn make_room(output: &mut Vec<u8>, len: usize) -> Result<(), AllocError>
     ensures len { vec_len output.new ≡ 0 }
     ensures room { OnOk result (0 < len → 8 * len + 512 ≤ vec_capacity output.new) }
     ensures none { len ≡ 0 → IsOk result }
+    ensures full { OnErr result (vec_capacity output.old < 8 * len + 512) }
+    ensures keeps { vec_capacity output.old ≤ vec_capacity output.new }
 {
     if len == 0 {
         return Ok(());
