@@ -69,9 +69,9 @@ impl ScrollbackState {
         self.unbounded_len = self.unbounded_len.saturating_add(n);
         let fits = n.min(self.capacity);
         let room = self.capacity - self.rows.len();
-        let spare = drop_oldest(&mut self.rows, fits.saturating_sub(room), sink);
+        drop_oldest(&mut self.rows, fits.saturating_sub(room), sink);
         give_rows(&rows[..n - fits], sink);
-        keep_rows(&mut self.rows, rows, n - fits, n, width, spare)?;
+        keep_rows(&mut self.rows, rows, n - fits, n, width)?;
         Ok(())
     }
 

@@ -1,20 +1,20 @@
 -- Rows that are kept.
-use Rattle.std.proofs.Common.{◌≡◌, ℕ, ◌+◌, ◌^◌, ◌<◌, ◌≤◌, ◌==◌, false, List, [], ◌∷◌, ◌++◌, replicate, min, slice_range}
+use Rattle.std.proofs.Common.{◌≡◌, ℕ, ◌+◌, ◌^◌, ◌<◌, ◌≤◌, ◌==◌, false, List, [], ◌∷◌, ◌++◌, slice_range}
 use Rattle.std.proofs.Common.{append_assoc, length, set, map, refl, sym, ap, ◌∙◌, arith, length-append, length-set}
 use Rattle.std.proofs.Common.{nat_lt, ⊎_elim}
 use Rattle.std.proofs.lemmas.Bool.{cases_lt, cond_both, ltb-false}
 use Rattle.std.proofs.lemmas.Bool.Decides.{nat_tests}
-use Rattle.std.proofs.lemmas.List.{get_or_push, map-append, get_or-replicate, length-replicate, ext_get_or}
+use Rattle.std.proofs.lemmas.List.{get_or_push, map-append}
 use Rattle.std.proofs.Math.ListN.{get_or-append}
 use Rattle.std.proofs.lemmas.List.Edits.{between_more}
-use Rattle.vt100_cells.specs.Cell.{CellView, default_cell}
-use Rattle.vt100_cells.specs.Line.{cut, extended}
+use Rattle.vt100_cells.specs.Cell.{default_cell}
+use Rattle.vt100_cells.specs.Line.{extended}
 use Rattle.vt100_cells.specs.Cells.{cell_at, by_position}
-use Rattle.vt100_rows.specs.Row.{RowView, IsRow, blank_row, truncated, grown, trimmed}
+use Rattle.vt100_rows.specs.Row.{RowView, IsRow, blank_row, grown, trimmed}
 use Rattle.vt100_forms.specs.Attrs.{default_attrs}
-use Rattle.vt100_rows.proofs.RowLemmas.{IsRow-grown, grown-is}
+use Rattle.vt100_rows.proofs.RowLemmas.{IsRow-grown}
 use Rattle.vt100_cells.proofs.CellLemmas.{IsCell-empty}
-use Rattle.vt100_cells.proofs.ListLemmas.{cell_at-by_position, length-by_position}
+use Rattle.vt100_cells.proofs.ListLemmas.{length-by_position}
 use Rattle.vt100_rows.specs.Sheet.{row_at, changed_between}
 use Rattle.vt100_rows.proofs.SheetLemmas.{row_at-set}
 
@@ -61,32 +61,3 @@ grown-wide v width =
     cond_both (nat_lt (length v.cells) width) (record { cells = by_position width more; wrapped = false }) v
     (λ (x : RowView). width ≤ length x.cells) (λ _. omega (arith, length-by_position width more))
     (ltb-false (length v.cells) width)
-
--- ---- a row that becomes blank
-
-all-added : (m n : ℕ) (f : ℕ → CellView) → m ≡ 0 → by_position n (extended m f default_cell) ≡ replicate n default_cell
-all-added m n f e =
-    let l = length-by_position n (extended m f default_cell) in
-    ext_get_or default_cell _ _ (l ∙ sym (length-replicate n default_cell))
-    (λ k h. let same : extended m f default_cell k ≡ default_cell = grind (arith, nat_tests) in
-    cell_at-by_position n (extended m f default_cell) k (omega (arith, l)) ∙ same
-    ∙ sym (get_or-replicate n k default_cell default_cell (omega (arith, l))))
-
-none-kept : (v : RowView) → length (truncated v 0).cells ≡ 0
-none-kept v = length-by_position (min 0 (length v.cells)) (cut (min 0 (length v.cells)) (cell_at v.cells)) ∙ omega arith
-
--- all its cells go, and blank ones come in their place
-pub blank-again : (v : RowView) (width : ℕ) → grown (truncated v 0) width default_cell ≡ blank_row width
-blank-again v width =
-    let w = truncated v 0 in
-    ⊎_elim
-    (λ (l : 0 < width).
-    sym (grown-is w width default_cell (omega (arith, none-kept v)))
-    ∙ ap (λ (xs : List CellView). record { cells = xs; wrapped = false })
-    (all-added (length w.cells) width (cell_at w.cells) (none-kept v)))
-    (λ (l : width ≤ 0).
-    let none : min 0 (length v.cells) ≡ 0 = omega arith in
-    let zero : 0 ≡ width = omega arith in
-    grown-longer w width (omega arith) ∙ ap (λ n.
-    record { cells = by_position n (cut n (cell_at v.cells)); wrapped = false }) none ∙ ap (λ n. blank_row n) zero)
-    (cases_lt 0 width)

@@ -10,7 +10,6 @@ use crate::row::Row;
 use crate::row_sink::RowSink;
 use std::alloc::Global;
 use std::collections::VecDeque;
-use std::mem;
 use vt100_cells::Cell;
 use vt100_forms::GridError;
 
@@ -23,24 +22,20 @@ pub fn kept_at(rows: &VecDeque<Row>, j: usize) -> &Row
     &rows[j]
 }
 
-/// Takes out the oldest `n` rows, and gives them to the sink. The last of them is handed back, so that its memory can
-/// serve again.
-pub fn drop_oldest<S: RowSink>(rows: &mut VecDeque<Row>, n: usize, sink: &mut S) -> Option<Row>
+/// Takes out the oldest `n` rows, and gives them to the sink.
+pub fn drop_oldest<S: RowSink>(rows: &mut VecDeque<Row>, n: usize, sink: &mut S)
     requires { n ≤ length rows.old.items }
     ensures kept { rows.new.items ≡ drop n rows.old.items }
     ensures sink { TakesAll S.takes sink.old (take n rows.old.items) sink.new }
 {
-    let mut last = None;
     for _i in 0..n {
         let row = rows.pop_front().unwrap();
         sink.row(&row);
-        last = Some(row);
     }
-    last
 }
 
-/// Moves the rows from `first` up to `end`, without the default cells at their ends, to the end of the kept ones, and
-/// leaves blank rows in their place. The first of these takes the memory of the spare row, if there is one.
+/// Copies the rows from `first` up to `end`, without the default cells at their ends, to the end of the kept ones, and
+/// empties them.
 #[inline(always)]
 pub fn keep_rows(
     kept: &mut VecDeque<Row>,
@@ -48,7 +43,6 @@ pub fn keep_rows(
     first: usize,
     end: usize,
     width: u16,
-    mut spare: Option<Row>,
 ) -> Result<(), GridError>
     requires in_part { first ≤ end }
     requires in_rows { end ≤ length rows.old }
@@ -64,28 +58,12 @@ pub fn keep_rows(
     ensures count { length kept.new.items ≤ length kept.old.items + (end - first) }
     ensures none { end ≤ first → IsOk result }
 {
-    let alloc = *kept.allocator();
     for r in first..end {
-        let fresh = blank_row_in(alloc, spare.take(), width)?;
-        let mut row = mem::replace(&mut rows[r], fresh);
-        row.trim();
+        let row = rows[r].trimmed()?;
         kept.push_back(row)?;
+        rows[r].reset();
     }
     Ok(())
-}
-
-/// A blank row, in the memory of the spare one if there is one.
-fn blank_row_in(alloc: Global, spare: Option<Row>, width: u16) -> Result<Row, GridError>
-    ensures { IfOk result (λ row. row ≡ blank_row width) }
-{
-    match spare {
-        None => Row::new(alloc, width),
-        Some(mut row) => {
-            row.truncate(0);
-            row.grow(width, Cell::new())?;
-            Ok(row)
-        }
-    }
 }
 
 /// Makes the kept rows from `first` up to `end` at least `width` columns wide.

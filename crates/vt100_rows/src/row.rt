@@ -228,6 +228,20 @@ impl Row {
         }
     }
 
+    /// A copy without the default cells at its end. It takes memory for its cells and no more.
+    pub fn trimmed(&self) -> Result<Self, GridError>
+        ensures { IfOk result (λ row. row ≡ trimmed self.now) }
+    {
+        let len = trimmed_len(&self.cells);
+        let mut cells = Vec::with_capacity(*self.cells.allocator(), len)?;
+        cells.extend_from_slice(&self.cells[..len])?;
+        Ok(Row {
+            cells,
+            wrapped: self.wrapped,
+            filled: UNKNOWN,
+        })
+    }
+
     /// Takes away the default cells at the end.
     pub fn trim(&mut self)
         ensures { self.new ≡ trimmed self.old }

@@ -22,9 +22,9 @@ loop-i-preserved g c =
     record {
       kept = drop-more rows c.loop-i.rows.items c.pop_front.new.self.items i c.loop-i.invariant.kept
           c.pop_front.ensures.rest;
-      sink = TakesAll-list g.S.RowSink.takes c.args.sink.now c.row.new.self (take i rows ++ c.unwrap-row.result
+      sink = TakesAll-list g.S.RowSink.takes c.args.sink.now c.row-in-loop-i.new.self (take i rows ++ c.unwrap-row.result
           ∷ []) (take (i + 1) rows)
           (ap (λ (x : RowView). take i rows ++ x ∷ []) row ∙ sym (take_more rows i (blank_row 0) within))
-          (TakesAll-push g.S.RowSink.takes c.args.sink.now c.loop-i.sink c.row.new.self (take i rows)
-          c.unwrap-row.result c.loop-i.invariant.sink c.row.ensures);
+          (TakesAll-push g.S.RowSink.takes c.args.sink.now c.loop-i.sink c.row-in-loop-i.new.self (take i rows)
+          c.unwrap-row.result c.loop-i.invariant.sink c.row-in-loop-i.ensures);
     }

@@ -1,6 +1,6 @@
-use Rattle.std.proofs.Common.{arith, ap, ◌∙◌, ◌≡◌, ◌<◌, ◌++◌, ◌∷◌, [], List, length, length-append}
+use Rattle.std.proofs.Common.{arith, ap, sym, ◌∙◌, ◌≡◌, ◌<◌, ◌++◌, ◌∷◌, [], List, length, length-append}
 use Rattle.std.proofs.lemmas.List.{get_or_default}
-use Rattle.vt100_rows.specs.Row.{RowView, IsRow, blank_row}
+use Rattle.vt100_rows.specs.Row.{RowView, IsRow, blank_row, trimmed}
 use Rattle.vt100_rows.proofs.TrimLemmas.{IsRow-trimmed}
 use Rattle.vt100_rows.specs.Sheet.{row_at}
 use Rattle.vt100_rows.proofs.SheetLemmas.{changes-more, changes-done, IsSheet-with_blank}
@@ -10,37 +10,37 @@ use Rattle.vt100_rows.proofs.kept_rows.keep_rows.Goals as goal
 pub loop-r-preserved : goal.loop-r-preserved
 loop-r-preserved c =
     let f : RowView → RowView = λ v. blank_row c.args.width in
-    let fresh : c.replace-row.new.dest ≡ blank_row c.args.width = c.replace-row.ensures.after ∙ c.in_ok-fresh.ensures in
     let within : c.loop-r.r < length c.loop-r.rows = omega (arith, c.loop-r.auto.rows, c.requires.in_rows) in
-    let row : c.replace-row.result ≡ row_at c.loop-r.rows c.loop-r.r =
-    c.replace-row.ensures.value ∙ get_or_default c.loop-r.rows c.loop-r.r c.index-rows-r.result (blank_row 0)
-    within in
-    let whole : IsRow c.replace-row.result = rw row (c.loop-r.invariant.sheet.each c.loop-r.r within).row in
-    let short : IsRow c.trim.new.self = rw c.trim.ensures (IsRow-trimmed c.replace-row.result whole) in
+    let row : c.index-rows-r.result ≡ row_at c.loop-r.rows c.loop-r.r =
+    c.index-rows-r.is ∙ get_or_default c.loop-r.rows c.loop-r.r c.index-rows-r.result (blank_row 0) within in
+    let again : c.index-rows-r-in-loop-r.result ≡ row_at c.loop-r.rows c.loop-r.r =
+    c.index-rows-r-in-loop-r.is
+    ∙ get_or_default c.loop-r.rows c.loop-r.r c.index-rows-r-in-loop-r.result (blank_row 0) within in
+    let of_sheet = c.loop-r.invariant.sheet.each c.loop-r.r within in
+    let fresh : c.reset.new.self ≡ blank_row c.args.width =
+    c.reset.ensures ∙ ap (λ (v : RowView). blank_row (length v.cells)) (sym c.index-rows-r-in-loop-r.is ∙ again)
+    ∙ ap blank_row of_sheet.wide in
+    let whole : IsRow c.index-rows-r.result = rw row of_sheet.row in
+    let copied : c.in_ok-row.row ≡ trimmed c.index-rows-r.result =
+    c.in_ok-row.ensures ∙ ap trimmed (sym c.index-rows-r.is) in
+    let short : IsRow c.in_ok-row.row = rw copied (IsRow-trimmed c.index-rows-r.result whole) in
     record {
-      blank = changes-more f c.args.rows.now c.loop-r.rows c.args.first c.loop-r.r c.replace-row.new.dest (omega arith)
+      blank = changes-more f c.args.rows.now c.loop-r.rows c.args.first c.loop-r.r c.reset.new.self (omega arith)
           within c.loop-r.invariant.blank fresh;
-      kept = (c.in_ok-push_back.ensures.items ∙ ap (λ (xs : List RowView). xs ++ c.trim.new.self
+      kept = (c.in_ok-push_back.ensures.items ∙ ap (λ (xs : List RowView). xs ++ c.in_ok-row.row
           ∷ []) c.loop-r.invariant.kept)
           ∙ keeps-more f c.args.rows.now c.loop-r.rows c.args.kept.now.items c.args.first c.loop-r.r
-          c.replace-row.result c.trim.new.self (omega arith) (omega arith) c.loop-r.invariant.blank row c.trim.ensures;
-      sheet = IsSheet-with_blank (length c.args.rows.now) c.args.width c.loop-r.rows c.loop-r.r c.replace-row.new.dest
+          c.index-rows-r.result c.in_ok-row.row (omega arith) (omega arith) c.loop-r.invariant.blank row copied;
+      sheet = IsSheet-with_blank (length c.args.rows.now) c.args.width c.loop-r.rows c.loop-r.r c.reset.new.self
           c.loop-r.invariant.sheet within (omega arith) fresh;
       each_kept = rw c.in_ok-push_back.ensures.items
-          (IsRow-push c.loop-r.kept.items c.trim.new.self c.loop-r.invariant.each_kept short);
+          (IsRow-push c.loop-r.kept.items c.in_ok-row.row c.loop-r.invariant.each_kept short);
       count = rw c.in_ok-push_back.ensures.items (omega (
         arith,
-        length-append c.loop-r.kept.items (c.trim.new.self ∷ []),
+        length-append c.loop-r.kept.items (c.in_ok-row.row ∷ []),
         c.loop-r.invariant.count,
       ));
     }
-
-pub returns-in_err-push_back-clause-sheet : goal.returns-in_err-push_back-clause-sheet
-returns-in_err-push_back-clause-sheet c =
-    let fresh : c.replace-row.new.dest ≡ blank_row c.args.width = c.replace-row.ensures.after ∙ c.in_ok-fresh.ensures in
-    let within : c.loop-r.r < length c.loop-r.rows = omega (arith, c.loop-r.auto.rows, c.requires.in_rows) in
-    IsSheet-with_blank (length c.args.rows.now) c.args.width c.loop-r.rows c.loop-r.r c.replace-row.new.dest
-    c.loop-r.invariant.sheet within (omega arith) fresh
 
 pub returns-in_err-push_back-clause-each_kept : goal.returns-in_err-push_back-clause-each_kept
 returns-in_err-push_back-clause-each_kept c = rw c.in_err-push_back.ensures.items c.loop-r.invariant.each_kept

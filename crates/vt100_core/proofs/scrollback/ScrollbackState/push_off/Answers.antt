@@ -15,10 +15,10 @@ returns-clause-kept g c =
     let s = c.args.self.now in
     let over : c.saturating_sub.result ≡ min c.args.n s.capacity - (s.capacity - length s.rows.items) = omega arith in
     let first : c.args.n - c.min-fits.result ≡ c.args.n - min c.args.n s.capacity = omega arith in
-    pushes (kept_of s) c.args.rows.now c.drop_oldest-spare.new.rows.items c.keep_rows.new.kept.items c.args.n
+    pushes (kept_of s) c.args.rows.now c.drop_oldest.new.rows.items c.keep_rows.new.kept.items c.args.n
     c.saturating_sub.result c.saturating_add-self.result c.requires.in_rows c.requires.valid.fits over
-    c.drop_oldest-spare.ensures.kept (c.in_ok-keep_rows.ensures.kept
-    ∙ ap (λ m. c.drop_oldest-spare.new.rows.items ++ map trimmed (slice_range c.args.rows.now m c.args.n)) first)
+    c.drop_oldest.ensures.kept (c.in_ok-keep_rows.ensures.kept
+    ∙ ap (λ m. c.drop_oldest.new.rows.items ++ map trimmed (slice_range c.args.rows.now m c.args.n)) first)
     (omega arith)
 
 -- what the sink has been given once `give_rows` has returned
@@ -33,9 +33,9 @@ given g c =
     (ap (λ m. take c.saturating_sub.result s.rows.items ++ take m c.args.rows.now) first
     ∙ pushed (kept_of s) c.args.rows.now c.args.n c.saturating_sub.result c.requires.in_rows c.requires.valid.fits
     over)
-    (TakesAll-append g.S.RowSink.takes c.args.sink.now c.drop_oldest-spare.new.sink c.give_rows.new.sink
+    (TakesAll-append g.S.RowSink.takes c.args.sink.now c.drop_oldest.new.sink c.give_rows.new.sink
     (take c.saturating_sub.result s.rows.items) (take (c.args.n - c.min-fits.result) c.args.rows.now)
-    c.drop_oldest-spare.ensures.sink c.give_rows.ensures)
+    c.drop_oldest.ensures.sink c.give_rows.ensures)
 
 pub returns-clause-sink : goal.returns-clause-sink
 returns-clause-sink g c = given g (goal.at.returns-clause-sink g c).After-give_rows
