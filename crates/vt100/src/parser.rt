@@ -62,10 +62,6 @@ impl<CB> Parser<CB> {
     };
 }
 
-const _: () = prove!(Parser::<()>::DEFAULT_ROWS.get() == 24);
-
-const _: () = prove!(Parser::<()>::DEFAULT_COLS.get() == 80);
-
 impl Parser<()> {
     ghost use Rattle.vt100.specs.Parsing.{ParserIsAfter};
 
