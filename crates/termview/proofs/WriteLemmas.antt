@@ -7,13 +7,12 @@ use Rattle.vt100_cells.specs.Cell.{CellView, default_cell}
 use Rattle.vt100_rows.specs.Row.{RowView}
 use Rattle.vt100_rows.specs.Picture.{lines_of}
 use Rattle.vt100_rows.proofs.PictureLemmas.{lines-past}
-use Rattle.vt100_rows.specs.Text.{column_text, columns_text, line_text}
+use Rattle.vt100_rows.specs.Text.{cell_text, column_text, columns_text, line_text}
 use Rattle.std.specs.Prelude.{encode_utf8_all}
 use Rattle.std.proofs.lemmas.Str.{encodes-append}
 use Rattle.byte_streams.specs.Pump.{Pumps}
 use Rattle.byte_streams.specs.Sent.{SendsText}
 use Rattle.byte_streams.proofs.SendLemmas.{well, bad, text-more, text-pumped, text-failed, text-broken}
-use Rattle.termview.specs.Writing.{cell_text}
 
 -- ---- columns
 

@@ -4,6 +4,5 @@ pub mod Picture
 pub mod PictureFields
 pub mod Timeout
 pub mod Standing
-pub mod Writing
 pub mod Laws
 pub mod FormFrames

@@ -2,8 +2,7 @@
 ghost use Rattle.std.specs.Prelude.{◌≡◌, ◌≤◌, ℕ, List, length, encode_utf8_all};
 ghost use Rattle.byte_streams.specs.Sent.{SendsText};
 ghost use Rattle.vt100_cells.specs.Cells.{cell_at};
-ghost use Rattle.vt100_rows.specs.Text.{column_text, columns_text, line_text};
-ghost use Rattle.termview.specs.Writing.{cell_text};
+ghost use Rattle.vt100_rows.specs.Text.{cell_text, column_text, columns_text, line_text};
 
 use byte_streams::{ByteSink, pump};
 use std::io;

@@ -5,10 +5,14 @@ use Rattle.vt100_cells.specs.Cell.{CellView, has_text}
 use Rattle.vt100_cells.specs.Cells.{cell_at}
 use Rattle.vt100_rows.specs.Row.{RowView}
 
--- what column k shows in a text from column s on: its own text, or a space where nothing stands. The second half of a
--- wide cell shows nothing, but at column s it counts as empty.
+-- A cell's part of a text: its own text, or a space if it is empty. The second half of a wide character has no text; as
+-- the first cell of the text it counts as empty.
+abbrev pub cell_text : CellView → Bool → List ℕ
+cell_text x is_first = if has_text x then x.text else if x.continuation && not is_first then [] else 32 ∷ []
+
+-- what column k shows in a text from column s on
 abbrev pub column_text : (ℕ → CellView) → ℕ → ℕ → List ℕ
-column_text f s k = if has_text (f k) then (f k).text else if (f k).continuation && not (k == s) then [] else 32 ∷ []
+column_text f s k = cell_text (f k) (k == s)
 
 -- what n columns from s on show
 abbrev pub columns_text : (ℕ → CellView) → ℕ → ℕ → List ℕ

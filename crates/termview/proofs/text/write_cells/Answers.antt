@@ -3,10 +3,9 @@ use Rattle.std.specs.Prelude.{encode_utf8_all}
 use Rattle.std.specs.declared.io.Error.{Error}
 use Rattle.vt100_cells.specs.Cell.{CellView}
 use Rattle.vt100_cells.specs.Cells.{cell_at}
-use Rattle.vt100_rows.specs.Text.{line_text}
+use Rattle.vt100_rows.specs.Text.{cell_text, line_text}
 use Rattle.byte_streams.specs.Pump.{Pumps}
 use Rattle.byte_streams.specs.Sent.{done}
-use Rattle.termview.specs.Writing.{cell_text}
 use Rattle.termview.proofs.WriteLemmas.{sent-more, sent-broken}
 use Rattle.termview.proofs.text.write_cells.Goals as goal
 
