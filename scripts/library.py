@@ -13,6 +13,7 @@ HERE = os.path.dirname(os.path.dirname(os.path.realpath(__file__)))
 CRATE = "jeihpal_c"
 OUT = f"{HERE}/bindings/out"
 ABI = 1  # as JEIHPAL_ABI of the header
+UNPROVED = "unproved"  # a file beside a library that isn't proved
 LINE = 64  # bytes of a line of the processor's cache
 VERSION = "0.1.0"
 SHARED = f"libjeihpal.so.{ABI}"
@@ -132,12 +133,12 @@ def link(to, at):
     os.symlink(to, at)
 
 
-def make():
-    """Makes everything, of the archive that `rt lib` has built. Answers the files' names."""
-    archive = f"{HERE}/crates/{CRATE}/out/lib{CRATE}.a"
+def make(archive=f"{HERE}/crates/{CRATE}/out/lib{CRATE}.a", is_proved=True):
+    """Makes everything, of the archive that `rt lib` has built, or of another one. Answers the files' names."""
     if not os.path.isfile(archive):
         raise Missing(f"there is no {archive}: rt ci builds none, and removes one; rt lib makes it")
     os.makedirs(OUT, exist_ok=True)
+    mark_proof(is_proved)
     memory = memory_archive()
     with open(f"{OUT}/jeihpal.pc", "w", encoding="utf-8") as file:
         file.write(PKG_CONFIG)
@@ -146,6 +147,15 @@ def make():
         made = [make_static(archive, memory), make_shared(archive, memory), f"{OUT}/jeihpal.pc"]
     keep_licenses(f"{OUT}/licenses")
     return made
+
+
+def mark_proof(is_proved):
+    """Says in a file beside the library that it is unproved, or removes that."""
+    if not is_proved:
+        with open(f"{OUT}/{UNPROVED}", "w", encoding="utf-8") as file:
+            file.write("This library is compiled without proofs; ./build --library makes a proved one.\n")
+    elif os.path.exists(f"{OUT}/{UNPROVED}"):
+        os.remove(f"{OUT}/{UNPROVED}")
 
 
 def libraries_below(name):
