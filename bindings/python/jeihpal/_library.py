@@ -184,7 +184,8 @@ def _found() -> str:
     for place in places:
         if os.path.isfile(place):
             return place
-    raise ImportError(f"there is no libjeihpal.so at {' or '.join(places)}: ./build --library makes it")
+    how = "./build --unproved --library makes one in some three minutes, and ./build --library a proved one"
+    raise ImportError(f"there is no libjeihpal.so at {' or '.join(places)}: {how}; both need rt, the Rattle toolchain")
 
 
 def _check_processor() -> None:

@@ -224,6 +224,7 @@ def _parser() -> argparse.ArgumentParser:
     parser.add_argument("--no-line-drawing", action="store_true", help="letters stay where DEC's line drawing is used")
     parser.add_argument("--find", metavar="TEXT", help="print the seconds at which a text comes to the screen, and end")
     parser.add_argument("--print", action="store_true", help="print the text of the last screen, or --at, and end")
+    parser.add_argument("--version", action="version", version="screenplay 0.1", help="print the version")
     parser.add_argument("file", metavar="FILE")
     return parser
 

@@ -106,6 +106,7 @@ def _parser() -> argparse.ArgumentParser:
     parser.add_argument("--rate", type=rate, default=30.0, metavar="N", help="at most N frames a second (30)")
     letters = "letters stay where a program draws lines with DEC's special graphics"
     parser.add_argument("--no-line-drawing", action="store_false", dest="draws_lines", help=letters)
+    parser.add_argument("--version", action="version", version="share 0.1", help="print the version")
     parser.add_argument("command", nargs=argparse.REMAINDER, metavar="COMMAND")
     return parser
 

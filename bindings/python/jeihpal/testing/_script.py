@@ -223,6 +223,7 @@ def main(words: Optional[list[str]] = None) -> int:
     parser.add_argument("--update-screens", action="store_true", help="keep the screens of this run")
     where = "where the screens and the session of a failed test go (screens/failed beside the script)"
     parser.add_argument("--failed-screens", metavar="FOLDER", help=where)
+    parser.add_argument("--version", action="version", version="jeihpal-test 0.1", help="print the version")
     given = parser.parse_args(words)
     scripts = list(_scripts(given.scripts))
     print(f"TAP version 13\n1..{len(scripts)}", flush=True)
