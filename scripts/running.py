@@ -4,7 +4,6 @@ The programs ignore SIGPIPE, as a proved program does, and say only that they ca
 do: by that signal where nobody reads what they write.
 """
 import contextlib
-import ctypes
 import errno
 import os
 import select
@@ -14,6 +13,11 @@ import subprocess
 import sys
 import threading
 import time
+
+try:
+    import ctypes
+except ImportError:  # where Python is made without
+    ctypes = None
 
 PATIENCE = 2  # seconds before it is said how far it is
 PEEKED = 1 << 16  # bytes of the input that are looked at, at most
@@ -88,14 +92,12 @@ class Said:
 
     def take(self, piece):
         """Passes on the lines that are whole."""
-        *lines, self.rest = (self.rest + piece).splitlines(True) if (self.rest + piece) else [b""]
-        if self.rest.endswith(b"\n"):
-            lines, self.rest = [*lines, self.rest], b""
+        *lines, self.rest = (self.rest + piece).split(b"\n")
         for line in lines:
-            if line == self.mark:
+            if line + b"\n" == self.mark:
                 self.cannot_write = True
             else:
-                self.say(line)
+                self.say(line + b"\n")
 
     def say(self, line):
         """Writes to standard error."""

@@ -165,7 +165,7 @@ def library_program(folder):
 class Work:
     """What is made at the same time, and how far it is."""
 
-    def __init__(self, names, state=None):
+    def __init__(self, names, state):
         self.names, self.state, self.begun = names, state, time.monotonic()
         self.done = dict.fromkeys(names, 0)
         self.running = {}
@@ -194,15 +194,14 @@ class Work:
         return part, passed * (1 - part) / part if part > 0.05 else None
 
     def report(self, ended):
-        """Says how far it is, until it has ended: in a file for those who wait, or here."""
+        """Says how far it is, until it has ended: in a file for those who wait, and here."""
         line = Line("build")
         while not ended.wait(LOOK):
             part, left = self.left()
-            if self.state:
-                with contextlib.suppress(OSError):
-                    with open(f"{self.state}.new", "w", encoding="utf-8") as file:
-                        json.dump([part, left], file)
-                    os.replace(f"{self.state}.new", self.state)
+            with contextlib.suppress(OSError):
+                with open(f"{self.state}.new", "w", encoding="utf-8") as file:
+                    json.dump([part, left], file)
+                os.replace(f"{self.state}.new", self.state)
             line.show(part, left)
         line.end()
 
@@ -323,6 +322,7 @@ def all_of(calls):
 def shown(work, make):
     """Does some work, and says meanwhile how far it is."""
     ended = threading.Event()
+    forget(work.state)
     telling = threading.Thread(target=work.report, args=(ended,))
     telling.start()
     try:
@@ -330,6 +330,13 @@ def shown(work, make):
     finally:
         ended.set()
         telling.join()
+        forget(work.state)
+
+
+def forget(path):
+    """Removes a file, if it is there."""
+    with contextlib.suppress(FileNotFoundError):
+        os.remove(path)
 
 
 def make_programs():
@@ -342,18 +349,26 @@ def make_programs():
         raise Failed(f"the programs can't be kept in {folder}: {error.strerror}; XDG_CACHE_HOME names another folder") from error
     with lock, tempfile.TemporaryDirectory(prefix="made-", dir=folder) as room:
         fcntl.flock(lock, fcntl.LOCK_EX)
-        lacking = [name for name in PROGRAMS if not os.access(f"{folder}/{name}", os.X_OK)]
         try:
-            if lacking:
-                kit = check_toolchain()
-                work = Work([it for it in ("relays", "screentext") if it in lacking or (it == "relays" and lacking[0] in RELAYS)], f"{folder}/state")
-                makes = {"relays": make_relays, "screentext": make_screentext}
-                shown(work, lambda: all_of([(probe, kit), *((makes[it], work, room, folder, kit) for it in work.names)]))
+            make_lacking(room, folder)
+        except lowered.Refused as error:
+            raise Failed(str(error)) from error
         except (lowered.Unlike, subprocess.CalledProcessError, OSError) as error:
             print(f"build: {error}", file=sys.stderr)
             make_slowly(folder)
     forget_old(folder)
     return folder
+
+
+def make_lacking(room, folder):
+    """Makes the programs that aren't in the folder."""
+    lacking = {name for name in PROGRAMS if not os.access(f"{folder}/{name}", os.X_OK)}
+    makes = {"relays": make_relays} if lacking & {*RELAYS} else {}
+    makes.update({"screentext": make_screentext} if "screentext" in lacking else {})
+    if makes:
+        kit, work = check_toolchain(), Work(list(makes), f"{folder}/state")
+        calls = [(probe, kit), *((make, work, room, folder, kit) for make in makes.values())]
+        shown(work, lambda: all_of(calls))
 
 
 def forget_old(folder):
@@ -388,6 +403,8 @@ def make_the_library():
             work, made = Work([library.CRATE], f"{library.OUT}/state"), []
             shown(work, lambda: all_of([(probe, kit), (lambda: made.extend(make_library(work, room, kit)),)]))
             return made
+        except lowered.Refused as error:
+            raise Failed(str(error)) from error
         except (lowered.Unlike, library.Missing, subprocess.CalledProcessError, OSError) as error:
             raise Failed(f"{error}\nbuild: the library is then made by ./build --library alone, with proofs") from error
 
