@@ -97,7 +97,8 @@ PROGRAMS = {
             VERSION,
         ],
         "Reads its input to its end: an asciicast v2 or v3, a typescript, a ttyrec, or raw bytes. "
-        "A recording that was cut, or stops making sense, is shown up to there, and a line on standard error says where.",
+        "A recording that was cut, or stops making sense, is shown up to there, and a line on standard error says where. "
+        "With -o FILE it writes to a file, which is replaced once all is written.",
     ),
 }
 # Scripts over the library for C, which take other words. Those of share are looked up where they are wanted.

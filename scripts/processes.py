@@ -1,5 +1,6 @@
 """Ends what a script has started when the script is ended."""
 import contextlib
+import glob
 import os
 import signal
 import sys
@@ -8,17 +9,33 @@ import time
 PATIENCE = 3  # seconds that a process may take to end when it is told to
 
 
-def descendants(top):
-    """The processes that a process has started, and those that these have."""
+def started_by():
+    """For each process here those that it has started."""
     children = {}
     for name in os.listdir("/proc"):
         if name.isdigit():
             with contextlib.suppress(OSError), open(f"/proc/{name}/stat", encoding="utf-8", errors="replace") as file:
                 parent = int(file.read().rpartition(")")[2].split()[1])
                 children.setdefault(parent, []).append(int(name))
+    return children
+
+
+def children_of(process):
+    """Those that a process has started, where the system has a list of them."""
+    found = []
+    for path in glob.glob(f"/proc/{process}/task/*/children"):
+        with contextlib.suppress(OSError), open(path, encoding="ascii") as file:
+            found += map(int, file.read().split())
+    return found
+
+
+def descendants(top):
+    """The processes that a process has started, and those that these have."""
+    all_children = None if glob.glob("/proc/self/task/*/children") else started_by()
     found, left = [], [top]
     while left:
-        more = children.get(left.pop(), [])
+        process = left.pop()
+        more = children_of(process) if all_children is None else all_children.get(process, [])
         found += more
         left += more
     return found
