@@ -69,7 +69,8 @@ def processor_seconds(top):
     """The most processor time that a process has taken, or one that it has started, in seconds."""
     most = 0
     for process in (top, *descendants(top)):
-        with contextlib.suppress(OSError, ValueError, IndexError), open(f"/proc/{process}/stat", encoding="utf-8", errors="replace") as file:
-            words = file.read().rpartition(")")[2].split()
+        with contextlib.suppress(OSError, ValueError, IndexError):
+            with open(f"/proc/{process}/stat", encoding="utf-8", errors="replace") as file:
+                words = file.read().rpartition(")")[2].split()
             most = max(most, int(words[11]) + int(words[12]))
     return most / os.sysconf("SC_CLK_TCK")
