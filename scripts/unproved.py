@@ -29,7 +29,7 @@ KEPT = 4  # folders of programs that are kept, the newest
 LOOK = 0.2  # seconds between two looks at what is made
 SAY = 15  # seconds between two lines where no terminal is written to
 # The processor's seconds that each crate takes to be lowered and to be compiled, by which it is said how long it takes.
-SECONDS = {"relays": (20, 26), "screentext": (35, 60), "jeihpal_c": (30, 80)}
+SECONDS = {"relays": (22, 22), "screentext": (38, 45), "jeihpal_c": (30, 32)}
 LONG = {False: "a minute or two", True: "some two to three minutes"}
 
 # One program for three: the name that it is run by says which.
