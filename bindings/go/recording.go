@@ -11,7 +11,7 @@ import "time"
 type RecordingKind uint8
 
 const (
-	Asciicast  RecordingKind = 1 + iota // an asciicast, version 2 or 3
+	Asciicast  RecordingKind = 1 + iota // an asciicast, version 1, 2 or 3
 	Typescript                          // a typescript of script(1), with the file of its times
 	Ttyrec                              // a ttyrec
 	Raw                                 // the bytes alone: one event at the time 0

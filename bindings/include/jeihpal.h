@@ -482,7 +482,7 @@ void jeihpal_screen_close(jeihpal_screen *screen);
 /* ---- recordings: what a program wrote to its terminal, and when */
 
 enum jeihpal_recording_kind {
-    JEIHPAL_ASCIICAST = 1,  /* an asciicast, version 2 or 3 */
+    JEIHPAL_ASCIICAST = 1,  /* an asciicast, version 1, 2 or 3 */
     JEIHPAL_TYPESCRIPT = 2, /* a typescript of script(1), with the file of its times */
     JEIHPAL_TTYREC = 3,     /* a ttyrec */
     JEIHPAL_RAW = 4         /* the bytes alone: one event at the time 0 */

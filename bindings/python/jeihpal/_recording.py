@@ -17,7 +17,7 @@ class RecordingKind(OpenEnum):
     """The form in which a recording was stored."""
 
     ASCIICAST = 1
-    """An asciicast, version 2 or 3."""
+    """An asciicast, version 1, 2 or 3."""
     TYPESCRIPT = 2
     """A typescript of script(1), with the file of its times."""
     TTYREC = 3

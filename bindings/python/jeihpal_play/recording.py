@@ -1,15 +1,13 @@
-"""Recordings as events. The library reads them; an asciicast of version 1 is read here."""
+"""Recordings as events, which the library reads."""
 
 from __future__ import annotations
 
-import json
 import math
-from typing import Any, NamedTuple, Union
+from typing import NamedTuple, Union
 
 import jeihpal
 from jeihpal import EventKind, FaultKind, RecordingKind, Size
 
-_MOST = 65535  # rows or columns
 _MOST_CELLS = 4_000_000  # of a size in the recording
 _FAULTS = {
     FaultKind.LINE: "line {}: not an event of asciicast",
@@ -69,8 +67,8 @@ def _event(event: jeihpal.Event) -> Event:
     return Event(event.time, event.data if event.size is None else _fitting(event.size))
 
 
-def _read(data: bytes, timing: bytes | None) -> Recording:
-    """What the library reads."""
+def parse(data: bytes, timing: bytes | None = None) -> Recording:
+    """Reads a recording; with the file of its times a typescript. A file of another kind raises NoRecording."""
     try:
         with jeihpal.Recording(data, timing) as found:
             if found.kind == RecordingKind.RAW:
@@ -80,45 +78,3 @@ def _read(data: bytes, timing: bytes | None) -> Recording:
             return Recording(size, list(map(_event, found)), found.length, fault)
     except jeihpal.NoRecording as error:
         raise NoRecording(str(error)) from None
-
-
-# ---- asciicasts of version 1
-
-
-def _is_time(value: Any) -> bool:
-    return isinstance(value, (int, float)) and not isinstance(value, bool) and 0 <= value < math.inf
-
-
-def _size(rows: Any, cols: Any) -> Size | None:
-    if all(isinstance(it, int) and not isinstance(it, bool) and 1 <= it <= _MOST for it in (rows, cols)):
-        return Size(rows, cols)
-    return None
-
-
-def _header(data: bytes) -> dict[str, Any] | None:
-    """The one object that an asciicast of version 1 is; None of any other file."""
-    try:
-        found = json.loads(data) if data.lstrip()[:1] == b"{" else None
-    except (ValueError, RecursionError):
-        return None
-    return found if isinstance(found, dict) and found.get("version") == 1 else None
-
-
-def _first_version(header: dict[str, Any]) -> Recording:
-    """An asciicast of version 1: times between outputs."""
-    size, frames = _size(header.get("height"), header.get("width")), header.get("stdout")
-    if size is None or not isinstance(frames, list):
-        raise NoRecording("not an asciicast of version 1")
-    events, now = [], 0
-    for number, frame in enumerate(frames):
-        if not (isinstance(frame, list) and len(frame) == 2 and _is_time(frame[0]) and isinstance(frame[1], str)):
-            raise NoRecording(f"output {number}: not one of asciicast of version 1")
-        now += microseconds(frame[0])
-        events.append(Event(now, frame[1].encode("utf-8", "replace")))
-    return Recording(_fitting(size), events, now)
-
-
-def parse(data: bytes, timing: bytes | None = None) -> Recording:
-    """Reads a recording; with the file of its times a typescript. A file of another kind raises NoRecording."""
-    header = _header(data) if timing is None else None
-    return _read(data, timing) if header is None else _first_version(header)

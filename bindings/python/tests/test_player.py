@@ -439,7 +439,7 @@ class Terminals(unittest.TestCase):
             (b'{"version": 4}\n', "no header"),
             (b"raw", "neither an asciicast nor a ttyrec"),
             (b"\x1f\x8b\x08\0", "compressed"),
-            (b'{"version": 1, "width": 0}', "not an asciicast of version 1"),
+            (b'{"version": 1, "width": 0}', "no header"),
             (huge, "more than 4,000,000 cells"),
             (cast((3, 20), [[1, "r", "65535x65535"]]), "more than 4,000,000 cells"),
         ):

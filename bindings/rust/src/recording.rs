@@ -15,7 +15,7 @@ const COLORS: usize = 18;
 #[derive(Clone, Copy, Debug, Eq, Hash, PartialEq)]
 #[non_exhaustive]
 pub enum Kind {
-    /// An asciicast, version 2 or 3.
+    /// An asciicast, version 1, 2 or 3.
     Asciicast,
     /// A typescript of `script(1)`, with the file of its times.
     Typescript,

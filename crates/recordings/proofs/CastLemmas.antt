@@ -2,7 +2,7 @@
 use Rattle.std.proofs.Common.{◌≡◌, ◌∙◌, ℕ, List, sym, ap, subst, Option, Some, None}
 use Rattle.std.specs.Prelude.{IsSomeAnd}
 use Rattle.std.specs.Option.{option_map}
-use Rattle.recordings.specs.Asciicast.{AreRead, IsReadCast, IsReadOf, body, head, header_in, header_said}
+use Rattle.recordings.specs.Asciicast.{AreRead, AreReadLines, IsReadOf, body, head, header_in, header_said}
 use Rattle.recordings.specs.Asciicast.{header_details}
 use Rattle.recordings.specs.Details.{Details, details_of, details_said}
 use Rattle.recordings.specs.Recorded.{said, size_said}
@@ -43,7 +43,7 @@ pub is_read : (text : List ℕ) (h : Header) (lines : List (List ℕ)) (t : Time
     ≡ details_said (head text)
     → lines ≡ body text → AreRead h.pace lines t n → r.kind ≡ Asciicast → r.size ≡ Some h.size
     → details_of r ≡ header_details h → r.events ≡ t.events → r.length ≡ t.time → fault ≡ option_map Line n
-    → IsReadCast text r fault
+    → AreReadLines text r fault
 is_read text h lines t n r fault header details body_is read kind size own events length fault_is =
     let said = read_of h (details_said (head text)) lines t n r read kind size (own ∙ details) events
     length in

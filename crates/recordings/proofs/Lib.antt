@@ -1,4 +1,5 @@
 mod CastLemmas
+mod FirstLemmas
 mod FrameLemmas
 mod JsonLemmas
 mod LineLemmas

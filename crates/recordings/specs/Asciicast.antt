@@ -1,5 +1,5 @@
--- Asciicasts, versions 2 and 3: a header, and an event a line.
-use Rattle.std.specs.Prelude.{◌≡◌, ℕ, ◌+◌, ◌==◌, ◌&&◌, ◌||◌, nat_le, Bool, true, false, List, [], ◌∷◌, ◌++◌, drop}
+-- Asciicasts: of version 1 an object, of versions 2 and 3 a header, and an event a line.
+use Rattle.std.specs.Prelude.{◌≡◌, ℕ, ◌+◌, ◌==◌, ◌||◌, Bool, true, false, List, [], ◌∷◌, ◌++◌, drop}
 use Rattle.std.specs.Prelude.{length, slice_index, Option, Some, None, is_some, option_and_then, unwrap_or}
 use Rattle.std.specs.Prelude.{if◌then◌else◌, codes, string_bytes, IsSomeAnd, ◌⊎◌}
 use Rattle.std.specs.Char.{is_ascii_whitespace}
@@ -10,9 +10,11 @@ use Rattle.serde_json.specs.Data.{Data, Items, item, no_items}
 use Rattle.serde_json.specs.Find.{as_array, as_number, as_str, as_u64, get}
 use Rattle.command_line.specs.Numbers.{size_in}
 use Rattle.recordings.specs.Details.{Details, details_of, details_said}
+use Rattle.recordings.specs.FirstVersion.{IsFirstVersion, IsUnreadObject, first_version}
 use Rattle.recordings.specs.Lines.{first_line, lines_in, unmarked}
 use Rattle.recordings.specs.Recorded.{Deed, IsStateAfter, Row, deed_of, ended, marks, resizes, said, size_said}
 use Rattle.recordings.specs.Recorded.{reported, writes}
+use Rattle.recordings.specs.Sizes.{sides_in}
 use Rattle.recordings.specs.Themes.{theme_reported}
 use Rattle.recordings.specs.Times.{json_in, time_of}
 use Rattle.recordings.specs.declared.asciicast.Entry.{Entry}
@@ -28,15 +30,6 @@ use Rattle.recordings.specs.declared.timeline.Pace.TheVariants.{FromStart, FromL
 use Rattle.recordings.specs.declared.timeline.Timeline.{Timeline}
 
 -- ---- the header
-
--- rows or columns
-abbrev pub side_in : List ℕ → Data → Option ℕ
-side_in name json =
-    option_and_then (λ n. if nat_le 1 n && nat_le n 65535 then Some n else None)
-    (option_and_then as_u64 (option_and_then as_number (get name json)))
-
-abbrev pub sides_in : List ℕ → List ℕ → Data → Option (ℕ × ℕ)
-sides_in rows cols json = option_and_then (λ r. option_map (λ c. (r, c)) (side_in cols json)) (side_in rows json)
 
 -- version 2 has the size in the header, with times from the beginning; version 3 in its `term`, with times between
 -- events
@@ -137,8 +130,16 @@ head text = first_line (unmarked text)
 abbrev pub body : List ℕ → List (List ℕ)
 body text = drop 1 (lines_in (unmarked text))
 
+abbrev pub AreLines : List ℕ → Recording → Type 0
+AreLines text r = IsSomeAnd (header_in (head text)) (λ header. Says header (details_said (head text)) (body text) r)
+
+-- what a text says that is an object of version 1, or else lines
+abbrev pub IsCast : Option Data → List ℕ → Recording → Type 0
+IsCast (Some json) text r = IsFirstVersion json r
+IsCast None text r = AreLines text r
+
 abbrev pub IsAsciicast : List ℕ → Recording → Type 0
-IsAsciicast text r = IsSomeAnd (header_in (head text)) (λ header. Says header (details_said (head text)) (body text) r)
+IsAsciicast text r = IsCast (first_version text) text r
 
 -- the first line that is no event, counted from 1 for the header
 pub record IsBadLine (pace : Pace) (lines : List (List ℕ)) (n : ℕ) : Type 0 where
@@ -156,10 +157,19 @@ IsFaultIn pace lines error.Memory = Unit {0}
 IsFaultIn pace lines (error.Line n) = IsBadLine pace lines n
 IsFaultIn pace lines _ = ⊥
 
--- why a text isn't read: it has no header, or a line after that is no event
+-- why lines aren't read: the first is no header, or a line after that is no event
+abbrev pub IsFaultOfLines : List ℕ → RecordingError → Type 0
+IsFaultOfLines text error.Header = header_in (head text) ≡ None
+IsFaultOfLines text e =
+    IsSomeAnd (header_in (head text)) (λ header. IsFaultIn header.0 (body text) e) ⊎ (e ≡ error.Memory)
+
+abbrev pub IsFaultOfCast : Option Data → List ℕ → RecordingError → Type 0
+IsFaultOfCast (Some json) text e = IsUnreadObject json e
+IsFaultOfCast None text e = IsFaultOfLines text e
+
+-- why a text isn't read
 abbrev pub IsFault : List ℕ → RecordingError → Type 0
-IsFault text error.Header = header_in (head text) ≡ None
-IsFault text e = IsSomeAnd (header_in (head text)) (λ header. IsFaultIn header.0 (body text) e) ⊎ (e ≡ error.Memory)
+IsFault text e = IsFaultOfCast (first_version text) text e
 
 -- ---- up to a fault
 
@@ -175,20 +185,40 @@ IsReadOf header details lines r (Some (error.Line n)) =
     (bad : IsBadLine header.0 lines n) × Says header details bad.before r
 IsReadOf header details lines r _ = ⊥
 
-abbrev pub IsReadCast : List ℕ → Recording → Option RecordingError → Type 0
-IsReadCast text r fault =
+abbrev pub AreReadLines : List ℕ → Recording → Option RecordingError → Type 0
+AreReadLines text r fault =
     IsSomeAnd (header_in (head text)) (λ header. IsReadOf header (details_said (head text)) (body text) r fault)
+
+-- an object is read as a whole
+abbrev pub IsReadCastOf : Option Data → List ℕ → Recording → Option RecordingError → Type 0
+IsReadCastOf (Some json) text r fault = IsFirstVersion json r × (fault ≡ None)
+IsReadCastOf None text r fault = AreReadLines text r fault
+
+abbrev pub IsReadCast : List ℕ → Recording → Option RecordingError → Type 0
+IsReadCast text r fault = IsReadCastOf (first_version text) text r fault
+
+-- why nothing is read of lines
+abbrev pub AreUnreadLines : List ℕ → RecordingError → Type 0
+AreUnreadLines text error.Header = header_in (head text) ≡ None
+AreUnreadLines text e = e ≡ error.Memory
+
+abbrev pub IsUnreadCastOf : Option Data → List ℕ → RecordingError → Type 0
+IsUnreadCastOf (Some json) text e = IsUnreadObject json e
+IsUnreadCastOf None text e = AreUnreadLines text e
 
 -- why nothing is read
 abbrev pub IsUnreadCast : List ℕ → RecordingError → Type 0
-IsUnreadCast text error.Header = header_in (head text) ≡ None
-IsUnreadCast text e = e ≡ error.Memory
+IsUnreadCast text e = IsUnreadCastOf (first_version text) text e
 
 -- ---- its kind
 
--- the first line is an object that has a version
+-- the first line is an object that has a version, or no value and the text is an object of version 1
+abbrev pub begins_so : Option Data → List ℕ → Bool
+begins_so (Some json) text = is_some (get (codes "version") json)
+begins_so None text = is_some (first_version text)
+
 abbrev pub is_header : List ℕ → Bool
-is_header text = is_some (option_and_then (get (codes "version")) (json_in (head text)))
+is_header text = begins_so (json_in (head text)) text
 
 abbrev pub entry_said : Entry → Option (List Row)
 entry_said entry.Blank = Some []

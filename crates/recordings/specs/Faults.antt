@@ -8,7 +8,7 @@ use Rattle.recordings.specs.declared.error.Packer.TheVariants.{Bzip2, Gzip, Xz, 
 
 abbrev pub fault_text : RecordingError → List ℕ
 fault_text Memory = codes "memory"
-fault_text Header = codes "line 1: not a header of asciicast v2 or v3"
+fault_text Header = codes "line 1: not a header of an asciicast"
 fault_text (Line n) = codes "line " ++ (decimal n ++ codes ": not an event of asciicast")
 fault_text (Byte n) = codes "byte " ++ (decimal n ++ codes ": not a frame of ttyrec")
 fault_text (Step n) = codes "line " ++ (decimal n ++ codes " of the timing file: not a step of the typescript")

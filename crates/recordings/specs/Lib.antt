@@ -1,4 +1,6 @@
 pub mod Asciicast
+pub mod FirstVersion
+pub mod Sizes
 pub mod Details
 pub mod Faults
 pub mod Kinds

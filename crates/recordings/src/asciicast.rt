@@ -1,20 +1,24 @@
-//! Asciicasts: a header and an event a line, each a value in JSON.
+//! Asciicasts: of versions 2 and 3 a header and an event a line, each a value in JSON.
 
 ghost use Rattle.std.specs.Prelude.{◌≡◌, ◌++◌, ◌+◌, ◌^◌, ◌<◌, ◌==◌, [], List, map, drop, length, None, Some};
 ghost use Rattle.std.specs.Prelude.{is_some, unwrap_or, slice_index, IfOk, IfErr, IfSome, OnOk};
 ghost use Rattle.serde_json.specs.View.{items_view, view};
 ghost use Rattle.std.specs.Option.{option_map};
 ghost use Rattle.recordings.specs.Recorded.{Row, IsStateAfter, deed_of, size_said};
-ghost use Rattle.recordings.specs.Asciicast.{AreRead, IsAsciicast, IsFault, IsReadCast, IsUnreadCast, comments};
+ghost use Rattle.recordings.specs.Asciicast.{AreRead, AreReadLines, AreUnreadLines, IsAsciicast, IsFault, IsReadCast};
+ghost use Rattle.recordings.specs.Asciicast.{IsUnreadCast, comments};
 ghost use Rattle.recordings.specs.Asciicast.{deed_in};
 ghost use Rattle.recordings.specs.Asciicast.{entry_said, header_details, header_in, header_of as header_of_data};
 ghost use Rattle.recordings.specs.Asciicast.{header_said, layout_said};
-ghost use Rattle.recordings.specs.Asciicast.{is_header, resize_in, row_in, rows_in, side_in, sides_in, text_in};
+ghost use Rattle.recordings.specs.Asciicast.{AreLines, IsFaultOfLines};
+ghost use Rattle.recordings.specs.Asciicast.{is_header, resize_in, row_in, rows_in, text_in};
+ghost use Rattle.recordings.specs.Sizes.{side_in, sides_in};
 ghost use Rattle.recordings.specs.declared.error.RecordingError.TheVariants.{Line};
 ghost use Rattle.recordings.specs.Details.{details_in, details_said};
 
 use crate::details::{idle_in, title_in};
 use crate::error::RecordingError;
+use crate::first_version::{parse_object, read_object};
 use crate::lines::{first_line, is_blank, lines_of, unmarked};
 use crate::recording::{Change, Kind, Reading, Recording, ScreenSize};
 use crate::theme::{RecordedTheme, theme_in};
@@ -25,18 +29,44 @@ use serde_json::Value;
 use std::alloc::{AllocError, Global};
 use std::num::NonZeroU16;
 
-/// Reads an asciicast of version 2 or 3.
+/// Reads an asciicast of version 1, 2 or 3.
 pub fn parse_asciicast(alloc: Global, text: &[u8]) -> Result<Recording, RecordingError>
     ensures recording { IfOk result (IsAsciicast text.now) }
     ensures fault { IfErr result (IsFault text.now) }
 {
-    read_asciicast(alloc, text)?.whole()
+    match parse_object(alloc, text)? {
+        Some(object) => read_object(alloc, &object)?.ok_or(RecordingError::Header),
+        None => parse_lines(alloc, text),
+    }
 }
 
-/// Reads an asciicast of version 2 or 3 up to the first line that is no event.
+/// Reads an asciicast of version 2 or 3 up to the first line that is no event, or one of version 1 as a whole.
 pub fn read_asciicast(alloc: Global, text: &[u8]) -> Result<Reading, RecordingError>
     ensures reading { IfOk result (λ r. IsReadCast text.now r.recording r.fault) }
     ensures fault { IfErr result (IsUnreadCast text.now) }
+{
+    let Some(object) = parse_object(alloc, text)? else {
+        return read_header_and_lines(alloc, text);
+    };
+    match read_object(alloc, &object)? {
+        Some(recording) => Ok(Reading {
+            recording,
+            fault: None,
+        }),
+        None => Err(RecordingError::Header),
+    }
+}
+
+fn parse_lines(alloc: Global, text: &[u8]) -> Result<Recording, RecordingError>
+    ensures recording { IfOk result (AreLines text.now) }
+    ensures fault { IfErr result (IsFaultOfLines text.now) }
+{
+    read_header_and_lines(alloc, text)?.whole()
+}
+
+fn read_header_and_lines(alloc: Global, text: &[u8]) -> Result<Reading, RecordingError>
+    ensures reading { IfOk result (λ r. AreReadLines text.now r.recording r.fault) }
+    ensures fault { IfErr result (AreUnreadLines text.now) }
 {
     let text = unmarked(text);
     let Some(header) = parse_header(alloc, first_line(text))? else {
@@ -77,13 +107,13 @@ fn line_fault(line: Option<u64>) -> Option<RecordingError>
     }
 }
 
-/// Whether a text begins with an object in JSON that has a version.
+/// Whether a text begins with an object in JSON that has a version, or is one of version 1 in several lines.
 pub(crate) fn begins_asciicast(alloc: Global, text: &[u8]) -> Result<bool, AllocError>
     ensures { IfOk result (λ begins. begins ≡ is_header text.now) }
 {
     match parse_json(alloc, first_line(unmarked(text)))? {
         Some(header) => Ok(header.get("version").is_some()),
-        None => Ok(false),
+        None => Ok(parse_object(alloc, text)?.is_some()),
     }
 }
 
@@ -137,7 +167,8 @@ fn layout_of(header: &Value) -> Option<(Pace, ScreenSize)>
     }
 }
 
-fn size_of(object: &Value, rows: &str, cols: &str) -> Option<ScreenSize>
+/// The size that an object has under these names.
+pub(crate) fn size_of(object: &Value, rows: &str, cols: &str) -> Option<ScreenSize>
     ensures { option_map size_said result ≡ sides_in rows.now cols.now (view object.now) }
 {
     Some(ScreenSize {

@@ -25,7 +25,8 @@ pub enum Packer {
 pub enum RecordingError {
     /// Memory was refused.
     Memory,
-    /// The first line is no header of asciicast: no object, one of another version, or one without a size.
+    /// The first line is no header of an asciicast: no object, one of another version, or one without a size. Or the
+    /// text is an object of version 1 without a size or with a value that is no output.
     Header,
     /// This line is no event of asciicast.
     Line(u64),
@@ -47,7 +48,7 @@ impl fmt::Display for RecordingError {
     fn fmt<W: fmt::Write>(&self, f: &mut fmt::Formatter<W>) -> fmt::Result {
         match *self {
             RecordingError::Memory => write!(f, "memory"),
-            RecordingError::Header => write!(f, "line 1: not a header of asciicast v2 or v3"),
+            RecordingError::Header => write!(f, "line 1: not a header of an asciicast"),
             RecordingError::Line(line) => write!(f, "line {line}: not an event of asciicast"),
             RecordingError::Byte(byte) => write!(f, "byte {byte}: not a frame of ttyrec"),
             RecordingError::Step(line) => {

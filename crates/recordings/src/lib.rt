@@ -4,6 +4,7 @@
 mod asciicast;
 mod details;
 mod error;
+mod first_version;
 mod kind;
 mod lines;
 mod recording;

@@ -39,7 +39,7 @@ pub struct Event {
 /// The form in which a recording is stored.
 #[derive(Clone, Copy, Debug, PartialEq, Eq)]
 pub enum Kind {
-    /// An asciicast, version 2 or 3: <https://docs.asciinema.org/manual/asciicast/v3/>.
+    /// An asciicast, version 1, 2 or 3: <https://docs.asciinema.org/manual/asciicast/v3/>.
     Asciicast,
     /// A typescript of `script`, with its timing file: `scriptreplay(1)` of util-linux.
     Script,

@@ -1,4 +1,4 @@
-use Rattle.std.proofs.Common.{◌≡◌, ◌+◌, ◌∙◌, take, sym, arith}
+use Rattle.std.proofs.Common.{◌+◌, ◌∙◌, take, sym, arith}
 use Rattle.recordings.specs.Asciicast.{rows_of}
 use Rattle.recordings.proofs.LineLemmas.{next_line, stopped, texts}
 use Rattle.recordings.proofs.asciicast.read_lines.Goals as goal

@@ -1,4 +1,4 @@
-use Rattle.std.proofs.Common.{◌≡◌, ◌∙◌, ap, refl}
+use Rattle.std.proofs.Common.{◌∙◌, ap, refl}
 use Rattle.recordings.proofs.LineLemmas.{texts}
 use Rattle.recordings.proofs.TypescriptLemmas.{steps_read}
 use Rattle.recordings.proofs.typescript.read_typescript.Goals as goal

@@ -5,7 +5,7 @@ use Rattle.recordings.specs.Details.{details_said}
 use Rattle.recordings.specs.Lines.{first_line, lines_in}
 use Rattle.recordings.proofs.CastLemmas.{is_read}
 use Rattle.recordings.proofs.LineLemmas.{texts}
-use Rattle.recordings.proofs.asciicast.read_asciicast.Goals as goal
+use Rattle.recordings.proofs.asciicast.read_header_and_lines.Goals as goal
 
 pub returns-clause-reading : goal.returns-clause-reading
 returns-clause-reading c =

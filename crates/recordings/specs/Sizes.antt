@@ -1,0 +1,14 @@
+-- The size of a screen in JSON.
+use Rattle.std.specs.Prelude.{ℕ, ◌&&◌, nat_le, List, Option, Some, None, option_and_then, if◌then◌else◌}
+use Rattle.std.specs.Option.{option_map}
+use Rattle.serde_json.specs.Data.{Data}
+use Rattle.serde_json.specs.Find.{as_number, as_u64, get}
+
+-- rows or columns
+abbrev pub side_in : List ℕ → Data → Option ℕ
+side_in name json =
+    option_and_then (λ n. if nat_le 1 n && nat_le n 65535 then Some n else None)
+    (option_and_then as_u64 (option_and_then as_number (get name json)))
+
+abbrev pub sides_in : List ℕ → List ℕ → Data → Option (ℕ × ℕ)
+sides_in rows cols json = option_and_then (λ r. option_map (λ c. (r, c)) (side_in cols json)) (side_in rows json)
