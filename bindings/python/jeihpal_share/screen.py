@@ -10,10 +10,10 @@ from jeihpal import Hub
 
 from .moments import Camera, Moment
 from .notices import Notices
+from .updates import UpdateEnds
 
 PAUSE = 0.01  # a command that is silent for so many seconds has drawn what it wanted
 MOST_HELD = 1.0  # for so many seconds it may hold an update back
-_END_UPDATE = b"\x1b[?2026l"
 
 
 class Audience(Protocol):
@@ -46,6 +46,7 @@ class SharedScreen:
         self._took = 0.0  # seconds of a processor that showing it has taken
         self._camera = Camera()
         self._moment: Moment | None = None
+        self._ends = UpdateEnds()
         self._tick: asyncio.TimerHandle | None = None
         self._held: asyncio.TimerHandle | None = None
 
@@ -58,12 +59,13 @@ class SharedScreen:
 
     def feed(self, data: bytes) -> None:
         """Takes the command's next bytes."""
-        if self._held:
+        end = self._ends.last_end(data)
+        if self._held and end:
             # What waits for the end of an update is shown right there, before the next one begins.
-            done, mark, data = data.rpartition(_END_UPDATE)
-            self._take(done + mark)
+            self._take(data[:end])
             if not self.hub.look().updating:
                 self.show()
+            data = data[end:]
         self._take(data)
         self.show_soon()
 

@@ -20,6 +20,8 @@ import termios
 import time
 import unittest
 
+from jeihpal_share.updates import UpdateEnds
+
 from . import sharing
 from .sharing import WHOLE, Shared, Watching, processor_seconds, wait_for
 
@@ -245,6 +247,27 @@ sys.stdout.write("\x1b[H\x1b[2J\x1b[?2026l")
                 shown = watcher.view.text().split("\n")
                 self.assertEqual(shown[0], shown[1])
             self.assertGreater(watcher.frames(), 5)
+
+    def test_ends_that_pieces_cut(self):
+        mark = b"\x1b[?2026l"
+        for cut in range(1, len(mark)):
+            ends = UpdateEnds()
+            found = ends.last_end(b"left" + mark[:cut]), ends.last_end(mark[cut:] + b"\x1b[?2026hnext")
+            self.assertEqual(found, (0, len(mark) - cut))
+
+    def test_what_ends_an_update(self):
+        for text, end in (
+            (b"\x1b[?25;2026lz", 11),
+            (b"\x1b[?02026lz", 9),
+            (b"a\x1bcb", 3),
+            (mark := b"\x1b[?2026l", 8),
+            (mark + b"between" + mark + b"z", 23),
+            (b"\x1b[?2026:1lz", 0),
+            (b"\x1b[?12026lz", 0),
+            (b"\x1b[2026lz", 0),
+            (b"\x1b[?2026hz", 0),
+        ):
+            self.assertEqual(UpdateEnds().last_end(text), end, text)
 
     def test_not_for_ever(self):
         program = r"import sys, time; sys.stdout.write('\x1b[?2026hheld'); sys.stdout.flush(); time.sleep(30)"
