@@ -1,11 +1,14 @@
 -- The screen at the end of an output.
-use Rattle.std.proofs.Common.{◌≡◌, ◌∙◌, ℕ, false, List, [], ◌∷◌, ◌++◌, refl, sym, ap, arith}
-use Rattle.std.proofs.Common.{append_assoc, length, length-append, subst}
+use Rattle.std.proofs.Common.{◌≡◌, ◌∙◌, ℕ, false, List, [], ◌∷◌, ◌++◌, drop, refl, sym, ap, arith}
+use Rattle.std.proofs.Common.{length, length-append, subst}
 use Rattle.std.specs.List.{concat}
-use Rattle.vte_core.specs.Event.{Event, Csi}
+use Rattle.vt100_forms.specs.declared.modes.MouseProtocolMode.{MouseProtocolMode}
+use Rattle.vt100_forms.specs.declared.modes.MouseProtocolMode.TheVariants as mouse
+use Rattle.vt100_forms.specs.declared.modes.MouseProtocolEncoding.{MouseProtocolEncoding}
+use Rattle.vt100_forms.specs.declared.modes.MouseProtocolEncoding.TheVariants as encoding
+use Rattle.vte_core.specs.Event.{Event}
 use Rattle.vte_core.specs.Shapes.{events}
 use Rattle.vte_core.proofs.LawLemmas.{esc-cut}
-use Rattle.vte.specs.Marks.{end_mark}
 use Rattle.screen_model.specs.Effect.{effect}
 use Rattle.screen_model.specs.Made.{played}
 use Rattle.screen_model.specs.Shown.{shown_state}
@@ -19,61 +22,89 @@ use Rattle.charset_filter.specs.Sets.{first_sets}
 use Rattle.charset_filter.proofs.EventLemmas.{drawn_events-append}
 use Rattle.charset_filter.proofs.LawLemmas.{draws-events}
 use Rattle.relay_streams.specs.Frames.{state_after}
-use Rattle.relay_streams.specs.Laws.{HasReadAll, LiveEndIsShown}
-use Rattle.relay_streams.specs.Live.{farewell, modes_end, screen_at_end}
+use Rattle.relay_streams.specs.Laws.{FarewellEndsAll, HasNothingOn, HasReadAll, LiveEndIsShown}
+use Rattle.relay_streams.specs.Live.{farewell, screen_at_end}
 use Rattle.relay_streams.specs.Sessions.{AreRelayed, texts_of}
 use Rattle.relay_streams.specs.Shown.{sized}
 use Rattle.relay_streams.proofs.RelayedLemmas.{live-shown}
 use Rattle.relay_streams.proofs.SessionLemmas.{frames-of, relayed-by}
 
--- ---- an update is ended
+-- ---- nothing is left on
 
--- the event of what ends an update
-abbrev closing : Event
-closing = Csi ((2026 ∷ []) ∷ []) (63 ∷ []) false 108
+-- the events of the farewell
+abbrev last_events : List Event
+last_events = events 1024 farewell
 
-played-push : (es : List Event) (e : Event) (s : State) → played (es ++ e ∷ []) s ≡ (effect e (played es s)).state
-played-push [] e s = refl
-played-push (x ∷ es) e s = played-push es e (effect x s).state
-
--- what stands before the end of an update, and its first byte
-abbrev before_end : List ℕ → List ℕ
-before_end input = (input ++ modes_end) ++ 27 ∷ []
-
--- it is the last one, whatever was read before
-ends : (input : List ℕ) → events 1024 (input ++ farewell) ≡ events 1024 (before_end input) ++ closing ∷ []
-ends input =
-    ap (events 1024) (sym (append_assoc input modes_end end_mark))
-    ∙ esc-cut 1024 (input ++ modes_end) (91 ∷ 63 ∷ 50 ∷ 48 ∷ 50 ∷ 54 ∷ 108 ∷ [])
-
--- with lines drawn too
-last-event : (lines : LineDrawing) (input : List ℕ) → (before : List Event)
-    × (events 1024 (passed lines [] (input ++ farewell)) ≡ before ++ closing ∷ [])
-last-event Kept input = (events 1024 (before_end input), ends input)
-last-event Drawn input =
-    let before = events 1024 (before_end input) in (
+-- they come last, whatever was read before, with lines drawn too
+ends : (lines : LineDrawing) (input : List ℕ) → (before : List Event)
+    × (events 1024 (passed lines [] (input ++ farewell)) ≡ before ++ last_events)
+ends Kept input = (events 1024 (input ++ 27 ∷ []), esc-cut 1024 input (drop 1 farewell))
+ends Drawn input =
+    let before = events 1024 (input ++ 27 ∷ []) in (
       drawn_events first_sets before,
-      draws-events 1024 (input ++ farewell) ∙ ap (drawn_events first_sets) (ends input)
-          ∙ drawn_events-append first_sets before (closing ∷ []),
+      draws-events 1024 (input ++ farewell) ∙ ap (drawn_events first_sets) (esc-cut 1024 input (drop 1 farewell))
+          ∙ drawn_events-append first_sets before last_events,
     )
 
--- after it no update is open
-pub at-end : (lines : LineDrawing) (rows cols : ℕ) (input : List ℕ)
-    → (screen_at_end lines rows cols input).updating ≡ false
-at-end lines rows cols input =
-    let last = last-event lines input in
-    let s = fresh_state rows cols 0 in
-    ap (λ (es : List Event). (played es s).updating) last.1
-    ∙ ap (λ (t : State). t.updating) (played-push last.0 closing s)
+played-after : (es fs : List Event) (s : State) → played (es ++ fs) s ≡ played fs (played es s)
+played-after [] fs s = refl
+played-after (e ∷ es) fs s = played-after es fs (effect e s).state
+
+-- a state with this mouse mode and encoding
+abbrev with_mouse : MouseProtocolMode → MouseProtocolEncoding → State → State
+with_mouse m e s = record s { modes = record (s.modes) { mouse = m; encoding = e } }
+
+nothing-on : (rows cols : ℕ) (m : MouseProtocolMode) (e : MouseProtocolEncoding) (s : State)
+    → HasNothingOn rows cols (played last_events (with_mouse m e s))
+nothing-on rows cols mouse.None encoding.Default s =
+    record { modes = refl; hidden = refl; style = refl; updating = refl }
+nothing-on rows cols mouse.None encoding.Utf8 s =
+    record { modes = refl; hidden = refl; style = refl; updating = refl }
+nothing-on rows cols mouse.None encoding.Sgr s =
+    record { modes = refl; hidden = refl; style = refl; updating = refl }
+nothing-on rows cols mouse.Press encoding.Default s =
+    record { modes = refl; hidden = refl; style = refl; updating = refl }
+nothing-on rows cols mouse.Press encoding.Utf8 s =
+    record { modes = refl; hidden = refl; style = refl; updating = refl }
+nothing-on rows cols mouse.Press encoding.Sgr s =
+    record { modes = refl; hidden = refl; style = refl; updating = refl }
+nothing-on rows cols mouse.PressRelease encoding.Default s =
+    record { modes = refl; hidden = refl; style = refl; updating = refl }
+nothing-on rows cols mouse.PressRelease encoding.Utf8 s =
+    record { modes = refl; hidden = refl; style = refl; updating = refl }
+nothing-on rows cols mouse.PressRelease encoding.Sgr s =
+    record { modes = refl; hidden = refl; style = refl; updating = refl }
+nothing-on rows cols mouse.ButtonMotion encoding.Default s =
+    record { modes = refl; hidden = refl; style = refl; updating = refl }
+nothing-on rows cols mouse.ButtonMotion encoding.Utf8 s =
+    record { modes = refl; hidden = refl; style = refl; updating = refl }
+nothing-on rows cols mouse.ButtonMotion encoding.Sgr s =
+    record { modes = refl; hidden = refl; style = refl; updating = refl }
+nothing-on rows cols mouse.AnyMotion encoding.Default s =
+    record { modes = refl; hidden = refl; style = refl; updating = refl }
+nothing-on rows cols mouse.AnyMotion encoding.Utf8 s =
+    record { modes = refl; hidden = refl; style = refl; updating = refl }
+nothing-on rows cols mouse.AnyMotion encoding.Sgr s =
+    record { modes = refl; hidden = refl; style = refl; updating = refl }
+
+pub farewell-ends-all : FarewellEndsAll
+farewell-ends-all lines rows cols input =
+    let last = ends lines input in
+    let first = fresh_state rows cols 0 in
+    let s = played last.0 first in
+    subst (HasNothingOn rows cols)
+    (sym (ap (λ (es : List Event). played es first) last.1 ∙ played-after last.0 last_events first))
+    (nothing-on rows cols s.modes.mouse s.modes.encoding s)
 
 -- ---- so a view shows the screen
 
 -- something passes
 some-passed : (lines : LineDrawing) (input : List ℕ) → passed lines [] (input ++ farewell) ≡ [] → ⊥
 some-passed lines input none =
-    let last = last-event lines input in
-    let empty : [] ≡ last.0 ++ closing ∷ [] = ap (events 1024) (sym none) ∙ last.1 in
-    omega (arith, ap length empty, length-append last.0 (closing ∷ []))
+    let last = ends lines input in
+    let empty : [] ≡ last.0 ++ last_events = ap (events 1024) (sym none) ∙ last.1 in
+    let some : length last_events ≡ 5 = refl in
+    omega (arith, ap length empty, length-append last.0 last_events, some)
 
 split-last : (piece : List ℕ) (pieces : List (List ℕ)) → (past : List (List ℕ)) × (last : List ℕ)
     × (piece ∷ pieces ≡ past ++ last ∷ [])
@@ -106,5 +137,5 @@ live-end-shown lines rows cols input text parsed hold cuts live joined leads sur
     let shown = live-shown Kept rows cols cut.0 cut.1 parsed hold
     (subst (λ (ps : List (List ℕ)). HasReadAll Kept rows cols ps parsed hold) cut.2 read)
     (ap (λ (bytes : List ℕ). is_unsure (sized rows cols) (shown_state (made bytes))) is ∙ sure)
-    (ap (λ (bytes : List ℕ). (made bytes).updating) is ∙ at-end lines rows cols input) in
+    (ap (λ (bytes : List ℕ). (made bytes).updating) is ∙ (farewell-ends-all lines rows cols input).updating) in
     (shown.0, shown.1 ∙ ap (λ (bytes : List ℕ). shown_state (made bytes)) is)

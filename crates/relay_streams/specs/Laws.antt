@@ -5,6 +5,7 @@ use Rattle.vte.specs.Moves.{Gives}
 use Rattle.vte.specs.Frames.{Drives, IsFrame}
 use Rattle.terminal_model.specs.Term.{Size, shown_of}
 use Rattle.screen_model.specs.Shown.{shown_state}
+use Rattle.screen_model.specs.State.{State, fresh_state}
 use Rattle.termrelay.specs.Frame.{is_unsure}
 use Rattle.termview.specs.Seen.{seen}
 use Rattle.relay_theorem.specs.History.{Story}
@@ -66,6 +67,18 @@ LiveIsShown = (lines : LineDrawing) (rows cols : ℕ) (past : List (List ℕ)) (
     → (state_after rows cols (passed lines [] (concat (past ++ piece ∷ [])))).updating ≡ false
     → (hold ≡ None) × (shown_of (seen (sized rows cols) parsed)
     ≡ shown_state (state_after rows cols (passed lines [] (concat (past ++ piece ∷ [])))))
+
+-- modes and cursor are as on a new screen of this size, and no update is open
+pub record HasNothingOn (rows cols : ℕ) (s : State) : Type 0 where
+  pub modes : s.modes ≡ (fresh_state rows cols 0).modes
+  pub hidden : s.hidden ≡ (fresh_state rows cols 0).hidden
+  pub style : s.style ≡ (fresh_state rows cols 0).style
+  pub updating : s.updating ≡ false
+
+-- the farewell leaves nothing on, whatever comes before it, with lines drawn or not
+abbrev pub FarewellEndsAll : Type 0
+FarewellEndsAll = (lines : LineDrawing) (rows cols : ℕ) (input : List ℕ)
+    → HasNothingOn rows cols (screen_at_end lines rows cols input)
 
 -- A new view of the size that has read all that is written of a live output, in whatever pieces it comes, shows the
 -- screen that the output makes, with its lines drawn or not, where the modes and the update are ended that it left on.

@@ -7,11 +7,11 @@ use Rattle.std.specs.declared.io.Error.{Error}
 use Rattle.std.specs.declared.io.ErrorKind.TheVariants.{Interrupted}
 use Rattle.byte_streams.specs.Output.{TakesPrefix}
 use Rattle.byte_streams.specs.Pump.{Pumps}
-use Rattle.vte.specs.Marks.{end_mark}
 use Rattle.terminal_model.specs.Term.{Shown}
 use Rattle.screen_model.specs.State.{State}
 use Rattle.termrelay.specs.Hub.{HubState, as_kept}
 use Rattle.relay_theorem.specs.History.{Story}
+use Rattle.relay_streams.specs.declared.live.TheConstants.{FAREWELL}
 use Rattle.relay_streams.specs.declared.error.RelayError.{RelayError}
 use Rattle.relay_streams.specs.declared.error.RelayError.TheVariants.{Read, Write, Memory, TooManyReads, FrameTooLong}
 use Rattle.charset_filter.specs.declared.lines.LineDrawing.{LineDrawing}
@@ -68,17 +68,9 @@ pub data Listens {S : Type 0} (step : S → ℕ → Result (List ℕ) Error → 
 
 -- ---- the end
 
--- what ends mouse reports, bracketed paste, application keys and keypad, and a cursor that is hidden or has another
--- style: ESC [ ? 9 ; 1000 ; 1002 ; 1003 ; 1005 ; 1006 ; 2004 ; 1 l   ESC >   ESC [ ? 25 h   ESC [ 0 SP q
-abbrev pub modes_end : List ℕ
-modes_end =
-    27 ∷ 91 ∷ 63 ∷ 57 ∷ 59 ∷ 49 ∷ 48 ∷ 48 ∷ 48 ∷ 59 ∷ 49 ∷ 48 ∷ 48 ∷ 50 ∷ 59 ∷ 49 ∷ 48 ∷ 48 ∷ 51 ∷ 59 ∷ 49 ∷ 48 ∷
-    48 ∷ 53 ∷ 59 ∷ 49 ∷ 48 ∷ 48 ∷ 54 ∷ 59 ∷ 50 ∷ 48 ∷ 48 ∷ 52 ∷ 59 ∷ 49 ∷ 108 ∷ 27 ∷ 62 ∷ 27 ∷ 91 ∷ 63 ∷ 50 ∷ 53 ∷
-    104 ∷ 27 ∷ 91 ∷ 48 ∷ 32 ∷ 113 ∷ []
-
--- what ends all that a program may have left on: these, and an update
+-- what ends all that a program may have left on (the law `FarewellEndsAll`)
 abbrev pub farewell : List ℕ
-farewell = modes_end ++ end_mark
+farewell = FAREWELL.now
 
 -- these pieces of an output are fed: what was read, and at its end the farewell
 abbrev pub ended : List (List ℕ) → List (List ℕ)

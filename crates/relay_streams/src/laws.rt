@@ -1,6 +1,7 @@
 //! Laws of what is shown, each as the contract of a function that does nothing.
 ghost use Rattle.relay_streams.specs.Far.{FarViewsShow};
-ghost use Rattle.relay_streams.specs.Laws.{LiveEndIsShown, LiveIsShown, RelayedPrefixesAreShown, RelayedIsShown};
+ghost use Rattle.relay_streams.specs.Laws.{FarewellEndsAll, LiveEndIsShown, LiveIsShown, RelayedPrefixesAreShown};
+ghost use Rattle.relay_streams.specs.Laws.{RelayedIsShown};
 ghost use Rattle.relay_streams.specs.Laws.{TextsAreOne, WholeFramesArePrinted};
 ghost use Rattle.relay_streams.specs.Sessions.{EachRelayIsASession, EachRelayIsPumped, RelayedAreOne, RelayTextsAreOne};
 
@@ -34,6 +35,12 @@ pub fn live_is_shown()
 /// they are. It holds nothing back. Left out is a screen that shows U+FE0F.
 pub fn live_end_is_shown()
     ensures { LiveEndIsShown }
+{}
+
+/// After the farewell a screen has the modes and the cursor's style of a new one, the cursor is shown, and no update is
+/// open: whatever was read before, as a sequence that was cut, and with lines drawn or not.
+pub fn farewell_ends_all()
+    ensures { FarewellEndsAll }
 {}
 
 /// Of any prefix of what `relay` or `relay_live` writes, in whatever pieces it comes, a view shows what the input's

@@ -103,12 +103,16 @@ fn relay_reads<S: Source, W: FlushSink>(
     }
 }
 
+/// What ends all that a program may have left on.
+pub const FAREWELL: &[u8] =
+    b"\x1b[?9;1000;1002;1003;1005;1006;2004;1l\x1b>\x1b[?25h\x1b[0 q\x1b[?2026l";
+
 /// What ends all that a program may have left on: mouse reports, bracketed paste, application keys and keypad, a hidden
-/// cursor and its style, and a synchronized update.
+/// cursor and its style, and a synchronized update. The law `farewell_ends_all` says that it does.
 pub fn farewell() -> &'static [u8]
     ensures { result.now ≡ farewell }
 {
-    b"\x1b[?9;1000;1002;1003;1005;1006;2004;1l\x1b>\x1b[?25h\x1b[0 q\x1b[?2026l"
+    FAREWELL
 }
 
 // Has a piece pass, feeds what it gives, sends the frame that is then due, and flushes the writer.
