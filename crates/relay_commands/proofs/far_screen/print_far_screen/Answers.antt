@@ -40,7 +40,7 @@ returns-in_err-carry_frames-clause-prints g c =
     let made = c.from_residual-in_err-carry_frames in
     let p = err_from_is_err_and made.result made.ensures.1 in
     let is : c.from_residual-in_err-carry_frames.result ≡ Err e = p.1 ∙ ap Err p.2 in
-    let read = c.in_err-carry_frames.ensures c.args.rows.value c.args.cols.value c.args.lines at c.new-filter.ensures in
+    let read = c.in_err-carry_frames.ensures c.args.rows.value c.args.cols.value c.args.lines at c.new-filter.ensures.passed in
     rw is (broken read.0 e read.1 refl)
 
 pub returns : goal.returns
@@ -50,7 +50,7 @@ returns g c =
     let at = first-attached rows cols c.in_ok-client.client c.in_ok-hub.hub
     c.attach.new.self (c.args.rows.ok, omega arith) (c.args.cols.ok, omega arith) c.in_ok-hub.ensures.new
     c.in_ok-client.ensures in
-    let read = c.in_ok-carry_frames.ensures rows cols c.args.lines at c.new-filter.ensures in
+    let read = c.in_ok-carry_frames.ensures rows cols c.args.lines at c.new-filter.ensures.passed in
     let carried = read.2 in
     let fresh = c.in_ok-view.ensures.exact (λ b e. e ∙ c.new-2.ensures) in
     let size = size_is _ _ _ c.in_ok-view.ensures.rows c.in_ok-view.ensures.cols in

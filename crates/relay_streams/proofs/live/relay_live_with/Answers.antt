@@ -40,7 +40,7 @@ returns g c =
     let at = first-attached c.args.rows.value c.args.cols.value c.in_ok-client.client c.in_ok-hub.hub
     c.attach.new.self (c.args.rows.ok, omega arith) (c.args.cols.ok, omega arith) c.in_ok-hub.ensures.new
     c.in_ok-client.ensures in
-    let r = streamed (c.relay_reads.ensures c.args.rows.value c.args.cols.value c.args.lines at c.new-filter.ensures) in
+    let r = streamed (c.relay_reads.ensures c.args.rows.value c.args.cols.value c.args.lines at c.new-filter.ensures.passed) in
     let reported = live-reported g.row.S.Denot g.row.W.Denot g.S.Source.gives g.W.ByteSink.takes g.W.FlushSink.flushes
     g.W.FlushSink.contents g.S.Source.left g.met.S.Source.tells g.met.W.FlushSink.tells g.met.W.FlushSink.keeps
     c.args.rows.value
