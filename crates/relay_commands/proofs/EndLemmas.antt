@@ -14,7 +14,7 @@ use Rattle.relay_streams.specs.Live.{ended, farewell, screen_at_end}
 use Rattle.relay_streams.specs.Pieces.{pieces_of}
 use Rattle.relay_streams.specs.Sessions.{AreRelayed, texts_of}
 use Rattle.relay_streams.specs.Shown.{screen_text, sized}
-use Rattle.relay_streams.proofs.EndLemmas.{at-end}
+use Rattle.relay_streams.proofs.EndLemmas.{farewell-ends-all}
 use Rattle.relay_streams.proofs.PieceLemmas.{concat-pieces, concat-push}
 use Rattle.relay_streams.proofs.RelayedLemmas.{live-shown}
 use Rattle.relay_streams.proofs.SessionLemmas.{frames-of, relayed-by}
@@ -49,7 +49,7 @@ far-screen lines rows cols input text far sure =
     let shown = live-shown lines rows cols (pieces_of input) farewell far.shown.parsed far.shown.hold
     (read-all lines rows cols input text far)
     (ap (λ (bytes : List ℕ). is_unsure z (shown_state (made bytes))) (whole input) ∙ sure)
-    (ap (λ (bytes : List ℕ). (made bytes).updating) (whole input) ∙ at-end lines rows cols input) in
+    (ap (λ (bytes : List ℕ). (made bytes).updating) (whole input) ∙ (farewell-ends-all lines rows cols input).updating) in
     far.shown.text_is
     ∙ ap (λ (x : Shown). screen_text z x.cell) shown.1
     ∙ ap (λ (bytes : List ℕ). screen_text z (shown_state (made bytes)).cell) (whole input)

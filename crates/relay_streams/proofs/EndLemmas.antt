@@ -1,5 +1,5 @@
 -- The screen at the end of an output.
-use Rattle.std.proofs.Common.{◌≡◌, ◌∙◌, ℕ, false, List, [], ◌∷◌, ◌++◌, drop, refl, sym, ap, arith}
+use Rattle.std.proofs.Common.{◌≡◌, ◌∙◌, ℕ, List, [], ◌∷◌, ◌++◌, drop, take, refl, sym, ap, arith}
 use Rattle.std.proofs.Common.{length, length-append, subst}
 use Rattle.std.specs.List.{concat}
 use Rattle.vt100_forms.specs.declared.modes.MouseProtocolMode.{MouseProtocolMode}
@@ -9,7 +9,6 @@ use Rattle.vt100_forms.specs.declared.modes.MouseProtocolEncoding.TheVariants as
 use Rattle.vte_core.specs.Event.{Event}
 use Rattle.vte_core.specs.Shapes.{events}
 use Rattle.vte_core.proofs.LawLemmas.{esc-cut}
-use Rattle.screen_model.specs.Effect.{effect}
 use Rattle.screen_model.specs.Made.{played}
 use Rattle.screen_model.specs.Shown.{shown_state}
 use Rattle.screen_model.specs.State.{State, fresh_state}
@@ -22,12 +21,17 @@ use Rattle.charset_filter.specs.Sets.{first_sets}
 use Rattle.charset_filter.proofs.EventLemmas.{drawn_events-append}
 use Rattle.charset_filter.proofs.LawLemmas.{draws-events}
 use Rattle.relay_streams.specs.Frames.{state_after}
-use Rattle.relay_streams.specs.Laws.{FarewellEndsAll, HasNothingOn, HasReadAll, LiveEndIsShown}
-use Rattle.relay_streams.specs.Live.{farewell, screen_at_end}
+use Rattle.relay_streams.specs.Laws.{FarewellEndsAll, HasNothingOn, HasReadAll, LastEndsAreSettled, LiveEndIsShown}
+use Rattle.relay_streams.specs.Laws.{LiveUpdatesAreShown}
+use Rattle.relay_streams.specs.Live.{farewell}
 use Rattle.relay_streams.specs.Sessions.{AreRelayed, texts_of}
 use Rattle.relay_streams.specs.Shown.{sized}
+use Rattle.relay_streams.specs.Updates.{cut_pieces, last_end}
+use Rattle.relay_streams.proofs.PieceLemmas.{concat-push}
 use Rattle.relay_streams.proofs.RelayedLemmas.{live-shown}
 use Rattle.relay_streams.proofs.SessionLemmas.{frames-of, relayed-by}
+use Rattle.relay_streams.proofs.SettledLemmas.{played-after, settled}
+use Rattle.relay_streams.proofs.UpdateLemmas.{concat-cut}
 
 -- ---- nothing is left on
 
@@ -45,10 +49,6 @@ ends Drawn input =
       draws-events 1024 (input ++ farewell) ∙ ap (drawn_events first_sets) (esc-cut 1024 input (drop 1 farewell))
           ∙ drawn_events-append first_sets before last_events,
     )
-
-played-after : (es fs : List Event) (s : State) → played (es ++ fs) s ≡ played fs (played es s)
-played-after [] fs s = refl
-played-after (e ∷ es) fs s = played-after es fs (effect e s).state
 
 -- a state with this mouse mode and encoding
 abbrev with_mouse : MouseProtocolMode → MouseProtocolEncoding → State → State
@@ -95,6 +95,23 @@ farewell-ends-all lines rows cols input =
     subst (HasNothingOn rows cols)
     (sym (ap (λ (es : List Event). played es first) last.1 ∙ played-after last.0 last_events first))
     (nothing-on rows cols s.modes.mouse s.modes.encoding s)
+
+-- ---- an update is ended
+
+pub last-ends-settled : LastEndsAreSettled
+last-ends-settled lines rows cols past piece some = settled lines past piece (fresh_state rows cols 0) some
+
+pub live-updates-shown : LiveUpdatesAreShown
+live-updates-shown lines rows cols past piece parsed hold some read sure =
+    let part = take (last_end (concat past) piece) piece in
+    let made = λ (bytes : List ℕ). state_after rows cols (passed lines [] bytes) in
+    let is : concat (cut_pieces past ++ part ∷ []) ≡ concat past ++ part =
+    concat-push (cut_pieces past) part ∙ ap (λ (xs : List ℕ). xs ++ part) (concat-cut [] past) in
+    let shown = live-shown lines rows cols (cut_pieces past) part parsed hold read
+    (ap (λ (bytes : List ℕ). is_unsure (sized rows cols) (shown_state (made bytes))) is ∙ sure)
+    (ap (λ (bytes : List ℕ). (made bytes).updating) is
+    ∙ last-ends-settled lines rows cols (concat past) piece some) in
+    (shown.0, shown.1 ∙ ap (λ (bytes : List ℕ). shown_state (made bytes)) is)
 
 -- ---- so a view shows the screen
 

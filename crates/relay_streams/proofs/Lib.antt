@@ -1,4 +1,5 @@
 pub mod EachLemmas
+pub mod EndEvents
 pub mod EndLemmas
 pub mod FarLemmas
 pub mod FillLemmas
@@ -10,7 +11,9 @@ pub mod OutputLemmas
 pub mod PieceLemmas
 pub mod RelayedLemmas
 pub mod SessionLemmas
+pub mod SettledLemmas
 pub mod StreamLemmas
 pub mod TakesLemmas
 pub mod TurnLemmas
+pub mod UpdateLemmas
 pub mod ViewLemmas

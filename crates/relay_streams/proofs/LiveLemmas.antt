@@ -1,7 +1,7 @@
 -- A live input, piece by piece, and what its frames leave.
 use Rattle.std.proofs.Common.{◌≡◌, ◌≢◌, ◌∙◌, ℕ, ◌+◌, ◌<◌, ◌≤◌, false, List, [], ◌∷◌, ◌++◌, Option, Some, Ok, Err}
 use Rattle.std.proofs.Common.{Result, IfSome, IfOk, OnOk, refl, sym, ap, subst, take, length, arith, append_assoc}
-use Rattle.std.proofs.Common.{append-nil, inl, inr}
+use Rattle.std.proofs.Common.{append-nil, inl, inr, drop, take-append-drop}
 use Rattle.std.proofs.Common.{add_assoc, zero-add}
 use Rattle.std.proofs.Math.Seq.{take-length}
 use Rattle.std.proofs.lemmas.List.{length-take-le}
@@ -28,16 +28,19 @@ use Rattle.relay_streams.specs.Frames.{asked, is_overlong}
 use Rattle.relay_streams.specs.Live as live
 use Rattle.charset_filter.specs.Lines.{all_passed, passed}
 use Rattle.relay_streams.specs.Live.{live_len, Tries, Listens, SendsFlushed, StreamsThrough, RelaysThrough, IsLiveText}
-use Rattle.relay_streams.specs.Live.{Hears, MayWantRoom, PassedOn, TakesLive, TriesOnce, CountsReads, WantsRoom}
+use Rattle.relay_streams.specs.Live.{Hears, MayWantRoom, PassedOn, PassedPart, TakesLive, TriesOnce, CountsReads}
+use Rattle.relay_streams.specs.Live.{WantsRoom}
 use Rattle.relay_streams.specs.Live.{ended, farewell, read_as}
 use Rattle.relay_streams.specs.Sessions.{AreRelayed, EndsOverlong}
 use Rattle.relay_streams.specs.Turns.{Relaying, Turned}
+use Rattle.relay_streams.specs.Updates.{cut_pieces, last_end, unless_empty}
 use Rattle.relay_streams.proofs.FrameLists.{frames_of, answers_of, base_of, frames-more, fits-push, base-push}
 use Rattle.charset_filter.proofs.LineLemmas.{concat-passed, none-passed, passed-cut, passed-push}
 use Rattle.relay_streams.proofs.OutcomeLemmas.{if_known}
 use Rattle.relay_streams.proofs.OutputLemmas.{Appends-kept}
 use Rattle.relay_streams.proofs.PieceLemmas.{Consumes-more, Consumes-none, kept-Consumes, left-known, all-taken}
 use Rattle.relay_streams.proofs.SessionLemmas.{frames-are-relayed, ends-overlong, wants-memory, frames-of, relayed-by}
+use Rattle.relay_streams.proofs.UpdateLemmas.{concat-cut, concat-unless_push, cut-parts, some-taken, unless-some}
 
 abbrev pub over : Result (Unit {0}) Error
 over = Ok tt
@@ -239,23 +242,164 @@ module _ (S W : Type 0) (gives : S → ℕ → Result (List ℕ) Error → S →
       (subst (λ (u : W). SendsFlushed takes flushes w (frames_of rows cols before) over u) (sym stays) sends) most
   live-faults key g s t w m v n TooManyReads height width b fit sends turned most = absurd turned
 
+  -- all pieces, where the last one is the farewell
+  all-ended : (reads : List (List ℕ)) → past ≡ cut_pieces reads → piece ≡ farewell → pieces ≡ ended (cut_pieces reads)
+  all-ended reads cut is =
+      ap (λ (ps : List (List ℕ)). ps ++ piece ∷ []) cut ∙ ap (λ (last : List ℕ). cut_pieces reads ++ last ∷ []) is
+
   -- the end of the input, where the piece is the farewell
-  pub live-ends : (key : ℕ) (g : HubState as_kept) (s p t : S) (w m v : W) (n k : ℕ)
-      (answer : Result (Unit {0}) RelayError) → IsSide rows → IsSide cols → piece ≡ farewell
-      → Listens gives live_len s n past p → Tries gives live_len p k (Ok []) t → Fit before
+  pub live-ends : (reads : List (List ℕ)) (key : ℕ) (g : HubState as_kept) (s p t : S) (w m v : W) (n k : ℕ)
+      (answer : Result (Unit {0}) RelayError) → IsSide rows → IsSide cols → past ≡ cut_pieces reads → piece ≡ farewell
+      → Listens gives live_len s n reads p → Tries gives live_len p k (Ok []) t → Fit before
       → SendsFlushed takes flushes w (frames_of rows cols before) over m
       → PassedOn lines takes flushes rows cols before here base key m answer v g → n + k ≤ max_reads
       → StreamsThrough lines gives takes flushes rows cols s w answer t v
-  live-ends key g s p t w m v n k (Ok u) height width is listens tries fit sends (i, turned, flush) most =
+  live-ends reads key g s p t w m v n k (Ok u) height width cut is listens tries fit sends (i, turned, flush) most =
       let goes = live-goes key g w m i v over fit sends turned flush in
-      live.finished p past (frames_of rows cols (all_passed lines pieces)) listens tries
-      (subst (λ (last : List ℕ). AreRelayed rows cols (all_passed lines (past ++ last ∷ []))
-      (frames_of rows cols (all_passed lines pieces))) is
+      live.finished p reads (frames_of rows cols (all_passed lines pieces)) listens tries
+      (subst (λ (ps : List (List ℕ)). AreRelayed rows cols (all_passed lines ps)
+      (frames_of rows cols (all_passed lines pieces))) (all-ended reads cut is)
       (frames-are-relayed rows cols (all_passed lines pieces) height width goes.0)) goes.1 most
-  live-ends key g s p t w m v n k (Err e) height width is listens tries fit sends turned most =
+  live-ends reads key g s p t w m v n k (Err e) height width cut is listens tries fit sends turned most =
       live-faults key g s t w m v (n + k) e height width
-      (subst (λ (last : List ℕ). Hears gives live_len s (n + k) (past ++ last ∷ []) t) (sym is)
-      (live.at_end p listens tries)) fit sends turned most
+      (subst (λ (ps : List (List ℕ)). Hears gives live_len s (n + k) ps t) (sym (all-ended reads cut is))
+      (live.at_end p reads listens tries)) fit sends turned most
+
+-- ---- parts of pieces
+
+-- What is so once these pieces have passed, were fed, and their frames were sent: of these none is too long.
+abbrev pub Sent : {W : Type 0} → (W → List ℕ → Result ℕ Error → W → Type 0)
+    → (W → Result (Unit {0}) Error → W → Type 0) → ℕ → ℕ → LineDrawing → List (List ℕ) → ℕ → HubState as_kept → W → W
+    → Type 0
+Sent takes flushes rows cols lines ps key g w v =
+    (list_any is_overlong (answers_of rows cols (all_passed lines ps)) ≡ false)
+    × SendsFlushed takes flushes w (frames_of rows cols (all_passed lines ps)) (Ok tt) v
+    × Relaying rows cols (all_passed lines ps) (base_of rows cols (all_passed lines ps)) g key
+
+module _ (S W : Type 0) (gives : S → ℕ → Result (List ℕ) Error → S → Type 0)
+    (takes : W → List ℕ → Result ℕ Error → W → Type 0) (flushes : W → Result (Unit {0}) Error → W → Type 0)
+    (rows cols : ℕ) (lines : LineDrawing) (past : List (List ℕ)) (bytes : List ℕ) (joined : concat past ≡ bytes)
+  where
+    abbrev Has : List (List ℕ) → ℕ → HubState as_kept → W → W → Type 0
+    Has ps key g w v = Sent takes flushes rows cols lines ps key g w v
+
+    abbrev On : List ℕ → ℕ → W → Result (Unit {0}) RelayError → W → HubState as_kept → List ℕ → Type 0
+    On part key w answer v g read =
+        PassedOn lines takes flushes rows cols (all_passed lines past) (passed lines read part)
+        (base_of rows cols (all_passed lines past)) key w answer v g
+
+    abbrev Passes : List ℕ → ℕ → W → HubState as_kept → Result (Unit {0}) RelayError → W → HubState as_kept → Type 0
+    Passes part key w h answer v g =
+        PassedPart lines takes flushes rows cols (all_passed lines past) bytes part
+        (base_of rows cols (all_passed lines past)) key w h answer v g
+
+    pub rejoined : (part : List ℕ) (key : ℕ) (m v : W) (answer : Result (Unit {0}) RelayError) (g : HubState as_kept)
+        → On part key m answer v g bytes → On part key m answer v g (concat past)
+    rejoined part key m v answer g on = subst (On part key m answer v g) (sym joined) on
+
+    pub part-goes : (part : List ℕ) (key : ℕ) (h g : HubState as_kept) (w m v : W) → Has past key h w m
+        → Passes part key m h well v g → Has (past ++ unless_empty part) key g w v
+    part-goes [] key h g w m v sent (is, stays, same) =
+        subst (λ (ps : List (List ℕ)). Has ps key g w v) (sym (append-nil past))
+        (subst (λ (u : W). Has past key g w u) (sym stays)
+        (subst (λ (x : HubState as_kept). Has past key x w m) (sym same) sent))
+    part-goes (b ∷ bs) key h g w m v sent on =
+        let here = rejoined (b ∷ bs) key m v well g on in
+        live-goes S W gives takes flushes rows cols lines past (b ∷ bs) key g w m here.0 v over sent.0 sent.1 here.1
+        here.2
+
+    pub part-faults : (part : List ℕ) (key : ℕ) (h g : HubState as_kept) (s t : S) (w m v : W) (n : ℕ) (e : RelayError)
+        → IsSide rows → IsSide cols → (0 < length part → Hears gives live_len s n (past ++ part ∷ []) t)
+        → Has past key h w m → Passes part key m h (Err e) v g → n ≤ max_reads
+        → StreamsThrough lines gives takes flushes rows cols s w (Err e) t v
+    part-faults [] key h g s t w m v n e height width hears sent (is, stays, same) most =
+        absurd (let contrary : Err e ≡ well = is in cc)
+    part-faults (b ∷ bs) key h g s t w m v n e height width hears sent on most =
+        live-faults S W gives takes flushes rows cols lines past (b ∷ bs) key g s t w m v n e height width
+        (hears (omega arith)) sent.0 sent.1 (rejoined (b ∷ bs) key m v (Err e) g on) most
+
+-- the parts of what was read last
+module _ {S : Type 0} (gives : S → ℕ → Result (List ℕ) Error → S → Type 0) (room : ℕ) (s t : S) (n k : ℕ)
+    (past : List (List ℕ)) (piece : List ℕ) (listens : Listens gives room s n (past ++ piece ∷ []) t)
+    (is : k ≡ last_end (concat past) piece)
+  where
+    pub hears-first : 0 < length (take k piece) → Hears gives room s n (cut_pieces past ++ take k piece ∷ []) t
+    hears-first some =
+        subst (λ (j : ℕ). Hears gives room s n (cut_pieces past ++ take j piece ∷ []) t) (sym is)
+        (live.partly past piece listens (subst (λ (j : ℕ). 0 < j) is (some-taken k piece some)))
+
+    pub hears-rest : 0 < length (drop k piece)
+        → Hears gives room s n ((cut_pieces past ++ unless_empty (take k piece)) ++ drop k piece ∷ []) t
+    hears-rest some =
+        subst (λ (ps : List (List ℕ)). Hears gives room s n ps t)
+        (sym (ap (λ (ps : List (List ℕ)). (cut_pieces past ++ unless_empty (take k piece)) ++ ps)
+        (sym (unless-some (drop k piece) some)) ∙ cut-parts past piece k is))
+        (live.heard (past ++ piece ∷ []) listens)
+
+-- the two parts of what was read last: the front comes up to its last end
+module _ (S W : Type 0) (gives : S → ℕ → Result (List ℕ) Error → S → Type 0)
+    (takes : W → List ℕ → Result ℕ Error → W → Type 0) (flushes : W → Result (Unit {0}) Error → W → Type 0)
+    (rows cols : ℕ) (lines : LineDrawing) (past : List (List ℕ)) (piece : List ℕ) (k : ℕ)
+    (is : k ≡ last_end (concat past) piece) (front back : List ℕ) (front-is : front ≡ take k piece)
+    (back-is : back ≡ drop k piece)
+  where
+    abbrev cuts : List (List ℕ)
+    cuts = cut_pieces past
+
+    -- with the front
+    abbrev fronts : List (List ℕ)
+    fronts = cuts ++ unless_empty front
+
+    fronts-joined : concat fronts ≡ concat past ++ front
+    fronts-joined = concat-unless_push cuts front ∙ ap (λ (xs : List ℕ). xs ++ front) (concat-cut [] past)
+
+    all-cut : fronts ++ unless_empty back ≡ cut_pieces (past ++ piece ∷ [])
+    all-cut =
+        ap (λ (xs : List ℕ). (cuts ++ unless_empty xs) ++ unless_empty back) front-is
+        ∙ ap (λ (xs : List ℕ). (cuts ++ unless_empty (take k piece)) ++ unless_empty xs) back-is
+        ∙ cut-parts past piece k is
+
+    abbrev On-front : ℕ → W → HubState as_kept → Result (Unit {0}) RelayError → W → HubState as_kept → Type 0
+    On-front key w h answer v g = PassedPart lines takes flushes rows cols (all_passed lines cuts) (concat past) front
+        (base_of rows cols (all_passed lines cuts)) key w h answer v g
+
+    abbrev On-back : ℕ → W → HubState as_kept → Result (Unit {0}) RelayError → W → HubState as_kept → Type 0
+    On-back key w h answer v g =
+        PassedPart lines takes flushes rows cols (all_passed lines fronts) (concat past ++ front) back
+        (base_of rows cols (all_passed lines fronts)) key w h answer v g
+
+    pub front-goes : (key : ℕ) (h g : HubState as_kept) (w m v : W) → Sent takes flushes rows cols lines cuts key h w m
+        → On-front key m h well v g → Sent takes flushes rows cols lines fronts key g w v
+    front-goes =
+        part-goes S W gives takes flushes rows cols lines cuts (concat past) (concat-cut [] past) front
+
+    pub back-goes : (key : ℕ) (h g : HubState as_kept) (w m v : W) → Sent takes flushes rows cols lines fronts key h w m
+        → On-back key m h well v g → Sent takes flushes rows cols lines (cut_pieces (past ++ piece ∷ [])) key g w v
+    back-goes key h g w m v sent on =
+        subst (λ (ps : List (List ℕ)). Sent takes flushes rows cols lines ps key g w v) all-cut
+        (part-goes S W gives takes flushes rows cols lines fronts (concat past ++ front) fronts-joined back key h g w m
+        v sent on)
+
+    pub front-faults : (key : ℕ) (h g : HubState as_kept) (s t : S) (w m v : W) (n : ℕ) (e : RelayError) → IsSide rows
+        → IsSide cols → Listens gives live_len s n (past ++ piece ∷ []) t
+        → Sent takes flushes rows cols lines cuts key h w m → On-front key m h (Err e) v g → n ≤ max_reads
+        → StreamsThrough lines gives takes flushes rows cols s w (Err e) t v
+    front-faults key h g s t w m v n e height width listens sent on most =
+        part-faults S W gives takes flushes rows cols lines cuts (concat past) (concat-cut [] past) front key h g s t w m v
+        n e height width (λ some. subst (λ (xs : List ℕ). Hears gives live_len s n (cuts ++ xs ∷ []) t) (sym front-is)
+        (hears-first gives live_len s t n k past piece listens is
+        (subst (λ (xs : List ℕ). 0 < length xs) front-is some))) sent on most
+
+    pub back-faults : (key : ℕ) (h g : HubState as_kept) (s t : S) (w m v : W) (n : ℕ) (e : RelayError) → IsSide rows
+        → IsSide cols → Listens gives live_len s n (past ++ piece ∷ []) t
+        → Sent takes flushes rows cols lines fronts key h w m → On-back key m h (Err e) v g → n ≤ max_reads
+        → StreamsThrough lines gives takes flushes rows cols s w (Err e) t v
+    back-faults key h g s t w m v n e height width listens sent on most =
+        part-faults S W gives takes flushes rows cols lines fronts (concat past ++ front) fronts-joined back key h g s t w
+        m v n e height width (λ some. subst (λ (xs : List ℕ). Hears gives live_len s n (fronts ++ xs ∷ []) t)
+        (sym back-is) (subst (λ (xs : List ℕ). Hears gives live_len s n ((cuts ++ unless_empty xs) ++ drop k piece ∷ []) t)
+        (sym front-is) (hears-rest gives live_len s t n k past piece listens is
+        (subst (λ (xs : List ℕ). 0 < length xs) back-is some)))) sent on most
 
 -- ---- what is left, where the bytes of the source and the writer are known
 
@@ -369,24 +513,44 @@ module _ (S W : Type 0) (gives : S → ℕ → Result (List ℕ) Error → S →
         (listens-taken s live_len n pieces m listens) (tries-taken live_len m k (Ok []) t [] tries refl)))
         (tries-ended live_len m k (Ok []) t tries refl (omega arith))
 
+    cut-joined : (pieces : List (List ℕ)) → concat (cut_pieces pieces) ≡ concat pieces
+    cut-joined pieces = concat-cut [] pieces
+
     -- behind the pieces that come, more may be left, and then the farewell
     heard-with : (s : S) (n : ℕ) (pieces : List (List ℕ)) (t : S) (bytes : List ℕ)
         → Listens gives live_len s n pieces t → left s ≡ Some bytes
-        → (rest : List ℕ) × (bytes ++ farewell ≡ concat pieces ++ rest)
+        → (rest : List ℕ) × (bytes ++ farewell ≡ concat (cut_pieces pieces) ++ rest)
     heard-with s n pieces t bytes listens is =
         let cut = listened s n pieces t bytes listens is in (
           cut.0 ++ farewell,
-          ap (λ zs. zs ++ farewell) cut.1 ∙ append_assoc (concat pieces) cut.0 farewell,
+          ap (λ zs. zs ++ farewell) cut.1 ∙ append_assoc (concat pieces) cut.0 farewell
+              ∙ ap (λ (xs : List ℕ). xs ++ (cut.0 ++ farewell)) (sym (cut-joined pieces)),
         )
 
     heard-cut : (s : S) (n : ℕ) (pieces : List (List ℕ)) (t : S) (bytes : List ℕ)
         → Hears gives live_len s n pieces t → left s ≡ Some bytes
         → (rest : List ℕ) × (bytes ++ farewell ≡ concat pieces ++ rest)
-    heard-cut s n pieces t bytes (live.heard listens) is = heard-with s n pieces t bytes listens is
-    heard-cut s _ _ t bytes (live.at_end {n = n} {k = k} {pieces = pieces} m listens tries) is = (
+    heard-cut s n _ t bytes (live.heard pieces listens) is = heard-with s n pieces t bytes listens is
+    heard-cut s n _ t bytes (live.partly pieces piece listens some) is =
+        let all = listened s n (pieces ++ piece ∷ []) t bytes listens is in
+        let k = last_end (concat pieces) piece in
+        let first : concat (cut_pieces pieces ++ take k piece ∷ []) ≡ concat pieces ++ take k piece =
+        concat-one (cut_pieces pieces) (take k piece) ∙ ap (λ (xs : List ℕ). xs ++ take k piece) (cut-joined pieces) in
+        let rest = (drop k piece ++ all.0) ++ farewell in
+        let parts : concat pieces ++ piece ≡ (concat pieces ++ take k piece) ++ drop k piece =
+        ap (λ (xs : List ℕ). concat pieces ++ xs) (sym (take-append-drop k piece))
+        ∙ sym (append_assoc (concat pieces) (take k piece) (drop k piece)) in (
+          rest,
+          ap (λ (xs : List ℕ). xs ++ farewell) (all.1
+              ∙ ap (λ (xs : List ℕ). xs ++ all.0) (concat-one pieces piece ∙ parts)
+              ∙ append_assoc (concat pieces ++ take k piece) (drop k piece) all.0)
+              ∙ append_assoc (concat pieces ++ take k piece) (drop k piece ++ all.0) farewell
+              ∙ ap (λ (xs : List ℕ). xs ++ rest) (sym first),
+        )
+    heard-cut s _ _ t bytes (live.at_end {n = n} {k = k} m pieces listens tries) is = (
       [],
-      sym (append-nil (concat (ended pieces)) ∙ concat-one pieces farewell
-          ∙ ap (λ zs. zs ++ farewell) (listened-all s m n k pieces t bytes listens tries is)),
+      sym (append-nil (concat (ended (cut_pieces pieces))) ∙ concat-one (cut_pieces pieces) farewell
+          ∙ ap (λ zs. zs ++ farewell) (cut-joined pieces ∙ listened-all s m n k pieces t bytes listens tries is)),
     )
 
     -- the same of all pieces but the last one
@@ -405,7 +569,7 @@ module _ (S W : Type 0) (gives : S → ℕ → Result (List ℕ) Error → S →
     streams-prefix rows cols lines s w answer t v bytes
         (live.unread {n = n} m pieces frames e listens tries are sends counts) is =
         let cut = heard-with s n pieces m bytes listens is in
-        takes-live rows cols lines w v pieces frames over (bytes ++ farewell) cut.0 are sends cut.1
+        takes-live rows cols lines w v (cut_pieces pieces) frames over (bytes ++ farewell) cut.0 are sends cut.1
     streams-prefix rows cols lines s w answer t v bytes (live.unmade {n = n} pieces frames piece hears are wants sends most)
         is =
         let cut = heard-past s n pieces piece t bytes hears is in
@@ -419,8 +583,8 @@ module _ (S W : Type 0) (gives : S → ℕ → Result (List ℕ) Error → S →
         takes-live rows cols lines w v pieces frames (Err e) (bytes ++ farewell) cut.0 are sends cut.1
     streams-prefix rows cols lines s w answer t v bytes
         (live.finished {n = n} {k = k} m pieces frames listens tries are sends most) is =
-        let cut = heard-cut s (n + k) (ended pieces) t bytes (live.at_end m listens tries) is in
-        takes-live rows cols lines w v (ended pieces) frames over (bytes ++ farewell) cut.0 are sends cut.1
+        let cut = heard-cut s (n + k) (ended (cut_pieces pieces)) t bytes (live.at_end m pieces listens tries) is in
+        takes-live rows cols lines w v (ended (cut_pieces pieces)) frames over (bytes ++ farewell) cut.0 are sends cut.1
 
     streams-whole : (rows cols : ℕ) (lines : LineDrawing) (s : S) (w : W) (answer : Result (Unit {0}) RelayError)
         (t : S)
@@ -432,15 +596,15 @@ module _ (S W : Type 0) (gives : S → ℕ → Result (List ℕ) Error → S →
         (live.finished {n = n} {k = k} m pieces frames listens tries are sends most) ok is = (
           concat frames,
           record {
-            pieces = all_passed lines (ended pieces);
-            whole = concat-passed lines (ended pieces)
-                ∙ ap (passed lines []) (concat-one pieces farewell
-                ∙ ap (λ zs. zs ++ farewell) (listened-all s m n k pieces t bytes listens tries is));
+            pieces = all_passed lines (ended (cut_pieces pieces));
+            whole = concat-passed lines (ended (cut_pieces pieces))
+                ∙ ap (passed lines []) (concat-one (cut_pieces pieces) farewell ∙ ap (λ zs. zs ++ farewell)
+                (cut-joined pieces ∙ listened-all s m n k pieces t bytes listens tries is));
             key = are.key;
             story = are.story;
             is = are.is;
             fits = are.fits;
-            pumped = pumped-is rows cols (all_passed lines (ended pieces)) frames are;
+            pumped = pumped-is rows cols (all_passed lines (ended (cut_pieces pieces))) frames are;
           },
           flushed-appends w v frames over sends refl,
         )

@@ -1,5 +1,5 @@
 -- Laws of what is shown.
-use Rattle.std.specs.Prelude.{◌≡◌, ℕ, false, List, [], ◌∷◌, ◌++◌, Option, None, map}
+use Rattle.std.specs.Prelude.{◌≡◌, ◌<◌, ℕ, false, List, [], ◌∷◌, ◌++◌, Option, None, map, take}
 use Rattle.std.specs.List.{All, concat}
 use Rattle.vte.specs.Moves.{Gives}
 use Rattle.vte.specs.Frames.{Drives, IsFrame}
@@ -18,6 +18,7 @@ use Rattle.relay_streams.specs.Live.{IsLiveText, farewell, screen_at_end}
 use Rattle.relay_streams.specs.Pieces.{pieces_of}
 use Rattle.relay_streams.specs.Sessions.{AreRelayed, IsRelayed, IsRelayText}
 use Rattle.relay_streams.specs.Shown.{IsTextShown, screen_text, sized}
+use Rattle.relay_streams.specs.Updates.{cut_pieces, last_end}
 
 -- pieces have one text: it is a function of the size and the pieces
 abbrev pub TextsAreOne : Type 0
@@ -67,6 +68,27 @@ LiveIsShown = (lines : LineDrawing) (rows cols : ℕ) (past : List (List ℕ)) (
     → (state_after rows cols (passed lines [] (concat (past ++ piece ∷ [])))).updating ≡ false
     → (hold ≡ None) × (shown_of (seen (sized rows cols) parsed)
     ≡ shown_state (state_after rows cols (passed lines [] (concat (past ++ piece ∷ [])))))
+
+-- Up to the last end of an update in a piece, once others were read: the screen that the bytes make, lines drawn or not.
+abbrev pub screen_at_last_end : LineDrawing → ℕ → ℕ → List ℕ → List ℕ → State
+screen_at_last_end lines rows cols past piece =
+    state_after rows cols (passed lines [] (past ++ take (last_end past piece) piece))
+
+-- Where an update ended in the piece that was read last: a new view of the size that has read what was relayed up to the
+-- last end, of which there is one, shows the screen that was made then. It holds nothing back. Left out is a screen that
+-- shows U+FE0F.
+abbrev pub LiveUpdatesAreShown : Type 0
+LiveUpdatesAreShown = (lines : LineDrawing) (rows cols : ℕ) (past : List (List ℕ)) (piece parsed : List ℕ)
+    (hold : Option (List ℕ)) → 0 < last_end (concat past) piece
+    → HasReadAll lines rows cols (cut_pieces past ++ take (last_end (concat past) piece) piece ∷ []) parsed hold
+    → is_unsure (sized rows cols) (shown_state (screen_at_last_end lines rows cols (concat past) piece)) ≡ false
+    → (hold ≡ None) × (shown_of (seen (sized rows cols) parsed)
+    ≡ shown_state (screen_at_last_end lines rows cols (concat past) piece))
+
+-- at a last end no update is open
+abbrev pub LastEndsAreSettled : Type 0
+LastEndsAreSettled = (lines : LineDrawing) (rows cols : ℕ) (past piece : List ℕ) → 0 < last_end past piece
+    → (screen_at_last_end lines rows cols past piece).updating ≡ false
 
 -- modes and cursor are as on a new screen of this size, and no update is open
 pub record HasNothingOn (rows cols : ℕ) (s : State) : Type 0 where

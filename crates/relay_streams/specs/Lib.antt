@@ -10,3 +10,4 @@ pub mod Relayed
 pub mod Sessions
 pub mod Shown
 pub mod Turns
+pub mod Updates

@@ -21,6 +21,7 @@ use Rattle.relay_streams.specs.Frames.{state_after}
 use Rattle.charset_filter.specs.Lines.{all_passed, passed}
 use Rattle.relay_streams.specs.Sessions.{IsRelayed, has_overlong, AreRelayed, EndsOverlong, WantsMemory}
 use Rattle.relay_streams.specs.Turns.{MayWantMemory, Turned}
+use Rattle.relay_streams.specs.Updates.{cut_pieces, last_end}
 
 -- bytes of the room that a live read is given
 abbrev pub live_len : ℕ
@@ -72,16 +73,22 @@ pub data Listens {S : Type 0} (step : S → ℕ → Result (List ℕ) Error → 
 abbrev pub farewell : List ℕ
 farewell = FAREWELL.now
 
--- these pieces of an output are fed: what was read, and at its end the farewell
+-- these pieces of an output are fed, and at its end the farewell
 abbrev pub ended : List (List ℕ) → List (List ℕ)
 ended pieces = pieces ++ farewell ∷ []
 
--- From a source, so many reads give these pieces, and leave the source so; at the input's end the farewell comes.
+-- From a source, so many reads give these pieces, each cut at the last end of an update in it, and leave the source so.
+-- At the input's end the farewell comes.
 pub data Hears {S : Type 0} (step : S → ℕ → Result (List ℕ) Error → S → Type 0) (room : ℕ) (s : S)
     : ℕ → List (List ℕ) → S → Type 0 where
-  heard : {t : S} {n : ℕ} {pieces : List (List ℕ)} → Listens step room s n pieces t → Hears step room s n pieces t
-  at_end : {t : S} {n k : ℕ} {pieces : List (List ℕ)} (m : S) → Listens step room s n pieces m
-      → Tries step room m k (Ok []) t → Hears step room s (n + k) (ended pieces) t
+  heard : {t : S} {n : ℕ} (pieces : List (List ℕ)) → Listens step room s n pieces t
+      → Hears step room s n (cut_pieces pieces) t
+  -- the rest of the last piece comes next
+  partly : {t : S} {n : ℕ} (pieces : List (List ℕ)) (piece : List ℕ) → Listens step room s n (pieces ++ piece ∷ []) t
+      → 0 < last_end (concat pieces) piece
+      → Hears step room s n (cut_pieces pieces ++ take (last_end (concat pieces) piece) piece ∷ []) t
+  at_end : {t : S} {n k : ℕ} (m : S) (pieces : List (List ℕ)) → Listens step room s n pieces m
+      → Tries step room m k (Ok []) t → Hears step room s (n + k) (ended (cut_pieces pieces)) t
 
 -- ---- writing
 
@@ -129,16 +136,26 @@ PassedOn lines {W} takes flushes rows cols fed piece base key w (Err Write) v g 
 PassedOn lines takes flushes rows cols fed piece base key w (Err Read) v g = ⊥
 PassedOn lines takes flushes rows cols fed piece base key w (Err TooManyReads) v g = ⊥
 
--- From a source and a writer, pieces are read and pass, and the frame that is due after each is sent and flushed before
--- the next one is read. At the end the farewell is fed. So it is answered, and so both are left.
+-- Once these bytes have passed, this part of a piece was passed on so, unless it is empty; the hub was h.
+abbrev pub PassedPart : LineDrawing → {W : Type 0} → (W → List ℕ → Result ℕ Error → W → Type 0)
+    → (W → Result (Unit {0}) Error → W → Type 0) → ℕ → ℕ → List (List ℕ) → List ℕ → List ℕ → Option Shown → ℕ → W
+    → HubState as_kept → Result (Unit {0}) RelayError → W → HubState as_kept → Type 0
+PassedPart lines takes flushes rows cols fed past [] base key w h answer v g = (answer ≡ Ok tt) × (v ≡ w) × (g ≡ h)
+PassedPart lines takes flushes rows cols fed past (b ∷ bs) base key w h answer v g =
+    PassedOn lines takes flushes rows cols fed (passed lines past (b ∷ bs)) base key w answer v g
+
+-- From a source and a writer, pieces are read, and each is cut at the last end of an update in it. Its parts pass, and
+-- the frame that is due after each is sent and flushed before the next piece is read. At the end the farewell is fed. So
+-- it is answered, and so both are left.
 pub data StreamsThrough (lines : LineDrawing) {S W : Type 0} (gives : S → ℕ → Result (List ℕ) Error → S → Type 0)
     (takes : W → List ℕ → Result ℕ Error → W → Type 0) (flushes : W → Result (Unit {0}) Error → W → Type 0)
     (rows cols : ℕ) (s : S) (w : W) : Result (Unit {0}) RelayError → S → W → Type 0 where
   -- a read failed, or as many were made as may be: the frames of the pieces were sent
   unread : {t : S} {v : W} {n k : ℕ} (m : S) (pieces frames : List (List ℕ)) (e : RelayError)
       → Listens gives live_len s n pieces m → Tries gives live_len m k (Err e) t
-      → AreRelayed rows cols (all_passed lines pieces) frames → SendsFlushed takes flushes w frames (Ok tt) v
-      → CountsReads {A = Unit {0}} (Err e) (n + k) → StreamsThrough lines gives takes flushes rows cols s w (Err e) t v
+      → AreRelayed rows cols (all_passed lines (cut_pieces pieces)) frames
+      → SendsFlushed takes flushes w frames (Ok tt) v → CountsReads {A = Unit {0}} (Err e) (n + k)
+      → StreamsThrough lines gives takes flushes rows cols s w (Err e) t v
   -- there was no memory for the last piece or its frame, which may want some: the frames before it were sent
   unmade : {t : S} {v : W} {n : ℕ} (pieces frames : List (List ℕ)) (piece : List ℕ)
       → Hears gives live_len s n (pieces ++ piece ∷ []) t → AreRelayed rows cols (all_passed lines pieces) frames
@@ -156,7 +173,7 @@ pub data StreamsThrough (lines : LineDrawing) {S W : Type 0} (gives : S → ℕ 
       → StreamsThrough lines gives takes flushes rows cols s w (Err Write) t v
   -- the input was read to its end, the farewell was fed, and all frames were sent
   finished : {t : S} {v : W} {n k : ℕ} (m : S) (pieces frames : List (List ℕ)) → Listens gives live_len s n pieces m
-      → Tries gives live_len m k (Ok []) t → AreRelayed rows cols (all_passed lines (ended pieces)) frames
+      → Tries gives live_len m k (Ok []) t → AreRelayed rows cols (all_passed lines (ended (cut_pieces pieces))) frames
       → SendsFlushed takes flushes w frames (Ok tt) v → n + k ≤ max_reads
       → StreamsThrough lines gives takes flushes rows cols s w (Ok tt) t v
 

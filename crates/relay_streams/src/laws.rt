@@ -1,7 +1,7 @@
 //! Laws of what is shown, each as the contract of a function that does nothing.
 ghost use Rattle.relay_streams.specs.Far.{FarViewsShow};
-ghost use Rattle.relay_streams.specs.Laws.{FarewellEndsAll, LiveEndIsShown, LiveIsShown, RelayedPrefixesAreShown};
-ghost use Rattle.relay_streams.specs.Laws.{RelayedIsShown};
+ghost use Rattle.relay_streams.specs.Laws.{FarewellEndsAll, LastEndsAreSettled, LiveEndIsShown, LiveIsShown};
+ghost use Rattle.relay_streams.specs.Laws.{LiveUpdatesAreShown, RelayedIsShown, RelayedPrefixesAreShown};
 ghost use Rattle.relay_streams.specs.Laws.{TextsAreOne, WholeFramesArePrinted};
 ghost use Rattle.relay_streams.specs.Sessions.{EachRelayIsASession, EachRelayIsPumped, RelayedAreOne, RelayTextsAreOne};
 
@@ -28,6 +28,14 @@ pub fn relayed_is_shown()
 /// own.
 pub fn live_is_shown()
     ensures { LiveIsShown }
+{}
+
+/// Where a synchronized update of the program's own ended in what was read last: once `relay_live` or `relay_live_with`
+/// has written the frame of the last end, a view that has read all that was written shows the screen that the bytes up to
+/// there make, and no update is open on it. Left out is a screen that shows U+FE0F.
+pub fn live_updates_are_shown()
+    ensures shown { LiveUpdatesAreShown }
+    ensures settled { LastEndsAreSettled }
 {}
 
 /// Of what `relay_live` or `relay_live_with` has written at its end a view, in whatever pieces it comes, shows the screen

@@ -15,6 +15,7 @@ mod pieces;
 mod printing;
 mod relaying;
 mod showing;
+mod updates;
 
 pub use byte_streams::{ByteSink, FlushSink, Source};
 pub use charset_filter::{LineDrawing, PieceFilter};

@@ -5,13 +5,14 @@ ghost use Rattle.std.specs.Io.KnownBytes.{Appends};
 ghost use Rattle.relay_streams.specs.Fill.{max_reads};
 ghost use Rattle.charset_filter.specs.Lines.{HasPassed, passed};
 ghost use Rattle.terminal_model.specs.Term.{Shown};
-ghost use Rattle.relay_streams.specs.Live.{IsLiveText, PassedOn, RelaysLive, RelaysThrough, StreamsThrough, TakesLive};
-ghost use Rattle.relay_streams.specs.Live.{TriesOnce, farewell};
+ghost use Rattle.relay_streams.specs.Live.{IsLiveText, PassedOn, PassedPart, RelaysLive, RelaysThrough, StreamsThrough};
+ghost use Rattle.relay_streams.specs.Live.{TakesLive, TriesOnce, farewell};
 ghost use Rattle.relay_streams.specs.Turns.{Relaying};
 
 use crate::error::RelayError;
 use crate::filling::MAX_READS;
 use crate::relaying::turn;
+use crate::updates::UpdateEnds;
 use byte_streams::{FlushSink, Source};
 use charset_filter::{LineDrawing, PieceFilter};
 use std::alloc::Global;
@@ -23,11 +24,13 @@ use termrelay::{Client, Hub};
 pub const LIVE_LEN: usize = 65_536;
 
 /// Reads a program's output to its end, and after each read that gave something writes the frame that is then due, if
-/// there is one, and flushes. The output equals the bytes that a hub sends to a client that attaches before the first
-/// read and asks for a frame after each.
+/// there is one, and flushes. Where a synchronized update of the program's own ended in what was read, the frame that is
+/// due at the last end is written first. So an update is shown that ends in the bytes with which the next one begins. The
+/// output equals the bytes that a hub sends to a client that attaches before the first read, and asks for a frame at each
+/// of these places.
 ///
 /// A read is given room for 65,536 bytes, so the output of a fast program is gathered while a write waits. No frame is
-/// due while the program is in a synchronized update of its own. At the end of the input the program is gone, so what it
+/// due while an update is open. At the end of the input the program is gone, so what it
 /// left on is ended ([`farewell`]), and the frame that is then due is written. A frame that would be longer than
 /// 2,097,150 bytes is a fault, [`RelayError::FrameTooLong`], and nothing of it is written.
 ///
@@ -79,7 +82,8 @@ pub fn relay_live_with<S: Source, W: FlushSink>(
     relay_reads(&mut hub, client, &mut filter, input, output)
 }
 
-// Reads the whole input, and has a turn with what each read gives, and one with the farewell.
+// Reads the whole input. What each read gives is passed on up to the last end of an update in it, and then the rest; at
+// the end the farewell is.
 fn relay_reads<S: Source, W: FlushSink>(
     hub: &mut Hub,
     client: Client,
@@ -91,6 +95,7 @@ fn relay_reads<S: Source, W: FlushSink>(
         → HasPassed filter.old lines []
         → StreamsThrough lines S.gives W.takes W.flushes rows cols input.old output.old result input.new output.new }
 {
+    let mut ends = UpdateEnds::new();
     let mut piece = [0; LIVE_LEN];
     let mut reads = 0;
     // The label names the loop's invariant.
@@ -99,7 +104,10 @@ fn relay_reads<S: Source, W: FlushSink>(
         if n == 0 {
             return pass_on(hub, client, filter, farewell(), output);
         }
-        pass_on(hub, client, filter, &piece[..n], output)?;
+        let end = ends.last_end(&piece[..n]);
+        let (ended, rest) = piece[..n].split_at(end);
+        pass_part(hub, client, filter, ended, output)?;
+        pass_part(hub, client, filter, rest, output)?;
     }
 }
 
@@ -113,6 +121,27 @@ pub fn farewell() -> &'static [u8]
     ensures { result.now ≡ farewell }
 {
     FAREWELL
+}
+
+// Passes a part of a piece on, unless it is empty.
+fn pass_part<W: FlushSink>(
+    hub: &mut Hub,
+    client: Client,
+    filter: &mut PieceFilter,
+    part: &[u8],
+    output: &mut W,
+) -> Result<(), RelayError>
+    ensures sent { (rows cols : ℕ) (lines : LineDrawing) (past : List ℕ) (fed : List (List ℕ)) (base : Option Shown)
+        → Relaying rows cols fed base hub.old client → HasPassed filter.old lines past
+        → PassedPart lines W.takes W.flushes rows cols fed past part.now base client output.old hub.old result
+        output.new hub.new }
+    ensures passed { OnOk result ((lines : LineDrawing) (past : List ℕ) → HasPassed filter.old lines past
+        → HasPassed filter.new lines (past ++ part.now)) }
+{
+    if part.is_empty() {
+        return Ok(());
+    }
+    pass_on(hub, client, filter, part, output)
 }
 
 // Has a piece pass, feeds what it gives, sends the frame that is then due, and flushes the writer.
