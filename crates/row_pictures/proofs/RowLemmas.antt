@@ -1,6 +1,7 @@
 -- The texts of parts of a row.
 use Rattle.std.proofs.Common.{◌≡◌, ◌≤◌, ◌<◌, ◌+◌, ◌-◌, ℕ, List, [], ◌∷◌, ◌++◌, take, drop, length, get_or, encode_utf8}
 use Rattle.std.proofs.Common.{true, sym, ap, ◌∙◌, append-nil, subst, arith}
+use Rattle.std.specs.List.{flat_map}
 use Rattle.std.proofs.Math.Seq.{take-add}
 use Rattle.std.proofs.lemmas.Grind.{flat_map-append}
 use Rattle.std.proofs.lemmas.List.{take_more}
@@ -24,6 +25,15 @@ pub row_drawn : (a b c : List ℕ) (cells : List CellView) (i j : ℕ) → i ≤
     → Adds b c (row_text (take (j - i) (drop i cells))) → Adds a c (row_text (take j cells))
 row_drawn a b c cells i j le first second =
     subst (λ t. Adds a c t) (sym (row_text-take cells i j le)) (adds_both a b c _ _ first second)
+
+-- what one more of some things adds
+pub each_more : {X : Type 0} (f : X → List ℕ) (a b c : List ℕ) (xs : List X) (i : ℕ) (d : X) → i < length xs
+    → b ≡ a ++ flat_map f (take i xs) → c ≡ b ++ f (get_or xs i d) → c ≡ a ++ flat_map f (take (i + 1) xs)
+each_more f a b c xs i d lt first second =
+    let x = get_or xs i d in
+    joined_more a b c (flat_map f (take i xs)) (f x) first second
+    ∙ ap (λ t. a ++ t) (sym (ap (flat_map f) (take_more xs i d lt) ∙ flat_map-append f (take i xs) (x ∷ [])
+    ∙ ap (λ t. flat_map f (take i xs) ++ t) (append-nil (f x))))
 
 -- one cell more
 pub cell_drawn : (a b c : List ℕ) (cells : List CellView) (i : ℕ) (x : CellView) → i < length cells → x

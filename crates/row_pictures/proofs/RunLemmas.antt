@@ -5,6 +5,7 @@ use Rattle.std.proofs.Common.{append-nil}
 use Rattle.std.proofs.Math.Nat.{eq-or-lt_of_le}
 use Rattle.picture_page.proofs.PageLemmas.{joined_more}
 use Rattle.vt100_cells.specs.Cell.{CellView}
+use Rattle.row_pictures.specs.Drawn.{ink_of}
 use Rattle.row_pictures.specs.Paint.{cell_in, style_in}
 use Rattle.row_pictures.specs.Runs.{AddsRuns, AreAlike, AreInPlace, KeepsWidth}
 use Rattle.row_pictures.specs.Runs.AreRuns.{none, run}
@@ -17,13 +18,14 @@ alike_begins cells cursor start end is = λ col more below. absurd (omega arith)
 -- a cell more that is as the first one
 pub alike_goes_on : (cells : List CellView) (cursor : Option ℕ) (start end : ℕ) → AreAlike cells cursor start end
     → (cell_in cells end).wide ≡ false → style_in cells cursor end ≡ style_in cells cursor start
-    → AreAlike cells cursor start (end + 1)
-alike_goes_on cells cursor start end first narrow style = λ col more below.
+    → ink_of (cell_in cells end) ≡ ink_of (cell_in cells start) → AreAlike cells cursor start (end + 1)
+alike_goes_on cells cursor start end first narrow style ink = λ col more below.
     let at_most : col ≤ end = omega arith in
     elim (eq-or-lt_of_le at_most) [
       | inl is ↦ inl (
         subst (λ (n : ℕ). (cell_in cells n).wide ≡ false) (sym is) narrow,
         subst (λ (n : ℕ). style_in cells cursor n ≡ style_in cells cursor start) (sym is) style,
+        subst (λ (n : ℕ). ink_of (cell_in cells n) ≡ ink_of (cell_in cells start)) (sym is) ink,
       )
       | inr lt ↦ first col more lt
     ]

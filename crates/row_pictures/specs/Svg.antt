@@ -1,24 +1,31 @@
 -- The elements of a row in SVG, and the runs that they show.
-use Rattle.std.specs.Prelude.{◌≡◌, ℕ, ◌-◌, ◌*◌, ◌^◌, ◌==◌, ◌&&◌, min, Bool, true, false, List, [], ◌∷◌, ◌++◌, take}
-use Rattle.std.specs.Prelude.{drop, length, Option, Some, None, if◌then◌else◌}
+use Rattle.std.specs.Prelude.{◌≡◌, ℕ, zero, suc, ◌+◌, ◌-◌, ◌*◌, ◌^◌, ◌==◌, ◌&&◌, min, Bool, List, [], ◌∷◌, ◌++◌, take, drop}
+use Rattle.std.specs.Prelude.{length, Option, if◌then◌else◌}
+use Rattle.std.specs.List.{flat_map}
 use Rattle.picture_page.specs.Bytes.{numbers_bytes}
 use Rattle.picture_page.specs.Page.{escaped}
 use Rattle.picture_page.specs.Tags.{tag_bytes}
 use Rattle.picture_page.specs.declared.page.Rgb.{Rgb}
 use Rattle.picture_page.specs.declared.tag.Tag.TheVariants as tag
 use Rattle.vt100_cells.specs.Cell.{CellView}
-use Rattle.row_pictures.specs.Drawn.{begins_drawn}
+use Rattle.row_pictures.specs.Drawn.{areas_of}
 use Rattle.row_pictures.specs.Elements.{filled, tag_if}
-use Rattle.row_pictures.specs.Paint.{back_color, style_in, text_color}
-use Rattle.row_pictures.specs.Runs.{AreAlike, AreInPlace, AreRuns, is_wide_run}
+use Rattle.row_pictures.specs.Paint.{back_color, cell_in, style_in, text_color}
+use Rattle.row_pictures.specs.Runs.{AreAlike, AreInPlace, AreRuns, first_ink, is_wide_run}
 use Rattle.row_pictures.specs.Text.{row_text}
 use Rattle.row_pictures.specs.Unpadded.{unpadded}
+use Rattle.row_pictures.specs.declared.glyph.Ink.{Ink}
+use Rattle.row_pictures.specs.declared.glyph.Ink.TheVariants.{Font, Shade, Solid}
 use Rattle.row_pictures.specs.declared.look.Look.{Look}
 use Rattle.row_pictures.specs.declared.style.Style.{Style}
 
--- the pixels of this many columns, as far as 32 bits go
+-- as far as 32 bits go
+abbrev pub in_32_bits : ℕ → ℕ
+in_32_bits n = min n (2 ^ 32 - 1)
+
+-- the pixels of this many columns
 abbrev pub pixels : ℕ → ℕ
-pixels columns = min (columns * 9) (2 ^ 32 - 1)
+pixels columns = in_32_bits (columns * 9)
 
 abbrev pub same_color : Rgb → Rgb → Bool
 same_color a b = (a.red == b.red) && ((a.green == b.green) && (a.blue == b.blue))
@@ -33,41 +40,55 @@ rectangle x width height color =
 abbrev pub behind : Look → ℕ → ℕ → Rgb → List ℕ
 behind look x width color = if same_color color look.theme.bgcolor then [] else rectangle x width 18 color
 
--- a text: where it begins, how far down its line is, how wide it is, its colour, and how it is written
-abbrev pub text_head : ℕ → ℕ → Rgb → Style → List ℕ
-text_head x width color s =
-    numbers_bytes ((tag.Text, x) ∷ (tag.Y, 14) ∷ (tag.Length, width) ∷ [])
+-- A text: where it begins, how far down its line is, how wide it is, its colour, and how it is written. That of a wide
+-- character is stretched to its width.
+abbrev pub letters : ℕ → Rgb → Style → List CellView → List ℕ
+letters col color s run =
+    numbers_bytes ((tag.Text, pixels col) ∷ (tag.Y, 14) ∷ (tag.Length, pixels (length run)) ∷ [])
     ++ (filled tag.Fill color
-    ++ (tag_if s.bold tag.TextBold ++ (tag_if s.italic tag.TextItalic ++ tag_if s.underline tag.TextUnderline)))
+    ++ (tag_if s.bold tag.TextBold ++ (tag_if s.italic tag.TextItalic ++ (tag_if s.underline tag.TextUnderline
+    ++ (tag_if (is_wide_run run) tag.Stretched
+    ++ (tag_bytes tag.TextStart ++ (escaped (row_text run) ++ tag_bytes tag.TextEnd)))))))
 
--- that of a wide character is stretched to its width
-abbrev pub letters : ℕ → ℕ → Rgb → Style → Bool → List ℕ → List ℕ
-letters x width color s stretched text =
-    text_head x width color s
-    ++ (tag_if stretched tag.Stretched ++ (tag_bytes tag.TextStart ++ (escaped text ++ tag_bytes tag.TextEnd)))
+-- a rectangle of a cell whose left is at x, as a part of a path
+abbrev pub area_data : ℕ → ℕ × ℕ × ℕ × ℕ → List ℕ
+area_data x a =
+    numbers_bytes ((tag.MoveTo, in_32_bits (x + a.0)) ∷ (tag.Space, a.1) ∷ (tag.Right, a.2) ∷ (tag.Down, a.3)
+    ∷ (tag.Left, a.2) ∷ []) ++ tag_bytes tag.Shut
 
-abbrev pub opacity_bytes : Option ℕ → List ℕ
-opacity_bytes None = []
-opacity_bytes (Some opacity) = numbers_bytes ((tag.Opacity, opacity) ∷ [])
+-- the rectangles of such a cell
+abbrev pub glyph : ℕ → CellView → List ℕ
+glyph x cell = flat_map (area_data x) (areas_of cell)
 
--- a path of this colour, which stands for these line drawing or block characters
-pub record IsPath (color : Rgb) (label bytes : List ℕ) : Type 0 where
-  pub opacity : Option ℕ
-  pub parts : List ℕ
-  pub is : bytes ≡ (filled tag.Lines color ++ (opacity_bytes opacity ++ tag_bytes tag.LinesData))
-      ++ (parts ++ (tag_bytes tag.LinesLabel ++ (escaped label ++ tag_bytes tag.Close)))
+-- those of the first n cells of a run that begins in this column, each cell in its own column
+abbrev pub glyphs : ℕ → List CellView → ℕ → List ℕ
+glyphs col run zero = []
+glyphs col run (suc n) = glyphs col run n ++ glyph (pixels (col + n)) (cell_in run n)
 
--- what stands for the cells of a run: a text, or a path
-abbrev pub IsInk : Bool → ℕ → Rgb → Style → List CellView → List ℕ → Type 0
-IsInk true x color s run bytes = IsPath color (row_text run) bytes
-IsInk false x color s run bytes =
-    bytes ≡ letters x (pixels (length run)) color s (is_wide_run run) (row_text run)
+-- how opaque rectangles are: wholly, or so many hundredths
+abbrev pub opacity_of : Ink → List ℕ
+opacity_of Font = []
+opacity_of Solid = []
+opacity_of (Shade hundredths) = numbers_bytes ((tag.Opacity, hundredths) ∷ [])
 
--- the cells of a run that begins in this column are drawn in this style
-pub record IsDrawn (look : Look) (run : List CellView) (col : ℕ) (s : Style) (bytes : List ℕ) : Type 0 where
-  pub ink : List ℕ
-  pub is : bytes ≡ behind look (pixels col) (pixels (length run)) (back_color look s) ++ ink
-  pub inked : IsInk (begins_drawn run) (pixels col) (text_color look s) s run ink
+-- line drawing or block characters as a path, which is labelled with them
+abbrev pub path : Ink → ℕ → Rgb → List CellView → List ℕ
+path ink col color run =
+    filled tag.Lines color
+    ++ (opacity_of ink ++ (tag_bytes tag.LinesData ++ (glyphs col run (length run)
+    ++ (tag_bytes tag.LinesLabel ++ (escaped (row_text run) ++ tag_bytes tag.Close)))))
+
+-- what stands for the cells of a run: a text, or a path, which is as opaque as they are
+abbrev pub inked : Ink → ℕ → Rgb → Style → List CellView → List ℕ
+inked Font col color s run = letters col color s run
+inked Solid col color s run = path Solid col color run
+inked (Shade hundredths) col color s run = path (Shade hundredths) col color run
+
+-- the cells of a run that begins in this column, in this style
+abbrev pub drawn : Look → List CellView → ℕ → Style → List ℕ
+drawn look run col s =
+    behind look (pixels col) (pixels (length run)) (back_color look s)
+    ++ inked (first_ink run) col (text_color look s) s run
 
 -- The columns from `start` up to `end` of a row are a run: its cells are alike and stay in their columns in any font,
 -- and it is drawn in the style of the first one, in its columns.
@@ -75,7 +96,7 @@ pub record IsSvgRun (look : Look) (cells : List CellView) (cursor : Option ℕ) 
     : Type 0 where
   pub alike : AreAlike cells cursor start end
   pub in_place : AreInPlace cells start end
-  pub drawn : IsDrawn look (take (end - start) (drop start cells)) start (style_in cells cursor start) bytes
+  pub drawn_so : bytes ≡ drawn look (take (end - start) (drop start cells)) start (style_in cells cursor start)
 
 -- a row: its runs, up to the last cell that shows something
 abbrev pub AreSvgRuns : Look → List CellView → Option ℕ → List ℕ → Type 0

@@ -1,9 +1,9 @@
 //! Pictures of a row of cells, in HTML and SVG, and frames of pictures.
 #![tactic(auto)]
 
-mod arms;
 mod frame;
 mod glyph;
+mod glyphs;
 mod html;
 mod look;
 mod padding;

@@ -1,9 +1,9 @@
 //! Cells of a row that are drawn alike, and their texts.
 
-ghost use Rattle.std.specs.Prelude.{◌≡◌, ℕ, ◌<◌, ◌≤◌, ◌-◌, ◌++◌, length, take, drop, OnOk, true, false, [], ◌∷◌};
+ghost use Rattle.std.specs.Prelude.{◌≡◌, ℕ, ◌<◌, ◌≤◌, ◌++◌, length, OnOk, true, false};
 ghost use Rattle.std.specs.Prelude.{Option};
 ghost use Rattle.picture_page.specs.Page.{Adds, escaped};
-ghost use Rattle.row_pictures.specs.Drawn.{is_drawn_at, is_run};
+ghost use Rattle.row_pictures.specs.Drawn.{ink_of};
 ghost use Rattle.row_pictures.specs.Paint.{cell_in, style_in};
 ghost use Rattle.row_pictures.specs.Runs.{AreAlike, is_wide_run as is_wide_run_of};
 ghost use Rattle.row_pictures.specs.Text.{cell_text, row_text, shown_character, shown_characters};
@@ -19,7 +19,6 @@ pub(crate) fn run_end(cells: &[Cell], start: usize, cursor: Option<usize>) -> us
     requires { start < length cells.now }
     ensures more { start < result }
     ensures within { result ≤ length cells.now }
-    ensures run { is_run (take (result - start) (drop start cells.now)) ≡ true }
     ensures alike { AreAlike cells.now cursor start result }
 {
     if cells[start].is_wide() {
@@ -36,24 +35,15 @@ pub(crate) fn run_end(cells: &[Cell], start: usize, cursor: Option<usize>) -> us
 fn are_alike(cells: &[Cell], one: usize, other: usize, cursor: Option<usize>) -> bool
     requires one { one < length cells.now }
     requires other { other < length cells.now }
-    ensures ink { result ≡ true → is_drawn_at cells.now one ≡ is_drawn_at cells.now other }
+    ensures ink { result ≡ true → ink_of (cell_in cells.now other) ≡ ink_of (cell_in cells.now one) }
     ensures narrow { result ≡ true → (cell_in cells.now other).wide ≡ false }
     ensures style { result ≡ true → style_in cells.now cursor other ≡ style_in cells.now cursor one }
 {
     if cells[other].is_wide() {
         return false;
     }
-    let style = style_at(cells, one, cursor);
-    style.is_same(style_at(cells, other, cursor)) && share_ink(cells, one, other)
-}
-
-// Whether two cells are drawn with the same.
-fn share_ink(cells: &[Cell], one: usize, other: usize) -> bool
-    requires one { one < length cells.now }
-    requires other { other < length cells.now }
-    ensures { result ≡ true → is_drawn_at cells.now one ≡ is_drawn_at cells.now other }
-{
-    Ink::of(&cells[one]) == Ink::of(&cells[other])
+    style_at(cells, other, cursor).is_same(style_at(cells, one, cursor))
+        && Ink::of(&cells[other]).is_same(Ink::of(&cells[one]))
 }
 
 // Where a wide character ends.
@@ -62,7 +52,6 @@ fn wide_end(cells: &[Cell], start: usize) -> usize
     requires wide { (cell_in cells.now start).wide ≡ true }
     ensures more { start < result }
     ensures within { result ≤ length cells.now }
-    ensures run { is_run (take (result - start) (drop start cells.now)) ≡ true }
     ensures alike { (cursor : Option ℕ) → AreAlike cells.now cursor start result }
 {
     let next = start + 1;

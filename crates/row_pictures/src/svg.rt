@@ -1,19 +1,15 @@
 //! A row of cells in SVG.
 
-ghost use Rattle.std.specs.Prelude.{◌≡◌, ◌⊎◌, [], ◌++◌, ◌-◌, OnOk, ◌<◌, ◌≤◌, length, not, take, drop, true, false};
-ghost use Rattle.std.specs.Option.{option_map};
+ghost use Rattle.std.specs.Prelude.{◌≡◌, ◌⊎◌, [], ◌++◌, OnOk, ◌<◌, ◌≤◌, length, true, false};
 ghost use Rattle.picture_page.specs.Page.{Adds, escaped};
 ghost use Rattle.picture_page.specs.Seen.{Draws};
-ghost use Rattle.picture_page.specs.Tags.{tag_bytes};
-ghost use Rattle.picture_page.specs.declared.tag.Tag.TheVariants.{Lines, LinesData};
-ghost use Rattle.row_pictures.specs.Drawn.{begins_drawn, font_texts, is_font, is_run};
-ghost use Rattle.row_pictures.specs.Paint.{back_color, cell_in, text_color};
-ghost use Rattle.row_pictures.specs.Runs.{AddsRuns, AreAlike, AreInPlace, KeepsWidth};
-ghost use Rattle.row_pictures.specs.Runs.{is_wide_run as is_wide_run_of};
-ghost use Rattle.row_pictures.specs.Elements.{AddsSo, filled};
-ghost use Rattle.row_pictures.specs.Svg.{AreSvgRuns, IsDrawn, IsInk, IsPath, IsSvgRun, behind, letters};
-ghost use Rattle.row_pictures.specs.Svg.{opacity_bytes};
-ghost use Rattle.row_pictures.specs.Svg.{pixels as pixels_of, rectangle, same_color, text_head};
+ghost use Rattle.row_pictures.specs.Drawn.{font_texts};
+ghost use Rattle.row_pictures.specs.Elements.{AddsSo};
+ghost use Rattle.row_pictures.specs.Paint.{cell_in};
+ghost use Rattle.row_pictures.specs.Runs.{AreAlike, AreInPlace, KeepsWidth, ShareInk};
+ghost use Rattle.row_pictures.specs.Runs.{first_ink as first_ink_of};
+ghost use Rattle.row_pictures.specs.Svg.{AreSvgRuns, behind, drawn, letters, opacity_of, path};
+ghost use Rattle.row_pictures.specs.Svg.{glyphs, pixels as pixels_of, rectangle};
 ghost use Rattle.row_pictures.specs.Text.{row_text};
 ghost use Rattle.row_pictures.specs.Unpadded.{unpadded as unpadded_of};
 
@@ -49,25 +45,12 @@ pub fn push_svg_row(
         (escaped (font_texts (unpadded_of cells.now cursor)))) }
     ensures runs { OnOk result (AddsSo (AreSvgRuns look.now cells.now cursor) page.old page.new) }
 {
-    push_runs(page, unpadded(cells, cursor), cursor, look)
-}
-
-// Appends the runs of cells, one after another.
-fn push_runs(
-    page: &mut Page,
-    cells: &[Cell],
-    cursor: Option<usize>,
-    look: &Look,
-) -> Result<(), AllocError>
-    ensures adds { OnOk result (Adds page.old page.new (row_text cells.now)) }
-    ensures seen { OnOk result (Draws page.old page.new true true (escaped (font_texts cells.now))) }
-    ensures runs { OnOk result (AddsRuns (IsSvgRun look.now cells.now cursor) (length cells.now) page.old page.new) }
-{
+    let written = unpadded(cells, cursor);
     let mut start = 0;
-    while start < cells.len() {
-        let end = svg_run_end(cells, start, cursor);
-        let style = style_at(cells, start, cursor);
-        push_run(page, &cells[start..end], start, style, look)?;
+    while start < written.len() {
+        let end = svg_run_end(written, start, cursor);
+        let style = style_at(written, start, cursor);
+        push_run(page, &written[start..end], start, style, look)?;
         start = end;
     }
     Ok(())
@@ -79,22 +62,10 @@ fn svg_run_end(cells: &[Cell], start: usize, cursor: Option<usize>) -> usize
     requires { start < length cells.now }
     ensures more { start < result }
     ensures within { result ≤ length cells.now }
-    ensures run { is_run (take (result - start) (drop start cells.now)) ≡ true }
     ensures alike { AreAlike cells.now cursor start result }
     ensures in_place { AreInPlace cells.now start result }
 {
     let end = run_end(cells, start, cursor);
-    in_place_end(cells, start, end)
-}
-
-// Up to where cells stay in their columns in any font.
-fn in_place_end(cells: &[Cell], start: usize, end: usize) -> usize
-    requires some { start < end }
-    requires within { end ≤ length cells.now }
-    ensures more { start < result }
-    ensures within { result ≤ end }
-    ensures in_place { AreInPlace cells.now start result }
-{
     let mut place = start + 1;
     while place < end && is_in_place(cells, start, place) {
         place += 1;
@@ -128,43 +99,25 @@ fn push_run(
     style: Style,
     look: &Look,
 ) -> Result<(), AllocError>
-    requires { is_run run.now ≡ true }
+    requires { ShareInk run.now }
     ensures adds { OnOk result (Adds page.old page.new (row_text run.now)) }
     ensures seen { OnOk result (Draws page.old page.new true true (escaped (font_texts run.now))) }
-    ensures drawn { OnOk result (AddsSo (IsDrawn look.now run.now col style) page.old page.new) }
+    ensures bytes { OnOk result (page.new ≡ page.old ++ drawn look.now run.now col style) }
 {
     let paint = Paint::of(style, look);
-    let span = Span {
-        x: pixels(col),
-        width: pixels(run.len()),
-    };
-    push_behind(page, span, paint.bgcolor, look)?;
-    push_characters(page, run, span, paint.fgcolor, style)
-}
-
-fn push_characters(
-    page: &mut Page,
-    run: &[Cell],
-    span: Span,
-    color: Rgb,
-    style: Style,
-) -> Result<(), AllocError>
-    requires alike { is_run run.now ≡ true }
-    requires width { span.width ≡ pixels_of (length run.now) }
-    ensures adds { OnOk result (Adds page.old page.new (row_text run.now)) }
-    ensures seen { OnOk result (Draws page.old page.new true true (escaped (font_texts run.now))) }
-    ensures inked { OnOk result (AddsSo (IsInk (begins_drawn run.now) span.x color style run.now) page.old page.new) }
-{
-    match ink_of(run) {
-        Ink::Font => push_text(page, run, span, color, style),
-        Ink::Solid => push_lines(page, run, span.x, color, None),
-        Ink::Shade(opacity) => push_lines(page, run, span.x, color, Some(opacity)),
+    push_behind(page, run, col, paint.bgcolor, look)?;
+    match first_ink(run) {
+        Ink::Font => push_text(page, run, col, paint.fgcolor, style),
+        Ink::Solid => push_path(page, run, col, paint.fgcolor, Ink::Solid),
+        Ink::Shade(hundredths) => {
+            push_path(page, run, col, paint.fgcolor, Ink::Shade(hundredths))
+        }
     }
 }
 
 // With what a run is drawn.
-fn ink_of(run: &[Cell]) -> Ink
-    ensures { is_font result ≡ not (begins_drawn run.now) }
+fn first_ink(run: &[Cell]) -> Ink
+    ensures { result ≡ first_ink_of run.now }
 {
     match run.first() {
         Some(cell) => Ink::of(cell),
@@ -172,19 +125,46 @@ fn ink_of(run: &[Cell]) -> Ink
     }
 }
 
+fn push_behind(
+    page: &mut Page,
+    run: &[Cell],
+    col: usize,
+    color: Rgb,
+    look: &Look,
+) -> Result<(), AllocError>
+    ensures adds { OnOk result (Adds page.old page.new []) }
+    ensures seen { OnOk result (Draws page.old page.new true true []) }
+    ensures bytes { OnOk result (page.new
+        ≡ page.old ++ behind look.now (pixels_of col) (pixels_of (length run.now)) color) }
+{
+    if color == look.theme.bgcolor {
+        return Ok(());
+    }
+    push_rect(page, pixels(col), pixels(run.len()), ROW_HEIGHT, color)
+}
+
+// Appends a run as a text.
 fn push_text(
     page: &mut Page,
     run: &[Cell],
-    span: Span,
+    col: usize,
     color: Rgb,
     style: Style,
 ) -> Result<(), AllocError>
     ensures adds { OnOk result (Adds page.old page.new (row_text run.now)) }
     ensures seen { OnOk result (Draws page.old page.new true true (escaped (row_text run.now))) }
-    ensures bytes { OnOk result (page.new ≡ page.old ++ letters span.x span.width color style (is_wide_run_of run.now)
-        (row_text run.now)) }
+    ensures bytes { OnOk result (page.new ≡ page.old ++ letters col color style run.now) }
 {
-    push_text_head(page, span, color, style)?;
+    let numbers = [
+        (Tag::Text, pixels(col)),
+        (Tag::Y, BASELINE),
+        (Tag::Length, pixels(run.len())),
+    ];
+    page.numbers(&numbers)?;
+    page.color(Tag::Fill, color)?;
+    page.markup_if(style.bold, Tag::TextBold)?;
+    page.markup_if(style.italic, Tag::TextItalic)?;
+    page.markup_if(style.underline, Tag::TextUnderline)?;
     page.markup_if(is_wide_run(run), Tag::Stretched)?;
     page.markup(Tag::TextStart)?;
     push_cells(page, run)?;
@@ -192,51 +172,45 @@ fn push_text(
 }
 
 // Appends line drawing or block characters as a path, which is labelled with them.
-fn push_lines(
+fn push_path(
     page: &mut Page,
     run: &[Cell],
-    x: u32,
+    col: usize,
     color: Rgb,
-    opacity: Option<u32>,
+    ink: Ink,
 ) -> Result<(), AllocError>
     ensures adds { OnOk result (Adds page.old page.new (row_text run.now)) }
     ensures seen { OnOk result (Draws page.old page.new true true []) }
-    ensures path { OnOk result (AddsSo (IsPath color (row_text run.now)) page.old page.new) }
+    ensures bytes { OnOk result (page.new ≡ page.old ++ path ink col color run.now) }
 {
-    push_lines_head(page, color, opacity)?;
-    push_glyphs(page, run, x)?;
+    page.color(Tag::Lines, color)?;
+    push_opacity(page, ink)?;
+    page.markup(Tag::LinesData)?;
+    push_glyphs(page, run, col)?;
     page.markup(Tag::LinesLabel)?;
     push_cells(page, run)?;
     page.markup(Tag::Close)
 }
 
-fn push_lines_head(page: &mut Page, color: Rgb, opacity: Option<u32>) -> Result<(), AllocError>
-    ensures adds { OnOk result (Adds page.old page.new []) }
-    ensures seen { OnOk result (Draws page.old page.new true false []) }
-    ensures bytes { OnOk result (page.new ≡ page.old ++ (filled Lines color ++ (opacity_bytes opacity
-        ++ tag_bytes LinesData))) }
-{
-    page.color(Tag::Lines, color)?;
-    push_opacity(page, opacity)?;
-    page.markup(Tag::LinesData)
-}
-
-fn push_opacity(page: &mut Page, opacity: Option<u32>) -> Result<(), AllocError>
+// Appends how opaque rectangles are, unless they are wholly.
+fn push_opacity(page: &mut Page, ink: Ink) -> Result<(), AllocError>
     ensures adds { OnOk result (Adds page.old page.new []) }
     ensures seen { OnOk result (Draws page.old page.new false false []) }
-    ensures bytes { OnOk result (page.new ≡ page.old ++ opacity_bytes opacity) }
+    ensures bytes { OnOk result (page.new ≡ page.old ++ opacity_of ink) }
 {
-    match opacity {
-        Some(opacity) => page.numbers(&[(Tag::Opacity, opacity)]),
-        None => Ok(()),
+    match ink {
+        Ink::Shade(opacity) => page.numbers(&[(Tag::Opacity, opacity)]),
+        Ink::Font | Ink::Solid => Ok(()),
     }
 }
 
-fn push_glyphs(page: &mut Page, run: &[Cell], x: u32) -> Result<(), AllocError>
+// Appends the rectangles of cells from this column on.
+fn push_glyphs(page: &mut Page, run: &[Cell], col: usize) -> Result<(), AllocError>
     ensures adds { OnOk result (Adds page.old page.new []) }
     ensures seen { OnOk result (Draws page.old page.new false false []) }
+    ensures bytes { OnOk result (page.new ≡ page.old ++ glyphs col run.now (length run.now)) }
 {
-    let mut x = x;
+    let mut x = pixels(col);
     for cell in run {
         push_glyph(page, x, cell)?;
         x = x.saturating_add(COL_WIDTH);
@@ -251,24 +225,6 @@ fn pixels(cols: usize) -> u32
     u32::try_from(cols)
         .unwrap_or(u32::MAX)
         .saturating_mul(COL_WIDTH)
-}
-
-// Some columns, in pixels.
-#[derive(Clone, Copy)]
-struct Span {
-    x: u32,
-    width: u32,
-}
-
-fn push_behind(page: &mut Page, span: Span, color: Rgb, look: &Look) -> Result<(), AllocError>
-    ensures adds { OnOk result (Adds page.old page.new []) }
-    ensures seen { OnOk result (Draws page.old page.new true true []) }
-    ensures bytes { OnOk result (page.new ≡ page.old ++ behind look.now span.x span.width color) }
-{
-    if color == look.theme.bgcolor {
-        return Ok(());
-    }
-    push_rect(page, span.x, span.width, ROW_HEIGHT, color)
 }
 
 /// Appends a rectangle whose top is at 0.
@@ -287,21 +243,4 @@ pub fn push_rect(
     page.numbers(&numbers)?;
     page.color(Tag::Fill, color)?;
     page.markup(Tag::Close)
-}
-
-fn push_text_head(page: &mut Page, span: Span, color: Rgb, style: Style) -> Result<(), AllocError>
-    ensures adds { OnOk result (Adds page.old page.new []) }
-    ensures seen { OnOk result (Draws page.old page.new true false []) }
-    ensures bytes { OnOk result (page.new ≡ page.old ++ text_head span.x span.width color style) }
-{
-    let numbers = [
-        (Tag::Text, span.x),
-        (Tag::Y, BASELINE),
-        (Tag::Length, span.width),
-    ];
-    page.numbers(&numbers)?;
-    page.color(Tag::Fill, color)?;
-    page.markup_if(style.bold, Tag::TextBold)?;
-    page.markup_if(style.italic, Tag::TextItalic)?;
-    page.markup_if(style.underline, Tag::TextUnderline)
 }

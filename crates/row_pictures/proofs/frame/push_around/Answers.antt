@@ -1,4 +1,4 @@
-use Rattle.std.proofs.Common.{true, ◌*◌, ◌++◌, codes}
+use Rattle.std.proofs.Common.{◌*◌, ◌++◌, codes}
 use Rattle.picture_page.specs.Seen.{seen}
 use Rattle.picture_page.specs.Tags.{tag_bytes}
 use Rattle.picture_page.specs.declared.tag.Tag.TheVariants as tag

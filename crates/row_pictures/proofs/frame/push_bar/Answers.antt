@@ -1,4 +1,4 @@
-use Rattle.std.proofs.Common.{true, [], ◌*◌, ◌/◌, codes, refl}
+use Rattle.std.proofs.Common.{true, ◌*◌, ◌/◌, codes, refl}
 use Rattle.picture_page.specs.Page.{escaped}
 use Rattle.picture_page.specs.Tags.{tag_bytes}
 use Rattle.picture_page.specs.declared.tag.Tag.TheVariants as tag

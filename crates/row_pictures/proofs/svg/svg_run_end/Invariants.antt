@@ -1,6 +1,6 @@
 use Rattle.std.proofs.Common.{◌-◌, ◌<◌, ◌≤◌}
 use Rattle.row_pictures.specs.Runs.{AreInPlace}
-use Rattle.row_pictures.proofs.svg.in_place_end.Given as goal
+use Rattle.row_pictures.proofs.svg.svg_run_end.Given as goal
 
 abbrev pub invariant-loop-place : goal.invariant-loop-place
 invariant-loop-place l = record {
