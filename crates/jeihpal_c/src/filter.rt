@@ -9,7 +9,7 @@ use crate::word::Word;
 use c_objects::{CLOSED, OK, filter};
 use std::alloc::Global;
 
-/// Makes a filter that draws lines, and that nothing has passed. Refused if an allocation fails.
+/// Makes a filter that draws lines, that nothing has passed, and that has given nothing. Refused if an allocation fails.
 ///
 /// An object that the word held is closed, even if the call is refused.
 #[unsafe(no_mangle)]
@@ -40,8 +40,8 @@ pub extern "C" fn jeihpal_filter_pass(word: &mut Word, bytes: &[u8]) -> i32
     }
 }
 
-/// Copies as many as fit of the bytes that the last piece gave, and sets `count` to how many there are: at most four
-/// times as many as the piece had.
+/// Copies as many as fit of the bytes that the last piece gave, and sets `count` to how many there are: at most eight
+/// times as many as the piece had, and 512 more. Before the first piece there are none.
 #[unsafe(no_mangle)]
 pub extern "C" fn jeihpal_filter_given(word: &mut Word, to: &mut [u8], count: &mut usize) -> i32
     ensures says { InWord (FilterSays (GivesLast to.old to.new count.new)) word.old.held result }

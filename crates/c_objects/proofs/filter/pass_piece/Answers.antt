@@ -16,10 +16,20 @@ returns-in-Ok c =
         short = λ past has.
             let drawn = last-given f bytes (e.passed Drawn past has).0.kind in
             subst (λ (given : List ℕ). length given ≤ 8 * length bytes + 512) (sym drawn) (e.short Drawn past has);
+        room = λ past has some. e.room past has some;
+        keeps = e.keeps;
       },
     )
 
 pub returns-in-Err : goal.returns-in-Err
 returns-in-Err c =
     let e = c.in-Err.ensures in
-    inr (λ none. true≢false (sym (e.none none)), refl, λ past has. e.same Drawn past has)
+    inr (
+      refl,
+      record {
+        some = λ none. true≢false (sym (e.none none));
+        full = λ past has. e.full Drawn past has;
+        passed = λ past has. e.same Drawn past has;
+        keeps = e.keeps;
+      },
+    )
