@@ -1,6 +1,9 @@
 mod Did
+mod Drafts
 mod Filters
 mod LeftText
 mod Prefixes
+mod Queued
 mod RowTexts
 mod RunLemmas
+mod Waiting

@@ -7,6 +7,7 @@ pub mod Limits
 pub mod Looks
 pub mod Objects
 pub mod Played
+pub mod Queue
 pub mod Recordings
 pub mod Requests
 pub mod Runs

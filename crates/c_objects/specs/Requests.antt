@@ -1,6 +1,6 @@
 -- The queue of what a program asks of its terminal beyond drawing.
 use Rattle.std.specs.Prelude.{◌≡◌, ◌⊎◌, ◌<◌, ◌≤◌, ◌+◌, ℕ, ℤ, pos, nat_le, Bool, true, false, List, [], ◌∷◌, ◌++◌}
-use Rattle.std.specs.Prelude.{length, min, codes, encode_utf8, Option, Some, None}
+use Rattle.std.specs.Prelude.{length, min, sum_by, codes, encode_utf8, Option, Some, None}
 use Rattle.std.specs.Prelude.{if◌then◌else◌}
 use Rattle.std.specs.List.{join_by}
 use Rattle.vte_core.specs.ParamsText.{groups_text}
@@ -74,26 +74,31 @@ pub record Gets (q : RequestsView) (r : RequestView) (new : RequestsView) : Type
   pub short : length r.text ≤ 1021
   pub new_is : new ≡ record q { waiting = q.waiting ++ r ∷ [] }
 
--- a request with this text may find no place in the queue: the queue is full, or the text isn't empty, so that it can
--- be too long, or its allocation can fail
-abbrev pub HasNoPlace : RequestsView → List ℕ → Type 0
-HasNoPlace q text = (256 ≤ length q.waiting) ⊎ (0 < length text)
+-- how many bytes the texts of requests have together
+abbrev pub text_bytes : List RequestView → ℕ
+text_bytes waiting = sum_by (λ (r : RequestView). length r.text) waiting
+
+-- The room for 4,096 bytes of texts is taken when the screen is made. This text and those that wait have more, so that
+-- memory may be refused.
+abbrev pub MayWantMemory : List RequestView → List ℕ → Type 0
+MayWantMemory waiting text = 4096 < text_bytes waiting + length text
+
+-- a request with this text may find no place behind those that wait: the queue is full, the text is too long, or its
+-- memory may be refused
+abbrev pub HasNoPlace : List RequestView → List ℕ → Type 0
+HasNoPlace waiting text = (256 ≤ length waiting) ⊎ (1021 < length text) ⊎ MayWantMemory waiting text
 
 -- one more is counted as dropped; the count stops at the greatest number of 64 bits
 abbrev pub one_dropped : RequestsView → RequestsView
 one_dropped q = record q { dropped = min (q.dropped + 1) 18446744073709551615 }
 
--- the request is counted as dropped
-abbrev pub Drops : RequestsView → RequestView → RequestsView → Type 0
-Drops q r new = HasNoPlace q r.text × (new ≡ one_dropped q)
-
--- the request is queued, or it is dropped, which one without a text isn't unless the queue is full
+-- the request is queued, or it finds no place and is counted as dropped
 abbrev pub Queues : RequestsView → RequestView → RequestsView → Type 0
-Queues q r new = Gets q r new ⊎ Drops q r new
+Queues q r new = Gets q r new ⊎ (HasNoPlace q.waiting r.text × (new ≡ one_dropped q))
 
--- a request for what isn't known, where such are told, is queued, or it is counted as dropped
+-- a request for what isn't known is queued so, where such are told
 abbrev pub Told : Bool → RequestsView → RequestView → RequestsView → Type 0
-Told true q r new = Gets q r new ⊎ (new ≡ one_dropped q)
+Told true q r new = Queues q r new
 Told false q r new = new ≡ q
 
 -- a request for a row, where such are told, is queued, however many wait, or it is counted as dropped
@@ -139,13 +144,18 @@ reported_of r dropped = record {
   kind = r.kind;
 }
 
--- the oldest of these requests is copied, and removed if its text fits
-abbrev pub TakesOldest : List RequestView → List ℕ → List ℕ → CRequest → RequestsView → ℤ → RequestsView → Type 0
-TakesOldest [] old new reported q code after =
-    (code ≡ pos 0) × (reported ≡ reported_of (of_kind 0 []) q.dropped) × (new ≡ old) × (after ≡ q)
-TakesOldest (r ∷ rs) old new reported q code after =
-    (code ≡ pos r.kind) × (reported ≡ reported_of r q.dropped) × (new ≡ with_prefix r.text old)
-    × (after ≡ (if nat_le (length r.text) (length old) then record q { waiting = rs } else q))
+-- the oldest of these requests is copied
+abbrev pub TellsFirst : List RequestView → List ℕ → List ℕ → CRequest → ℕ → ℤ → Type 0
+TellsFirst [] old new reported dropped code =
+    (code ≡ pos 0) × (reported ≡ reported_of (of_kind 0 []) dropped) × (new ≡ old)
+TellsFirst (r ∷ rs) old new reported dropped code =
+    (code ≡ pos r.kind) × (reported ≡ reported_of r dropped) × (new ≡ with_prefix r.text old)
+
+-- what waits then: the oldest is removed if its text fits
+abbrev pub left_waiting : List RequestView → List ℕ → List RequestView
+left_waiting [] old = []
+left_waiting (r ∷ rs) old = if nat_le (length r.text) (length old) then rs else r ∷ rs
 
 abbrev pub Takes : List ℕ → List ℕ → CRequest → RequestsView → ℤ → RequestsView → Type 0
-Takes old new reported q code after = TakesOldest q.waiting old new reported q code after
+Takes old new reported q code after =
+    TellsFirst q.waiting old new reported q.dropped code × (after ≡ record q { waiting = left_waiting q.waiting old })

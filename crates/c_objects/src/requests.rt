@@ -1,54 +1,24 @@
 //! The queue of what a program asks of its terminal beyond drawing.
-ghost use Rattle.std.specs.Prelude.{◌≡◌, ◌≤◌, ◌<◌, ◌+◌, ◌∷◌, ◌++◌, [], length, map, encode_utf8, true, false, IfOk};
-ghost use Rattle.std.specs.Prelude.{if◌then◌else◌, OnErr};
+ghost use Rattle.std.specs.Prelude.{◌≡◌, ◌++◌, length, map, encode_utf8, IfOk, OnOk, OnErr};
+ghost use Rattle.std.specs.Prelude.{if◌then◌else◌};
 ghost use Rattle.c_objects.specs.Requests as specs;
 ghost use Rattle.c_objects.specs.Requests.{no_requests, telling, one_dropped, behind, of_kind, intermediates};
-ghost use Rattle.c_objects.specs.Requests.{Queues, Gets, HasNoPlace, Takes, Told, Leaves};
+ghost use Rattle.c_objects.specs.Requests.{Queues, Takes, Told, Leaves};
 
-use crate::copy::copy_prefix;
+use crate::draft::Draft;
 use crate::plain::CRequest;
-use crate::told::{csi_text, left_text, osc_text};
+use crate::queue::{NoPlace, Queue};
+use crate::told::{begin, left_text, push_csi, push_osc};
 use std::alloc::{AllocError, Global};
-use std::collections::VecDeque;
 use std::marker::Model;
 use vt100::capture::RowContents;
 use vt100::{Call, Callbacks, Screen};
 
-/// The most requests that wait in the queue.
-const MOST_REQUESTS: usize = 256;
-
-/// The most bytes of a request's text. The parser keeps 1,024 bytes of an operating system command, its number among
-/// them, so a longer text may have been cut.
-const MOST_BYTES: usize = 1021;
-
-/// One request. The first `letters` bytes of its text are letters of clipboards, or intermediates.
-#[derive(Drop)]
-pub struct Request {
-    kind: u8,
-    rows: u16,
-    cols: u16,
-    letters: usize,
-    text: Vec<u8>,
-}
-
-impl Model for Request {
-    ghost use Rattle.c_objects.specs.Requests.{RequestView};
-
-    ghost Value = { RequestView };
-
-    ghost view = { λ r. record {
-      kind = r.kind;
-      rows = r.rows;
-      cols = r.cols;
-      letters = r.letters;
-      text = r.text.items;
-    } };
-}
-
 /// The waiting requests, the oldest first, how many requests weren't queued, and what else is queued.
 #[derive(Drop)]
 pub struct Requests {
-    waiting: VecDeque<Request>,
+    waiting: Queue,
+    draft: Draft,
     dropped: usize,
     unknown: bool,
     rows: bool,
@@ -56,29 +26,27 @@ pub struct Requests {
 }
 
 impl Model for Requests {
-    ghost use Rattle.std.specs.Prelude.{◌≤◌};
-    ghost use Rattle.std.specs.VecDeque.{deque_capacity};
     ghost use Rattle.c_objects.specs.Requests.{RequestsView};
 
     ghost Value = { RequestsView };
 
     ghost view = { λ q. record {
-      waiting = q.waiting.items;
+      waiting = q.waiting;
       dropped = q.dropped;
       tells_unknown = q.unknown;
       tells_rows = q.rows;
     } };
-
-    ghost invariant = { λ q. 256 ≤ deque_capacity q.waiting };
 }
 
 impl Requests {
-    /// An empty queue, with room for all the requests that may wait. Refused if the allocation of this room fails.
+    /// An empty queue, with room for all the requests that may wait, and for some of their texts. Refused if the
+    /// allocation of this room fails.
     pub(crate) fn new(alloc: Global) -> Result<Requests, AllocError>
         ensures { IfOk result (λ q. q ≡ no_requests) }
     {
         Ok(Requests {
-            waiting: VecDeque::with_capacity(alloc, MOST_REQUESTS)?,
+            waiting: Queue::new(alloc)?,
+            draft: Draft::new(alloc)?,
             dropped: 0,
             unknown: false,
             rows: false,
@@ -94,8 +62,8 @@ impl Requests {
         self.rows = rows;
     }
 
-    /// Queues a request of this kind. If the queue is full, its text is too long, or the allocation of its text fails,
-    /// it is counted as dropped.
+    /// Queues a request of this kind. If the queue is full, its text is too long, or there is neither room nor memory
+    /// for its text, it is counted as dropped.
     // Few streams have requests, and what reads the others is faster without this inlined.
     #[inline(never)]
     fn queue(&mut self, kind: u8, size: (u16, u16), letters: &[u8], text: &[u8])
@@ -107,16 +75,23 @@ impl Requests {
           text = letters.now ++ text.now;
         }) self.new }
     {
-        if !self.find_room(kind, size, letters, text) {
-            self.count_dropped();
-        }
+        self.draft.clear();
+        self.draft.push(letters);
+        self.draft.push(text);
+        let queued = self
+            .waiting
+            .push(kind, size, letters.len(), self.draft.text());
+        self.count(queued);
     }
 
-    /// Counts a request that isn't queued.
-    fn count_dropped(&mut self)
-        ensures { self.new ≡ one_dropped self.old }
+    /// Counts a request as dropped, if it found no place.
+    fn count(&mut self, queued: Result<(), NoPlace>)
+        ensures queued { OnOk queued (self.new ≡ self.old) }
+        ensures dropped { OnErr queued (self.new ≡ one_dropped self.old) }
     {
-        self.dropped = self.dropped.saturating_add(1);
+        if queued.is_err() {
+            self.dropped = self.dropped.saturating_add(1);
+        }
     }
 
     /// Queues what isn't known, where this is told: a text behind the first two intermediates.
@@ -128,11 +103,10 @@ impl Requests {
         if !self.unknown {
             return;
         }
-        match (first, second) {
-            (None, _) => self.queue(kind, (0, 0), b"", text),
-            (Some(first), None) => self.queue(kind, (0, 0), &[first], text),
-            (Some(first), Some(second)) => self.queue(kind, (0, 0), &[first, second], text),
-        }
+        let letters = begin(&mut self.draft, first, second);
+        self.draft.push(text);
+        let queued = self.waiting.push(kind, (0, 0), letters, self.draft.text());
+        self.count(queued);
     }
 
     /// Queues a character that isn't known, where this is told.
@@ -144,8 +118,7 @@ impl Requests {
         self.queue_unknown(8, None, None, text.as_bytes());
     }
 
-    /// Queues a control sequence that isn't known, where this is told. If an allocation fails, it is counted as
-    /// dropped.
+    /// Queues a control sequence that isn't known, where this is told.
     #[inline(never)]
     fn queue_csi(&mut self, first: Option<u8>, second: Option<u8>, params: &[&[u16]], last: char)
         ensures { Told self.old.tells_unknown self.old
@@ -154,14 +127,13 @@ impl Requests {
         if !self.unknown {
             return;
         }
-        match csi_text(self.alloc, params, last) {
-            Ok(text) => self.queue_unknown(11, first, second, &text),
-            Err(_) => self.count_dropped(),
-        }
+        let letters = begin(&mut self.draft, first, second);
+        push_csi(&mut self.draft, params, last);
+        let queued = self.waiting.push(11, (0, 0), letters, self.draft.text());
+        self.count(queued);
     }
 
-    /// Queues an operating system command that isn't known, where this is told. If an allocation fails, it is counted
-    /// as dropped.
+    /// Queues an operating system command that isn't known, where this is told.
     #[inline(never)]
     fn queue_osc(&mut self, pieces: &[&[u8]])
         ensures { Told self.old.tells_unknown self.old (of_kind 12 (specs.osc_text (map (λ p. p.now) pieces.now)))
@@ -170,10 +142,10 @@ impl Requests {
         if !self.unknown {
             return;
         }
-        match osc_text(self.alloc, pieces) {
-            Ok(text) => self.queue_unknown(12, None, None, &text),
-            Err(_) => self.count_dropped(),
-        }
+        self.draft.clear();
+        push_osc(&mut self.draft, pieces);
+        let queued = self.waiting.push(12, (0, 0), 0, self.draft.text());
+        self.count(queued);
     }
 
     /// Queues a row that leaves for good, where this is told, however many requests wait. If an allocation fails, it is
@@ -185,83 +157,20 @@ impl Requests {
         if !self.rows {
             return;
         }
-        let Some(text) = left_text(self.alloc, contents) else {
-            return self.count_dropped();
+        let queued = match left_text(self.alloc, contents) {
+            Some(text) => self
+                .waiting
+                .push_row(kind_of_row(alternate), text.into_bytes()),
+            None => Err(NoPlace),
         };
-        let request = Request {
-            kind: kind_of_row(alternate),
-            rows: 0,
-            cols: 0,
-            letters: 0,
-            text: text.into_bytes(),
-        };
-        if self.waiting.push_back(request).is_err() {
-            self.count_dropped();
-        }
-    }
-
-    /// Queues a request and returns true. Returns false if the queue is full, its text is too long, or the allocation
-    /// of its text fails.
-    fn find_room(&mut self, kind: u8, size: (u16, u16), letters: &[u8], text: &[u8]) -> bool
-        ensures queued { result ≡ true → Gets self.old (record {
-          kind = kind;
-          rows = size.0;
-          cols = size.1;
-          letters = length letters.now;
-          text = letters.now ++ text.now;
-        }) self.new }
-        ensures refused { result ≡ false → self.new ≡ self.old }
-        ensures no_place { result ≡ false → HasNoPlace self.old (letters.now ++ text.now) }
-    {
-        if self.waiting.len() >= MOST_REQUESTS || letters.len() > MOST_BYTES {
-            return false;
-        }
-        if text.len() > MOST_BYTES - letters.len() {
-            return false;
-        }
-        let Ok(text) = joined(self.alloc, letters, text) else {
-            return false;
-        };
-        let request = Request {
-            kind,
-            rows: size.0,
-            cols: size.1,
-            letters: letters.len(),
-            text,
-        };
-        self.waiting.push_back(request).is_ok()
+        self.count(queued);
     }
 
     /// Copies the oldest request and returns its kind, or 0 if there is none. The request is removed if its text fits.
     pub(crate) fn take(&mut self, to: &mut [u8], reported: &mut CRequest) -> i32
         ensures { Takes to.old to.new reported.new self.old result self.new }
     {
-        let Some(oldest) = self.waiting.front() else {
-            *reported = CRequest {
-                length: 0,
-                letters: 0,
-                dropped: self.dropped,
-                rows: 0,
-                cols: 0,
-                kind: 0,
-            };
-            return 0;
-        };
-        let kind = oldest.kind;
-        *reported = CRequest {
-            length: oldest.text.len(),
-            letters: oldest.letters,
-            dropped: self.dropped,
-            rows: oldest.rows,
-            cols: oldest.cols,
-            kind,
-        };
-        let mut length = 0;
-        copy_prefix(&oldest.text, to, &mut length);
-        if length <= to.len() {
-            let _taken = self.waiting.pop_front();
-        }
-        i32::from(kind)
+        self.waiting.take(self.dropped, to, reported)
     }
 }
 
@@ -270,18 +179,6 @@ fn kind_of_row(alternate: bool) -> u8
     ensures { result ≡ (if alternate then 14 else 13) }
 {
     if alternate { 14 } else { 13 }
-}
-
-/// The letters, and then the text.
-fn joined(alloc: Global, letters: &[u8], text: &[u8]) -> Result<Vec<u8>, AllocError>
-    requires short { length letters.now + length text.now ≤ 1024 }
-    ensures joined { IfOk result (λ v. v.items ≡ letters.now ++ text.now) }
-    ensures refused { OnErr result (0 < length (letters.now ++ text.now)) }
-{
-    let mut joined = Vec::with_capacity(alloc, letters.len() + text.len())?;
-    joined.extend_from_slice(letters)?;
-    joined.extend_from_slice(text)?;
-    Ok(joined)
 }
 
 /// Queues the calls that C can receive, and rows where this is asked for, and leaves the screen as it is.

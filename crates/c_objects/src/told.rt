@@ -1,75 +1,91 @@
 //! The texts of what a screen doesn't know, and of rows that leave it for good.
-ghost use Rattle.std.specs.Prelude.{◌≡◌, ◌++◌, decimal, string_bytes, map, IfOk, IfSome, OnOk};
+ghost use Rattle.std.specs.Prelude.{◌≡◌, ◌++◌, length, decimal, string_bytes, map, IfSome, OnOk};
 ghost use Rattle.vte_core.specs.ParamsText.{group_text, groups_text};
 ghost use Rattle.vt100_capture.specs.Capture.{captured_row, after_row};
+ghost use Rattle.c_objects.specs.Queue.{drafted};
 ghost use Rattle.c_objects.specs.Requests as specs;
 
+use crate::draft::Draft;
 use itoa::Buffer;
-use std::alloc::{AllocError, Global};
+use std::alloc::Global;
 use std::fmt;
 use vt100::capture::{BasicFormattedCaptureState, RowContents};
 use vt100_rows::Row;
 
-/// The parameters of a control sequence, as they stand in it, and its final byte. Refused if an allocation fails.
-pub(crate) fn csi_text(alloc: Global, params: &[&[u16]], last: char) -> Result<Vec<u8>, AllocError>
-    ensures { IfOk result (λ v. v.items ≡ specs.csi_text (map (λ g. g.now) params.now) last) }
+/// Begins a text with the first two intermediates of a sequence, and returns how many there are.
+pub(crate) fn begin(draft: &mut Draft, first: Option<u8>, second: Option<u8>) -> usize
+    ensures text { draft.new ≡ specs.intermediates first second }
+    ensures count { result ≡ length (specs.intermediates first second) }
 {
-    let mut text = Vec::new(alloc);
-    push_groups(&mut text, params)?;
+    draft.clear();
+    match (first, second) {
+        (None, _) => 0,
+        (Some(first), None) => {
+            draft.push(&[first]);
+            1
+        }
+        (Some(first), Some(second)) => {
+            draft.push(&[first, second]);
+            2
+        }
+    }
+}
+
+/// Appends the parameters of a control sequence, as they stand in it, and its final byte.
+#[tactic(auto, using(crate::proofs::Drafts::drafted_behind))]
+pub(crate) fn push_csi(draft: &mut Draft, params: &[&[u16]], last: char)
+    ensures { drafted draft.new ≡ drafted (draft.old ++ specs.csi_text (map (λ g. g.now) params.now) last) }
+{
+    push_groups(draft, params);
     let mut room = [0; 4];
-    text.extend_from_slice(last.encode_utf8(&mut room).as_bytes())?;
-    Ok(text)
+    draft.push(last.encode_utf8(&mut room).as_bytes());
 }
 
 /// Appends groups of numbers, joined by `;`.
-fn push_groups(text: &mut Vec<u8>, groups: &[&[u16]]) -> Result<(), AllocError>
-    ensures { OnOk result (text.new.items ≡ text.old.items ++ groups_text (map (λ g. g.now) groups.now)) }
+fn push_groups(draft: &mut Draft, groups: &[&[u16]])
+    ensures { drafted draft.new ≡ drafted (draft.old ++ groups_text (map (λ g. g.now) groups.now)) }
 {
     if let [first, rest @ ..] = groups {
-        push_group(text, first)?;
+        push_group(draft, first);
         for group in rest {
-            text.extend_from_slice(b";")?;
-            push_group(text, group)?;
+            draft.push(b";");
+            push_group(draft, group);
         }
     }
-    Ok(())
 }
 
 /// Appends the numbers of a group, joined by `:`.
-fn push_group(text: &mut Vec<u8>, group: &[u16]) -> Result<(), AllocError>
-    ensures { OnOk result (text.new.items ≡ text.old.items ++ group_text group.now) }
+fn push_group(draft: &mut Draft, group: &[u16])
+    ensures { drafted draft.new ≡ drafted (draft.old ++ group_text group.now) }
 {
     if let [first, rest @ ..] = group {
-        push_number(text, *first)?;
+        push_number(draft, *first);
         for number in rest {
-            text.extend_from_slice(b":")?;
-            push_number(text, *number)?;
+            draft.push(b":");
+            push_number(draft, *number);
         }
     }
-    Ok(())
 }
 
 /// Appends a number in decimal digits.
-fn push_number(text: &mut Vec<u8>, number: u16) -> Result<(), AllocError>
-    ensures { OnOk result (text.new.items ≡ text.old.items ++ decimal number) }
+fn push_number(draft: &mut Draft, number: u16)
+    ensures { drafted draft.new ≡ drafted (draft.old ++ decimal number) }
 {
     let mut buffer = Buffer::new();
-    text.extend_from_slice(buffer.format(number).as_bytes())
+    draft.push(buffer.format(number).as_bytes());
 }
 
-/// The pieces of an operating system command, joined by `;`. Refused if an allocation fails.
-pub(crate) fn osc_text(alloc: Global, pieces: &[&[u8]]) -> Result<Vec<u8>, AllocError>
-    ensures { IfOk result (λ v. v.items ≡ specs.osc_text (map (λ p. p.now) pieces.now)) }
+/// Appends the pieces of an operating system command, joined by `;`.
+pub(crate) fn push_osc(draft: &mut Draft, pieces: &[&[u8]])
+    ensures { drafted draft.new ≡ drafted (draft.old ++ specs.osc_text (map (λ p. p.now) pieces.now)) }
 {
-    let mut text = Vec::new(alloc);
     if let [first, rest @ ..] = pieces {
-        text.extend_from_slice(first)?;
+        draft.push(first);
         for piece in rest {
-            text.extend_from_slice(b";")?;
-            text.extend_from_slice(piece)?;
+            draft.push(b";");
+            draft.push(piece);
         }
     }
-    Ok(text)
 }
 
 /// The text of a row that leaves for good, and a newline where it doesn't go on in the next row. Nothing if an

@@ -1,10 +1,11 @@
 use Rattle.std.proofs.Common.{◌≡◌, ◌++◌, drop, codes, decimal}
 use Rattle.std.specs.List.{flat_map}
 use Rattle.vte_core.specs.ParamsText.{group_text}
+use Rattle.c_objects.specs.Queue.{drafted}
 use Rattle.c_objects.proofs.told.push_group.Given as goal
 
 -- what stands there and the numbers that are left
 abbrev pub invariant-loop-number : goal.invariant-loop-number
 invariant-loop-number l =
-    l.text.items ++ flat_map (λ y. codes ":" ++ decimal y) (drop l.number-index l.rest)
-    ≡ l.fn.text.items ++ group_text l.fn.group
+    drafted (l.draft ++ flat_map (λ y. codes ":" ++ decimal y) (drop l.number-index l.rest))
+    ≡ drafted (l.fn.draft ++ group_text l.fn.group)

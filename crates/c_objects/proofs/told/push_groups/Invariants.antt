@@ -1,10 +1,11 @@
 use Rattle.std.proofs.Common.{◌≡◌, ◌++◌, drop, map, codes}
 use Rattle.std.specs.List.{flat_map}
 use Rattle.vte_core.specs.ParamsText.{group_text, groups_text}
+use Rattle.c_objects.specs.Queue.{drafted}
 use Rattle.c_objects.proofs.told.push_groups.Given as goal
 
 -- what stands there and the groups that are left
 abbrev pub invariant-loop-group : goal.invariant-loop-group
 invariant-loop-group l =
-    l.text.items ++ flat_map (λ y. codes ";" ++ group_text y) (map (λ g. g.now) (drop l.group-index l.rest))
-    ≡ l.fn.text.items ++ groups_text (map (λ g. g.now) l.fn.groups)
+    drafted (l.draft ++ flat_map (λ y. codes ";" ++ group_text y) (map (λ g. g.now) (drop l.group-index l.rest)))
+    ≡ drafted (l.fn.draft ++ groups_text (map (λ g. g.now) l.fn.groups))
