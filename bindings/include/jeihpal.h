@@ -472,8 +472,9 @@ int32_t jeihpal_screen_tell(jeihpal_screen *screen, uint8_t unhandled, uint8_t r
 /* Takes the oldest request out of the screen's queue, and answers its kind; NO_REQUEST where none waits, and then
  * all of *request but `dropped` is 0. As much of the text as fits is copied into `to`; where it is longer than
  * `capacity`, the request stays the oldest of the queue. A request is dropped and counted where as many wait as can,
- * where its text is too long, and where there is no memory for its text. None is cut. A text is as the program wrote
- * it, and needn't be UTF-8. */
+ * where its text is too long, and where there is no memory for its text. It needs none where its text and those that
+ * wait have at most 4,096 bytes together: a screen is made with the room for these. None is cut. A text is as the
+ * program wrote it, and needn't be UTF-8. */
 int32_t jeihpal_screen_request(jeihpal_screen *screen, uint8_t *to, size_t capacity, jeihpal_request *request);
 
 /* Closes the word: what it holds, of any kind, is freed. */
@@ -570,10 +571,11 @@ int32_t jeihpal_filter_new(jeihpal_filter *filter);
 
 /* Has the next bytes of the program's output pass. They may be cut anywhere. MEMORY, never for 0 bytes: they have not
  * passed, and may be handed over again; what the last piece gave may be lost. It takes room for eight times as many
- * bytes, and 512 more. */
+ * bytes, and 512 more, and keeps it: a piece that is no longer than one that has passed is never refused. */
 int32_t jeihpal_filter_pass(jeihpal_filter *filter, const uint8_t *bytes, size_t count);
 
-/* What the piece gives that passed last: at most eight bytes for each that it had, and 512 more. */
+/* What the piece gives that passed last: at most eight bytes for each that it had, and 512 more. Before the first piece
+ * it is nothing. */
 int32_t jeihpal_filter_given(jeihpal_filter *filter, uint8_t *to, size_t capacity, size_t *length);
 
 /* Closes the word: what it holds, of any kind, is freed. */
