@@ -1,5 +1,5 @@
 -- What becomes of a request whose text was put together in a draft.
-use Rattle.std.proofs.Common.{◌≡◌, ◌∙◌, ℕ, ◌+◌, ◌<◌, ◌≤◌, Bool, true, false, List, ◌++◌, ◌∷◌, [], length}
+use Rattle.std.proofs.Common.{◌≡◌, ◌∙◌, ℕ, ◌<◌, ◌≤◌, Bool, true, false, List, ◌++◌, ◌∷◌, [], length}
 use Rattle.std.proofs.Common.{OnOk, OnErr, Ok, Err, Result, ap, arith, subst, inl, inr}
 use Rattle.std.proofs.lemmas.List.{take_all, length-take}
 use Rattle.c_objects.proofs.Drafts.{drafted_behind}

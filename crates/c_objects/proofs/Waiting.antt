@@ -1,5 +1,5 @@
 -- Requests whose texts share a room.
-use Rattle.std.proofs.Common.{◌≡◌, ◌∙◌, ℕ, ◌+◌, ◌-◌, ◌<◌, ◌≤◌, List, ◌++◌, ◌∷◌, [], length, take}
+use Rattle.std.proofs.Common.{◌≡◌, ◌∙◌, ℕ, ◌+◌, ◌<◌, ◌≤◌, List, ◌++◌, ◌∷◌, [], length, take}
 use Rattle.std.proofs.Common.{ap, sym, arith, refl, subst, append-nil, inl, inr}
 use Rattle.std.proofs.lemmas.List.{take_all, take-append-le, length-take, length-drop}
 use Rattle.std.proofs.lemmas.List.Sums.{sum_by-cons}
