@@ -1,9 +1,1 @@
-pub mod Checked
-pub mod Coded
 pub mod Command
-pub mod Dumped
-pub mod Faults
-pub mod Replay
-pub mod Script
-pub mod Told
-pub mod Words

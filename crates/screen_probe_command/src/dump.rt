@@ -1,15 +1,6 @@
 //! A screen as text, a fact a line.
 
-ghost use Rattle.std.specs.Prelude.{◌≡◌, ◌++◌, OnOk, Some, codes, string_bytes};
-ghost use Rattle.std.specs.List.{flat_map, range_with_len};
-ghost use Rattle.vt100_core.specs.Grid.{cell_in, visible_row_at};
-ghost use Rattle.screen_probe_command.specs.Dumped.{attrs_line, bit, cell_line, cell_text, cells_text, colors_text};
-ghost use Rattle.screen_probe_command.specs.Dumped.{columns_text, cursor_line, dump_text, encoding_name, flags_text};
-ghost use Rattle.screen_probe_command.specs.Dumped.{kept_line, mark, modes_line, mouse_name, names_text, place_line};
-ghost use Rattle.screen_probe_command.specs.Dumped.{place_text, row_text, size_line, state_text, style_name};
-ghost use Rattle.screen_probe_command.specs.Dumped.{switches_text, updating_line, wrapped_line};
-
-use crate::hex_digits::push_hex;
+use crate::texts::push_hex;
 use std::alloc::AllocError;
 use std::fmt;
 use std::fmt::Write;
@@ -33,65 +24,39 @@ use vt100::{Cell, Color, CursorStyle, MouseProtocolEncoding, MouseProtocolMode, 
 /// it is empty; `w` is a wide cell, `c` the second column of one. A colour is `d` by default, `i` and its number, or
 /// `r` and six hexadecimal digits. The flags are `bdiuv` for bold, dim, italic, underlined and inverse, each with `-`
 /// in its place where it is off.
-pub(crate) fn push_screen(out: &mut String, screen: &Screen) -> Result<(), AllocError>
-    ensures { OnOk result (string_bytes out.new ≡ string_bytes out.old ++ dump_text screen.now.state) }
-{
-    push_state(out, screen)?;
-    push_rows(out, screen)
-}
-
-// The size, the cursor, the modes, the drawing attributes and the scrollback.
-fn push_state(out: &mut String, screen: &Screen) -> Result<(), AllocError>
-    ensures { OnOk result (string_bytes out.new ≡ string_bytes out.old ++ state_text screen.now.state) }
-{
-    push_size(out, screen)?;
-    push_cursor(out, screen)?;
+pub(crate) fn push_screen(out: &mut String, screen: &Screen) -> Result<(), AllocError> {
+    push_place(out, screen)?;
     push_modes(out, screen)?;
-    push_updating(out, screen)?;
+    if screen.synchronized_update() {
+        out.push_str("updating\n")?;
+    }
     push_attrs(out, screen)?;
-    push_kept(out, screen)
+    push_kept(out, screen)?;
+    let (rows, _) = screen.size();
+    for row in 0..rows.get() {
+        push_row(out, screen, row)?;
+    }
+    Ok(())
 }
 
-#[tactic(auto, unfolding(crate::specs::Dumped::size_line))]
-fn push_size(out: &mut String, screen: &Screen) -> Result<(), AllocError>
-    ensures { OnOk result (string_bytes out.new ≡ string_bytes out.old ++ size_line screen.now.state) }
-{
+// The size and the cursor.
+fn push_place(out: &mut String, screen: &Screen) -> Result<(), AllocError> {
     let (rows, cols) = screen.size();
     let (height, width) = (rows.get(), cols.get());
-    writeln!(out, "size {height} {width}")
-}
-
-#[tactic(auto, unfolding(crate::specs::Dumped::cursor_line))]
-fn push_cursor(out: &mut String, screen: &Screen) -> Result<(), AllocError>
-    ensures { OnOk result (string_bytes out.new ≡ string_bytes out.old ++ cursor_line screen.now.state) }
-{
+    writeln!(out, "size {height} {width}")?;
     let (row, col) = screen.cursor_position();
     let hide = bit(screen.hide_cursor());
     writeln!(out, "cursor {row} {col} hide={hide}")
 }
 
-fn push_modes(out: &mut String, screen: &Screen) -> Result<(), AllocError>
-    ensures { OnOk result (string_bytes out.new ≡ string_bytes out.old ++ modes_line screen.now.state) }
-{
-    push_switches(out, screen)?;
-    push_names(out, screen)
-}
-
-fn push_switches(out: &mut String, screen: &Screen) -> Result<(), AllocError>
-    ensures { OnOk result (string_bytes out.new ≡ string_bytes out.old ++ switches_text screen.now.state) }
-{
+fn push_modes(out: &mut String, screen: &Screen) -> Result<(), AllocError> {
     let keypad = bit(screen.application_keypad());
     let cursor_keys = bit(screen.application_cursor());
     let paste = bit(screen.bracketed_paste());
     write!(
         out,
         "modes keypad={keypad} cursor_keys={cursor_keys} paste={paste}"
-    )
-}
-
-fn push_names(out: &mut String, screen: &Screen) -> Result<(), AllocError>
-    ensures { OnOk result (string_bytes out.new ≡ string_bytes out.old ++ names_text screen.now.state) }
-{
+    )?;
     let mouse = mouse_name(screen.mouse_protocol_mode());
     let encoding = encoding_name(screen.mouse_protocol_encoding());
     let style = style_name(screen.cursor_style());
@@ -102,35 +67,7 @@ fn push_names(out: &mut String, screen: &Screen) -> Result<(), AllocError>
     )
 }
 
-#[tactic(auto, unfolding(crate::specs::Dumped::updating_line))]
-fn push_updating(out: &mut String, screen: &Screen) -> Result<(), AllocError>
-    ensures { OnOk result (string_bytes out.new ≡ string_bytes out.old ++ updating_line screen.now.state) }
-{
-    if screen.synchronized_update() {
-        out.push_str("updating\n")
-    } else {
-        Ok(())
-    }
-}
-
-fn push_attrs(out: &mut String, screen: &Screen) -> Result<(), AllocError>
-    ensures { OnOk result (string_bytes out.new ≡ string_bytes out.old ++ attrs_line screen.now.state) }
-{
-    out.push_str("attrs ")?;
-    push_colors(out, screen.fgcolor(), screen.bgcolor())?;
-    let flags = Flags {
-        bold: screen.bold(),
-        dim: screen.dim(),
-        italic: screen.italic(),
-        underline: screen.underline(),
-        inverse: screen.inverse(),
-    };
-    push_flags(out, flags)
-}
-
-fn push_kept(out: &mut String, screen: &Screen) -> Result<(), AllocError>
-    ensures { OnOk result (string_bytes out.new ≡ string_bytes out.old ++ kept_line screen.now.state) }
-{
+fn push_kept(out: &mut String, screen: &Screen) -> Result<(), AllocError> {
     let len = screen.scrollback_len();
     let offset = screen.scrollback();
     let capacity = screen.scrollback_capacity();
@@ -140,172 +77,67 @@ fn push_kept(out: &mut String, screen: &Screen) -> Result<(), AllocError>
     )
 }
 
-fn push_rows(out: &mut String, screen: &Screen) -> Result<(), AllocError>
-    ensures { OnOk result (string_bytes out.new ≡ string_bytes out.old
-        ++ flat_map (row_text screen.now.state) (range_with_len 0 screen.now.state.shown.height)) }
-{
-    let (rows, _) = screen.size();
-    for row in 0..rows.get() {
-        push_row(out, screen, row)?;
-    }
-    Ok(())
-}
-
-fn push_row(out: &mut String, screen: &Screen, row: u16) -> Result<(), AllocError>
-    ensures { OnOk result (string_bytes out.new ≡ string_bytes out.old ++ row_text screen.now.state row) }
-{
-    push_cells(out, screen, row)?;
-    push_wrapped(out, screen, row)
-}
-
-#[tactic(auto, unfolding(crate::specs::Dumped::cells_text))]
-fn push_cells(out: &mut String, screen: &Screen, row: u16) -> Result<(), AllocError>
-    ensures { OnOk result (string_bytes out.new ≡ string_bytes out.old ++ cells_text screen.now.state row) }
-{
+fn push_row(out: &mut String, screen: &Screen, row: u16) -> Result<(), AllocError> {
     let (_, cols) = screen.size();
     for col in 0..cols.get() {
-        push_place(out, screen, row, col)?;
+        match screen.cell(row, col) {
+            None => writeln!(out, "cell {row} {col} absent")?,
+            Some(cell) if cell.is_default() => (),
+            Some(cell) => push_cell(out, row, col, cell)?,
+        }
     }
-    Ok(())
-}
-
-#[tactic(auto, unfolding(crate::specs::Dumped::wrapped_line))]
-fn push_wrapped(out: &mut String, screen: &Screen, row: u16) -> Result<(), AllocError>
-    ensures { OnOk result (string_bytes out.new ≡ string_bytes out.old ++ wrapped_line screen.now.state row) }
-{
     if screen.row_wrapped(row) {
-        writeln!(out, "wrapped {row}")
-    } else {
-        Ok(())
+        writeln!(out, "wrapped {row}")?;
     }
-}
-
-fn push_place(out: &mut String, screen: &Screen, row: u16, col: u16) -> Result<(), AllocError>
-    ensures { OnOk result (string_bytes out.new ≡ string_bytes out.old
-        ++ place_line row col (cell_in (visible_row_at screen.now.state.shown row) col)) }
-{
-    match screen.cell(row, col) {
-        None => push_absent(out, row, col),
-        Some(cell) => push_unless_default(out, row, col, cell),
-    }
-}
-
-#[tactic(auto, unfolding(crate::specs::Dumped::place_line))]
-fn push_unless_default(out: &mut String, row: u16, col: u16, cell: &Cell) -> Result<(), AllocError>
-    ensures { OnOk result (string_bytes out.new ≡ string_bytes out.old ++ place_line row col (Some cell.now)) }
-{
-    if cell.is_default() {
-        Ok(())
-    } else {
-        push_cell(out, row, col, cell)
-    }
-}
-
-fn push_absent(out: &mut String, row: u16, col: u16) -> Result<(), AllocError>
-    ensures { OnOk result (string_bytes out.new ≡ string_bytes out.old ++ (place_text row col ++ codes "absent\n")) }
-{
-    push_place_text(out, row, col)?;
-    out.push_str("absent\n")?;
     Ok(())
 }
 
 // A cell that isn't a default one.
-fn push_cell(out: &mut String, row: u16, col: u16, cell: &Cell) -> Result<(), AllocError>
-    ensures { OnOk result (string_bytes out.new ≡ string_bytes out.old ++ cell_line row col cell.now) }
-{
-    push_place_text(out, row, col)?;
-    push_contents(out, cell)?;
-    push_columns(out, cell)?;
-    push_colors(out, cell.fgcolor(), cell.bgcolor())?;
-    let flags = Flags {
-        bold: cell.bold(),
-        dim: cell.dim(),
-        italic: cell.italic(),
-        underline: cell.underline(),
-        inverse: cell.inverse(),
-    };
-    push_flags(out, flags)
-}
-
-#[tactic(auto, unfolding(crate::specs::Dumped::place_text))]
-fn push_place_text(out: &mut String, row: u16, col: u16) -> Result<(), AllocError>
-    ensures { OnOk result (string_bytes out.new ≡ string_bytes out.old ++ place_text row col) }
-{
-    write!(out, "cell {row} {col} ")
-}
-
-#[tactic(auto, unfolding(crate::specs::Dumped::cell_text))]
-fn push_contents(out: &mut String, cell: &Cell) -> Result<(), AllocError>
-    ensures { OnOk result (string_bytes out.new ≡ string_bytes out.old ++ cell_text cell.now) }
-{
+fn push_cell(out: &mut String, row: u16, col: u16, cell: &Cell) -> Result<(), AllocError> {
+    write!(out, "cell {row} {col} ")?;
     if cell.has_contents() {
-        push_hex(out, cell.contents().as_bytes())
+        push_hex(out, cell.contents().as_bytes())?;
     } else {
-        out.push('-')
+        out.push('-')?;
     }
+    let (wide, continuation) = (bit(cell.is_wide()), bit(cell.is_wide_continuation()));
+    write!(out, " w={wide} c={continuation} ")?;
+    push_colors(out, cell.fgcolor(), cell.bgcolor())?;
+    push_flag(out, cell.bold(), 'b')?;
+    push_flag(out, cell.dim(), 'd')?;
+    push_flag(out, cell.italic(), 'i')?;
+    push_flag(out, cell.underline(), 'u')?;
+    push_flag(out, cell.inverse(), 'v')?;
+    out.push('\n')
 }
 
-// Whether a cell is wide, and whether it is the second column of one that is.
-#[tactic(auto, unfolding(crate::specs::Dumped::columns_text))]
-fn push_columns(out: &mut String, cell: &Cell) -> Result<(), AllocError>
-    ensures { OnOk result (string_bytes out.new ≡ string_bytes out.old ++ columns_text cell.now) }
-{
-    let wide = bit(cell.is_wide());
-    let continuation = bit(cell.is_wide_continuation());
-    write!(out, " w={wide} c={continuation} ")
+fn push_attrs(out: &mut String, screen: &Screen) -> Result<(), AllocError> {
+    out.push_str("attrs ")?;
+    push_colors(out, screen.fgcolor(), screen.bgcolor())?;
+    push_flag(out, screen.bold(), 'b')?;
+    push_flag(out, screen.dim(), 'd')?;
+    push_flag(out, screen.italic(), 'i')?;
+    push_flag(out, screen.underline(), 'u')?;
+    push_flag(out, screen.inverse(), 'v')?;
+    out.push('\n')
 }
 
-// Two colours.
-#[tactic(auto, unfolding(crate::specs::Dumped::colors_text))]
-fn push_colors(out: &mut String, fgcolor: Color, bgcolor: Color) -> Result<(), AllocError>
-    ensures { OnOk result (string_bytes out.new ≡ string_bytes out.old ++ colors_text fgcolor bgcolor) }
-{
-    let fgcolor = Shade { color: fgcolor };
-    let bgcolor = Shade { color: bgcolor };
+fn push_colors(out: &mut String, fgcolor: Color, bgcolor: Color) -> Result<(), AllocError> {
+    let (fgcolor, bgcolor) = (Shade(fgcolor), Shade(bgcolor));
     write!(out, "{fgcolor} {bgcolor} ")
 }
 
-// Whether something is drawn so.
-#[derive(Clone, Copy)]
-struct Flags {
-    bold: bool,
-    dim: bool,
-    italic: bool,
-    underline: bool,
-    inverse: bool,
-}
-
-// The letters of the flags that are on, and the line's end.
-fn push_flags(out: &mut String, flags: Flags) -> Result<(), AllocError>
-    ensures { OnOk result (string_bytes out.new ≡ string_bytes out.old
-        ++ flags_text flags.bold flags.dim flags.italic flags.underline flags.inverse) }
-{
-    push_flag(out, flags.bold, "b")?;
-    push_flag(out, flags.dim, "d")?;
-    push_flag(out, flags.italic, "i")?;
-    push_flag(out, flags.underline, "u")?;
-    push_flag(out, flags.inverse, "v")?;
-    out.push_str("\n")?;
-    Ok(())
-}
-
 // The letter of a flag that is on, and a hyphen for one that is off.
-fn push_flag(out: &mut String, on: bool, letter: &str) -> Result<(), AllocError>
-    ensures { OnOk result (string_bytes out.new ≡ string_bytes out.old ++ mark on letter.now) }
-{
-    out.push_str(if on { letter } else { "-" })
+fn push_flag(out: &mut String, on: bool, letter: char) -> Result<(), AllocError> {
+    out.push(if on { letter } else { '-' })
 }
 
 // A flag as 0 or 1.
-fn bit(on: bool) -> &'static str
-    ensures { result.now ≡ bit on }
-{
-    if on { "1" } else { "0" }
+fn bit(on: bool) -> u8 {
+    if on { 1 } else { 0 }
 }
 
-fn mouse_name(mode: MouseProtocolMode) -> &'static str
-    ensures { result.now ≡ mouse_name mode }
-{
+fn mouse_name(mode: MouseProtocolMode) -> &'static str {
     match mode {
         MouseProtocolMode::None => "None",
         MouseProtocolMode::Press => "Press",
@@ -315,9 +147,7 @@ fn mouse_name(mode: MouseProtocolMode) -> &'static str
     }
 }
 
-fn encoding_name(encoding: MouseProtocolEncoding) -> &'static str
-    ensures { result.now ≡ encoding_name encoding }
-{
+fn encoding_name(encoding: MouseProtocolEncoding) -> &'static str {
     match encoding {
         MouseProtocolEncoding::Default => "Default",
         MouseProtocolEncoding::Utf8 => "Utf8",
@@ -325,9 +155,7 @@ fn encoding_name(encoding: MouseProtocolEncoding) -> &'static str
     }
 }
 
-fn style_name(style: CursorStyle) -> &'static str
-    ensures { result.now ≡ style_name style }
-{
+fn style_name(style: CursorStyle) -> &'static str {
     match style {
         CursorStyle::Default => "Default",
         CursorStyle::BlinkBlock => "BlinkBlock",
@@ -341,18 +169,11 @@ fn style_name(style: CursorStyle) -> &'static str
 
 // A colour in a dump.
 #[derive(Clone, Copy)]
-struct Shade {
-    color: Color,
-}
+struct Shade(Color);
 
 impl fmt::Display for Shade {
-    ghost use Rattle.std.specs.Prelude.{Some};
-    ghost use Rattle.screen_probe_command.specs.Dumped.{color_name};
-
-    ghost output = { λ shade. Some (color_name shade.color) };
-
     fn fmt<W: fmt::Write>(&self, f: &mut fmt::Formatter<W>) -> fmt::Result {
-        match self.color {
+        match self.0 {
             Color::Default => write!(f, "d"),
             Color::Idx(i) => write!(f, "i{i}"),
             Color::Rgb(r, g, b) => write!(f, "r{r:02x}{g:02x}{b:02x}"),

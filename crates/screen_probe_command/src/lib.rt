@@ -7,10 +7,8 @@ mod commands;
 mod dump;
 mod dumping;
 mod error;
-mod hex_digits;
 mod script;
 mod steps;
-mod stream;
 mod texts;
 mod words;
 

@@ -1,11 +1,9 @@
 //! The words of the command line.
 
-ghost use Rattle.std.specs.Prelude.{◌≡◌, ◌&&◌, ◌∷◌, [], map, codes};
-ghost use Rattle.std.specs.Option.{is_some, option_map};
+ghost use Rattle.std.specs.Prelude.{◌≡◌, ◌&&◌, is_some, map, codes};
 ghost use Rattle.std.specs.Str.{bytes_eq};
 ghost use Rattle.command_line.specs.Numbers.{is_size, is_count};
-ghost use Rattle.screen_probe_command.specs.Coded.{asked_of};
-ghost use Rattle.screen_probe_command.specs.Words.{asked, is_invocation, state_asked};
+ghost use Rattle.screen_probe_command.specs.Command.{is_invocation};
 
 use crate::dumping::Dump;
 use command_line::{parse_count, parse_size};
@@ -21,8 +19,7 @@ pub(crate) enum Invocation {
 
 /// Reads `ROWS COLS [CAPACITY [TIMES]]` or `run`.
 pub(crate) fn parse(words: &[&str]) -> Option<Invocation>
-    ensures some { is_some result ≡ is_invocation (map (λ w. w.now) words.now) }
-    ensures value { option_map asked_of result ≡ asked (map (λ w. w.now) words.now) }
+    ensures { is_some result ≡ is_invocation (map (λ w. w.now) words.now) }
 {
     match words {
         [word] => parse_run(word),
@@ -34,8 +31,7 @@ pub(crate) fn parse(words: &[&str]) -> Option<Invocation>
 }
 
 fn parse_run(word: &str) -> Option<Invocation>
-    ensures some { is_some result ≡ bytes_eq word.now (codes "run") }
-    ensures value { option_map asked_of result ≡ asked (word.now ∷ []) }
+    ensures { is_some result ≡ bytes_eq word.now (codes "run") }
 {
     if word == "run" {
         Some(Invocation::Run)
@@ -45,9 +41,8 @@ fn parse_run(word: &str) -> Option<Invocation>
 }
 
 fn parse_dump(rows: &str, cols: &str, capacity: &str, times: &str) -> Option<Invocation>
-    ensures some { is_some result ≡ (is_size rows.now && (is_size cols.now && (is_count capacity.now
+    ensures { is_some result ≡ (is_size rows.now && (is_size cols.now && (is_count capacity.now
         && is_count times.now))) }
-    ensures value { option_map asked_of result ≡ state_asked rows.now cols.now capacity.now times.now }
 {
     Some(Invocation::Dump(Dump {
         rows: parse_size(rows)?,

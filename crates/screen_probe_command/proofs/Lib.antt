@@ -1,4 +1,0 @@
-mod CheckLemmas
-mod ReplayLemmas
-mod SendLemmas
-mod TextLemmas
