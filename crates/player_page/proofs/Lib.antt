@@ -1,1 +1,5 @@
+mod LineLemmas
+mod MomentLemmas
+mod PlayerLemmas
 mod RowsLemmas
+mod TableLemmas

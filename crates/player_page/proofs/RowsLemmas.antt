@@ -5,16 +5,16 @@ use Rattle.std.proofs.lemmas.Grind.{flat_map-append}
 use Rattle.std.proofs.lemmas.List.{map-append, take_more}
 use Rattle.std.proofs.lemmas.List.Elements.{All-append, All-cons, All-nil}
 use Rattle.screen_model.specs.Call.{ScreenView}
-use Rattle.screen_model.specs.Made.{Act}
+use Rattle.screen_model.specs.Made.{Act, made}
+use Rattle.screen_model.specs.State.{State}
 use Rattle.vt100.specs.Parsing.{ParserIsAfter, ParserView}
 use Rattle.vt100_cells.specs.Cell.{CellView}
-use Rattle.picture_page.specs.Page.{Adds, parts_bytes}
+use Rattle.picture_page.specs.Page.{Adds}
 use Rattle.picture_page.proofs.PageLemmas.{adds_both, adds_none, after_markup, before_markup, shows_page}
 use Rattle.row_pictures.specs.Text.{row_text}
 use Rattle.recordings.specs.declared.recording.Event.{Event}
 use Rattle.recorded_screen.specs.Moment.{act_of}
 use Rattle.recorded_screen.specs.Picture.{cells_shown}
-use Rattle.player_page.specs.Heads.{BeginsWith}
 use Rattle.player_page.specs.Rows.{AddsRows, IsRowAfter, IsRowOf, ShowsRows, acts_of, rows_text}
 
 -- nothing is added
@@ -73,23 +73,15 @@ rows_shown rows cols events empty page bytes none is adds = record {
   shown = adds.shown;
 }
 
--- a head, and then rows
-pub begins_with : (rows cols : ℕ) (events : List Event) (empty a b head bytes : List ℕ) → empty ≡ [] → bytes ≡ b
-    → a ≡ empty ++ head → AddsRows rows cols events a b → BeginsWith head bytes
-begins_with rows cols events empty a b head bytes none is head_is adds = record {
-  more = parts_bytes adds.adds.parts;
-  is = is ∙ adds.adds.joined ∙ ap (λ xs. xs ++ parts_bytes adds.adds.parts)
-      (head_is ∙ ap (λ xs. xs ++ head) none);
-}
+-- the state of a terminal's screen
+pub state_is : {C : Type 0} (p : ParserView C) (v : ScreenView) (rows cols : ℕ) (acts : List Act) → v ≡ p.screen
+    → ParserIsAfter p rows cols 0 acts → v.state ≡ made rows cols 0 acts
+state_is p v rows cols acts is after = ap (λ (w : ScreenView). w.state) (is ∙ after.screen)
 
--- the rows of a terminal's screen
-pub rows_of_terminal : {C : Type 0} (p : ParserView C) (v : ScreenView) (rows cols : ℕ) (acts : List Act) → v
-    ≡ p.screen
-    → ParserIsAfter p rows cols 0 acts → (r : ℕ) → IsRowAfter rows cols acts (cells_shown v.state.shown r)
-rows_of_terminal p v rows cols acts is after r = record {
-  row = r;
-  is = ap (λ (w : ScreenView). cells_shown w.state.shown r) (is ∙ after.screen);
-}
+-- a row of the screen in this state
+pub row_of_state : (s : State) (rows cols : ℕ) (acts : List Act) → s ≡ made rows cols 0 acts → (r : ℕ)
+    → IsRowAfter rows cols acts (cells_shown s.shown r)
+row_of_state s rows cols acts is r = record { row = r; is = ap (λ (z : State). cells_shown z.shown r) is }
 
 -- one event more
 pub acts_more : (events : List Event) (i : ℕ) (e : Event) → i < length events → e ≡ get_or events i e
@@ -98,7 +90,7 @@ acts_more events i e lt is =
     ap acts_of (take_more events i e lt ∙ ap (λ x. take i events ++ x ∷ []) (sym is))
     ∙ map-append (λ (x : Event). act_of x.change) (take i events) (e ∷ [])
 
--- pages whose text is rows, or none, and which are appended
+-- a page whose text is rows, and which is appended
 pub rows_appended : (rows cols : ℕ) (events : List Event) (old page new : List ℕ) → new ≡ old ++ page
     → AddsRows rows cols events [] page → AddsRows rows cols events old new
 rows_appended rows cols events old page new is rows_in = record {
@@ -109,11 +101,4 @@ rows_appended rows cols events old page new is rows_in = record {
     text_is = rows_in.adds.text_is;
   };
   shown = rows_in.shown;
-}
-
-pub markup_appended : (old page new : List ℕ) → new ≡ old ++ page → Adds [] page [] → Adds old new []
-markup_appended old page new is adds = record {
-  parts = adds.parts;
-  joined = is ∙ ap (λ xs. old ++ xs) adds.joined;
-  text_is = adds.text_is;
 }

@@ -1,8 +1,8 @@
 use Rattle.picture_page.proofs.PageLemmas.{if_added}
 use Rattle.player_page.proofs.page.push_marker.Goals as goal
 
-pub returns : goal.returns
-returns c =
-    if_added _ _ _ _ _ c.in_ok-push_seconds.ensures.adds
-    (if_added _ _ _ _ _ c.in_ok-markup.ensures.adds
-    (if_added _ _ _ _ _ c.in_ok-name.ensures.adds c.markup-2.ensures.adds))
+pub returns-in_ok-name-in-Marker-clause-adds : goal.returns-in_ok-name-in-Marker-clause-adds
+returns-in_ok-name-in-Marker-clause-adds c =
+    if_added _ _ _ _ _ c.in_ok-push_seconds-in-Marker.ensures.adds
+    (if_added _ _ _ _ _ c.in_ok-markup-in-Marker.ensures.adds
+    (if_added _ _ _ _ _ c.in_ok-name-in-Marker.ensures.adds c.markup-in-Marker.ensures.adds))

@@ -1,7 +1,6 @@
-use Rattle.std.proofs.Common.{[]}
-use Rattle.picture_page.specs.Page.{Adds}
+use Rattle.player_page.proofs.LineLemmas.{ChangesSoFar}
 use Rattle.player_page.proofs.strip.push_changed.Given as goal
 
--- no text so far
-abbrev pub invariant-loop-one : goal.invariant-loop-one
-invariant-loop-one l = Adds l.fn.page l.page []
+-- the changes so far
+abbrev pub invariant-loop-row : goal.invariant-loop-row
+invariant-loop-row l = ChangesSoFar l.fn.old l.new l.row l.fn.page l.page
