@@ -1,7 +1,7 @@
 -- The rows and the moments of a recording, screen by screen.
 use Rattle.std.proofs.Common.{◌≡◌, ◌≢◌, ◌⊎◌, ◌<◌, ◌≤◌, ◌+◌, ◌++◌, ◌∙◌, ℕ, zero, suc, List, [], ◌∷◌, Bool, true, false, Some}
 use Rattle.std.proofs.Common.{Err, IfErr, Ok, Result, ap, ap₂, append-nil, append_assoc, arith, get_or, inl, inr, length}
-use Rattle.std.proofs.Common.{length-append, map, refl, slice_get, subst, sym}
+use Rattle.std.proofs.Common.{length-append, map, not, refl, slice_get, subst, sym, true≢false}
 use Rattle.std.specs.List.{All}
 use Rattle.std.specs.Option.{option_map_or}
 use Rattle.std.proofs.lemmas.Grind.{flat_map-append}
@@ -351,6 +351,14 @@ strip_next look size events n time s old strip new numbers due are count other t
         ++ record { time = t; rows = rows_at (table_of strip) numbers } ∷ []) due.at
 
 -- ---- the screens that are due
+
+pub is_due : (b moment : Bool) → b ≡ not moment → b ≡ false → moment ≡ true
+is_due b true is off = refl
+is_due b false is off = absurd (true≢false (sym is ∙ off))
+
+pub not_due : (b moment : Bool) → b ≡ not moment → b ≡ true → moment ≡ false
+not_due b true is on = absurd (true≢false (sym on ∙ is))
+not_due b false is on = refl
 
 pub due_at_first : (size : ScreenSize) (events : List Event) (s : State) → is_moment events 0 ≡ true
     → s ≡ state_after size events 0 → IsDue size events 0 0 s
