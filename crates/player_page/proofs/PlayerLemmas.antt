@@ -91,4 +91,4 @@ is_player look size events play strip empty a b c d e page front poster none hea
 
 pub begins : (look : Look) (size : ScreenSize) (events : List Event) (play : Play) (page : List ℕ)
     → IsPlayer look size events play page → BeginsWith (head_bytes look play) page
-begins look size events play page is = record { is = is.is }
+begins look size events play page is = record { more = _; is = is.is }

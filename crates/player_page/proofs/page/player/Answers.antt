@@ -1,4 +1,4 @@
-use Rattle.std.proofs.Common.{◌≡◌, ◌∙◌, Err, List, inr, rules, subst, ℕ}
+use Rattle.std.proofs.Common.{◌≡◌, ◌∙◌, Err, List, inl, inr, refl, rules, subst, ℕ}
 use Rattle.screen_model.specs.Made.{made}
 use Rattle.screen_model.specs.State.{State}
 use Rattle.picture_page.specs.Page.{parts_bytes}
@@ -7,6 +7,7 @@ use Rattle.recorded_screen.specs.Picture.{cells_shown}
 use Rattle.player_page.specs.Moments.{ArePainted}
 use Rattle.player_page.specs.Pages.{IsPlayer, IsTooLong}
 use Rattle.player_page.specs.Rows.{IsRowOf}
+use Rattle.player_page.specs.declared.error.PlayerError.TheVariants.{Memory}
 use Rattle.player_page.specs.declared.page.TheConstants.{LONGEST_PLAYER}
 use Rattle.player_page.proofs.MomentLemmas.{fails_for}
 use Rattle.player_page.proofs.PlayerLemmas.{begins, is_player}
@@ -54,7 +55,7 @@ returns-in_err-check_length-clause-fault c =
 pub returns-in_err-strip-clause-fault : goal.returns-in_err-strip-clause-fault
 returns-in_err-strip-clause-fault c =
     let e = c.in_err-strip.field-0.0 in
-    let is : c.from_residual-in_err-strip.result ≡ Err e = search (rules, c.from_residual-in_err-strip.ensures) in
+    let is : c.from_residual.result ≡ Err e = search (rules, c.from_residual.ensures) in
     rw is (fails_for _ _ e IsTooLong.part c.in_err-strip.ensures.fault)
 
 pub returns-clause-rows : goal.returns-clause-rows
@@ -80,3 +81,28 @@ pub returns-clause-head : goal.returns-clause-head
 returns-clause-head c =
     begins c.args.look.now c.args.size c.args.events.now c.args.play.now c.into_bytes.result.items
     (returns-clause-plays c)
+
+pub returns-in_err-push_size-clause-fault : goal.returns-in_err-push_size-clause-fault
+returns-in_err-push_size-clause-fault c =
+    let is : c.from_residual-in_err-push_size.result ≡ Err Memory = search (rules, c.from_residual-in_err-push_size.ensures) in
+    rw is (inl refl)
+
+pub returns-in_err-push_front-clause-fault : goal.returns-in_err-push_front-clause-fault
+returns-in_err-push_front-clause-fault c =
+    let is : c.from_residual-in_err-push_front.result ≡ Err Memory = search (rules, c.from_residual-in_err-push_front.ensures) in
+    rw is (inl refl)
+
+pub returns-in_err-push_screen-clause-fault : goal.returns-in_err-push_screen-clause-fault
+returns-in_err-push_screen-clause-fault c =
+    let is : c.from_residual-in_err-push_screen.result ≡ Err Memory = search (rules, c.from_residual-in_err-push_screen.ensures) in
+    rw is (inl refl)
+
+pub returns-in_err-push_markers-clause-fault : goal.returns-in_err-push_markers-clause-fault
+returns-in_err-push_markers-clause-fault c =
+    let is : c.from_residual-in_err-push_markers.result ≡ Err Memory = search (rules, c.from_residual-in_err-push_markers.ensures) in
+    rw is (inl refl)
+
+pub returns-in_err-push_strip-clause-fault : goal.returns-in_err-push_strip-clause-fault
+returns-in_err-push_strip-clause-fault c =
+    let is : c.from_residual-in_err-push_strip.result ≡ Err Memory = search (rules, c.from_residual-in_err-push_strip.ensures) in
+    rw is (inl refl)
