@@ -17,7 +17,7 @@ use Rattle.recordings.specs.declared.recording.ScreenSize.{ScreenSize}
 use Rattle.recorded_screen.specs.Film.{is_moment, reached, state_after}
 use Rattle.recorded_screen.specs.Picture.{cells_shown}
 use Rattle.picture_page.proofs.PageLemmas.{adds_none, after_markup}
-use Rattle.player_page.specs.Lines.{AreLines, IsLine, Plays, Told, moment_at, rows_at}
+use Rattle.player_page.specs.Lines.{AreLines, IsLine, Told, moment_at, rows_at}
 use Rattle.player_page.specs.Lines.AreLines.{line}
 use Rattle.player_page.specs.Moments.{AreMoments, ArePainted, IsPainted, Moment}
 use Rattle.player_page.specs.Moments.AreMoments.{next, passed, same}

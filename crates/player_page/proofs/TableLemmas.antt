@@ -1,5 +1,5 @@
 -- Tables of rows, and the numbers of rows in them.
-use Rattle.std.proofs.Common.{◌≡◌, ◌≢◌, ◌<◌, ◌≤◌, ◌+◌, ◌++◌, ◌∙◌, ℕ, zero, suc, List, [], ◌∷◌, Bool, true, false, Some}
+use Rattle.std.proofs.Common.{◌≡◌, ◌≢◌, ◌<◌, ◌++◌, ◌∙◌, ℕ, zero, suc, List, [], ◌∷◌, Bool, true, false, Some}
 use Rattle.std.proofs.Common.{ap, ap₂, append-nil, arith, get_or, length, length-append, map, nat_eq, not, refl}
 use Rattle.std.proofs.Common.{slice_get, subst, sym, true≢false, ◌&&◌, ◌||◌}
 use Rattle.std.specs.Prelude.{if◌then◌else◌}

@@ -1,5 +1,5 @@
 -- The page that plays a recording.
-use Rattle.std.specs.Prelude.{◌≡◌, ◌⊎◌, ◌<◌, ℕ, suc, List, [], ◌∷◌, ◌++◌, Some, length, slice_get, string_bytes}
+use Rattle.std.specs.Prelude.{◌≡◌, ◌<◌, ℕ, suc, List, [], ◌∷◌, ◌++◌, Some, length, slice_get, string_bytes}
 use Rattle.std.specs.List.{All, flat_map}
 use Rattle.picture_page.specs.Bytes.{numbers_bytes}
 use Rattle.picture_page.specs.Page.{escaped}

@@ -1,4 +1,4 @@
-use Rattle.std.proofs.Common.{◌≡◌, ◌++◌, ◌∙◌, OnOk, ap, min, subst}
+use Rattle.std.proofs.Common.{◌≡◌, ◌++◌, OnOk, min, subst}
 use Rattle.picture_page.proofs.PageLemmas.{if_added, if_joined}
 use Rattle.picture_page.specs.declared.tag.Tag.TheVariants as tag
 use Rattle.player_page.specs.Heads.{idle_bytes, seconds_bytes, titles_bytes}

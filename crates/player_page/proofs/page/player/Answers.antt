@@ -1,14 +1,12 @@
-use Rattle.std.proofs.Common.{◌≡◌, ◌∙◌, Err, List, inl, inr, refl, rules, subst, ℕ}
-use Rattle.screen_model.specs.Made.{made}
+use Rattle.std.proofs.Common.{◌≡◌, ◌∙◌, Err, inl, inr, refl, rules, subst, ℕ}
 use Rattle.screen_model.specs.State.{State}
 use Rattle.picture_page.specs.Page.{parts_bytes}
 use Rattle.recorded_screen.specs.Moment.{acts_until}
 use Rattle.recorded_screen.specs.Picture.{cells_shown}
 use Rattle.player_page.specs.Moments.{ArePainted}
-use Rattle.player_page.specs.Pages.{IsPlayer, IsTooLong}
+use Rattle.player_page.specs.Pages.{IsTooLong}
 use Rattle.player_page.specs.Rows.{IsRowOf}
 use Rattle.player_page.specs.declared.error.PlayerError.TheVariants.{Memory}
-use Rattle.player_page.specs.declared.page.TheConstants.{LONGEST_PLAYER}
 use Rattle.player_page.proofs.MomentLemmas.{fails_for}
 use Rattle.player_page.proofs.PlayerLemmas.{begins, is_player}
 use Rattle.player_page.proofs.RowsLemmas.{row_of_state, rows_after, rows_both, rows_shown, state_is}

@@ -13,7 +13,7 @@ loop-row-preserved c =
     let i = c.loop-row.row in
     let lt : c.loop-row.row < length c.args.old.now = (let count = c.requires.count in let test = c.loop-row-test.true in omega arith) in
     elim c.if-old-row.branch [
-      then-old-row+in_ok-numbers w ↦
+      | then-old-row+in_ok-numbers w ↦
           subst (ChangesSoFar old new (i + 1) c.args.page.now) (sym w.page-is)
           (one_change old new c.args.page.now c.loop-row.page w.numbers.new.self i _ lt refl c.loop-row.invariant
           w.in_ok-numbers.ensures.bytes w.in_ok-numbers.ensures.adds)

@@ -4,7 +4,6 @@ use Rattle.vt100.specs.Parsing.{ParserIsAfter}
 use Rattle.recorded_screen.specs.Film.{is_moment}
 use Rattle.player_page.specs.Rows.{acts_of}
 use Rattle.player_page.specs.Strips.{IsStrip}
-use Rattle.player_page.specs.declared.strip.Strip.{Strip}
 use Rattle.player_page.proofs.MomentLemmas.{due_at_first, due_next, fails_for, is_due, not_due, strip_passed}
 use Rattle.player_page.proofs.RowsLemmas.{acts_more, state_is}
 use Rattle.player_page.proofs.strip.strip_of.Goals as goal
