@@ -362,12 +362,18 @@ not_due b false is on = refl
 
 pub due_at_first : (size : ScreenSize) (events : List Event) (s : State) → is_moment events 0 ≡ true
     → s ≡ state_after size events 0 → IsDue size events 0 0 s
-due_at_first size events s moment state = record { moment = moment; at = refl; state = state }
+due_at_first size events s moment state = record {
+  within = omega arith;
+  moment = moment;
+  at = refl;
+  state = state;
+}
 
 pub due_next : (size : ScreenSize) (events : List Event) (i : ℕ) (e : Event) (s : State) → i < length events
     → e ≡ get_or events i e → is_moment events (i + 1) ≡ true → s ≡ state_after size events (i + 1)
     → IsDue size events (i + 1) e.time s
 due_next size events i e s lt is moment state = record {
+  within = omega arith;
   moment = moment;
   at = sym (ap (reached events) (let one : i + 1 ≡ suc i = omega arith in one)
       ∙ ap (λ o. option_map_or (λ (x : Event). x.time) o 0) (slice_get_read events (length events) i e refl lt is));
@@ -396,8 +402,10 @@ many_rows most look size events s drawn many =
     HasLongPart.rows (table_of s) drawn.table (let least = rows_at_least (table_of s) in omega arith)
 
 pub long_lines : (most : ℕ) (look : Look) (size : ScreenSize) (events : List Event) (n : ℕ) (s : Strip)
-    → IsStrip look size events n s → most < length s.moments → HasLongPart most look size events
-long_lines most look size events n s is long = HasLongPart.lines n (table_of s) s.moments is.plays long
+    → n ≤ suc (length events) → IsStrip look size events n s → most < length s.moments
+    → HasLongPart most look size events
+long_lines most look size events n s within is long =
+    HasLongPart.lines n (table_of s) s.moments within is.plays long
 
 -- ---- for another reason
 

@@ -1,5 +1,5 @@
 -- The page that plays a recording.
-use Rattle.std.specs.Prelude.{◌≡◌, ◌<◌, ℕ, suc, List, [], ◌∷◌, ◌++◌, Some, length, slice_get, string_bytes}
+use Rattle.std.specs.Prelude.{◌≡◌, ◌<◌, ◌≤◌, ℕ, suc, List, [], ◌∷◌, ◌++◌, Some, length, slice_get, string_bytes}
 use Rattle.std.specs.List.{All, flat_map}
 use Rattle.picture_page.specs.Bytes.{numbers_bytes}
 use Rattle.picture_page.specs.Page.{escaped}
@@ -85,8 +85,8 @@ pub record IsPlayer (look : Look) (size : ScreenSize) (events : List Event) (pla
 pub data HasLongPart (most : ℕ) (look : Look) (size : ScreenSize) (events : List Event) : Type 0 where
   rows : (table : List (List ℕ)) → IsTable look size events table → most < length (rows_bytes table)
       → HasLongPart most look size events
-  lines : (n : ℕ) (table : List (List ℕ)) (lines : List ℕ) → Plays look size events n table lines → most < length lines
-      → HasLongPart most look size events
+  lines : (n : ℕ) (table : List (List ℕ)) (lines : List ℕ) → n ≤ suc (length events)
+      → Plays look size events n table lines → most < length lines → HasLongPart most look size events
 
 -- a part of the page, or the page, has more bytes than this
 pub data IsTooLong (most : ℕ) (look : Look) (size : ScreenSize) (events : List Event) (play : Play) : Type 0 where

@@ -1,5 +1,5 @@
 -- The rows and the moments of a recording in the making.
-use Rattle.std.specs.Prelude.{◌≡◌, ◌≢◌, ◌⊎◌, ◌<◌, ℕ, Bool, true, false, List, [], ◌∷◌, ◌++◌, Some, get_or, length, map, slice_get}
+use Rattle.std.specs.Prelude.{◌≡◌, ◌≢◌, ◌⊎◌, ◌<◌, ◌≤◌, ℕ, Bool, true, false, List, [], ◌∷◌, ◌++◌, Some, get_or, length, map, slice_get}
 use Rattle.std.specs.List.{All}
 use Rattle.picture_page.specs.Page.{Adds}
 use Rattle.row_pictures.specs.declared.look.Look.{Look}
@@ -88,6 +88,7 @@ pub record IsStrip (look : Look) (size : ScreenSize) (events : List Event) (n : 
 
 -- the screen in this state is that after n events, and is shown from this time on
 pub record IsDue (size : ScreenSize) (events : List Event) (n time : ℕ) (s : State) : Type 0 where
+  pub within : n ≤ length events
   pub moment : is_moment events n ≡ true
   pub at : time ≡ reached events n
   pub state : s ≡ state_after size events n

@@ -1,4 +1,4 @@
-use Rattle.std.proofs.Common.{◌≡◌, ◌≢◌, ◌∙◌, Err, List, rules, suc, sym, true≢false, ℕ}
+use Rattle.std.proofs.Common.{◌≡◌, ◌≢◌, ◌∙◌, ◌≤◌, Err, List, arith, length, rules, suc, sym, true≢false, ℕ}
 use Rattle.std.proofs.lemmas.Result.{on_ok_weaker}
 use Rattle.recordings.specs.declared.recording.Event.{Event}
 use Rattle.recordings.specs.declared.recording.ScreenSize.{ScreenSize}
@@ -55,5 +55,7 @@ returns-clause-strip c =
 pub returns-clause-fault : goal.returns-clause-fault
 returns-clause-fault c =
     fails_if_long c.check_length.result _ _ (λ long size events n due strip.
-    long_lines LONGEST_PLAYER c.args.look.now size events (suc n) c.tell.new.self
+    let within = due.within in
+    let within_next : suc n ≤ suc (length events) = omega arith in
+    long_lines LONGEST_PLAYER c.args.look.now size events (suc n) c.tell.new.self within_next
     (with_line c size events n due strip) long) c.check_length.ensures.long
