@@ -22,7 +22,7 @@ fn main(rt: HostRuntime) -> ExitCode {
             output,
             errors,
         ),
-        |(_, _, errors)| report_fault(rt.alloc(), errors, TextError::Memory),
+        |(_, _, errors)| report_fault(errors, TextError::Memory),
     )
 }
 

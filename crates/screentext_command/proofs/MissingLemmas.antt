@@ -16,7 +16,7 @@ use Rattle.screentext_command.specs.Limits.{are_within}
 use Rattle.screentext_command.specs.Missing.{HasNoText, IsMissing, IsNoMoment, IsUnfit, IsUnreadAs, cut, large}
 use Rattle.screentext_command.specs.Missing.{no_file, no_moment, no_text, refused, unfit, unread}
 use Rattle.screentext_command.specs.Moments.{AreMoments}
-use Rattle.screentext_command.specs.Reads.{IsPart, IsRead, IsShown, IsTiming}
+use Rattle.screentext_command.specs.Reads.{IsPart, IsRead, IsShown, IsTiming, flaw_of, seems_asciicast}
 use Rattle.screentext_command.specs.declared.error.TextError.{TextError}
 use Rattle.screentext_command.specs.declared.error.TextError.TheVariants as error
 use Rattle.screentext_command.specs.declared.source.Moments.{Moments}
@@ -40,9 +40,9 @@ module _ (holds : List ℕ → List ℕ → Type 0) (lacks : List ℕ → Type 0
       subst (IsMissing holds lacks o w bytes) (sym fault.1) (unread timing fault.0 given
       (subst (λ (t : Option (List ℕ)). IsUnreadAs o.kind t bytes fault.0) same fault.2))
 
-  -- the recording has a fault
-  pub cut_missing : (r : Reading) (e : RecordingError) → IsRead holds o bytes r → o.strict ≡ true → r.fault ≡ Some e
-      → IsMissing holds lacks o w bytes (recording_fault e)
+  -- the recording isn't whole
+  pub cut_missing : (r : Reading) (e : RecordingError) → IsRead holds o bytes r → o.strict ≡ true
+      → flaw_of (seems_asciicast o bytes) r.recording.kind r.fault ≡ Some e → IsMissing holds lacks o w bytes (recording_fault e)
   cut_missing r recording.Memory read strict fault = refused
   cut_missing r recording.Header read strict fault = cut r recording.Header read strict fault
   cut_missing r (recording.Line n) read strict fault = cut r (recording.Line n) read strict fault

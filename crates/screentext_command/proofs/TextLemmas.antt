@@ -6,7 +6,7 @@ use Rattle.screen_model.specs.State.{State}
 use Rattle.screen_model.specs.Step.{kept_shown}
 use Rattle.vt100_core.specs.Grid.{GridView}
 use Rattle.vt100.specs.Tries.{alive}
-use Rattle.row_texts.specs.declared.row.Look.{Look}
+use Rattle.screentext_command.specs.declared.rows.Look.{Look}
 use Rattle.screentext_command.specs.Texts.{change_text, first_changes, kept_text, line_at, lines_text, pair_text}
 use Rattle.recorded_screen.specs.Picture.{scrolled}
 

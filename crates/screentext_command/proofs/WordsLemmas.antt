@@ -32,14 +32,6 @@ pub added : (old new : Command) (a : Arg) (before : App) (r : Rule) → AddsArg 
     → app_of old ≡ before → app_of new ≡ with_rule before r
 added old new a before r adds is local was = adds.shape local ∙ ap₂ with_rule was is
 
--- an argument that got more names
-pub aliased : (old new : Arg) (xs : List (Bor Text × Bool)) → AddsAliases old new xs
-    → rule_of new ≡ record (rule_of old) { aliases = (rule_of old).aliases ++ map (λ x. x.0.now) xs }
-aliased old new xs adds =
-    ap rule_of adds.0 ∙ ap (λ (names : List Text). record (rule_of old) { aliases = names })
-    (ap (map (λ (x : Bor Text × Bool). x.0.now)) adds.1 ∙ map-append (λ (x : Bor Text × Bool). x.0.now)
-    old.aliases.items xs)
-
 pub known_is_simple : is_simple known ≡ true
 unfolding clap_on_literals
 known_is_simple = refl

@@ -19,7 +19,7 @@ use Rattle.row_pictures.specs.Themes.{theme_named}
 use Rattle.row_pictures.specs.declared.theme.Theme.{Theme}
 use Rattle.screentext_command.specs.Frames.{SaysFrame}
 use Rattle.screentext_command.specs.Words.{known}
-use Rattle.row_texts.specs.declared.row.Look.{Look}
+use Rattle.screentext_command.specs.declared.rows.Look.{Look}
 use Rattle.screentext_command.specs.declared.help.TheConstants.{HELP, VERSION}
 use Rattle.screentext_command.specs.declared.pictures.Pictures.{Pictures}
 use Rattle.screentext_command.specs.declared.source.Source.{Source}

@@ -1,7 +1,8 @@
 -- What the command answers, reads, writes and reports.
-use Rattle.std.specs.Prelude.{◌≡◌, ◌⊎◌, ℕ, ◌^◌, List, Option, Some, None, Ok, Err, Result}
+use Rattle.std.specs.Prelude.{◌≡◌, ℕ, ◌^◌, List, Option, Some, None, Ok, Err, Result}
 use Rattle.std.specs.declared.io.Error.{Error}
-use Rattle.byte_streams.specs.Pump.{Pumps, Tells}
+use Rattle.byte_streams.specs.Pump.{Pumps}
+use Rattle.byte_streams.specs.Sent.{SendsText}
 use Rattle.clap.specs.Words.{Text}
 use Rattle.command_line.specs.Input.{Drains}
 use Rattle.command_line.specs.declared.input.InputError.{InputError}
@@ -9,7 +10,6 @@ use Rattle.screentext_command.specs.Faults.{fault_line, input_fault}
 use Rattle.screentext_command.specs.Asked.{AskFor, AskForText, Origin, Wish}
 use Rattle.screentext_command.specs.Missing.{IsMissing}
 use Rattle.screentext_command.specs.Reads.{IsAnswerTo}
-use Rattle.screentext_command.specs.Words.{memory_line}
 use Rattle.screentext_command.specs.declared.error.TextError.{TextError}
 use Rattle.screentext_command.specs.declared.error.TextError.TheVariants.{Memory, Write}
 
@@ -63,9 +63,13 @@ pub data Does {S W : Type 0} (holds : List ℕ → List ℕ → Type 0) (lacks :
       → Drains gives 65536 s (2 ^ 40) bytes (Ok tt) t → IsAnswerTo holds origin wish bytes text remark
       → PrintsWith takes flushes w text remark answer v → Does holds lacks words gives takes flushes s w answer t v
 
--- a fault's line was written on the error output, or that of memory, where there was none for the line
+-- a line was written part by part: all of it, unless a write failed or took nothing
+abbrev pub TellsInParts : {V : Type 0} → (V → List ℕ → Result ℕ Error → V → Type 0) → V → List ℕ → V → Type 0
+TellsInParts takes old line new = (answer : Result (Unit {0}) Error) × SendsText takes old line answer new
+
+-- so was the line of a fault
 abbrev pub TellsFault : {V : Type 0} → (V → List ℕ → Result ℕ Error → V → Type 0) → V → TextError → V → Type 0
-TellsFault takes old e new = Tells takes old (fault_line e) new ⊎ Tells takes old memory_line new
+TellsFault takes old e new = TellsInParts takes old (fault_line e) new
 
 -- the exit status that goes with an answer, and what is written of it on the error output
 abbrev pub Reports : {V : Type 0} → (V → List ℕ → Result ℕ Error → V → Type 0) → V

@@ -1,6 +1,7 @@
 -- The faults: where they come from, and the lines that report them.
 use Rattle.std.specs.Prelude.{ℕ, List, [], ◌∷◌, ◌++◌, codes}
 use Rattle.std.specs.Fmt.{decimal}
+use Rattle.std.specs.Option.{option_map_or}
 use Rattle.command_line.specs.declared.input.InputError.{InputError}
 use Rattle.command_line.specs.declared.input.InputError.TheVariants as input
 use Rattle.player_page.specs.declared.error.PlayerError.{PlayerError}
@@ -14,6 +15,7 @@ use Rattle.screentext_command.specs.declared.error.TextError.{TextError}
 use Rattle.screentext_command.specs.declared.error.TextError.TheVariants.{Cells, Cut, File, Film, Guessed, Late, Marker}
 use Rattle.screentext_command.specs.declared.error.TextError.TheVariants.{Memory}
 use Rattle.screentext_command.specs.declared.error.TextError.TheVariants.{Player, Read, Recording, Write}
+use Rattle.screentext_command.specs.declared.reasons.Reason.{Reason}
 
 -- a fault of the input
 abbrev pub input_fault : InputError → TextError
@@ -33,6 +35,10 @@ film_fault film.TooLong = Film
 abbrev pub player_fault : PlayerError → TextError
 player_fault player.Memory = Memory
 player_fault player.TooLong = Player
+
+-- the text of a reason in the code: with a number in it, where there is one
+abbrev pub said_of : Reason → List ℕ
+said_of r = r.before.now ++ (option_map_or decimal r.number [] ++ (r.after.now ++ r.end.now))
 
 -- what is said of a fault
 abbrev pub fault_text : TextError → List ℕ

@@ -6,7 +6,9 @@ pub mod Frames
 pub mod Limits
 pub mod Listed
 pub mod Missing
+pub mod Misuse
 pub mod Moments
 pub mod Reads
+pub mod Rows
 pub mod Texts
 pub mod Words

@@ -9,7 +9,7 @@ use Rattle.recordings.specs.declared.recording.Recording.{Recording}
 use Rattle.screentext_command.specs.Asked.{Origin, Wish}
 use Rattle.screentext_command.specs.Limits.{are_within}
 use Rattle.screentext_command.specs.Moments.{AreMoments, is_late, time_meant}
-use Rattle.screentext_command.specs.Reads.{IsPart, IsRead, IsShown, IsTiming}
+use Rattle.screentext_command.specs.Reads.{IsPart, IsRead, IsShown, IsTiming, flaw_of, seems_asciicast}
 use Rattle.screentext_command.specs.declared.error.TextError.{TextError}
 use Rattle.screentext_command.specs.declared.error.TextError.TheVariants as error
 use Rattle.screentext_command.specs.declared.source.Moments.{Moments}
@@ -58,9 +58,9 @@ pub data IsMissing (holds : List ℕ → List ℕ → Type 0) (lacks : List ℕ 
   -- nothing is read of the bytes
   unread : (timing : Option (List ℕ)) (e : RecordingError) → IsTiming holds o.timing timing
       → IsUnreadAs o.kind timing bytes e → IsMissing holds lacks o w bytes (error.Recording e)
-  -- the recording has this fault, and the words want all of it
-  cut : (r : Reading) (e : RecordingError) → IsRead holds o bytes r → o.strict ≡ true → r.fault ≡ Some e
-      → IsMissing holds lacks o w bytes (error.Recording e)
+  -- for this reason the recording isn't whole, and the words want all of it
+  cut : (r : Reading) (e : RecordingError) → IsRead holds o bytes r → o.strict ≡ true
+      → flaw_of (seems_asciicast o bytes) r.recording.kind r.fault ≡ Some e → IsMissing holds lacks o w bytes (error.Recording e)
   -- a size in what is read has too many cells
   large : (r : Recording) (remark : Option TextError) → IsPart holds o bytes r remark
       → are_within o.most_cells r ≡ false → IsMissing holds lacks o w bytes (error.Cells o.most_cells)

@@ -1,8 +1,10 @@
 -- The moments that words mean.
-use Rattle.std.specs.Prelude.{◌≡◌, ℕ, ◌-◌, ◌^◌, min, nat_lt, Bool, false, List, [], ◌∷◌, Option, Some, None}
-use Rattle.std.specs.Prelude.{if◌then◌else◌}
+use Rattle.std.specs.Prelude.{◌≡◌, ℕ, ◌+◌, ◌-◌, ◌*◌, ◌^◌, ◌==◌, ◌&&◌, min, nat_lt, Bool, false, List, [], ◌∷◌, length}
+use Rattle.std.specs.Prelude.{Option, Some, None, if◌then◌else◌}
+use Rattle.std.specs.List.{after_first, before_first, position_or_len}
 use Rattle.std.specs.Option.{option_map_or, option_or}
 use Rattle.std.specs.Str.{bytes_eq}
+use Rattle.command_line.specs.Numbers.{count_of}
 use Rattle.recordings.specs.Recorded.{Deed, Moment, marks, resizes, writes}
 use Rattle.recordings.specs.Times.{time_in}
 use Rattle.recordings.specs.declared.recording.Recording.{Recording}
@@ -20,9 +22,23 @@ abbrev pub marker_time : List ℕ → List Moment → Option ℕ
 marker_time name [] = None
 marker_time name (m ∷ ms) = if is_marker name m.1 then Some m.0 else marker_time name ms
 
--- the time that a word is, or else that of the first marker of this name
+-- minutes, of which there are fewer than a million, and fewer than 60 seconds, in microseconds
+abbrev pub clock_of : Option ℕ → Option ℕ → Option ℕ
+clock_of (Some minutes) (Some seconds) =
+    if nat_lt minutes 1000000 && nat_lt seconds 60000000 then Some (minutes * 60000000 + seconds) else None
+clock_of _ _ = None
+
+-- those of a word like `1:30`
+abbrev pub clock_in : List ℕ → Option ℕ
+clock_in word =
+    if nat_lt (position_or_len (λ b. b == 58) word) (length word)
+    then clock_of (count_of (before_first (λ b. b == 58) word)) (time_in (after_first (λ b. b == 58) word))
+    else None
+
+-- the time that a word is in seconds, or else that of the first marker of this name, or else the time that it is in
+-- minutes and seconds
 abbrev pub time_meant : List Moment → List ℕ → Option ℕ
-time_meant moments word = option_or (time_in word) (marker_time word moments)
+time_meant moments word = option_or (option_or (time_in word) (marker_time word moments)) (clock_in word)
 
 -- the moment that a word means; without one it is the end
 abbrev pub IsMoment : List Moment → Option (List ℕ) → ℕ → Type 0

@@ -6,6 +6,7 @@ use Rattle.std.specs.Str.{bytes_eq}
 use Rattle.recordings.specs.Kinds.{IsReadOfKind, kind_taken, packer_met}
 use Rattle.recordings.specs.Recorded.{said, size_said}
 use Rattle.recordings.specs.declared.error.RecordingError.{RecordingError}
+use Rattle.recordings.specs.declared.error.RecordingError.TheVariants.{Header}
 use Rattle.recordings.specs.declared.recording.Kind.{Kind}
 use Rattle.recordings.specs.declared.recording.Kind.TheVariants.{Raw}
 use Rattle.recordings.specs.declared.recording.Reading.{Reading}
@@ -48,10 +49,20 @@ note_of begins kind (Some fault) = Some (Cut fault)
 note_of begins Raw None = if begins then Some Guessed else None
 note_of begins _ None = None
 
--- a recording that was cut isn't taken, or this is said of it
+-- why a recording of this kind, read up to this fault, isn't whole: the fault, or a header that was cut
+abbrev pub flaw_of : Bool → Kind → Option RecordingError → Option RecordingError
+flaw_of begins kind (Some fault) = Some fault
+flaw_of begins Raw None = if begins then Some Header else None
+flaw_of begins _ None = None
+
+-- a recording that isn't whole isn't taken, or this is said of it
 abbrev pub IsNoted : Bool → Bool → Reading → Option TextError → Type 0
-IsNoted true begins r remark = (r.fault ≡ None) × (remark ≡ None)
+IsNoted true begins r remark = (flaw_of begins r.recording.kind r.fault ≡ None) × (remark ≡ None)
 IsNoted false begins r remark = remark ≡ note_of begins r.recording.kind r.fault
+
+-- these bytes are to be guessed to be a recording, and begin as an asciicast does
+abbrev pub seems_asciicast : Origin → List ℕ → Bool
+seems_asciicast o bytes = is_none o.kind && begins_as_asciicast bytes
 
 -- this is read of the bytes, and this is said of it
 pub record IsPart (holds : List ℕ → List ℕ → Type 0) (o : Origin) (bytes : List ℕ) (r : Recording)
@@ -59,7 +70,7 @@ pub record IsPart (holds : List ℕ → List ℕ → Type 0) (o : Origin) (bytes
   pub reading : Reading
   pub read : IsRead holds o bytes reading
   pub same : r ≡ reading.recording
-  pub noted : IsNoted o.strict (is_none o.kind && begins_as_asciicast bytes) reading remark
+  pub noted : IsNoted o.strict (seems_asciicast o bytes) reading remark
 
 -- the recording as it is shown, with lines drawn unless letters are to stay
 abbrev pub IsDrawnSo : Bool → Recording → Recording → Type 0

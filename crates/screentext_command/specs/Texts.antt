@@ -18,8 +18,8 @@ use Rattle.screen_model.specs.State.{State}
 use Rattle.screen_model.specs.Step.{kept_shown}
 use Rattle.picture_page.specs.Page.{IsSafe, Shows, escaped}
 use Rattle.picture_page.specs.Seen.{seen}
-use Rattle.row_texts.specs.Rows.{row_text}
-use Rattle.row_texts.specs.declared.row.Look.{Look}
+use Rattle.screentext_command.specs.Rows.{row_text}
+use Rattle.screentext_command.specs.declared.rows.Look.{Look}
 use Rattle.recordings.specs.declared.recording.Recording.{Recording}
 use Rattle.recordings.specs.Recorded.{size_said}
 use Rattle.recordings.specs.Themes.{theme_reported}

@@ -1,5 +1,5 @@
 -- The words of the command line.
-use Rattle.std.specs.Prelude.{ℕ, nat_le, nat_lt, Bool, true, false, not, ◌&&◌, ◌||◌, List, [], ◌∷◌, ◌++◌}
+use Rattle.std.specs.Prelude.{ℕ, nat_le, nat_lt, Bool, true, false, not, ◌&&◌, ◌||◌, List, [], ◌∷◌, map}
 use Rattle.std.specs.Prelude.{is_some, Option, Some}
 use Rattle.std.specs.Prelude.{None, codes}
 use Rattle.std.specs.Option.{option_map_or}
@@ -15,6 +15,7 @@ use Rattle.recordings.specs.Times.{json_in, time_in, time_of}
 use Rattle.row_pictures.specs.Themes.{is_theme}
 use Rattle.command_line.specs.Numbers.{is_size, is_count, size_in}
 use Rattle.screentext_command.specs.Frames.{are_frames}
+use Rattle.screentext_command.specs.declared.known.TheConstants.{FLAGS, VALUES}
 
 -- an option with a value
 abbrev pub value_rule : Text → Rule
@@ -32,53 +33,15 @@ abbrev pub program : App
 program = let a = new_app (codes "screentext") in
     record a { top = record a.top { has_version = true; no_binary_name = true; args_override_self = true } }
 
-abbrev pub with_values : App → App
-with_values a = with_rule
-    (with_rule (with_rule (with_rule (with_rule a (new_rule (codes "ROWS"))) (new_rule (codes "COLS")))
-    (value_rule (codes "at"))) (value_rule (codes "diff"))) (value_rule (codes "history"))
+-- words of one kind after those that are known
+abbrev pub with_all : (Text → Rule) → App → List Text → App
+with_all rule a [] = a
+with_all rule a (id ∷ ids) = with_all rule (with_rule a (rule id)) ids
 
-abbrev pub with_flags : App → App
-with_flags a = with_rule (with_rule (with_rule (with_rule a (flag_rule (codes "joined"))) colors_rule)
-    (flag_rule (codes "html")))
-    (flag_rule (codes "svg"))
-
-abbrev pub with_sources : App → App
-with_sources a = with_rule
-    (with_rule (with_rule (with_rule (with_rule (with_rule a (flag_rule (codes "list"))) (value_rule (codes "kind")))
-    (value_rule (codes "timing"))) (flag_rule (codes "no-line-drawing"))) (flag_rule (codes "strict")))
-    (value_rule (codes "max-cells"))
-
-abbrev pub with_pictures : App → App
-with_pictures a = with_rule (with_rule (with_rule (with_rule (with_rule a (flag_rule (codes "html-block")))
-    (value_rule (codes "theme"))) (value_rule (codes "font"))) (flag_rule (codes "bold-is-bright")))
-    (flag_rule (codes "bold-is-plain"))
-
-abbrev pub with_films : App → App
-with_films a = with_rule (with_rule (with_rule (with_rule a (flag_rule (codes "animate")))
-    (value_rule (codes "speed"))) (value_rule (codes "idle"))) (value_rule (codes "fps"))
-
-abbrev pub with_player : App → App
-with_player a = with_rule a (flag_rule (codes "player"))
-
-abbrev pub with_frames : App → App
-with_frames a = with_rule a (flag_rule (codes "no-cursor"))
-
-abbrev pub with_windows : App → App
-with_windows a = with_rule (with_rule (with_rule a (value_rule (codes "padding"))) (value_rule (codes "font-size")))
-    (value_rule (codes "window"))
-
-abbrev pub with_plays : App → App
-with_plays a = with_rule (with_rule (with_rule a (value_rule (codes "loop"))) (value_rule (codes "from")))
-    (value_rule (codes "poster"))
-
--- the description for `clap` of
--- `[ROWS COLS] [--at TIME] [--diff TIME] [--history N] [--joined] [--colours] [--html | --svg]
--- [--list] [--kind NAME] [--timing FILE] [--no-line-drawing] [--strict] [--max-cells N] [--html-block] [--theme NAME]
--- [--font NAME] [--bold-is-bright | --bold-is-plain] [--animate] [--speed N] [--idle SECONDS] [--fps N] [--player]
--- [--no-cursor] [--padding N] [--font-size N] [--window TITLE] [--loop N] [--from TIME] [--poster TIME]`
+-- rows and columns, `--colours`, options with a value, and options without one
 abbrev pub known : App
-known = with_plays (with_windows (with_frames (with_player (with_films (with_pictures (with_sources (with_flags
-    (with_values program))))))))
+known = with_all flag_rule (with_all value_rule (with_rule (with_rule (with_rule program (new_rule (codes "ROWS")))
+    (new_rule (codes "COLS"))) colors_rule) (map (λ w. w.now) VALUES)) (map (λ w. w.now) FLAGS)
 
 -- both are numbers of rows and columns, or there is neither
 abbrev pub is_screen : Option Text → Option Text → Bool
@@ -158,12 +121,3 @@ is_invocation_of (k ∷ ks) rows = is_request k
 -- that the help or the version is asked for
 abbrev pub is_invocation : List Text → Bool
 is_invocation words = is_invocation_of (fault_of known words) (matches_of known words)
-
--- what is printed for words that aren't understood
-abbrev pub usage_line : List ℕ
-usage_line = codes "usage: screentext [ROWS COLS] [--at SECONDS] [--diff SECONDS] [--history N] [--joined] [--colours] [--html | --html-block | --player | --svg [--animate]] [--speed N] [--idle SECONDS] [--fps N] [--loop N] [--from SECONDS] [--poster SECONDS] [--theme NAME] [--font NAME] [--bold-is-bright | --bold-is-plain] [--no-cursor] [--padding N] [--font-size N] [--window TITLE] [--list] [--kind NAME] [--timing FILE] [--no-line-drawing] [--strict] [--max-cells N]; screentext --help says what they do"
-    ++ 0x0A ∷ []
-
--- what is printed where memory is refused
-abbrev pub memory_line : List ℕ
-memory_line = codes "screentext: memory" ++ 0x0A ∷ []

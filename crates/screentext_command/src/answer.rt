@@ -15,6 +15,7 @@ ghost use Rattle.screentext_command.specs.declared.words.Form.TheVariants.{Film 
 use crate::changes::push_changes;
 use crate::error::TextError;
 use crate::pictures::Pictures;
+use crate::rows::Look;
 use crate::source::Moments;
 use crate::text::push_lines;
 use crate::words::{Form, Picture, Request};
@@ -22,7 +23,6 @@ use player_page::{Play, player};
 use recorded_screen::{
     Recording, ScreenSize, framed_film, framed_svg, html, html_block, terminal_at,
 };
-use row_texts::Look;
 use std::alloc::Global;
 use std::num::NonZeroU16;
 use vt100::{Parser, Screen};

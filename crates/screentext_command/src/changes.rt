@@ -4,8 +4,8 @@ ghost use Rattle.std.specs.Prelude.{◌≡◌, ◌++◌, IfOk, OnOk, string_byte
 ghost use Rattle.std.specs.Option.{option_map};
 ghost use Rattle.screentext_command.specs.Texts.{are_same, changes_text, pair_text, signed_text, text_in};
 
+use crate::rows::{Look, push_row_text};
 use crate::text::cells_of;
-use row_texts::{Look, push_row_text};
 use std::alloc::{AllocError, Global};
 use std::fmt::Write;
 use vt100::Screen;

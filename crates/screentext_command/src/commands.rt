@@ -1,40 +1,29 @@
 //! The command line.
 
-ghost use Rattle.std.specs.Prelude.{◌≡◌, ◌≤◌, ◌⊎◌, map, true, false, IfOk, List, string_bytes};
-ghost use Rattle.byte_streams.specs.Pump.{Tells};
+ghost use Rattle.std.specs.Prelude.{◌≡◌, ◌≤◌, ◌⊎◌, map, true, false, List};
 ghost use Rattle.clap.specs.Words.{Text};
 ghost use Rattle.screentext_command.specs.Asked.{AskFor, IsMeant, origin_of, wish_of};
 ghost use Rattle.screentext_command.specs.Command.{CarriesOut, Does, Reports, TellsFault};
-ghost use Rattle.screentext_command.specs.Faults.{fault_line};
-ghost use Rattle.screentext_command.specs.Words.{is_invocation, memory_line, usage_line};
+ghost use Rattle.screentext_command.specs.Misuse.{TellsMisuse};
+ghost use Rattle.screentext_command.specs.Words.{is_invocation};
 ghost use Rattle.screentext_command.specs.declared.error.TextError.TheVariants.{Memory};
 
 use crate::error::TextError;
 use crate::files::{Files, NoFiles};
 use crate::help::{HELP, VERSION};
+use crate::misuse::tell_misuse;
 use crate::pictures::Pictures;
 use crate::reading::answer_to;
+use crate::reasons::tell_fault;
 use crate::source::Source as Asked;
 use crate::streams::print;
 use crate::words::{Invocation, Request, parse};
 use byte_streams::{ByteSink, FlushSink, Source};
-use command_line::{FAULT, SUCCESS, USAGE, read_all, report};
-use std::alloc::{AllocError, Global};
-use std::fmt::Write;
+use command_line::{FAULT, SUCCESS, USAGE, read_all};
+use std::alloc::Global;
 
 /// The status where only a part of the recording was read.
 const PARTLY_READ: u8 = 3;
-
-const MEMORY_LINE: &[u8] = b"screentext: memory\n";
-
-const USAGE_LINE: &[u8] =
-    b"usage: screentext [ROWS COLS] [--at SECONDS] [--diff SECONDS] [--history N] [--joined] \
-[--colours] [--html | --html-block | --player | --svg [--animate]] [--speed N] \
-[--idle SECONDS] [--fps N] [--loop N] [--from SECONDS] \
-[--poster SECONDS] [--theme NAME] [--font NAME] [--bold-is-bright | --bold-is-plain] [--no-cursor] \
-[--padding N] [--font-size N] [--window TITLE] \
-[--list] [--kind NAME] [--timing FILE] [--no-line-drawing] [--strict] [--max-cells N]; \
-screentext --help says what they do\n";
 
 /// Runs the program where no file can be read: [`command_with`] without a timing file.
 pub fn command<R: Source, W: FlushSink, V: ByteSink>(
@@ -45,8 +34,8 @@ pub fn command<R: Source, W: FlushSink, V: ByteSink>(
     errors: &mut V,
 ) -> u8
     ensures refused { is_invocation (map (λ w. w.now) words.now) ≡ false → (input.new ≡ input.old)
-        × (output.new ≡ output.old) × (((result ≡ 2) × Tells V.takes errors.old usage_line errors.new)
-        ⊎ ((result ≡ 1) × Tells V.takes errors.old memory_line errors.new)) }
+        × (output.new ≡ output.old) × ((result ≡ 2)
+        ⊎ ((result ≡ 1) × TellsFault V.takes errors.old Memory errors.new)) }
     ensures does { is_invocation (map (λ w. w.now) words.now) ≡ true → CarriesOut (λ path bytes. ⊥)
         (λ path. Unit {0}) (map (λ w. w.now) words.now) R.gives W.takes W.flushes V.takes input.old output.old
         errors.old result input.new output.new errors.new }
@@ -54,7 +43,7 @@ pub fn command<R: Source, W: FlushSink, V: ByteSink>(
 
     // Whatever the words are:
     ensures usage { result ≡ 2 → (input.new ≡ input.old) × (output.new ≡ output.old)
-        × Tells V.takes errors.old usage_line errors.new }
+        × TellsMisuse V.takes (map (λ w. w.now) words.now) errors.old errors.new }
     ensures done { result ≡ 0 → errors.new ≡ errors.old }
     ensures status { result ≤ 3 }
 {
@@ -64,7 +53,7 @@ pub fn command<R: Source, W: FlushSink, V: ByteSink>(
 /// Runs the program on the words after its name, and answers its exit status.
 ///
 /// A fault is reported in a line on `errors`. So is the reason why only a part of the recording was read, with
-/// status 3. Words that aren't understood get the usage line there, and then nothing is read or written, unless
+/// status 3. A line there says what is wrong with words that aren't understood. Then nothing is read or written, unless
 /// memory is refused before that is known: that is a fault. Such a line is written whole, unless a write of it fails
 /// or takes nothing. That changes nothing else.
 pub fn command_with<F: Files, R: Source, W: FlushSink, V: ByteSink>(
@@ -76,8 +65,8 @@ pub fn command_with<F: Files, R: Source, W: FlushSink, V: ByteSink>(
     errors: &mut V,
 ) -> u8
     ensures refused { is_invocation (map (λ w. w.now) words.now) ≡ false → (input.new ≡ input.old)
-        × (output.new ≡ output.old) × (((result ≡ 2) × Tells V.takes errors.old usage_line errors.new)
-        ⊎ ((result ≡ 1) × Tells V.takes errors.old memory_line errors.new)) }
+        × (output.new ≡ output.old) × ((result ≡ 2)
+        ⊎ ((result ≡ 1) × TellsFault V.takes errors.old Memory errors.new)) }
     ensures does { is_invocation (map (λ w. w.now) words.now) ≡ true → CarriesOut (F.holds files.now)
         (F.lacks files.now) (map (λ w. w.now) words.now) R.gives W.takes W.flushes V.takes input.old output.old
         errors.old result input.new output.new errors.new }
@@ -85,29 +74,25 @@ pub fn command_with<F: Files, R: Source, W: FlushSink, V: ByteSink>(
 
     // Whatever the words are:
     ensures usage { result ≡ 2 → (input.new ≡ input.old) × (output.new ≡ output.old)
-        × Tells V.takes errors.old usage_line errors.new }
+        × TellsMisuse V.takes (map (λ w. w.now) words.now) errors.old errors.new }
     ensures done { result ≡ 0 → errors.new ≡ errors.old }
     ensures status { result ≤ 3 }
 {
     match parse(alloc, words) {
         Ok(Some(invocation)) => {
             let answer = obey(alloc, files, invocation, input, output);
-            report_answer(alloc, errors, answer)
+            report_answer(errors, answer)
         }
         Ok(None) => {
-            report(errors, USAGE_LINE);
+            tell_misuse(alloc, words, errors);
             USAGE
         }
-        Err(error) => report_fault(alloc, errors, error),
+        Err(error) => report_fault(errors, error),
     }
 }
 
 // Reports what is to be said of an answer, and returns its exit status.
-fn report_answer<V: ByteSink>(
-    alloc: Global,
-    errors: &mut V,
-    answer: Result<Option<TextError>, TextError>,
-) -> u8
+fn report_answer<V: ByteSink>(errors: &mut V, answer: Result<Option<TextError>, TextError>) -> u8
     ensures reports { Reports V.takes errors.old answer result errors.new }
     ensures status { (result ≤ 1) ⊎ (result ≡ 3) }
     ensures done { result ≡ 0 → errors.new ≡ errors.old }
@@ -115,34 +100,20 @@ fn report_answer<V: ByteSink>(
     match answer {
         Ok(None) => SUCCESS,
         Ok(Some(note)) => {
-            report_fault(alloc, errors, note);
+            report_fault(errors, note);
             PARTLY_READ
         }
-        Err(error) => report_fault(alloc, errors, error),
+        Err(error) => report_fault(errors, error),
     }
 }
 
 /// Reports a fault in a line on `errors`, and returns its exit status.
-pub fn report_fault<V: ByteSink>(alloc: Global, errors: &mut V, error: TextError) -> u8
+pub fn report_fault<V: ByteSink>(errors: &mut V, error: TextError) -> u8
     ensures status { result ≡ 1 }
     ensures reports { TellsFault V.takes errors.old error errors.new }
-    ensures memory { error ≡ Memory → Tells V.takes errors.old memory_line errors.new }
 {
-    if let TextError::Memory = error {
-        report(errors, MEMORY_LINE);
-        return FAULT;
-    }
-    match fault_line(alloc, error) {
-        Ok(line) => report(errors, line.as_bytes()),
-        Err(_) => report(errors, MEMORY_LINE),
-    }
+    tell_fault(errors, error);
     FAULT
-}
-
-fn fault_line(alloc: Global, error: TextError) -> Result<String, AllocError>
-    ensures { IfOk result (λ line. string_bytes line ≡ fault_line error) }
-{
-    format!(in alloc; "screentext: {error}\n")
 }
 
 // Does what the words ask for.

@@ -9,8 +9,6 @@ use player_page::PlayerError;
 use recorded_screen::FilmError;
 use recordings::RecordingError;
 use std::alloc::{AllocError, AllocFailed};
-use std::error::Error;
-use std::fmt;
 use vt100::ScreenError;
 
 /// Why a command ended early. What was written by then stays written.
@@ -41,42 +39,6 @@ pub enum TextError {
     /// What was read is no recording.
     Recording(RecordingError),
 }
-
-impl fmt::Display for TextError {
-    ghost use Rattle.std.specs.Prelude.{Some};
-    ghost use Rattle.screentext_command.specs.Faults.{fault_text};
-
-    ghost output = { λ e. Some (fault_text e) };
-
-    fn fmt<W: fmt::Write>(&self, f: &mut fmt::Formatter<W>) -> fmt::Result {
-        match *self {
-            TextError::Read => write!(f, "read"),
-            TextError::Write => write!(f, "write"),
-            TextError::Memory => write!(f, "memory"),
-            TextError::File => write!(f, "the timing file can't be read"),
-            TextError::Marker => write!(f, "no such marker"),
-            TextError::Film => write!(f, "the film has more than 8 MiB"),
-            TextError::Late => write!(f, "--from is later than the end of the film"),
-            TextError::Player => write!(f, "the page has more than 32 MiB"),
-            TextError::Cells(most) => {
-                write!(
-                    f,
-                    "a size in the recording has more than {most} cells: --max-cells N allows more"
-                )
-            }
-            TextError::Cut(error) => write!(f, "{error}; what comes before it is shown"),
-            TextError::Guessed => {
-                write!(
-                    f,
-                    "it begins as an asciicast, but line 1 is no header: shown as raw bytes"
-                )
-            }
-            TextError::Recording(error) => write!(f, "{error}"),
-        }
-    }
-}
-
-impl Error for TextError {}
 
 impl From<AllocError> for TextError {
     ghost from_gives = { λ _ e. e ≡ Memory };

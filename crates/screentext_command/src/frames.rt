@@ -39,8 +39,8 @@ fn new_frame(padding: Option<u8>, size: Option<u8>, title: Option<String>) -> Op
     })
 }
 
-// How many pixels there are between a picture and each edge: none where there is no word.
-fn padding_of(word: Option<&str>) -> Option<u8>
+/// How many pixels there are between a picture and each edge: none where there is no word.
+pub(crate) fn padding_of(word: Option<&str>) -> Option<u8>
     ensures { result ≡ padding_meant (option_map (λ w. w.now) word.entry) }
 {
     match word {
@@ -49,8 +49,8 @@ fn padding_of(word: Option<&str>) -> Option<u8>
     }
 }
 
-// How many pixels high letters are: 1 to 255.
-fn font_size_of(word: Option<&str>) -> Option<u8>
+/// How many pixels high letters are: 1 to 255.
+pub(crate) fn font_size_of(word: Option<&str>) -> Option<u8>
     ensures { result ≡ font_size_meant (option_map (λ w. w.now) word.entry) }
 {
     match word {

@@ -1,4 +1,4 @@
-//! The help and the version.
+//! The help, the usage and the version.
 
 /// What `screentext --help` prints.
 pub const HELP: &[u8] = b"Prints what a recorded terminal stream shows, at its end or at a moment.
@@ -44,7 +44,7 @@ gruvbox-dark, monokai, nord, solarized-dark, solarized-light or tango
   -h, --help                   Print help
   -V, --version                Print version
 
-The recording is an asciicast v2 or v3, a typescript with its timing file, a ttyrec, or
+The recording is an asciicast, a typescript with its timing file, a ttyrec, or
 the raw bytes of a program's output. ROWS and COLS, both or neither, are the size of the
 screen at first, in place of that in the recording's header; a recording with none is
 shown on 24 rows and 80 columns.
@@ -70,3 +70,13 @@ recording of which only a part was read.
 
 /// What `screentext --version` prints.
 pub const VERSION: &[u8] = b"screentext 0.1\n";
+
+/// What is printed for words that aren't understood.
+pub const USAGE: &str =
+    "usage: screentext [ROWS COLS] [--at SECONDS] [--diff SECONDS] [--history N] [--joined] \
+[--colours] [--html | --html-block | --player | --svg [--animate]] [--speed N] \
+[--idle SECONDS] [--fps N] [--loop N] [--from SECONDS] \
+[--poster SECONDS] [--theme NAME] [--font NAME] [--bold-is-bright | --bold-is-plain] [--no-cursor] \
+[--padding N] [--font-size N] [--window TITLE] \
+[--list] [--kind NAME] [--timing FILE] [--no-line-drawing] [--strict] [--max-cells N]; \
+screentext --help says what they do\n";

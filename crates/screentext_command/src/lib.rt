@@ -6,6 +6,7 @@
 
 mod answer;
 mod changes;
+mod clock;
 mod commands;
 mod error;
 mod files;
@@ -14,10 +15,13 @@ mod help;
 mod known;
 mod limits;
 mod list;
+mod misuse;
 mod outputs;
 mod pace;
 mod pictures;
 mod reading;
+mod reasons;
+mod rows;
 mod source;
 mod streams;
 mod text;
@@ -26,4 +30,4 @@ mod words;
 pub use commands::{command, command_with, report_fault};
 pub use error::TextError;
 pub use files::{Files, NoFiles};
-pub use help::{HELP, VERSION};
+pub use help::{HELP, USAGE, VERSION};

@@ -52,8 +52,8 @@ fn new_pace(
     })
 }
 
-// How often a film plays, or none where there is no word: it plays over and over then.
-fn plays_of(word: Option<&str>) -> Option<Option<u16>>
+/// How often a film plays, or none where there is no word: it plays over and over then.
+pub(crate) fn plays_of(word: Option<&str>) -> Option<Option<u16>>
     ensures plays { is_some result ≡ option_map_or (λ w. is_some (size_in w)) (option_map (λ w. w.now) word.entry)
         true }
     ensures value { result ≡ plays_meant (option_map (λ w. w.now) word.entry) }
@@ -64,8 +64,8 @@ fn plays_of(word: Option<&str>) -> Option<Option<u16>>
     }
 }
 
-// How many millionths of the recorded speed a film has: a million where there is no word.
-fn speed_of(alloc: Global, word: Option<&str>) -> Result<Option<u64>, AllocError>
+/// How many millionths of the recorded speed a film has: a million where there is no word.
+pub(crate) fn speed_of(alloc: Global, word: Option<&str>) -> Result<Option<u64>, AllocError>
     ensures speed { IfOk result (λ s. is_some s ≡ option_map_or is_speed (option_map (λ w. w.now) word.entry) true) }
     ensures value { IfOk result (λ s. s ≡ speed_meant (option_map (λ w. w.now) word.entry)) }
 {
@@ -75,8 +75,8 @@ fn speed_of(alloc: Global, word: Option<&str>) -> Result<Option<u64>, AllocError
     }
 }
 
-// The longest time in which nothing changes, in microseconds, or none where there is no word.
-fn idle_of(alloc: Global, word: Option<&str>) -> Result<Option<Option<u64>>, AllocError>
+/// The longest time in which nothing changes, in microseconds, or none where there is no word.
+pub(crate) fn idle_of(alloc: Global, word: Option<&str>) -> Result<Option<Option<u64>>, AllocError>
     ensures idle { IfOk result (λ t. is_some t ≡ option_map_or (λ w. is_some (time_in w))
         (option_map (λ w. w.now) word.entry) true) }
     ensures value { IfOk result (λ t. t ≡ idle_meant (option_map (λ w. w.now) word.entry)) }
@@ -87,8 +87,8 @@ fn idle_of(alloc: Global, word: Option<&str>) -> Result<Option<Option<u64>>, All
     }
 }
 
-// How many screens a second a film shows at most: 1 to 1,000, and 30 where there is no word.
-fn rate_of(word: Option<&str>) -> Option<u16>
+/// How many screens a second a film shows at most: 1 to 1,000, and 30 where there is no word.
+pub(crate) fn rate_of(word: Option<&str>) -> Option<u16>
     ensures rate { is_some result ≡ option_map_or is_rate (option_map (λ w. w.now) word.entry) true }
     ensures value { result ≡ rate_meant (option_map (λ w. w.now) word.entry) }
 {

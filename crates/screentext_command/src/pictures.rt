@@ -118,8 +118,8 @@ fn new_pictures(
     })
 }
 
-// The theme of this name, or none where there is no word.
-fn theme_of(word: Option<&str>) -> Option<Option<Theme>>
+/// The theme of this name, or none where there is no word.
+pub(crate) fn theme_of(word: Option<&str>) -> Option<Option<Theme>>
     ensures theme { is_some result ≡ option_map_or is_theme (option_map (λ w. w.now) word.entry) true }
     ensures value { result ≡ theme_meant (option_map (λ w. w.now) word.entry) }
 {
@@ -129,8 +129,8 @@ fn theme_of(word: Option<&str>) -> Option<Option<Theme>>
     }
 }
 
-// Whether bold texts are in bright colours: two words say it, of which there is one at most.
-fn bold_of(bright: bool, plain: bool) -> Option<Option<bool>>
+/// Whether bold texts are in bright colours: two words say it, of which there is one at most.
+pub(crate) fn bold_of(bright: bool, plain: bool) -> Option<Option<bool>>
     ensures bold { is_some result ≡ is_bold bright plain }
     ensures value { result ≡ bold_meant bright plain }
 {

@@ -10,7 +10,7 @@ ghost use Rattle.screentext_command.specs.Listed.{list_text};
 ghost use Rattle.screentext_command.specs.Missing.{HasNoText, IsMissing, IsUnreadAs};
 ghost use Rattle.screentext_command.specs.Reads.{IsAnswerTo, IsDrawnSo, IsNoted, IsPart, IsRead, IsReadAs};
 ghost use Rattle.screentext_command.specs.Reads.{IsScreenText};
-ghost use Rattle.screentext_command.specs.Reads.{IsShown, IsTiming, begins_as_asciicast, note_of};
+ghost use Rattle.screentext_command.specs.Reads.{IsShown, IsTiming, begins_as_asciicast, flaw_of, note_of};
 ghost use Rattle.screentext_command.specs.declared.error.TextError.TheVariants.{Cells, Memory};
 ghost use Rattle.screentext_command.specs.declared.error.TextError.TheVariants.{Recording as OfRecording};
 
@@ -137,7 +137,7 @@ fn may_be_cast(kind: Option<Kind>, bytes: &[u8]) -> bool
     kind.is_none() && begins_as_asciicast(bytes)
 }
 
-// What was read, and what is to be said of it; in strict reading a fault is one.
+// What was read, and what is to be said of it. In strict reading a flaw is a fault.
 fn taken(
     reading: Reading,
     strict: bool,
@@ -145,13 +145,29 @@ fn taken(
 ) -> Result<(Recording, Option<TextError>), RecordingError>
     ensures recording { IfOk result (λ r. r.0 ≡ reading.recording) }
     ensures noted { IfOk result (λ r. IsNoted strict begins reading r.1) }
-    ensures fault { IfErr result (λ e. (strict ≡ true) × (reading.fault ≡ Some e)) }
+    ensures fault { IfErr result (λ e. (strict ≡ true)
+        × (flaw_of begins reading.recording.kind reading.fault ≡ Some e)) }
 {
-    if strict {
-        return Ok((reading.whole()?, None));
+    let Reading { recording, fault } = reading;
+    if !strict {
+        let note = note_of(begins, recording.kind, fault);
+        return Ok((recording, note));
     }
-    let note = note_of(begins, reading.recording.kind, reading.fault);
-    Ok((reading.recording, note))
+    match flaw_of(begins, recording.kind, fault) {
+        Some(flaw) => Err(flaw),
+        None => Ok((recording, None)),
+    }
+}
+
+// Why a recording of this kind, read up to this fault, isn't whole.
+fn flaw_of(begins: bool, kind: Kind, fault: Option<RecordingError>) -> Option<RecordingError>
+    ensures { result ≡ flaw_of begins kind fault }
+{
+    match (fault, kind) {
+        (Some(fault), _) => Some(fault),
+        (None, Kind::Raw) if begins => Some(RecordingError::Header),
+        _ => None,
+    }
 }
 
 fn note_of(begins: bool, kind: Kind, fault: Option<RecordingError>) -> Option<TextError>

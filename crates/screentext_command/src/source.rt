@@ -12,6 +12,7 @@ ghost use Rattle.screentext_command.specs.Moments.{AreMoments, IsOtherMoment, Is
 ghost use Rattle.screentext_command.specs.Moments.{time_meant};
 ghost use Rattle.screentext_command.specs.Words.{are_sources};
 
+use crate::clock::parse_clock;
 use crate::error::TextError;
 use crate::limits::MOST_CELLS;
 use clap::ArgMatches;
@@ -67,8 +68,8 @@ pub(crate) fn source_of(
     Ok(new_source(kind, timing, moments, list, draws_lines, limits))
 }
 
-// How many cells a size has at most: 4,000,000 where there is no word.
-fn most_cells_of(word: Option<&str>) -> Option<usize>
+/// How many cells a size has at most: 4,000,000 where there is no word.
+pub(crate) fn most_cells_of(word: Option<&str>) -> Option<usize>
     ensures cells { is_some result ≡ option_map_or is_count (option_map (λ w. w.now) word.entry) true }
     ensures value { result ≡ cells_meant (option_map (λ w. w.now) word.entry) }
 {
@@ -111,8 +112,8 @@ fn new_source(
     })
 }
 
-// The kind of this name, or none where there is no word.
-fn kind_of(word: Option<&str>) -> Option<Option<Kind>>
+/// The kind of this name, or none where there is no word.
+pub(crate) fn kind_of(word: Option<&str>) -> Option<Option<Kind>>
     ensures kind { is_some result ≡ option_map_or (λ word. is_some (kind_named word))
         (option_map (λ w. w.now) word.entry) true }
     ensures value { result ≡ kind_meant (option_map (λ w. w.now) word.entry) }
@@ -193,7 +194,8 @@ fn other_of(
     }
 }
 
-// The time that a word is, or else that of the first marker of this name.
+// The time that a word is in seconds, or else that of the first marker of this name, or else the time that it is in
+// minutes and seconds.
 fn time_of(alloc: Global, events: &[Event], word: &str) -> Result<u64, TextError>
     ensures time { IfOk result (λ time. time_meant (said events.now) word.now ≡ Some time) }
     ensures fault { IfErr result (IsNoMoment (said events.now) (Some word.now)) }
@@ -201,7 +203,10 @@ fn time_of(alloc: Global, events: &[Event], word: &str) -> Result<u64, TextError
     if let Some(time) = parse_seconds(alloc, word.as_bytes())? {
         return Ok(time);
     }
-    match marker_time(events, word) {
+    if let Some(time) = marker_time(events, word) {
+        return Ok(time);
+    }
+    match parse_clock(alloc, word)? {
         Some(time) => Ok(time),
         None => Err(TextError::Marker),
     }

@@ -1,9 +1,10 @@
-//! Whole output.
+//! Whole output, and lines that are written in parts.
 
-ghost use Rattle.screentext_command.specs.Command.{Prints, PrintsWith};
+ghost use Rattle.std.specs.List.{flat_map};
+ghost use Rattle.screentext_command.specs.Command.{Prints, PrintsWith, TellsInParts};
 
 use crate::error::TextError;
-use byte_streams::{FlushSink, pump};
+use byte_streams::{ByteSink, FlushSink, pump};
 
 /// Writes all of these bytes, and flushes. Then this is still to be said.
 pub(crate) fn print<W: FlushSink>(
@@ -28,5 +29,17 @@ fn write_all<W: FlushSink>(output: &mut W, text: &[u8]) -> Result<(), TextError>
     match output.finish() {
         Ok(()) => Ok(()),
         Err(_) => Err(TextError::Write),
+    }
+}
+
+/// Writes the parts of a line one after another. A write that fails or takes nothing ends it.
+pub(crate) fn tell<V: ByteSink>(errors: &mut V, parts: &[&str])
+    ensures { TellsInParts V.takes errors.old (flat_map (λ part. part.now) parts.now) errors.new }
+{
+    for part in parts {
+        match pump(part.as_bytes(), errors).1 {
+            Ok(()) => (),
+            Err(_) => return,
+        }
     }
 }

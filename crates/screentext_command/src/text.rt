@@ -8,7 +8,7 @@ ghost use Rattle.screentext_command.specs.declared.error.TextError.TheVariants.{
 ghost use Rattle.vt100.specs.Tries.{alive};
 
 use crate::error::TextError;
-use row_texts::{Look, push_row_text};
+use crate::rows::{Look, push_row_text};
 use std::alloc::AllocError;
 use vt100::{Cell, Screen};
 

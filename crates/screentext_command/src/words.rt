@@ -17,13 +17,13 @@ ghost use Rattle.screentext_command.specs.Words.{is_invocation, is_request, is_s
 use crate::error::TextError;
 use crate::known::known_words;
 use crate::pictures::{Pictures, pictures_of};
+use crate::rows::Look;
 use crate::source::{Source, source_of};
 use clap::error::ErrorKind;
 use clap::{ArgMatches, Error};
 use command_line::{parse_count, parse_size};
 use recorded_screen::ScreenSize;
 use recordings::{microseconds, parse_json};
-use row_texts::Look;
 use std::alloc::Global;
 
 /// What the program is asked to do.
@@ -186,8 +186,8 @@ fn new_request(
     })
 }
 
-// A size: of rows and columns, or none where there is neither.
-fn size_of(rows: Option<&str>, cols: Option<&str>) -> Option<Option<ScreenSize>>
+/// A size: of rows and columns, or none where there is neither.
+pub(crate) fn size_of(rows: Option<&str>, cols: Option<&str>) -> Option<Option<ScreenSize>>
     ensures size { is_some result
         ≡ is_screen (option_map (λ w. w.now) rows.entry) (option_map (λ w. w.now) cols.entry) }
     ensures value { option_map (option_map size_said) result
@@ -203,8 +203,8 @@ fn size_of(rows: Option<&str>, cols: Option<&str>) -> Option<Option<ScreenSize>>
     }
 }
 
-// Whether there is no word, or one that says a moment.
-fn is_moment(alloc: Global, word: Option<&str>) -> Result<bool, TextError>
+/// Whether there is no word, or one that says a moment.
+pub(crate) fn is_moment(alloc: Global, word: Option<&str>) -> Result<bool, TextError>
     ensures fault { IfErr result (λ e. e ≡ Memory) }
     ensures moment { IfOk result (λ t. t ≡ is_moment (option_map (λ w. w.now) word.entry)) }
 {
@@ -228,7 +228,8 @@ fn is_time(alloc: Global, word: &str) -> Result<bool, TextError>
     Ok(microseconds(&value).is_some())
 }
 
-fn history_of(word: Option<&str>) -> Option<usize>
+/// How many kept rows come first: none where there is no word.
+pub(crate) fn history_of(word: Option<&str>) -> Option<usize>
     ensures history { is_some result ≡ option_map_or is_count (option_map (λ w. w.now) word.entry) true }
     ensures value { result ≡ history_meant (option_map (λ w. w.now) word.entry) }
 {
@@ -238,7 +239,8 @@ fn history_of(word: Option<&str>) -> Option<usize>
     }
 }
 
-fn form_of(html: bool, block: bool, svg: bool, film: bool, player: bool) -> Option<Form>
+/// The form, by which of its words there are.
+pub(crate) fn form_of(html: bool, block: bool, svg: bool, film: bool, player: bool) -> Option<Form>
     ensures form { is_some result ≡ is_form html block svg film player }
     ensures value { result ≡ form_meant html block svg film player }
 {

@@ -1,15 +1,19 @@
-use Rattle.std.proofs.Common.{◌∙◌, ap, refl}
-use Rattle.clap.specs.Words.{App, with_rule}
-use Rattle.screentext_command.specs.Words.{colors_rule}
+use Rattle.std.proofs.Common.{◌∙◌, ◌+◌, ap, drop, map, refl, sym}
+use Rattle.std.proofs.lemmas.List.{at_drop_all, at_drop_more}
+use Rattle.clap.specs.Words.{app_of}
+use Rattle.screentext_command.specs.Words.{flag_rule, with_all}
 use Rattle.screentext_command.proofs.WordsLemmas.{added}
 use Rattle.screentext_command.proofs.known.with_flags.Goals as goal
 
+pub loop-name-preserved : goal.loop-name-preserved
+loop-name-preserved c =
+    let rest = map (λ w. w.now) (drop (c.loop-name.name-index + 1) c.args.names.now) in
+    let adds = added _ _ _ _ _ c.in_ok-known.ensures c.flag.ensures.rule c.flag.ensures.local refl in
+    ap (λ app. with_all flag_rule app rest) adds
+    ∙ (sym (at_drop_more (λ names. with_all flag_rule (app_of c.loop-name.known) (map (λ w. w.now) names))
+    c.args.names.now c.loop-name.name-index _ c.loop-name-test.true) ∙ c.loop-name.invariant)
+
 pub returns : goal.returns
 returns c =
-    let joined = c.flag.ensures in
-    let html = c.flag-2.ensures in
-    let svg = c.flag-3.ensures in
-    let with_joined = added _ _ _ _ _ c.in_ok-with_joined.ensures joined.rule joined.local refl in
-    let with_colors = c.in_ok-with_colors.ensures ∙ ap (λ (a : App). with_rule a colors_rule) with_joined in
-    added _ _ _ _ _ c.in_ok-arg-2.ensures svg.rule svg.local
-    (added _ _ _ _ _ c.in_ok-arg.ensures html.rule html.local with_colors)
+    sym (at_drop_all (λ names. with_all flag_rule (app_of c.loop-name.known) (map (λ w. w.now) names))
+    c.args.names.now c.loop-name.name-index c.loop-name-test.false) ∙ c.loop-name.invariant

@@ -1,16 +1,19 @@
-use Rattle.std.proofs.Common.{refl}
+use Rattle.std.proofs.Common.{◌∙◌, ◌+◌, ap, drop, map, refl, sym}
+use Rattle.std.proofs.lemmas.List.{at_drop_all, at_drop_more}
+use Rattle.clap.specs.Words.{app_of}
+use Rattle.screentext_command.specs.Words.{value_rule, with_all}
 use Rattle.screentext_command.proofs.WordsLemmas.{added}
 use Rattle.screentext_command.proofs.known.with_values.Goals as goal
 
+pub loop-name-preserved : goal.loop-name-preserved
+loop-name-preserved c =
+    let rest = map (λ w. w.now) (drop (c.loop-name.name-index + 1) c.args.names.now) in
+    let adds = added _ _ _ _ _ c.in_ok-known.ensures c.value.ensures.rule c.value.ensures.local refl in
+    ap (λ app. with_all value_rule app rest) adds
+    ∙ (sym (at_drop_more (λ names. with_all value_rule (app_of c.loop-name.known) (map (λ w. w.now) names))
+    c.args.names.now c.loop-name.name-index _ c.loop-name-test.true) ∙ c.loop-name.invariant)
+
 pub returns : goal.returns
 returns c =
-    let rows = c.size.ensures in
-    let cols = c.size-2.ensures in
-    let at = c.value.ensures in
-    let diff = c.value-2.ensures in
-    let history = c.value-3.ensures in
-    added _ _ _ _ _ c.in_ok-arg-5.ensures history.rule history.local
-    (added _ _ _ _ _ c.in_ok-arg-4.ensures diff.rule diff.local
-    (added _ _ _ _ _ c.in_ok-arg-3.ensures at.rule at.local
-    (added _ _ _ _ _ c.in_ok-arg-2.ensures cols.rule cols.local
-    (added _ _ _ _ _ c.in_ok-arg.ensures rows.rule rows.local refl))))
+    sym (at_drop_all (λ names. with_all value_rule (app_of c.loop-name.known) (map (λ w. w.now) names))
+    c.args.names.now c.loop-name.name-index c.loop-name-test.false) ∙ c.loop-name.invariant

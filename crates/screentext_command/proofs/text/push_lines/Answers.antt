@@ -3,7 +3,7 @@ use Rattle.screen_model.specs.Call.{ScreenView}
 use Rattle.screen_model.specs.State.{State}
 use Rattle.screen_model.specs.Step.{kept_shown}
 use Rattle.vt100.specs.Tries.{alive}
-use Rattle.row_texts.specs.declared.row.Look.{Look}
+use Rattle.screentext_command.specs.declared.rows.Look.{Look}
 use Rattle.screentext_command.specs.Texts.{kept_text, rows_text, shown_text}
 use Rattle.recorded_screen.specs.Picture.{scrolled}
 use Rattle.screentext_command.proofs.text.push_lines.Goals as goal

@@ -4,7 +4,7 @@ use Rattle.clap.specs.Words.{found_of}
 use Rattle.clap.proofs.WalkLemmas.{first_value-rows}
 use Rattle.command_line.specs.Numbers.{is_count}
 use Rattle.recordings.specs.Recorded.{size_said}
-use Rattle.row_texts.specs.declared.row.Look.{Look}
+use Rattle.screentext_command.specs.declared.rows.Look.{Look}
 use Rattle.screentext_command.specs.Asked.{history_meant, screen_meant}
 use Rattle.screentext_command.specs.Words.{is_screen}
 use Rattle.screentext_command.proofs.WordsLemmas.{form_counts, forms_meant, some_both}

@@ -1,7 +1,0 @@
-use Rattle.std.proofs.Common.{refl}
-use Rattle.screentext_command.proofs.WordsLemmas.{added}
-use Rattle.screentext_command.proofs.known.with_player.Goals as goal
-
-pub returns : goal.returns
-returns c = let player = c.flag.ensures in
-    added _ _ _ _ _ c.in_ok-arg.ensures player.rule player.local refl
