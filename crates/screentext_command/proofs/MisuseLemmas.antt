@@ -1,7 +1,7 @@
 -- What is said of words that aren't understood.
 use Rattle.std.proofs.Common.{◌≡◌, subst, ℕ, List, Result}
 use Rattle.std.specs.declared.io.Error.{Error}
-use Rattle.clap.specs.Words.{Row, Text}
+use Rattle.clap.specs.Words.{Row}
 use Rattle.screentext_command.specs.Command.{TellsInParts}
 use Rattle.screentext_command.specs.Misuse.{TellsWrong, usage}
 use Rattle.screentext_command.specs.declared.help.TheConstants.{USAGE}

@@ -1,7 +1,7 @@
-use Rattle.std.proofs.Common.{◌≡◌, ap, subst, sym, true, Option, Some, None, List, ℕ}
+use Rattle.std.proofs.Common.{◌≡◌, subst, Option, Some, List, ℕ}
 use Rattle.std.specs.Borrow.{Bor}
-use Rattle.clap.specs.Words.{Row, first_of}
-use Rattle.screentext_command.specs.Misuse.{IsGiven, Names, flag, value}
+use Rattle.clap.specs.Words.{first_of}
+use Rattle.screentext_command.specs.Misuse.{IsGiven, flag, value}
 use Rattle.screentext_command.proofs.misuse.tell_word.Goals as goal
 
 pub returns-in-Some : goal.returns-in-Some
