@@ -16,6 +16,7 @@ FILES = "files"
 NO_LINE_DRAWING = (
     "no-line-drawing", None, None, "Letters stay where a program draws lines with DEC's special graphics",
 )
+NEWLINES = ("newlines", None, None, "A line feed begins the next row at its left, as after a carriage return")
 HELP = ("help", None, None, "Print the help")
 VERSION = ("version", None, None, "Print the version")
 THEMES = "xterm light asciinema dracula gruvbox-dark monokai nord solarized-dark solarized-light tango"
@@ -42,19 +43,19 @@ PROGRAMS = {
     "screenrelay": (
         "relay a program's output as frames, or show frames",
         [("relay|show", "What is done")] + SIZE,
-        [],
+        [NEWLINES, HELP, VERSION],
         "Reads its input to its end. relay writes frames to standard output; show prints the rows that they leave.",
     ),
     "screenlive": (
         "relay a program's output as it comes, in whole frames",
         SIZE,
-        [NO_LINE_DRAWING, HELP],
+        [NO_LINE_DRAWING, NEWLINES, HELP, VERSION],
         "Reads its input, and writes a frame after each read.",
     ),
     "screencat": (
         "print the screen that a program's output leaves",
         SIZE,
-        [NO_LINE_DRAWING, HELP],
+        [NO_LINE_DRAWING, NEWLINES, HELP, VERSION],
         "Reads its input to its end, and prints the rows of the screen.",
     ),
     "screentext": (
@@ -89,13 +90,15 @@ PROGRAMS = {
             ("kind", "NAME", "asciicast script ttyrec raw", "What the recording is"),
             ("timing", "FILE", FILES, "The timing file of a typescript"),
             NO_LINE_DRAWING,
+            NEWLINES,
             ("strict", None, None, "A recording that was cut, or stops making sense, is a fault"),
             ("max-cells", "N", None, "A size in the recording has N cells at most: 4,000,000 without this option"),
             HELP,
             VERSION,
         ],
         "Reads its input to its end: an asciicast, a typescript, a ttyrec, or raw bytes. "
-        "A recording that was cut, or stops making sense, is shown up to there, and a line on standard error says where.",
+        "A recording that was cut, or stops making sense, is shown up to there, and a line on standard error says where. "
+        "With -o FILE it writes to a file, which is replaced once all is written.",
     ),
 }
 # Scripts over the library for C, which take other words. Those of share are looked up where they are wanted.
@@ -113,6 +116,7 @@ SCRIPTS = {
             ("update-screens", None, None, "Write the screens that the tests leave"),
             ("failed-screens", "FOLDER", FILES, "Where the screens of failed tests go"),
             HELP,
+            VERSION,
         ],
         "Plays each script, and prints TAP.",
     ),
@@ -129,6 +133,7 @@ SCRIPTS = {
             ("find", "TEXT", None, "Print the seconds at which a text comes to the screen, and end"),
             ("print", None, None, "Print the text of the last screen, or that of --at, and end"),
             HELP,
+            VERSION,
         ],
         "Plays in the terminal until q is pressed, and leaves the terminal as it was. Its help lists the keys.",
     ),
