@@ -17,7 +17,7 @@ def version(name):
 
 
 def run_with_library(name, error):
-    """Has the library made if there is none, and runs the script again. Ends it where that isn't the fault, or fails."""
+    """Makes the library if there is none, and runs the script again. Ends it for another fault, or if that fails."""
     if os.environ.get("JEIHPAL_LIBRARY") or os.path.exists(LIBRARY):
         sys.exit(f"{name}: {error}")
     try:

@@ -97,7 +97,7 @@ PROGRAMS = {
             VERSION,
         ],
         "Reads its input to its end: an asciicast, a typescript, a ttyrec, or raw bytes. "
-        "A recording that was cut, or stops making sense, is shown up to there, and a line on standard error says where. "
+        "A recording that was cut, or is malformed, is shown up to there, and a line on standard error says where. "
         "With -o FILE it writes to a file, which is replaced once all is written.",
     ),
 }

@@ -1,7 +1,7 @@
 """Runs a program on its input: says why its output can't be written, and how far it is where that takes long.
 
-The programs ignore SIGPIPE, as a proved program does, and say only that they can't write. Here they end as other filters
-do: by that signal where nobody reads what they write.
+The programs ignore SIGPIPE, and say only that they can't write. This script ends as other filters do: by that signal,
+if nobody reads what the program writes.
 """
 import contextlib
 import errno

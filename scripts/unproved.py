@@ -63,7 +63,9 @@ fn main() {{
     {calls}
 }}
 """
-EXPORTED = re.compile(r'#\[unsafe\(no_mangle\)\]\s*(?:#\[[^\]]*\]\s*)*pub (?:unsafe )?extern "C" fn (\w+)\(([^)]*)\)\s*(->)?')
+EXPORTED = re.compile(
+    r'#\[unsafe\(no_mangle\)\]\s*(?:#\[[^\]]*\]\s*)*pub (?:unsafe )?extern "C" fn (\w+)\(([^)]*)\)\s*(->)?'
+)
 
 
 class Failed(Exception):
@@ -207,7 +209,7 @@ class Work:
 
 
 class Line:
-    """A line on standard error that says how far something is: one that is written again on a terminal, or one now and then."""
+    """Progress on standard error: a line that is rewritten on a terminal, or else a line now and then."""
 
     def __init__(self, name):
         self.name, self.said, self.is_terminal, self.width = name, time.monotonic(), sys.stderr.isatty(), 0
@@ -267,13 +269,14 @@ fn main(rt: HostRuntime) -> ExitCode {
 
 
 def probe(kit):
-    """Makes a small program, and sees that it does what its text says. Refused where the toolchain isn't as expected."""
+    """Makes and runs a small program. Fails if the toolchain isn't as expected."""
     with tempfile.TemporaryDirectory(prefix="probe-") as folder:
         crate = write_repository(folder, {"probe": []}, "probe", [], {"main.rt": PROBE})
         lowered.lower(crate, f"{folder}/probe.bc")
         lowered.compiled(f"{folder}/probe.bc", f"{folder}/probe.o", f"{folder}/crates", kit)
         lowered.linked(f"{folder}/probe.o", f"{folder}/probe", kit)
-        status = subprocess.run([f"{folder}/probe", "a"], stdin=subprocess.DEVNULL, stdout=subprocess.DEVNULL, check=False)
+        how = {"stdin": subprocess.DEVNULL, "stdout": subprocess.DEVNULL, "check": False}
+        status = subprocess.run([f"{folder}/probe", "a"], **how)
         if status.returncode != 42:
             raise lowered.Unlike(f"a small program that is made so ends with status {status.returncode}, not 42")
 
@@ -346,7 +349,8 @@ def make_programs():
         os.makedirs(folder, exist_ok=True)
         lock = open(f"{folder}/lock", "w", encoding="utf-8")
     except OSError as error:
-        raise Failed(f"the programs can't be kept in {folder}: {error.strerror}; XDG_CACHE_HOME names another folder") from error
+        said = f"{folder}: {error.strerror}; XDG_CACHE_HOME names another folder"
+        raise Failed(f"the programs can't be kept in {said}") from error
     with lock, tempfile.TemporaryDirectory(prefix="made-", dir=folder) as room:
         fcntl.flock(lock, fcntl.LOCK_EX)
         try:
@@ -410,7 +414,7 @@ def make_the_library():
 
 
 def wait_for(name, path, state, words):
-    """Has ./build --unproved make a program or the library, and waits until it is there. What follows is made meanwhile."""
+    """Starts ./build --unproved, and waits until a program or the library is there. It goes on with the rest."""
     log = tempfile.TemporaryFile("w+", errors="replace")
     run = subprocess.Popen(
         [sys.executable, f"{HERE}/build", "--unproved", *words],
@@ -442,7 +446,8 @@ def program(name, why):
     path = f"{folder}/{name}"
     if not os.access(path, os.X_OK):
         check_rt(why)
-        print(f"{name}: {why}: compiling it unproved, once, {LONG[False]}; ./build proves it", file=sys.stderr, flush=True)
+        said = f"{why}: compiling it unproved, once, {LONG[False]}; ./build proves it"
+        print(f"{name}: {said}", file=sys.stderr, flush=True)
         wait_for(name, path, f"{folder}/state", [])
     return path
 
@@ -456,7 +461,7 @@ def check_rt(why):
     """Refused where there is no toolchain."""
     if not shutil.which("rt"):
         raise Failed(
-            f"{why}, and there is no rt on the path, the command of the Rattle toolchain, which makes it (README, \"Run it\"); "
+            f"{why}, and rt, the command of the Rattle toolchain, isn't on the path; it makes it (README, \"Run it\"); "
             "what ./build --install copies runs without"
         )
 

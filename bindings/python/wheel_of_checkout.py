@@ -45,7 +45,9 @@ def _tag() -> str:
 def _library() -> bytes:
     path = os.environ.get("JEIHPAL_LIBRARY") or os.path.join(HERE, "..", "out", "libjeihpal.so")
     if not os.path.isfile(path):
-        raise FileNotFoundError(f"there is no {path}: ./build --library makes it, or soon --unproved --library; or JEIHPAL_LIBRARY names it")
+        raise FileNotFoundError(
+            f"there is no {path}: ./build --library makes it (--unproved in a few minutes), or JEIHPAL_LIBRARY names it"
+        )
     with open(path, "rb") as file:
         return file.read()
 
