@@ -1,4 +1,4 @@
--- What is owed after a pump, and what the writer has.
+-- The bytes that are pending after a pump, and those that the writer has.
 use Rattle.std.proofs.Common.{◌≡◌, ℕ, List, [], ◌++◌, take, drop, length, min, Option, Some, None, Ok, Result}
 use Rattle.std.proofs.Common.{refl, ap, sym, ◌∙◌, subst, take-append-drop, append-nil}
 use Rattle.std.proofs.Math.Seq.{take-add}

@@ -19,7 +19,7 @@ pumps-more S step s u t owed taken n m k answer lt pos e takes rest =
     let after : Pumps step u (drop n (drop taken owed)) answer k t = rw left rest in
     rw e (some u n k (some-left owed taken lt) pos takes after)
 
--- no more is taken than was owed
+-- a pump takes at most all the bytes
 pub pumps-within : (S : Type 0) (step : S → List ℕ → Result ℕ Error → S → Type 0) (s t : S) (owed : List ℕ)
     (answer : Result (Unit {0}) Error) (n : ℕ) → Pumps step s owed answer n t → n ≤ length owed
 pumps-within S step s t owed answer n all = omega arith

@@ -5,7 +5,7 @@ use Rattle.std.specs.IoError.{error_kind}
 use Rattle.std.specs.declared.io.Error.{Error}
 use Rattle.std.specs.declared.io.ErrorKind.TheVariants.{WriteZero}
 
--- A pump of the bytes owed: writes are made until all bytes are taken, or one write fails or takes nothing. It gives
+-- A pump of these bytes: writes are made until all bytes are taken, or one write fails or takes nothing. It gives
 -- the pump's result, the number of bytes taken, and the writer after it. `step` gives the result of one write of these
 -- bytes, and the writer after it. If a write returns more than it was offered, it has taken all that it was offered.
 pub data Pumps {S : Type 0} (step : S → List ℕ → Result ℕ Error → S → Type 0) : S → List ℕ → Result (Unit {0}) Error → ℕ

@@ -13,7 +13,7 @@ pub fn pumps_take_all<T: ByteSink>()
 {}
 
 /// A pump appends a prefix of the bytes to what a writer has, if the writer's bytes are known. The other bytes are
-/// still owed.
+/// still pending.
 pub fn pumps_append_the_prefix<W: Write>()
     ensures { AppendsPrefix W.contents }
 {}

@@ -1,4 +1,4 @@
-//! What gives bytes.
+//! Reading bytes from a source.
 
 ghost use Rattle.std.specs.Prelude.{ℕ, List, Option, Result, length};
 ghost use Rattle.std.specs.Io.{ReadsAtMost};
@@ -8,15 +8,15 @@ ghost use Rattle.byte_streams.specs.Source.{IsReadBy, given};
 use std::io;
 use std::io::Read;
 
-/// What gives bytes. Each kind says what one read does to it, also when it fails.
+/// A source of bytes. The ghost `gives` of each kind says what one read does to it, also if the read fails.
 pub trait Source {
-    // the bytes that reads will give from here on, where they are known
+    // the bytes that later reads will give, if they are known
     ghost left: { Self → Option (List ℕ) };
 
-    // what one read with so much room answers and leaves
+    // the result of one read with this much room, and the source after it
     ghost gives: { Self → ℕ → Result (List ℕ) Error → Self → Type 0 };
 
-    /// Reads into the room, and answers how many bytes it gave.
+    /// Reads into the room. Returns how many bytes were read.
     fn give(&mut self, room: &mut [u8]) -> io::Result<usize>
         ensures bound { ReadsAtMost result room.new }
         ensures gives { gives self.old (length room.old) (given result room.new) self.new };
@@ -25,7 +25,7 @@ pub trait Source {
         → IsReadBy left s room answer t };
 }
 
-/// Of a reader it is known what [`Read`] promises.
+/// For a reader, the ghosts are what [`Read`] promises of a read.
 impl<R: Read> Source for R {
     ghost left = { R.remaining };
 

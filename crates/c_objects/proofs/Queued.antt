@@ -1,4 +1,4 @@
--- What becomes of a request whose text was put together in a draft.
+-- What happens to a request whose text was put together in a draft.
 use Rattle.std.proofs.Common.{◌≡◌, ◌∙◌, ℕ, ◌<◌, ◌≤◌, Bool, true, false, List, ◌++◌, ◌∷◌, [], length}
 use Rattle.std.proofs.Common.{OnOk, OnErr, Ok, Err, Result, ap, arith, subst, inl, inr}
 use Rattle.std.proofs.lemmas.List.{take_all, length-take}
@@ -6,7 +6,7 @@ use Rattle.c_objects.proofs.Drafts.{drafted_behind}
 use Rattle.c_objects.specs.Queue.{drafted}
 use Rattle.c_objects.specs.Requests.{RequestView, RequestsView, HasNoPlace, Queues, Gets, Told, one_dropped}
 
--- a text of which not all counts is too long
+-- if the kept part of a text finds no place, neither does the whole text
 no-place : (waiting : List RequestView) (text : List ℕ) → HasNoPlace waiting (drafted text) → HasNoPlace waiting text
 no-place waiting text (inl full) = inl full
 no-place waiting text (inr (inl long)) = inr (inl (omega (arith, long, length-take 1022 text)))
@@ -27,7 +27,7 @@ gets q new waiting r room short more is =
           (more ∙ ap (λ (t : List ℕ). q.waiting ++ (record r { text = t }) ∷ []) all);
     }
 
--- what counts of the text was handed to the queue, and it was counted where it found no place
+-- The kept part of the text was passed to the queue, and the request was counted as dropped if it found no place.
 pub queued : {T E : Type 0} (result : Result T E) (q new : RequestsView) (waiting : List RequestView) (r : RequestView)
     (text : List ℕ) → text ≡ drafted r.text → OnOk result (length q.waiting < 256) → OnOk result (length text ≤ 1021)
     → OnOk result (waiting ≡ q.waiting ++ (record r { text = text }) ∷ []) → OnErr result (waiting ≡ q.waiting)

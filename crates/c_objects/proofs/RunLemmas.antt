@@ -1,4 +1,4 @@
--- A call from C is one call of the library, or none if nothing changes.
+-- A call from C is one call of the library, or no call if nothing changes.
 use Rattle.std.proofs.Common.{◌≡◌, ◌≢◌, ◌⊎◌, ℕ, zero, suc, ◌+◌, ◌<◌, ◌≤◌, ℤ, pos, negsuc, List, [], ◌∷◌}
 use Rattle.std.proofs.Common.{length, drop, min, Result, Ok, Err, Option, Some, None}
 use Rattle.std.proofs.Common.{inl, inr, refl, sym, ap, subst, arith}
@@ -24,7 +24,8 @@ use Rattle.c_objects.specs.Hubs.{Attached, Sends}
 use Rattle.c_objects.specs.Runs.{FromC, Feed, Resize, Attach, Detach, Frame, Sent, IsFromC, Does, sessions_after}
 use Rattle.c_objects.specs.Runs.{IsCallOf, AreCallsOf, none, asks, refuses, EachRunFromCIsLogged}
 
--- the hub h and the sessions ss become g and ts by the one call that a call from C is, or by none if that is refused
+-- The hub h and the sessions ss become g and ts by the library call that corresponds to a call from C. If that was
+-- refused there is no such call.
 abbrev Steps : FromC → ℤ → HubState as_kept → List SessionView → HubState as_kept → List SessionView → Type 0
 Steps from code h ss g ts =
     ((g ≡ h) × (ts ≡ ss) × IsRefusal code)
@@ -127,7 +128,7 @@ detached h g key ss (Err (Write e)) did =
 
 -- ---- bytes that were sent, as a pump
 
--- a writer takes the first `count` of these bytes, and no more
+-- a writer that takes the first `count` of these bytes, and no others
 record Taking (owed : List ℕ) (count : ℕ) : Type 0 where
   takes : List Take
   answer : Result (Unit {0}) Error
@@ -147,7 +148,7 @@ takes-none e [] = record { takes = []; answer = Ok tt; rest = []; pumps = Pumps.
 takes-none e (x ∷ xs) =
     record { takes = Fault ∷ []; answer = Err e; rest = []; pumps = faults e x xs; taken = refl }
 
--- the result of a pump to a writer that takes no more
+-- the result of a pump to a writer that takes no further bytes
 left-answer : Error → List ℕ → Result (Unit {0}) Error
 left-answer e [] = Ok tt
 left-answer e (x ∷ xs) = Err e

@@ -28,7 +28,7 @@ text-long : (t : Text) (room : List ℕ) → shared_len t ≤ length room → sh
 text-long (Shared n) room h = grind (arith, common_steps, h, length-take)
 text-long (Own bytes) room h = omega arith
 
--- a request is put behind those whose texts fill the room
+-- a request is appended to those whose texts fill the shared room
 behind-all : (rs : List Request) (r : Request) (room more : List ℕ) → all_shared rs ≡ length room
     → requests_in (room ++ more) (rs ++ r ∷ []) ≡ requests_in room rs ++ request_in more r ∷ []
 behind-all [] r [] more e = refl
@@ -54,7 +54,7 @@ pub length-requests_in : (rs : List Request) (room : List ℕ) → length (reque
 length-requests_in [] room = refl
 length-requests_in (q ∷ qs) room = grind (arith, length-requests_in qs (room_behind room q.text))
 
--- what is in the room is text of requests
+-- all bytes of the shared room belong to texts of requests
 pub room_is_text : (rs : List Request) (room : List ℕ) → all_shared rs ≡ length room
     → length room ≤ text_bytes (requests_in room rs)
 room_is_text [] room e = omega (arith, e)
@@ -70,7 +70,7 @@ placed-len : (t : Text) (old text new : List ℕ) → IsPlaced old text t new �
 placed-len (Shared n) old text new h = grind (arith, common_steps, h.0, h.1)
 placed-len (Own bytes) old text new h = grind (arith, common_steps, h.1)
 
--- the room is filled as before
+-- the requests' texts still fill the shared room
 pub placed_fills : (rs : List Request) (r : Request) (old text new : List ℕ) → all_shared rs ≡ length old
     → IsPlaced old text r.text new → all_shared (rs ++ r ∷ []) ≡ length new
 placed_fills rs r old text new e h = all_shared-pushed rs r ∙ omega (arith, e, placed-len r.text old text new h)
@@ -78,7 +78,7 @@ placed_fills rs r old text new e h = all_shared-pushed rs r ∙ omega (arith, e,
 abbrev pub with_text : Request → List ℕ → RequestView
 with_text r text = record { kind = r.kind; rows = r.rows; cols = r.cols; letters = r.letters; text = text }
 
--- the text that is put in place is that of the newest request
+-- the text that was stored is that of the newest request
 placed-text : (t : Text) (old text new : List ℕ) → IsPlaced old text t new
     → (more : List ℕ) × ((new ≡ old ++ more) × (text_in more t ≡ text))
 placed-text (Shared n) old text new h = (text, (h.1, ap (λ k. take k text) h.0 ∙ take_all (length text) text (omega arith)))
@@ -91,7 +91,7 @@ placed_behind rs r old text new e h =
     ap (λ b. requests_in b (rs ++ r ∷ [])) p.1.0 ∙ behind-all rs r old p.0 e
     ∙ ap (λ (b : List ℕ). requests_in old rs ++ with_text r b ∷ []) p.1.1
 
--- where neither the queue is full nor the text too long, but the room is too small, memory may be wanted
+-- where the shared room is too small for the text, memory for it may be refused
 pub no_room : (rs : List Request) (room text : List ℕ) (capacity : ℕ) → all_shared rs ≡ length room
     → 4096 ≤ capacity → capacity < length room + length text → HasNoPlace (requests_in room rs) text
 no_room rs room text capacity e most less = inr (inr (omega (arith, room_is_text rs room e, most, less)))

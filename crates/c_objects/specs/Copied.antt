@@ -40,7 +40,7 @@ pub record IsMadeOf (v : ScreenView) (n : Marked) : Type 0 where
   pub requests : n.parser.callbacks ≡ no_requests
   pub mark : n.mark ≡ None
 
--- the object is a screen of this
+-- the object is such a screen
 abbrev pub IsScreenOf : ScreenView → Object → Type 0
 IsScreenOf v (Hub h) = ⊥
 IsScreenOf v (View w) = ⊥
@@ -58,7 +58,7 @@ IsVisibleCopyOf y m code = IsScreenOf (visible_copy_of m.parser.screen) y
 
 -- ---- the kept rows
 
--- the kept rows of the shown sheet go; a failed screen stays as it is
+-- the shown sheet's kept rows are removed; a failed screen stays as it is
 abbrev pub ClearsKept : Marked → ℤ → Marked → Type 0
 ClearsKept m code n =
     (code ≡ (if m.parser.screen.failed then failed else ok))

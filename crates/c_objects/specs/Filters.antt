@@ -15,7 +15,7 @@ last_given f = piece_of f []
 
 -- ---- new
 
--- a filter that draws lines, that nothing has passed, and that has given nothing
+-- a filter that draws lines, through which nothing has passed, and which has given nothing
 abbrev pub IsNewFilter : Object → Type 0
 IsNewFilter (Hub h) = ⊥
 IsNewFilter (View v) = ⊥
@@ -25,8 +25,8 @@ IsNewFilter (Filter f) = HasPassed f Drawn [] × (last_given f ≡ [])
 
 -- ---- the call that changes it
 
--- The piece has passed. The filter gives what it makes of the piece, behind all that has passed before. It has room for
--- a piece of that length from now on.
+-- The piece has passed. The filter gives its output for the piece, which follows all that has passed before. From now
+-- on it has room for a piece of that length.
 pub record HasPassedOn (bytes : List ℕ) (f g : PieceFilter) : Type 0 where
   pub passed : (past : List ℕ) → HasPassed f Drawn past → HasPassed g Drawn (past ++ bytes)
   pub gives : (past : List ℕ) → HasPassed f Drawn past → last_given g ≡ given_after past bytes

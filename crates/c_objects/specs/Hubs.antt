@@ -76,7 +76,7 @@ pub record Frames (key : ℕ) (h : HubState as_kept) (code : ℤ) (g : HubState 
   pub local : IfOk answer (λ a. a ≡ Difference → OwesLocalFrame h key g)
   pub small : IfOk answer (λ a. (size_in h).rows * (size_in h).cols ≤ 2000 → a ≢ TooLong)
 
--- the first `count` owed bytes were sent to the client
+-- the first `count` pending bytes were sent to the client
 abbrev pub Sends : ℕ → ℕ → HubState as_kept → ℤ → HubState as_kept → Type 0
 Sends key count h code g =
     MatchOption (clients_in h key) ((code ≡ unknown_client) × (g ≡ h))
@@ -85,13 +85,13 @@ Sends key count h code g =
 
 -- ---- calls that read it
 
--- the bytes that the client is owed are copied, as many as fit, and counted; they are no more than the longest frame
--- has
+-- the client's pending bytes are copied, as many as fit, and all are counted; there are at most as many as in the
+-- longest frame
 pub record Owes (key : ℕ) (old new : List ℕ) (count : ℕ) (h : HubState as_kept) (code : ℤ) : Type 0 where
   pub owed : MatchOption (clients_in h key) (code ≡ unknown_client) (λ c. (code ≡ ok) × IsCopied c.owed old new count)
   pub short : is_failed h ≡ false → OwesOneFrame h key
 
--- the bytes of a redraw are copied, as many as fit, and counted; of one that is too long there are none
+-- the bytes of a redraw are copied, as many as fit, and all are counted; if the redraw is too long, no byte is copied
 abbrev pub Redrawn : Result (Option (List ℕ)) HubError → List ℕ → List ℕ → ℕ → ℤ → Type 0
 Redrawn (Ok (Some text)) old new count code = (code ≡ ok) × IsCopied text old new count
 Redrawn (Ok None) old new count code = (code ≡ answer_code TooLong) × (new ≡ old) × (count ≡ 0)
@@ -105,7 +105,8 @@ Redraws key old new count h code =
 abbrev pub no_whole_code : ClientState → ℤ
 no_whole_code c = if is_some c.base then answer_code TooLong else ok
 
--- the bytes of a client's whole frame are copied, as many as fit, and counted; if there is none, no byte is
+-- the bytes of a client's whole frame are copied, as many as fit, and all are counted; if there is no whole frame, no
+-- byte is copied
 abbrev pub WholeDrawn : Option ClientState → Result (Option (List ℕ)) HubError → List ℕ → List ℕ → ℕ → ℤ → Type 0
 WholeDrawn client (Ok (Some text)) old new count code = (code ≡ ok) × IsCopied text old new count
 WholeDrawn client (Ok None) old new count code =

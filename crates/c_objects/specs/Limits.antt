@@ -1,4 +1,4 @@
--- Sizes of which a caller allows only some: those of so many cells at most.
+-- A caller's limit on sizes: at most this many cells.
 use Rattle.std.specs.Prelude.{◌≡◌, ◌⊎◌, ℕ, ◌≤◌, ◌<◌, ◌*◌, ℤ, Option, None}
 use Rattle.c_objects.specs.Codes.{too_large}
 use Rattle.c_objects.specs.Words.{IsNewWord}

@@ -11,7 +11,7 @@ use Rattle.c_objects.specs.declared.object.Object.TheVariants.{Hub, View, Screen
 
 -- ---- calls that change it
 
--- the call changes a hub so; an object of another kind is refused
+-- `step` says how the call changes a hub; an object of another kind is refused
 abbrev pub HubDoes : (HubState as_kept → ℤ → HubState as_kept → Type 0) → Object → ℤ → Object → Type 0
 HubDoes step (Hub h) code y = (g : HubState as_kept) × step h code g × (y ≡ Hub g)
 HubDoes step (View v) code y = (code ≡ other_kind) × (y ≡ View v)
@@ -19,7 +19,7 @@ HubDoes step (Screen m) code y = (code ≡ other_kind) × (y ≡ Screen m)
 HubDoes step (Recording r) code y = (code ≡ other_kind) × (y ≡ Recording r)
 HubDoes step (Filter f) code y = (code ≡ other_kind) × (y ≡ Filter f)
 
--- the call changes a view so; an object of another kind is refused
+-- `step` says how the call changes a view; an object of another kind is refused
 abbrev pub ViewDoes : (ViewState → ℤ → ViewState → Type 0) → Object → ℤ → Object → Type 0
 ViewDoes step (Hub h) code y = (code ≡ other_kind) × (y ≡ Hub h)
 ViewDoes step (View v) code y = (w : ViewState) × step v code w × (y ≡ View w)
@@ -27,7 +27,7 @@ ViewDoes step (Screen m) code y = (code ≡ other_kind) × (y ≡ Screen m)
 ViewDoes step (Recording r) code y = (code ≡ other_kind) × (y ≡ Recording r)
 ViewDoes step (Filter f) code y = (code ≡ other_kind) × (y ≡ Filter f)
 
--- the call changes a screen so; an object of another kind is refused
+-- `step` says how the call changes a screen; an object of another kind is refused
 abbrev pub ScreenDoes : (Marked → ℤ → Marked → Type 0) → Object → ℤ → Object → Type 0
 ScreenDoes step (Hub h) code y = (code ≡ other_kind) × (y ≡ Hub h)
 ScreenDoes step (View v) code y = (code ≡ other_kind) × (y ≡ View v)
@@ -35,7 +35,7 @@ ScreenDoes step (Screen m) code y = (n : Marked) × step m code n × (y ≡ Scre
 ScreenDoes step (Recording r) code y = (code ≡ other_kind) × (y ≡ Recording r)
 ScreenDoes step (Filter f) code y = (code ≡ other_kind) × (y ≡ Filter f)
 
--- the call changes a filter so; an object of another kind is refused
+-- `step` says how the call changes a filter; an object of another kind is refused
 abbrev pub FilterDoes : (PieceFilter → ℤ → PieceFilter → Type 0) → Object → ℤ → Object → Type 0
 FilterDoes step (Hub h) code y = (code ≡ other_kind) × (y ≡ Hub h)
 FilterDoes step (View v) code y = (code ≡ other_kind) × (y ≡ View v)

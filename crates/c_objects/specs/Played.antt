@@ -13,7 +13,7 @@ use Rattle.c_objects.specs.declared.object.Marked.{Marked}
 use Rattle.c_objects.specs.declared.object.Object.{Object}
 use Rattle.c_objects.specs.declared.object.Object.TheVariants.{Hub, View, Screen, Recording, Filter}
 
--- what the events up to this time make of a new screen of this size, which keeps so many rows
+-- the screen that the events up to this time make of a new one of this size, which keeps at most `capacity` rows
 abbrev pub IsPlayed : ℕ → ℕ → ℕ → ℕ → Reading → Marked → Type 0
 IsPlayed rows cols capacity time r m =
     IsMadeOf (alive (made rows cols capacity (acts_until time r.recording.events.items))) m
@@ -26,7 +26,7 @@ IsScreenAt rows cols capacity time (Screen m) r code = IsPlayed rows cols capaci
 IsScreenAt rows cols capacity time (Recording x) r code = ⊥
 IsScreenAt rows cols capacity time (Filter f) r code = ⊥
 
--- that screen of the recording in a word goes into another one; where the call is refused, that one stays as it was
+-- that screen of the recording in one word is put into another word, which stays as it was if the call is refused
 abbrev pub GetsScreenAt : ℕ → ℕ → ℕ → ℕ → Option Object → Option Object → ℤ → Option Object → Type 0
 GetsScreenAt rows cols capacity time from old code new =
     ((code ≡ ok) × (y : Object) × (new ≡ Some y)

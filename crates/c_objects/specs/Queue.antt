@@ -1,4 +1,4 @@
--- Where the texts of waiting requests lie: in the room that they share, one behind another, or in memory of their own.
+-- Where the texts of waiting requests are: in the room that they share, one after another, or in memory of their own.
 use Rattle.std.specs.Prelude.{◌≡◌, ◌+◌, ◌++◌, ◌∷◌, ℕ, List, [], length, take, drop}
 use Rattle.c_objects.specs.Requests.{RequestView}
 use Rattle.c_objects.specs.declared.queue.Request.{Request}
@@ -10,7 +10,7 @@ abbrev pub text_in : List ℕ → Text → List ℕ
 text_in room (Shared n) = take n room
 text_in room (Own bytes) = bytes.items
 
--- the shared room behind the text
+-- the shared room after the text
 abbrev pub room_behind : List ℕ → Text → List ℕ
 room_behind room (Shared n) = drop n room
 room_behind room (Own bytes) = room
@@ -39,11 +39,11 @@ abbrev pub requests_in : List ℕ → List Request → List RequestView
 requests_in room [] = []
 requests_in room (r ∷ rs) = request_in room r ∷ requests_in (room_behind room r.text) rs
 
--- the text lies at the end of the room, or in memory of its own
+-- the text is at the end of the room, or in memory of its own
 abbrev pub IsPlaced : List ℕ → List ℕ → Text → List ℕ → Type 0
 IsPlaced old text (Shared n) new = (n ≡ length text) × (new ≡ old ++ text)
 IsPlaced old text (Own bytes) new = (bytes.items ≡ text) × (new ≡ old)
 
--- as much of a text as shows whether a request may have it
+-- the part of a text that shows whether it is too long for a request
 abbrev pub drafted : List ℕ → List ℕ
 drafted text = take 1022 text

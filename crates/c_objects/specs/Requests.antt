@@ -23,7 +23,7 @@ pub record RequestView : Type 0 where
   pub text : List ℕ
 
 -- The waiting requests, the oldest first; how many requests weren't queued; whether what the screen doesn't know is
--- queued, and whether rows are that leave it for good.
+-- queued, and whether rows that leave it for good are queued.
 pub record RequestsView : Type 0 where
   pub waiting : List RequestView
   pub dropped : ℕ
@@ -33,7 +33,7 @@ pub record RequestsView : Type 0 where
 abbrev pub no_requests : RequestsView
 no_requests = record { waiting = []; dropped = 0; tells_unknown = false; tells_rows = false }
 
--- from now on what isn't known is queued, or isn't, and so are rows
+-- sets whether what the screen doesn't know is queued from now on, and whether rows that leave for good are
 abbrev pub telling : Bool → Bool → RequestsView → RequestsView
 telling unknown rows q = record q { tells_unknown = unknown; tells_rows = rows }
 
@@ -42,7 +42,7 @@ telling unknown rows q = record q { tells_unknown = unknown; tells_rows = rows }
 abbrev pub of_kind : ℕ → List ℕ → RequestView
 of_kind kind text = record { kind = kind; rows = 0; cols = 0; letters = 0; text = text }
 
--- a text behind letters of clipboards, or intermediates
+-- a text that follows letters of clipboards, or intermediates
 abbrev pub behind : ℕ → List ℕ → List ℕ → RequestView
 behind kind letters text = record (of_kind kind (letters ++ text)) { letters = length letters }
 
@@ -52,7 +52,7 @@ intermediates None second = []
 intermediates (Some i) None = i ∷ []
 intermediates (Some i) (Some j) = i ∷ j ∷ []
 
--- a control sequence without its intermediates: its parameters, as they stand in it, and its final byte
+-- a control sequence without its intermediates: its parameters, as written there, and its final byte
 abbrev pub csi_text : List (List ℕ) → ℕ → List ℕ
 csi_text groups final = groups_text groups ++ encode_utf8 final
 
@@ -78,13 +78,13 @@ pub record Gets (q : RequestsView) (r : RequestView) (new : RequestsView) : Type
 abbrev pub text_bytes : List RequestView → ℕ
 text_bytes waiting = sum_by (λ (r : RequestView). length r.text) waiting
 
--- The room for 4,096 bytes of texts is taken when the screen is made. This text and those that wait have more, so that
--- memory may be refused.
+-- The room for 4,096 bytes of texts is allocated when the screen is created. This text and those that wait have more
+-- bytes, so memory for this one may be refused.
 abbrev pub MayWantMemory : List RequestView → List ℕ → Type 0
 MayWantMemory waiting text = 4096 < text_bytes waiting + length text
 
--- a request with this text may find no place behind those that wait: the queue is full, the text is too long, or its
--- memory may be refused
+-- a request with this text may find no place after those that wait: the queue is full, the text is too long, or
+-- memory for it may be refused
 abbrev pub HasNoPlace : List RequestView → List ℕ → Type 0
 HasNoPlace waiting text = (256 ≤ length waiting) ⊎ (1021 < length text) ⊎ MayWantMemory waiting text
 
@@ -96,12 +96,14 @@ one_dropped q = record q { dropped = min (q.dropped + 1) 18446744073709551615 }
 abbrev pub Queues : RequestsView → RequestView → RequestsView → Type 0
 Queues q r new = Gets q r new ⊎ (HasNoPlace q.waiting r.text × (new ≡ one_dropped q))
 
--- a request for what isn't known is queued so, where such are told
+-- a request about something that the screen doesn't know: it is queued or counted as dropped if the queue takes such
+-- requests, and ignored otherwise
 abbrev pub Told : Bool → RequestsView → RequestView → RequestsView → Type 0
 Told true q r new = Queues q r new
 Told false q r new = new ≡ q
 
--- a request for a row, where such are told, is queued, however many wait, or it is counted as dropped
+-- a request for a row: if the queue takes rows it is queued, however many wait, or it is counted as dropped;
+-- otherwise it is ignored
 abbrev pub ToldRow : Bool → RequestsView → RequestView → RequestsView → Type 0
 ToldRow true q r new = (new ≡ record q { waiting = q.waiting ++ r ∷ [] }) ⊎ (new ≡ one_dropped q)
 ToldRow false q r new = new ≡ q
@@ -123,17 +125,17 @@ ReceivesCall q (unhandled_csi i j groups final) new =
     Told q.tells_unknown q (behind 11 (intermediates i j) (csi_text groups final)) new
 ReceivesCall q (unhandled_osc pieces) new = Told q.tells_unknown q (of_kind 12 (osc_text pieces)) new
 
--- a callback changes the queue so; the screen stays as it is
+-- a callback changes the queue from q to `new`; the screen stays as it is
 abbrev pub Receives : RequestsView → ScreenView → Call → RequestsView → ScreenView → Type 0
 Receives q v call new w = (w ≡ v) × ReceivesCall q call new
 
--- a row that leaves for good changes the queue so
+-- a row that leaves for good changes the queue from q to `new`
 abbrev pub Leaves : RequestsView → RowView → Bool → RequestsView → Type 0
 Leaves q row alternate new = ToldRow q.tells_rows q (row_request row alternate) new
 
 -- ---- what is taken out
 
--- a request as C reads it, after so many were dropped
+-- a request as C reads it, with the number of requests that were dropped so far
 abbrev pub reported_of : RequestView → ℕ → CRequest
 reported_of r dropped = record {
   length = length r.text;
@@ -151,7 +153,7 @@ TellsFirst [] old new reported dropped code =
 TellsFirst (r ∷ rs) old new reported dropped code =
     (code ≡ pos r.kind) × (reported ≡ reported_of r dropped) × (new ≡ with_prefix r.text old)
 
--- what waits then: the oldest is removed if its text fits
+-- the requests that still wait afterwards: the oldest is removed if its text fits
 abbrev pub left_waiting : List RequestView → List ℕ → List RequestView
 left_waiting [] old = []
 left_waiting (r ∷ rs) old = if nat_le (length r.text) (length old) then rs else r ∷ rs

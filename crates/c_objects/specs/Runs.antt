@@ -21,10 +21,10 @@ pub data FromC : Type 0 where
   Resize : (rows cols : ℕ) → FromC
   -- what was in the caller's memory for the key before, and what is there afterwards
   Attach : (old new : ℕ) → FromC
-  -- these three are on the client of a key
+  -- the next three are about the client of a key
   Detach : ℕ → FromC
   Frame : ℕ → FromC
-  -- the first `count` owed bytes were sent
+  -- the first `count` pending bytes were sent
   Sent : (key count : ℕ) → FromC
 
 -- its numbers of rows and columns fit in 16 bits
@@ -43,7 +43,7 @@ Does (Sent key count) h code g = Sends key count h code g
 
 -- ---- what a client was handed
 
--- the first n bytes that the client with this key is owed, if there is one
+-- the first n bytes that wait for the client with this key, if there is one
 abbrev pub prefix_owed : ℕ → Option ClientState → List ℕ
 prefix_owed n None = []
 prefix_owed n (Some c) = take n c.owed
@@ -72,14 +72,14 @@ RunsFromC h ss ((call, code) ∷ calls) k ts =
     (g : HubState as_kept) × IsFromC call × Does call h code g
     × RunsFromC g (sessions_after h call code ss) calls k ts
 
--- ---- the library's calls that these are
+-- ---- the library's calls that correspond to these
 
 -- the reply to a call that C gets this number for
 abbrev pub IsDone : ℤ → Reply → Type 0
 IsDone code reply = (answer : Result (Unit {0}) HubError) × (code ≡ code_of answer) × (reply ≡ done answer)
 
--- The library's call that a call from C is, its reply, and the number that C gets for it. Sent bytes are a pump to a
--- writer that takes as many, and then maybe fails.
+-- The library's call that corresponds to a call from C, its reply, and the number that C gets for it. Sent bytes are
+-- a pump to a writer that takes that many bytes, and then may fail.
 abbrev pub IsCallOf : FromC → ℤ → Call → Reply → Type 0
 IsCallOf (Feed bytes) code call reply = (call ≡ asked.Feed bytes) × IsDone code reply
 IsCallOf (Resize rows cols) code call reply = (call ≡ asked.Resize rows cols) × IsDone code reply
@@ -92,7 +92,7 @@ IsCallOf (Frame key) code call reply =
     × (reply ≡ replied Answered answer)
 IsCallOf (Sent key count) code call reply = (takes : List Take) × (call ≡ asked.Pump key takes) × (code ≡ ok)
 
--- the library's calls and their replies that calls from C are, in order
+-- the library's calls that correspond to calls from C, in order, with their replies
 pub data AreCallsOf : List (FromC × ℤ) → List Call → List Reply → Type 0 where
   none : AreCallsOf [] [] []
   -- a call of the library
@@ -100,7 +100,7 @@ pub data AreCallsOf : List (FromC × ℤ) → List Call → List Reply → Type 
       (reply : Reply)
       → IsCallOf c code call reply → AreCallsOf made calls replies
       → AreCallsOf ((c, code) ∷ made) (call ∷ calls) (reply ∷ replies)
-  -- a refusal for which no call of the library stands
+  -- a refusal to which no call of the library corresponds
   refuses : {made : List (FromC × ℤ)} {calls : List Call} {replies : List Reply} (c : FromC) (code : ℤ)
       → IsRefusal code → AreCallsOf made calls replies → AreCallsOf ((c, code) ∷ made) calls replies
 

@@ -124,7 +124,7 @@ Marks m code n =
 abbrev pub with_requests : Marked → RequestsView → Marked
 with_requests m q = record m { parser = record (m.parser) { callbacks = q } }
 
--- what isn't known is queued from now on, or isn't, and so are rows that leave for good
+-- sets whether the queue gets what the screen doesn't know from now on, and whether it gets rows that leave for good
 abbrev pub Tells : Bool → Bool → Marked → ℤ → Marked → Type 0
 Tells unknown rows m code n = (code ≡ ok) × (n ≡ with_requests m (telling unknown rows m.parser.callbacks))
 

@@ -24,7 +24,7 @@ abbrev pub Copies : {Z : Type 0} → Result (String Z) ScreenError → List ℕ 
 Copies (Ok text) old new count code = (code ≡ ok) × IsCopied (string_bytes text) old new count
 Copies (Err e) old new count code = code ≡ screen_refusal e
 
--- the texts of rows are copied, one behind the other, and so are their lengths, or an allocation failed
+-- the texts of rows are copied, one after the other, and so are their lengths, or an allocation failed
 abbrev pub CopiesRows : List (List ℕ) → List ℕ → List ℕ → ℕ → List ℕ → List ℕ → ℕ → ℤ → Type 0
 CopiesRows rows old new count old_lengths new_lengths rows_count code =
     ((code ≡ ok) × IsCopied (concat rows) old new count × IsCopied (map length rows) old_lengths new_lengths rows_count)

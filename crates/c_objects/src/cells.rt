@@ -48,7 +48,7 @@ pub(crate) fn copy_screen_cells(
     }
 }
 
-/// Sets `to` to the cell at a place that a view has.
+/// Sets `to` to the cell at a place inside a view.
 fn set_view_cell(view: &View<UntilCleared>, row: u16, col: u16, to: &mut CCell)
     requires row { row < (view_size view.now).rows }
     requires col { col < (view_size view.now).cols }

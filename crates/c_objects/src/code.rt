@@ -26,10 +26,10 @@ pub(crate) const TOO_LONG: i32 = 3;
 /// The screen has failed: an allocation failed in an earlier call.
 pub(crate) const FAILED: i32 = -5;
 
-/// There is no such client: it has ended, or never was.
+/// There is no such client: it has ended, or never existed.
 pub(crate) const UNKNOWN_CLIENT: i32 = -6;
 
-/// Fewer bytes than that are owed to the client.
+/// Fewer bytes than that wait for the client.
 pub(crate) const NOT_OWED: i32 = -7;
 
 /// The row or the column is outside the screen.

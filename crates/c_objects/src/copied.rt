@@ -1,4 +1,4 @@
-//! A copy of a screen, the differences of two screens, and the parts of what redraws one.
+//! A copy of a screen, the differences of two screens, and the parts of a screen's redraw.
 ghost use Rattle.std.specs.Prelude.{◌≡◌, IfOk, IfErr};
 ghost use Rattle.c_objects.specs.Codes.{IsRefusal, ok, memory};
 ghost use Rattle.c_objects.specs.Copied.{IsMadeOf, IsScreenOf, IsCopyOf, IsVisibleCopyOf, ClearsKept, Draws};

@@ -9,7 +9,8 @@ use std::marker::Model;
 /// them, so a longer text may have been cut.
 pub(crate) const MOST_BYTES: usize = 1021;
 
-/// As much of a text as shows whether a request may have it: at most one byte more than that.
+/// The start of a text, which shows whether the text is too long for a request. It has at most one byte more than a
+/// request may have.
 #[derive(Drop)]
 pub struct Draft {
     text: Vec<u8>,
@@ -26,7 +27,7 @@ impl Model for Draft {
 }
 
 impl Draft {
-    /// An empty text, with the room for it. Refused if the allocation of this room fails.
+    /// An empty text whose room is allocated. Refused if this allocation fails.
     pub(crate) fn new(alloc: Global) -> Result<Draft, AllocError>
         ensures { IfOk result (λ d. d ≡ []) }
     {
@@ -42,7 +43,7 @@ impl Draft {
         self.text.clear();
     }
 
-    /// Appends as much as counts.
+    /// Appends the bytes, up to the most that are kept.
     pub(crate) fn push(&mut self, bytes: &[u8])
         ensures { drafted self.new ≡ drafted (self.old ++ bytes.now) }
     {
@@ -50,7 +51,7 @@ impl Draft {
         let _room = self.text.extend_from_slice(&bytes[..most]);
     }
 
-    /// As much of the text as counts.
+    /// The part of the text that is kept.
     #[tactic(auto, using(crate::proofs::Drafts::drafted_whole))]
     pub(crate) fn text(&self) -> &[u8]
         ensures { result.now ≡ drafted self.now }

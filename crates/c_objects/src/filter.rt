@@ -10,7 +10,7 @@ use crate::object::Object;
 use charset_filter::{LineDrawing, PieceFilter};
 use std::alloc::Global;
 
-/// Makes a filter that nothing has passed, and that has given nothing. Refused if an allocation fails.
+/// Makes a filter through which nothing has passed, and which has given nothing. Refused if an allocation fails.
 pub fn new_filter(alloc: Global) -> Result<Box<Object>, i32>
     ensures new { IfOk result (λ b. IsNewFilter b.value) }
     ensures refused { IfErr result (λ code. code ≡ memory) }
@@ -42,7 +42,7 @@ pub fn pass(object: &mut Object, bytes: &[u8]) -> i32
     }
 }
 
-/// Copies what the piece gives that passed a filter last; nothing before the first piece.
+/// Copies what a filter gave for the last piece that passed; nothing before the first piece.
 pub fn given(object: &Object, to: &mut [u8], count: &mut usize) -> i32
     ensures given { FilterSays (GivesLast to.old to.new count.new) object.now result }
     ensures refused { IsRefusal result → (to.new ≡ to.old) × (count.new ≡ count.old) }

@@ -84,7 +84,7 @@ fn resize_hub_within(hub: &mut Hub, rows: u16, cols: u16, most_cells: usize) -> 
     }
 }
 
-/// Gives a hub's screen another size of so many cells at most. All clients end.
+/// Gives a hub's screen another size of at most `most_cells` cells. All clients end.
 pub fn resize_within(object: &mut Object, rows: u16, cols: u16, most_cells: usize) -> i32
     ensures { HubDoes (Within most_cells rows cols (Resizes rows cols)) object.old result object.new }
 {
@@ -131,7 +131,7 @@ fn fork_in(hub: &mut Hub, client: Client, fork: &mut usize) -> i32
     }
 }
 
-/// Adds a client that has what this one has once it has read all its frames, and sets `fork` to its key.
+/// Adds a client that starts from what this one has once it has read all its frames, and sets `fork` to its key.
 pub fn fork(object: &mut Object, client: usize, fork: &mut usize) -> i32
     ensures forked { HubDoes (Forks client fork.old fork.new) object.old result object.new }
     ensures refused { IsRefusal result → fork.new ≡ fork.old }
@@ -152,7 +152,7 @@ pub fn detach(object: &mut Object, client: usize) -> i32
     }
 }
 
-/// Asks a hub for a frame for a client. The bytes of a new frame are then owed to the client.
+/// Asks a hub for a frame for a client. The bytes of a new frame then wait for the client.
 pub fn frame(object: &mut Object, client: usize) -> i32
     ensures { HubDoes (Frames client) object.old result object.new }
 {
@@ -175,7 +175,7 @@ fn copy_owed(hub: &Hub, client: Client, to: &mut [u8], count: &mut usize) -> i32
     }
 }
 
-/// Copies as many as fit of the bytes that a hub owes to a client, and sets `count` to how many it owes.
+/// Copies as many as fit of the bytes that wait for a client, and sets `count` to how many wait.
 pub fn owed(object: &Object, client: usize, to: &mut [u8], count: &mut usize) -> i32
     ensures owed { HubSays (Owes client to.old to.new count.new) object.now result }
     ensures refused { IsRefusal result → (to.new ≡ to.old) × (count.new ≡ count.old) }
@@ -204,7 +204,7 @@ fn copy_redraw(hub: &Hub, client: Client, to: &mut [u8], count: &mut usize) -> i
 }
 
 /// Copies as many as fit of the bytes that draw what a client shows once it has read all its frames, and sets `count`
-/// to how many there are. There are none if they are more than a terminal buffers.
+/// to how many there are. If they are more than a terminal buffers, none are copied and `count` is 0.
 pub fn redraw(object: &Object, client: usize, to: &mut [u8], count: &mut usize) -> i32
     ensures redraws { HubSays (Redraws client to.old to.new count.new) object.now result }
     ensures refused { IsRefusal result → (to.new ≡ to.old) × (count.new ≡ count.old) }
@@ -215,7 +215,7 @@ pub fn redraw(object: &Object, client: usize, to: &mut [u8], count: &mut usize) 
     }
 }
 
-/// Whether the client has had a frame: before its first one there is an empty redraw.
+/// Whether the client has had a frame. Before its first frame its redraw is empty.
 fn has_had_frame(hub: &Hub, client: Client) -> Result<bool, HubError>
     ensures had { IfOk result (λ had. IsSomeAnd (clients_in hub.now client) (λ c. had ≡ is_some c.base)) }
     ensures refused { IfErr result (λ error. hub_draws_whole hub.now client (Err error)) }
@@ -246,9 +246,9 @@ fn copy_whole_frame(hub: &Hub, client: Client, to: &mut [u8], count: &mut usize)
     }
 }
 
-/// Copies as many as fit of the bytes of a client's whole frame, and sets `count` to how many there are. They draw what
-/// the client shows once it has read all its frames, on any terminal that has read frames. There are none before the
-/// client's first frame, nor if they are more than a terminal buffers.
+/// Copies as many as fit of the bytes of a client's whole frame, and sets `count` to how many there are. They draw
+/// what the client shows once it has read all its frames, on any terminal that has read frames. Before the client's
+/// first frame, or if they are more than a terminal buffers, none are copied and `count` is 0.
 pub fn whole_frame(object: &Object, client: usize, to: &mut [u8], count: &mut usize) -> i32
     ensures draws { HubSays (DrawsWhole client to.old to.new count.new) object.now result }
     ensures refused { IsRefusal result → (to.new ≡ to.old) × (count.new ≡ count.old) }
@@ -276,7 +276,7 @@ fn tell_sent(hub: &mut Hub, client: Client, count: usize) -> i32
     OK
 }
 
-/// Reports to a hub that the first `count` owed bytes were sent to a client.
+/// Reports to a hub that the first `count` pending bytes were sent to a client.
 pub fn sent(object: &mut Object, client: usize, count: usize) -> i32
     ensures { HubDoes (Sends client count) object.old result object.new }
 {

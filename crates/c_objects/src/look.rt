@@ -84,7 +84,7 @@ fn pad(contents: &[u8], text: &mut [u8; 32])
 }
 
 /// Sets `to` to a cell as C reads it.
-// In its place: what is stored by bytes and then moved in larger pieces waits for these stores.
+// Written in place: a value that is stored byte by byte and then moved in larger parts waits for these stores.
 #[inline(always)]
 pub(crate) fn set_cell(cell: &Cell, to: &mut CCell)
     ensures { to.new ≡ cell_of cell.now }

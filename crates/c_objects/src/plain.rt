@@ -102,15 +102,15 @@ pub struct CRequest {
     pub letters: usize,
     /// How many requests weren't queued so far.
     pub dropped: usize,
-    /// The rows that are asked for; 0 unless a size is.
+    /// The rows that are asked for; 0 if the request isn't for a size.
     pub rows: u16,
-    /// The columns that are asked for; 0 unless a size is.
+    /// The columns that are asked for; 0 if the request isn't for a size.
     pub cols: u16,
     /// The kind of the request; 0 if none is waiting.
     pub kind: u8,
 }
 
-/// What a recording says of itself.
+/// What a recording says about itself.
 #[repr(C)]
 #[derive(Clone, Copy)]
 pub struct CRecording {
@@ -118,7 +118,7 @@ pub struct CRecording {
     pub events: usize,
     /// Microseconds from the beginning to the last event.
     pub length: u64,
-    /// The line of the first fault, from 1, or its byte, from 0; 0 if there is none.
+    /// The line of the first fault, from 1, or its byte, from 0; 0 if there is no fault.
     pub place: u64,
     /// The number of rows at first; 0 where the recording doesn't say it.
     pub rows: u16,

@@ -13,20 +13,20 @@ use std::marker::Model;
 /// The most requests that wait in the queue.
 const MOST_REQUESTS: usize = 256;
 
-/// How many bytes of texts have room beforehand.
+/// The bytes of texts for which room is allocated at the start.
 const ROOM: usize = 4096;
 
 /// Where the text of a waiting request is.
 #[derive(Drop)]
 pub enum Text {
-    /// In the room that texts share: the next so many bytes.
+    /// In the room that texts share: the next bytes, this many.
     Shared(usize),
     /// In memory of its own.
     Own(Vec<u8>),
 }
 
 impl Text {
-    /// The text, where the shared room begins with it.
+    /// The text. If it is in the shared room, `room` begins with it.
     fn within<'a>(&'a self, room: &'a [u8]) -> &'a [u8]
         requires { shared_len self.now ≤ length room.now }
         ensures { result.now ≡ text_in room.now self.now }
@@ -56,7 +56,7 @@ pub(crate) struct NoPlace;
 #[derive(Drop)]
 pub struct Queue {
     waiting: VecDeque<Request>,
-    /// The texts that share their room, one behind another.
+    /// The texts that share their room, one after another.
     shared: Vec<u8>,
     alloc: Global,
 }
@@ -147,7 +147,7 @@ impl Queue {
         Ok(())
     }
 
-    /// Copies the oldest request and returns its kind, or 0 if there is none. The request is removed if its text fits.
+    /// Copies the oldest request and returns its kind, or 0 if none waits. The request is removed if its text fits.
     pub(crate) fn take(&mut self, dropped: usize, to: &mut [u8], reported: &mut CRequest) -> i32
         ensures told { TellsFirst self.old to.old to.new reported.new dropped result }
         ensures left { self.new ≡ left_waiting self.old to.old }

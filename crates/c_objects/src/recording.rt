@@ -28,7 +28,7 @@ fn read(alloc: Global, bytes: &[u8], timing: Option<&[u8]>) -> Result<Reading, R
     read_recording(alloc, bytes, timing, None)
 }
 
-/// The number for why nothing is read.
+/// The number for the reason why nothing is read.
 fn unread_code(error: RecordingError) -> i32
     ensures { result ≡ unread_code error }
 {
@@ -99,7 +99,7 @@ fn recording_look(reading: &Reading) -> CRecording
     }
 }
 
-/// Reads what a recording says of itself.
+/// Reads what a recording says about itself.
 pub fn look(object: &Object, look: &mut CRecording) -> i32
     ensures looks { RecordingSays (LooksRecorded look.new) object.now result }
     ensures refused { IsRefusal result → look.new ≡ look.old }
@@ -202,7 +202,7 @@ fn copy_colors(reading: &Reading, to: &mut [u32], count: &mut usize) -> i32
 }
 
 /// Copies the colours that a recording has of its own, each as 0xRRGGBB: that of texts, that of backgrounds, and the
-/// first sixteen. There are none where it has none.
+/// first sixteen. If it has no colours of its own, none are copied and `count` is 0.
 pub fn colors(object: &Object, to: &mut [u32], count: &mut usize) -> i32
     ensures colors { RecordingSays (HasColors to.old to.new count.new) object.now result }
     ensures refused { IsRefusal result → (to.new ≡ to.old) × (count.new ≡ count.old) }

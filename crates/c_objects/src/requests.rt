@@ -54,7 +54,7 @@ impl Requests {
         })
     }
 
-    /// Chooses whether what the screen doesn't know is queued from now on, and whether rows are that leave it for good.
+    /// Sets whether what the screen doesn't know is queued from now on, and whether rows that leave it for good are.
     pub(crate) fn tell(&mut self, unknown: bool, rows: bool)
         ensures { self.new ≡ telling unknown rows self.old }
     {
@@ -64,7 +64,7 @@ impl Requests {
 
     /// Queues a request of this kind. If the queue is full, its text is too long, or there is neither room nor memory
     /// for its text, it is counted as dropped.
-    // Few streams have requests, and what reads the others is faster without this inlined.
+    // Not inlined: few streams have requests, and the code that reads other streams is then faster.
     #[inline(never)]
     fn queue(&mut self, kind: u8, size: (u16, u16), letters: &[u8], text: &[u8])
         ensures { Queues self.old (record {
@@ -94,8 +94,9 @@ impl Requests {
         }
     }
 
-    /// Queues what isn't known, where this is told: a text behind the first two intermediates.
-    // As `queue`, for most streams.
+    /// Queues a text about something that the screen doesn't know, after the first two intermediates, if such
+    /// requests are wanted.
+    // Not inlined, for the same reason as `queue`.
     #[inline(never)]
     fn queue_unknown(&mut self, kind: u8, first: Option<u8>, second: Option<u8>, text: &[u8])
         ensures { Told self.old.tells_unknown self.old (behind kind (intermediates first second) text.now) self.new }
@@ -109,7 +110,7 @@ impl Requests {
         self.count(queued);
     }
 
-    /// Queues a character that isn't known, where this is told.
+    /// Queues a character that the screen doesn't know, if such requests are wanted.
     fn queue_char(&mut self, c: char)
         ensures { Told self.old.tells_unknown self.old (of_kind 8 (encode_utf8 c)) self.new }
     {
@@ -118,7 +119,7 @@ impl Requests {
         self.queue_unknown(8, None, None, text.as_bytes());
     }
 
-    /// Queues a control sequence that isn't known, where this is told.
+    /// Queues a control sequence that the screen doesn't know, if such requests are wanted.
     #[inline(never)]
     fn queue_csi(&mut self, first: Option<u8>, second: Option<u8>, params: &[&[u16]], last: char)
         ensures { Told self.old.tells_unknown self.old
@@ -133,7 +134,7 @@ impl Requests {
         self.count(queued);
     }
 
-    /// Queues an operating system command that isn't known, where this is told.
+    /// Queues an operating system command that the screen doesn't know, if such requests are wanted.
     #[inline(never)]
     fn queue_osc(&mut self, pieces: &[&[u8]])
         ensures { Told self.old.tells_unknown self.old (of_kind 12 (specs.osc_text (map (λ p. p.now) pieces.now)))
@@ -148,8 +149,8 @@ impl Requests {
         self.count(queued);
     }
 
-    /// Queues a row that leaves for good, where this is told, however many requests wait. If an allocation fails, it is
-    /// counted as dropped.
+    /// Queues a row that leaves for good, if rows are wanted, however many requests wait. If an allocation fails, the
+    /// row is counted as dropped.
     #[inline(never)]
     fn queue_row(&mut self, contents: &RowContents<'_>, alternate: bool)
         ensures { Leaves self.old contents.now alternate self.new }
@@ -166,7 +167,7 @@ impl Requests {
         self.count(queued);
     }
 
-    /// Copies the oldest request and returns its kind, or 0 if there is none. The request is removed if its text fits.
+    /// Copies the oldest request and returns its kind, or 0 if none waits. The request is removed if its text fits.
     pub(crate) fn take(&mut self, to: &mut [u8], reported: &mut CRequest) -> i32
         ensures { Takes to.old to.new reported.new self.old result self.new }
     {
@@ -181,7 +182,7 @@ fn kind_of_row(alternate: bool) -> u8
     if alternate { 14 } else { 13 }
 }
 
-/// Queues the calls that C can receive, and rows where this is asked for, and leaves the screen as it is.
+/// Queues the calls that C can receive, and rows if they are wanted. Leaves the screen as it is.
 impl Callbacks for Requests {
     ghost use Rattle.c_objects.specs.Requests.{Receives, Leaves};
 

@@ -1,4 +1,4 @@
-//! The texts of a screen's rows, one behind the other.
+//! The texts of a screen's rows, one after the other.
 ghost use Rattle.std.specs.Prelude.{◌≡◌, IfOk, IfErr, length, map};
 ghost use Rattle.std.specs.List.{concat};
 ghost use Rattle.c_objects.specs.Codes.{IsRefusal, memory};
@@ -12,7 +12,7 @@ use crate::object::Object;
 use std::alloc::Global;
 use vt100::Rows;
 
-/// The texts of rows, one behind the other, and their lengths.
+/// The texts of rows, one after the other, and their lengths.
 #[derive(Drop)]
 struct Joined {
     text: Vec<u8>,
@@ -43,7 +43,7 @@ fn join(alloc: Global, rows: Rows<'_>) -> Result<Joined, i32>
     Ok(Joined { text, lengths })
 }
 
-/// Copies the texts of rows, one behind the other, and their lengths.
+/// Copies the texts of rows, one after the other, and their lengths.
 fn copy_rows(
     alloc: Global,
     rows: Rows<'_>,

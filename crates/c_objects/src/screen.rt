@@ -109,7 +109,7 @@ fn resize_marked_within(marked: &mut Marked, rows: u16, cols: u16, most_cells: u
     }
 }
 
-/// Gives a screen another size of so many cells at most, and drops the mark if that succeeds.
+/// Gives a screen another size of at most `most_cells` cells, and drops the mark if that succeeds.
 pub fn resize_within(object: &mut Object, rows: u16, cols: u16, most_cells: usize) -> i32
     ensures { ScreenDoes (Within most_cells rows cols (ResizesMarked rows cols)) object.old result object.new }
 {
@@ -164,7 +164,7 @@ fn tell_marked(marked: &mut Marked, unknown: bool, rows: bool) -> i32
     OK
 }
 
-/// Chooses whether a screen's queue gets what the screen doesn't know from now on, and whether it gets rows that leave
+/// Sets whether a screen's queue gets what the screen doesn't know from now on, and whether it gets rows that leave
 /// the screen for good.
 pub fn tell(object: &mut Object, unknown: bool, rows: bool) -> i32
     ensures { ScreenDoes (Tells unknown rows) object.old result object.new }

@@ -31,7 +31,7 @@ pub(crate) fn begin(draft: &mut Draft, first: Option<u8>, second: Option<u8>) ->
     }
 }
 
-/// Appends the parameters of a control sequence, as they stand in it, and its final byte.
+/// Appends the parameters of a control sequence, as written there, and its final byte.
 #[tactic(auto, using(crate::proofs::Drafts::drafted_behind))]
 pub(crate) fn push_csi(draft: &mut Draft, params: &[&[u16]], last: char)
     ensures { drafted draft.new ≡ drafted (draft.old ++ specs.csi_text (map (λ g. g.now) params.now) last) }
@@ -94,7 +94,7 @@ pub(crate) fn push_osc(draft: &mut Draft, pieces: &[&[u8]])
 pub(crate) fn left_text(alloc: Global, contents: &RowContents<'_>) -> Option<String>
     ensures { IfSome result (λ t. string_bytes t ≡ specs.left_text contents.now) }
 {
-    // The newline comes before the next row: one without columns.
+    // A capture writes the newline before the next row, so a row without columns follows.
     let Ok(next) = Row::new(alloc, 0) else {
         return None;
     };

@@ -1,4 +1,4 @@
--- What holds beside of calls from C.
+-- What else holds of calls from C.
 use Rattle.std.proofs.Common.{◌≡◌, ◌∙◌, ℕ, ℤ, List, [], ◌∷◌, ◌++◌, Option, None, refl, sym, ap, subst}
 use Rattle.std.specs.declared.io.Error.{Error}
 use Rattle.std.proofs.Common.{append_assoc}

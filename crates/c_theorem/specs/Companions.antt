@@ -1,5 +1,5 @@
--- What holds beside of calls from C: whole frames are shown wherever a view is stopped, no frame is shown in part, and
--- other clients change nothing of a session.
+-- What else holds of calls from C: whole frames are shown wherever a view is stopped, no frame is shown in part, and
+-- other clients don't affect a session.
 use Rattle.std.specs.Prelude.{◌≡◌, ℕ, ℤ, false, List, [], ◌∷◌, ◌++◌, Option, None, Some, slice_get}
 use Rattle.std.specs.List.{concat, list_any}
 use Rattle.vte.specs.Moves.{Move, Gives, Stops, given}

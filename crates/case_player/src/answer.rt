@@ -5,8 +5,8 @@ use std::fmt::{Debug, Display};
 
 /// What a step answers: some lines.
 ///
-/// There is room for 65,536 bytes before the step begins. So appending to an answer that fits takes no memory. Where
-/// memory is refused to what is appended, the step is one that memory was refused to.
+/// There is room for 65,536 bytes before the step begins. So appending to an answer that fits takes no memory. If
+/// memory is refused to an append, the step counts as refused for memory.
 #[derive(Drop)]
 pub struct Answer {
     text: String,
@@ -43,7 +43,7 @@ impl Answer {
         self.refused |= self.text.push_str(text).is_err();
     }
 
-    /// Appends what is written by `write!`.
+    /// Appends what `write!` formats.
     pub(crate) fn write_fmt<D: Display + Drop>(&mut self, value: D) {
         self.refused |= self.text.write_fmt(value).is_err();
     }
@@ -107,7 +107,7 @@ impl Answer {
         self.push("\n");
     }
 
-    /// A check inside of the step. Where it doesn't hold, these words are a line of the answer, which no case wants.
+    /// A check inside of the step. If it fails, these words are a line of the answer, which no case expects.
     pub fn check(&mut self, holds: bool, words: &str) {
         if !holds {
             self.line(words);
@@ -119,7 +119,7 @@ impl Answer {
         self.text.is_empty()
     }
 
-    /// Whether the last lines are these, behind a place and a colon.
+    /// Whether the answer ends with these lines, right after a place and a colon.
     pub fn has_told(&self, lines: &str) -> bool {
         match self.as_str().strip_suffix(lines) {
             Some(before) => before.ends_with(": "),
@@ -137,14 +137,14 @@ impl Answer {
         self.refused
     }
 
-    /// Takes everything back.
+    /// Empties the answer.
     pub fn clear(&mut self) {
         self.text.clear();
         self.refused = false;
         self.compared = 0;
     }
 
-    /// The first line that isn't compared yet. From now on it is.
+    /// The first line that isn't compared yet. From now on it counts as compared.
     pub(crate) fn next_line(&mut self) -> Option<&str> {
         let rest = self.text.as_str().get(self.compared..)?;
         if rest.is_empty() {

@@ -6,7 +6,7 @@ use unicode_width::UnicodeWidthChar;
 impl Answer {
     /// Appends bytes with escapes: as a quoted word of a step, but without its quotes.
     ///
-    /// Printable ASCII and characters from U+00A0 on stand as they are. Characters of no width are `\u{..}`, the usual
+    /// Printable ASCII and characters from U+00A0 on are as they are. Characters of no width are `\u{..}`, the usual
     /// controls `\e \n \r \t`, and a backslash and a quote have a backslash before them. All other bytes are `\xHH`.
     pub fn escaped(&mut self, bytes: &[u8]) {
         for chunk in bytes.utf8_chunks() {

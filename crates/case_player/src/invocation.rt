@@ -1,4 +1,4 @@
-//! The words of the command line.
+//! The arguments of the command line.
 
 use command_line::parse_count;
 
@@ -42,7 +42,7 @@ pub(crate) fn parse<'a>(words: &'a [&'a str]) -> Option<Invocation<'a>> {
 }
 
 impl Options {
-    // Reads an option, whose first words are these. Answers how many words it has: none if it isn't one.
+    // Reads an option that begins with these arguments. Returns how many arguments it has: 0 if it isn't an option.
     fn read(&mut self, word: &str, next: &str) -> usize {
         match word {
             "--may-refuse" => {
@@ -62,7 +62,7 @@ impl Options {
     }
 }
 
-// A word, which is `-` behind the last one.
+// The argument at an index, or `-` after the last one.
 fn word_at<'a>(words: &[&'a str], index: usize) -> &'a str {
     match words.get(index) {
         Some(word) => word,

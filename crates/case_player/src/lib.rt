@@ -1,7 +1,7 @@
 //! Plays files of cases: steps, each with the lines that it has to answer.
 //!
 //! A crate of tests has a [`Player`] that takes the steps, a program that calls [`play`] with it, and the cases in
-//! files. What a file looks like is told in this crate's README.
+//! files. This crate's README describes the format of a file.
 #![tactic(auto)]
 
 mod answer;

@@ -9,7 +9,7 @@ pub(crate) enum Line<'a> {
     Case(&'a str),
     /// A line that the step before it has to answer.
     Wanted(&'a str),
-    /// A step: a name, and the words behind it.
+    /// A step: a name, and the words after it.
     Step(&'a str, &'a str),
 }
 

@@ -12,9 +12,9 @@ pub trait Player {
     /// Begins a case of a file in this folder: what earlier ones left is gone.
     fn begin(&mut self, folder: &str);
 
-    /// Takes a step, and appends to the answer a line for each thing that it answers.
+    /// Takes a step, and appends the lines that it answers.
     ///
-    /// The words are those behind the step's name. All of them have to be taken.
+    /// The words are those after the step's name. All of them have to be taken.
     fn take(&mut self, name: &str, words: &Words, answer: &mut Answer) -> Result<(), StepError>;
 }
 

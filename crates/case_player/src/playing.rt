@@ -38,7 +38,7 @@ pub(crate) struct Play {
     pub steps: usize,
     /// How many lines aren't as wanted.
     pub faults: usize,
-    /// What isn't told yet.
+    /// What isn't reported yet.
     pub report: Answer,
 }
 
@@ -98,13 +98,13 @@ impl Play {
         }
     }
 
-    // Tells what isn't as wanted.
+    // Reports what isn't as wanted.
     fn fault(&mut self, place: &Place<'_>, fault: Fault<'_>) {
         self.faults = self.faults.saturating_add(1);
         push_fault(&mut self.report, place, fault);
     }
 
-    // The case that begins is played, unless another one alone is.
+    // Begins a case. It is played, unless the options name another case.
     fn begin<P: Player>(&mut self, player: &mut P, place: &Place<'_>) {
         self.begun = self.begun.saturating_add(1);
         self.stage = Stage::Passed;
@@ -143,7 +143,7 @@ impl Play {
         }
     }
 
-    // The next line of the answer is to be this one.
+    // Compares the next line of the answer with this one.
     fn compare(&mut self, place: &Place<'_>, wanted: &str) {
         match self.stage {
             Stage::Outside | Stage::Begun => self.fault(place, Fault::Stray),
@@ -152,7 +152,7 @@ impl Play {
         }
     }
 
-    // Nothing more of the step before is wanted.
+    // Ends the step before: no further line of its answer is wanted.
     fn end_step(&mut self, place: &Place<'_>) {
         if let Stage::Answered = self.stage {
             self.compare_next(place, None);
@@ -189,7 +189,7 @@ impl Play {
         self.outcome(outcome)
     }
 
-    // What a step's outcome is, when its words and its answer are looked at too.
+    // The outcome of a step, in view of its words and its answer too.
     fn outcome(&self, outcome: Result<(), StepError>) -> Result<(), StepError> {
         match self.words.error() {
             Some(error) => Err(error),
@@ -201,7 +201,7 @@ impl Play {
     }
 }
 
-// Whether the next line isn't as wanted.
+// The fault of the next line, if it isn't as wanted.
 fn fault_of<'a>(answered: Option<&'a str>, wanted: Option<&'a str>) -> Option<Fault<'a>> {
     match (answered, wanted) {
         (None, None) => None,
@@ -212,7 +212,7 @@ fn fault_of<'a>(answered: Option<&'a str>, wanted: Option<&'a str>) -> Option<Fa
     }
 }
 
-// The name of the folder that a file lies in, if its path says it.
+// The name of the folder that a file is in, or an empty text if its path has none.
 fn folder_of(path: &str) -> &str {
     let Some((folder, _)) = path.rsplit_once('/') else {
         return "";

@@ -1,4 +1,4 @@
-//! The words of a line are read: bare ones, and quoted ones with their escapes.
+//! Reads the words of a line: bare ones, and quoted ones with their escapes.
 
 use crate::words::{Word, Words};
 
@@ -6,7 +6,7 @@ const ESCAPES: &str =
     "one of the escapes \\e \\n \\r \\t \\\\ \\\" \\xHH \\u{H..} behind a backslash";
 
 impl Words {
-    /// Reads the words of a line in place of those that there were. What isn't a word is a fault of the step.
+    /// Replaces the words by those of a line. What isn't a word is a fault of the step.
     pub(crate) fn read(&mut self, line: &str) {
         self.clear();
         let mut at = 0;
@@ -17,7 +17,7 @@ impl Words {
         }
     }
 
-    // Reads the word that begins there. Answers where the next one does.
+    // Reads the word that begins there. Returns where the next one begins.
     fn read_word(&mut self, line: &str, at: usize) -> usize {
         let start = self.length();
         let is_bare = byte_at(line, at).unwrap_or(0) != b'"';
@@ -41,7 +41,7 @@ impl Words {
         at.saturating_add(word.len())
     }
 
-    // Reads the bytes of a quoted word, behind its first quote.
+    // Reads the bytes of a quoted word, after its first quote.
     fn read_quoted(&mut self, line: &str, first: usize) -> usize {
         let mut at = first;
         for _ in 0..line.len() {
@@ -66,7 +66,7 @@ impl Words {
         at.saturating_add(1)
     }
 
-    // Reads an escape behind its backslash.
+    // Reads an escape after its backslash.
     fn read_escape(&mut self, line: &str, at: usize) -> usize {
         match byte_at(line, at) {
             Some(b'x') => self.read_byte(line, at.saturating_add(1)),

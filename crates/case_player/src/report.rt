@@ -1,4 +1,4 @@
-//! What is told of lines that aren't as wanted.
+//! Reports of lines that aren't as wanted.
 
 use crate::answer::Answer;
 use crate::player::StepError;
@@ -12,7 +12,7 @@ pub(crate) struct Place<'a> {
     pub line: usize,
     /// The case's title.
     pub title: &'a str,
-    /// The step: its name, and the words behind it.
+    /// The step: its name, and the words after it.
     pub step: (&'a str, &'a str),
 }
 
@@ -58,7 +58,7 @@ pub(crate) enum Fault<'a> {
     Unwanted(&'a str),
     /// The step isn't done.
     Step(StepError),
-    /// A step or a wanted line has nothing before it that it belongs to.
+    /// A step without a case before it, or a wanted line without a step before it.
     Stray,
 }
 

@@ -15,15 +15,15 @@ const NO_MEMORY: u8 = 3;
 
 const USAGE_LINE: &[u8] = b"usage: [--may-refuse] [--list] [--case N] FILE..\n";
 
-/// A player's program: plays the cases of the files that the process's words name, and answers the exit status.
+/// A player's program: plays the cases of the files that the process's arguments name, and returns the exit status.
 ///
-/// The words are `[--may-refuse] [--list] [--case N] FILE..`. With `--may-refuse` a step that memory was refused to is
-/// taken once more, and a case may end where what it works on has failed. With `--case N` the Nth case alone is played.
-/// With `--list` the cases are listed, and none is played.
+/// The arguments are `[--may-refuse] [--list] [--case N] FILE..`. With `--may-refuse` a step that memory was refused to
+/// is taken once more, and a case may end where what it works on has failed. With `--case N` the Nth case alone is
+/// played. With `--list` the cases are listed, and not played.
 ///
-/// Each line that isn't as wanted is told on the output, with its file, its number, its case and its step. The last
+/// Each line that isn't as wanted is reported on the output, with its file, its number, its case and its step. The last
 /// line says how many cases and steps were played, and whether all of them were as wanted. The status is 0 if they
-/// were, 1 if they weren't or none was played, and 2 where the words aren't understood or a file can't be read. Where
+/// were, 1 if they weren't or no case was played, and 2 if the arguments aren't understood or a file can't be read. If
 /// memory is refused outside of a step it is 3.
 pub fn play<P: Player + Drop>(rt: &HostRuntime, player: P) -> ExitCode {
     run(
@@ -81,13 +81,13 @@ fn play_files<F: Files, P: Player, W: ByteSink>(
     status_of(play)
 }
 
-// Writes what isn't told yet.
+// Writes what isn't reported yet.
 fn tell<W: ByteSink>(play: &mut Play, output: &mut W) {
     report(output, play.report.as_str().as_bytes());
     play.report.clear();
 }
 
-// Plays a file. Answers 0, or the status that the program ends with.
+// Plays a file. Returns 0, or the status that the program ends with.
 fn play_file<F: Files, P: Player>(play: &mut Play, files: &F, player: &mut P, name: &str) -> u8 {
     match files.read(name) {
         Ok(bytes) => play_bytes(play, player, name, &bytes),

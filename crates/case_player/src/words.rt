@@ -15,15 +15,15 @@ pub(crate) struct Word {
     pub start: usize,
     /// Where it ends there.
     pub end: usize,
-    /// Whether it stands without quotes.
+    /// Whether it has no quotes.
     pub is_bare: bool,
 }
 
 /// The words of a step, of which some are taken.
 ///
-/// A word is bare, as `3` or `full`, or it is quoted. Where the next word isn't the one that is wanted, 0 or an empty
-/// text is taken in its place, and the step counts as one that another word was wanted of. So a step reads its words
-/// and looks at none of these faults.
+/// A word is bare, as `3` or `full`, or it is quoted. If the next word isn't the wanted one, 0 or an empty text is
+/// taken in its place, and the step counts as not done, since another word is wanted. So a step reads its words
+/// without checking for these faults.
 #[derive(Drop)]
 pub struct Words {
     // The bytes of all words, with their escapes resolved.
@@ -46,7 +46,7 @@ impl Words {
         })
     }
 
-    /// All words are gone.
+    /// Removes all words.
     pub(crate) fn clear(&mut self) {
         self.bytes.clear();
         self.words.clear();
@@ -78,19 +78,19 @@ impl Words {
         self.taken.get() >= self.words.len()
     }
 
-    /// The step isn't done, for this reason.
+    /// Notes that the step isn't done, for this reason.
     pub fn fail(&self, error: StepError) {
         if self.error.get().is_none() {
             self.error.set(Some(error));
         }
     }
 
-    /// Another word is wanted: this one.
+    /// Notes that a word of this kind is wanted instead.
     pub fn want(&self, wanted: &'static str) {
         self.fail(StepError::Word(wanted));
     }
 
-    /// What a word names. If it names nothing, another word is wanted, and this default is taken.
+    /// What a word names. If it names nothing, this notes that another word is wanted, and returns the default.
     pub fn named<T: Copy>(&self, found: Option<T>, wanted: &'static str, default: T) -> T {
         match found {
             Some(value) => value,
@@ -101,8 +101,8 @@ impl Words {
         }
     }
 
-    /// Takes a bare word that is a name in a table, and answers its value. Any other word isn't the one that is wanted,
-    /// and this default is taken.
+    /// Takes a bare word that is a name in a table, and returns its value. For any other word it notes the fault, and
+    /// returns the default.
     pub fn one_of<T: Copy>(&self, table: &[(&str, T)], wanted: &'static str, default: T) -> T {
         self.named(value_of(table, self.word()), wanted, default)
     }
@@ -152,7 +152,7 @@ impl Words {
         self.named(text, "text in UTF-8", "")
     }
 
-    // Takes a word. Answers it, and whether it is bare.
+    // Takes a word. Returns it, and whether it is bare.
     fn next(&self, wanted: &'static str) -> (&[u8], bool) {
         let taken = self.taken.get();
         let Some(word) = self.words.get(taken) else {
@@ -175,7 +175,7 @@ impl Words {
     }
 }
 
-/// The value that a name has in a table, if it stands there.
+/// The value that a name has in a table, if it is in there.
 pub fn value_of<T: Copy>(table: &[(&str, T)], name: &str) -> Option<T> {
     for (known, value) in table {
         if *known == name {

@@ -31,13 +31,13 @@ impl Input {
         }
     }
 
-    /// From here on these bytes are the whole input.
+    /// Makes these bytes the whole input.
     pub fn set(&mut self, bytes: Vec<u8>) -> Result<(), AllocError> {
         self.pieces.clear();
         self.push(Piece::Bytes(bytes))
     }
 
-    /// Puts bytes behind the input. A read may give them together with the bytes before them.
+    /// Appends bytes to the input. A read may give them together with the bytes before them.
     pub fn extend(&mut self, bytes: Vec<u8>) -> Result<(), AllocError> {
         if let Some(Piece::Bytes(last)) = self.pieces.last_mut() {
             return last.extend_from_slice(&bytes);
@@ -45,7 +45,7 @@ impl Input {
         self.push(Piece::Bytes(bytes))
     }
 
-    /// Puts a piece behind the input.
+    /// Appends a piece to the input.
     pub fn push(&mut self, piece: Piece) -> Result<(), AllocError> {
         self.pieces.push(piece)?;
         Ok(())
@@ -62,12 +62,12 @@ impl Input {
     }
 }
 
-/// A reader of an input. A read gives bytes of one piece, and none behind the last one.
+/// A reader of an input. A read gives bytes of one piece, and none after the last one.
 #[derive(Drop)]
 pub struct InputReader<'a> {
     // What is left of the piece that was begun.
     left: &'a [u8],
-    // The pieces behind it.
+    // The pieces after it.
     pieces: &'a [Piece],
     most: usize,
     /// How many reads were made, also those that failed and those at the end.

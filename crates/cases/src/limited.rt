@@ -4,8 +4,8 @@ use std::alloc::{AllocError, Global};
 use std::io;
 use std::io::{ErrorKind, Write};
 
-/// A writer that keeps the bytes it takes, so many a write. Once it has taken `room` bytes, each write of more fails, or
-/// takes nothing.
+/// A writer that keeps the bytes it takes, at most `step` a write. Once it has taken `room` bytes, each write of more
+/// fails, or takes nothing.
 #[derive(Drop)]
 pub struct LimitedWriter {
     /// The bytes that it took.
@@ -14,7 +14,7 @@ pub struct LimitedWriter {
     pub room: usize,
     /// How many bytes it takes at most in one write.
     pub step: usize,
-    /// What a write is answered then, or none where it takes nothing.
+    /// The error of a write then, or none if it takes nothing.
     pub fault: Option<ErrorKind>,
     /// Whether a flush succeeds. If not, it fails with `BrokenPipe`.
     pub flushes: bool,
@@ -23,7 +23,7 @@ pub struct LimitedWriter {
 }
 
 impl LimitedWriter {
-    /// A writer that takes so many bytes, and fails then. It has no memory yet.
+    /// A writer that takes `room` bytes, and fails then. It has no memory yet.
     pub fn new(alloc: Global, room: usize) -> LimitedWriter {
         LimitedWriter {
             kept: Vec::new(alloc),

@@ -1,6 +1,6 @@
 //! Plays the cases: files of steps, each with the lines that it has to answer.
 //!
-//! The words are `[--may-refuse] [--list] [--case N] FILE..`. The folder that a file lies in says what its cases are
+//! The arguments are `[--may-refuse] [--list] [--case N] FILE..`. The folder that a file is in says what its cases are
 //! about. `library_steps` has the steps of the libraries' cases, and this crate those of relays and programs.
 #![tactic(auto)]
 

@@ -1,4 +1,4 @@
-//! Cases of hubs with their clients, of views, and of what these stand on: a parser, readers, and values with their texts.
+//! Cases of hubs with their clients, of views, and of what these use: a parser, readers, and values with their texts.
 
 mod asks;
 mod at_once;

@@ -16,7 +16,7 @@ enum Subject {
     Commands,
 }
 
-/// What cases are about by their folders. Those of any other folder are about streams.
+/// What cases are about, by their folders. Those of any other folder are about streams.
 const SUBJECTS: &[(&str, Subject)] = &[
     ("grids", Subject::Grids),
     ("screens", Subject::Screens),

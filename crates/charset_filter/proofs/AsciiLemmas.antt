@@ -37,7 +37,7 @@ record IsAscii (d : Designations) : Type 0 where
 ascii-ascii : IsAscii ascii
 ascii-ascii = record { g0 = refl; g1 = refl; g2 = refl; g3 = refl }
 
--- of a single shift it says nothing
+-- it says nothing of a single shift
 abbrev IsAny : Option CharsetIndex → Type 0
 IsAny o = o ≡ o
 
@@ -162,7 +162,7 @@ text-given u s b a =
       | inr e ↦ undrawn-given u s b e
     ]
 
--- where nothing stands behind its events
+-- if no bytes are behind its events
 byte-given : (q : Pending) (s : CharacterSets) (b : ℕ) → AreAscii s → last_behind s [] (events_of_byte 0 q b) ≡ []
     → given_for q s b ≡ b ∷ []
 byte-given (InText u) s b a none = text-given u s b a

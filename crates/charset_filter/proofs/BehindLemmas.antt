@@ -1,4 +1,4 @@
--- What is appended behind an event, part by part.
+-- The bytes behind an event, appended part by part.
 use Rattle.std.proofs.Common.{◌≡◌, ℕ, ◌+◌, ◌≤◌, Bool, true, false, ◌||◌, List, [], ◌∷◌, ◌++◌, length}
 use Rattle.std.proofs.Common.{length-append, append_assoc, append-nil, ◌⊎◌, inl, inr, arith, refl, sym, ◌∙◌, ap, subst}
 use Rattle.std.proofs.Common.{codes, ◌&&◌, ◌==◌}
@@ -10,7 +10,7 @@ use Rattle.charset_filter.specs.Behind.{are_parts, as_known, is_color, is_known,
 use Rattle.charset_filter.specs.Groups.{first_text, has_some}
 use Rattle.charset_filter.specs.Room.{Appends}
 
--- a part is appended of what is left
+-- a part of what is left is appended
 pub goes-on : (whole items part left new : List ℕ) → length whole ≤ 252 → items ++ (part ++ left) ≡ whole
     → Appends items part new → new ++ left ≡ whole
 goes-on whole items part left new short is done =
@@ -28,7 +28,7 @@ all-done old part new h short = sym (append-nil new) ∙ h (omega (arith, length
 abbrev pub later : List (List ℕ) → List ℕ
 later gs = flat_map (λ y. codes ";" ++ group_text y) gs
 
--- what is left of an SGR where these groups are left, behind others or as the first ones
+-- what is left of an SGR if these groups are left, after others or as the first ones
 abbrev pub rest_of : Bool → List (List ℕ) → List ℕ
 rest_of true gs = later gs ++ codes "m"
 rest_of false gs = sgr gs

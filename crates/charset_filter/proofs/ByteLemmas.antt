@@ -207,7 +207,7 @@ state_after-silent q s b h none = as-it-is q s b
     (silent-given q s b [] h (unmarked-last s (events_of_byte 0 q b) (none 0)))
     (λ n. silent-events s (events_of_byte n q b) (silent-byte n q b h) (none n))
 
--- the byte ends a sequence, and something may stand behind its event
+-- the byte ends a sequence, and bytes may be behind its event
 state_after-ends : (q : Pending) (s : CharacterSets) (b : ℕ) (e : Event) → is_text q ≡ false → shown s e ≡ e
     → Grounded (behind s e) → Ends q b e → Represents q s b
 state_after-ends q s b e h same grounded ends n =
@@ -282,7 +282,7 @@ sets-alike n m (InHook x) s b = refl
 sets-alike n m InDevice s b = refl
 sets-alike n m InSwallowed s b = refl
 
--- nor to what stands behind the last event
+-- nor to the bytes behind the last event
 pub last-alike : (n m : ℕ) (q : Pending) (s : CharacterSets) (b : ℕ)
     → last_behind s [] (events_of_byte n q b) ≡ last_behind s [] (events_of_byte m q b)
 last-alike n m (InText []) s b = refl

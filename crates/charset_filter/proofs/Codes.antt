@@ -1,4 +1,4 @@
--- Characters of several bytes lie above ASCII.
+-- Characters of several bytes are above ASCII.
 use Rattle.std.proofs.Common.{◌≡◌, ℕ, ◌+◌, ◌-◌, ◌*◌, ◌≤◌, true, List, [], ◌∷◌, ◌++◌}
 use Rattle.std.proofs.Common.{length, sym, arith}
 use Rattle.std.proofs.lemmas.Bool.Decides.{nat_tests}

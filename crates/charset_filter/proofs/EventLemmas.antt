@@ -53,7 +53,7 @@ both : (x y : Bool) → (not x && y) ≡ true → (x ≡ false) × (y ≡ true)
 both true y h = absurd (let no : false ≡ true = h in cc)
 both false y h = (refl, h)
 
--- nothing stands behind it, whatever the sets are
+-- if this is false, an event has no bytes behind it, whatever the sets are
 abbrev pub is_marked : Event → Bool
 is_marked (Csi ps is many f) = true
 is_marked (Esc is many f) = true

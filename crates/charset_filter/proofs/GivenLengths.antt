@@ -54,7 +54,7 @@ byte-short (InHook h) s b = outside-short (InHook h) s b refl
 byte-short InDevice s b = outside-short InDevice s b refl
 byte-short InSwallowed s b = outside-short InSwallowed s b refl
 
--- ---- what a sequence has that is pending, as far as it counts
+-- ---- the length of a pending sequence, as far as it counts
 
 abbrev pub weight : Pending → ℕ
 weight (InText u) = 0

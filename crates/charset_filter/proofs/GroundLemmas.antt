@@ -1,4 +1,4 @@
--- What stands behind an event begins and ends in ground text.
+-- The bytes behind an event begin and end in ground text.
 use Rattle.std.proofs.Common.{◌≡◌, ℕ, ◌<◌, ◌≤◌, Bool, true, false, ◌&&◌, ◌==◌, List, [], ◌∷◌, ◌++◌}
 use Rattle.std.proofs.Common.{if◌then◌else◌, refl, sym, ◌∙◌, ap, arith, append-nil, append_assoc, codes, decimal}
 use Rattle.std.proofs.lemmas.Bool.Decides.{nat_tests}

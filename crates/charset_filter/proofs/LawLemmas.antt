@@ -47,7 +47,7 @@ given_from-append q s (x ∷ xs) ys =
     ∙ ap (λ (v : CharacterSets). (given_for q s x ++ given_from r t xs) ++ given_from (after_bytes r xs) v ys)
     (sym (after_events-append s (events_of_byte 0 q x) (events_from 0 r xs))))
 
--- the sets behind a past and what follows it
+-- the sets after a past and the bytes that follow it
 pub sets-past : (past bs : List ℕ)
     → sets_of (past ++ bs) ≡ after_events (sets_of past) (events_from 0 (pending past) bs)
 sets-past past bs =

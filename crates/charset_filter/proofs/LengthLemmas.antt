@@ -1,4 +1,4 @@
--- How many bytes stand behind an event.
+-- How many bytes are behind an event.
 use Rattle.std.proofs.Common.{◌≡◌, ℕ, suc, ◌+◌, ◌*◌, ◌<◌, ◌≤◌, min, max, Bool, true, false, ◌&&◌, ◌==◌}
 use Rattle.std.proofs.Common.{List, [], ◌∷◌, ◌++◌, length, length-append, if◌then◌else◌}
 use Rattle.std.proofs.Common.{inl, inr, arith, codes, decimal}
@@ -15,7 +15,7 @@ use Rattle.charset_filter.specs.Behind.{marked_behind, modes_behind, plain_behin
 use Rattle.charset_filter.specs.declared.sets.CharacterSets.{CharacterSets}
 use Rattle.charset_filter.proofs.NumberLemmas.{AreSmall, IsSmall, kept-few, kept-small}
 
--- at most so many bytes
+-- at most this many bytes
 abbrev pub AtMost : ℕ → List ℕ → Type 0
 AtMost k bs = length bs ≤ k
 

@@ -20,7 +20,7 @@ concat-drawn past [] = refl
 concat-drawn past (p ∷ ps) =
     ap (λ (xs : List ℕ). given_after past p ++ xs) (concat-drawn (past ++ p) ps) ∙ sym (given-past past p (concat ps))
 
--- what holds where nothing was read holds where nothing has passed
+-- what holds if nothing was read holds if nothing has passed
 pub none-passed : (lines : LineDrawing) (P : List (List ℕ) → Type 0) → P [] → P (all_passed lines [])
 none-passed Kept P p = p
 none-passed Drawn P p = p

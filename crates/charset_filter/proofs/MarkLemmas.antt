@@ -1,4 +1,4 @@
--- Which bytes have an event behind which something may stand.
+-- Which bytes have an event that may have bytes behind it.
 use Rattle.std.proofs.Common.{◌≡◌, ℕ, ◌+◌, Bool, true, false, ◌&&◌, ◌||◌, List, [], ◌∷◌, ◌++◌, length, take}
 use Rattle.std.proofs.Common.{nat_lt, ◌==◌}
 use Rattle.std.proofs.Common.{◌⊎◌, refl, inl, inr}

@@ -114,7 +114,7 @@ kept-few h =
     let is = total-first 32 (groups h) in
     (omega (arith, is), omega (arith, is, total-groups h))
 
--- ---- where no number is a subparameter, each group is known
+-- ---- if no number is a subparameter, each group is known
 
 abbrev IsLone : List ℕ → Type 0
 IsLone h = AllByRecursion (λ b. (b == 0x3A) ≡ false) h

@@ -232,7 +232,7 @@ replaced-some (n ∷ k ∷ a ∷ b ∷ c ∷ d ∷ e ∷ gs) = tt
 known-some : (g : List ℕ) → 0 < length g → AreSome (as_known g)
 known-some g h = either-some (is_known g) (g ∷ []) (replaced g) (h, tt) (replaced-some g)
 
--- no more numbers than before
+-- at most k numbers in all
 abbrev AtMost : ℕ → List (List ℕ) → Type 0
 AtMost k gs = total gs ≤ k
 

@@ -108,7 +108,7 @@ steady-events s (e ∷ es) h k =
     let p = both (is_quiet e) (are_quiet es) h in
     steady-events (after_event s e) es p.1 (steady-event s e p.0 k)
 
--- the events of a byte that is neither SO nor SI, where no escape is pending
+-- the events of a byte that is neither SO nor SI, if no escape is pending
 
 abbrev Quiet : List Event → Type 0
 Quiet es = are_quiet es ≡ true
@@ -207,7 +207,7 @@ steady-given (InHook x) s b k o = other-given (InHook x) s b refl refl
 steady-given InDevice s b k o = other-given InDevice s b refl refl
 steady-given InSwallowed s b k o = other-given InSwallowed s b refl refl
 
--- ---- the end of a control sequence behind which nothing stands
+-- ---- the end of a control sequence without bytes behind it
 
 abbrev IsEmpty : List ℕ → Type 0
 IsEmpty bs = bs ≡ []

@@ -1,4 +1,4 @@
--- What stands behind an event: bytes that have a screen do what a terminal does at it, where `vt100` doesn't know it.
+-- The bytes behind an event. They make a screen do what a terminal does at the event, if `vt100` doesn't know it.
 use Rattle.std.specs.Prelude.{ℕ, Bool, true, false, List, [], ◌∷◌, ◌++◌, ◌==◌, ◌&&◌, ◌||◌, if◌then◌else◌, codes, nat_lt}
 use Rattle.std.specs.Int.{is_in_range}
 use Rattle.std.specs.List.{flat_map, list_all}
@@ -24,7 +24,7 @@ restore = esc (codes "8")
 
 -- ---- SGR
 
--- 38 sets the characters' colour, 48 that behind them
+-- 38 sets the foreground colour, 48 the background colour
 abbrev pub is_color : ℕ → Bool
 is_color n = n == 38 || n == 48
 
@@ -39,8 +39,8 @@ is_known group = false
 abbrev pub are_parts : ℕ → ℕ → ℕ → Bool
 are_parts red green blue = nat_lt red 256 && (nat_lt green 256 && nat_lt blue 256)
 
--- A group in place of one that it doesn't read: a kind of underline is an underline, kind 0 is none, and a colour loses
--- the name of its colour space. For any other there is none.
+-- The group in place of one that `vt100` doesn't read. A kind of underline becomes an underline, kind 0 becomes no
+-- underline, and a colour loses the name of its colour space. For any other group there isn't one.
 abbrev pub replaced : List ℕ → List (List ℕ)
 replaced (n ∷ k ∷ []) =
     if n == 4 && k == 0 then (24 ∷ []) ∷ [] else (if n == 4 && is_in_range 1 5 k then (4 ∷ []) ∷ [] else [])
@@ -51,13 +51,13 @@ replaced group = []
 abbrev pub as_known : List ℕ → List (List ℕ)
 as_known group = if is_known group then group ∷ [] else replaced group
 
--- SGR with these groups; where there are none, nothing: SGR without a group would reset all
+-- SGR with these groups; if there are no groups, no bytes: SGR without a group would reset all
 abbrev pub sgr : List (List ℕ) → List ℕ
 sgr [] = []
 sgr (group ∷ groups) = csi (groups_text (group ∷ groups) ++ codes "m")
 
--- All groups once more, since a later one may undo an earlier one. Each sets what it names, and asks nothing of what is
--- set, so a group that counts twice does what it does once.
+-- All groups once more, since a later one may undo an earlier one. Each sets what it names, whatever was set before, so
+-- a group that is read twice does what it does once.
 abbrev pub sgr_behind : List (List ℕ) → List ℕ
 sgr_behind groups = if list_all is_known groups then [] else sgr (flat_map as_known groups)
 
@@ -88,7 +88,7 @@ abbrev pub soft_reset : List ℕ
 soft_reset = csi (codes "m") ++ (csi (codes "?25h") ++ (csi (codes "?1l") ++ (esc (codes ">")
     ++ (save ++ (csi (codes "r") ++ restore)))))
 
--- without intermediates: SGR, where no number was dropped; DECSTBM, which homes the cursor; SCOSC and SCORC
+-- without intermediates: SGR, if no number was dropped; DECSTBM, which homes the cursor; SCOSC and SCORC
 abbrev pub plain_behind : List (List ℕ) → Bool → ℕ → List ℕ
 plain_behind groups many f =
     if f == 0x6D then (if many then [] else sgr_behind groups)
@@ -96,7 +96,7 @@ plain_behind groups many f =
     else (if is_bare groups && f == 0x73 then save
     else (if is_bare groups && f == 0x75 then restore else [])))
 
--- with one: DECSTR, DECSET, DECRST
+-- with one intermediate: DECSTR, DECSET, DECRST
 abbrev pub marked_behind : CharacterSets → List (List ℕ) → ℕ → ℕ → List ℕ
 marked_behind s groups i f =
     if i == 0x21 && f == 0x70 then soft_reset
@@ -110,19 +110,19 @@ csi_behind s groups is many f = []
 
 -- ---- events
 
--- what stands behind an event, with the sets before it
+-- the bytes behind an event, by the sets before it
 abbrev pub behind : CharacterSets → Event → List ℕ
 behind s (Csi groups is many f) = csi_behind s groups is many f
 behind s (Esc is many f) = escape_behind is f
 behind s e = []
 
--- Each event as it is shown, and behind it the events of what stands there. None of these is an operating system
+-- Each event as it is shown, and after it the events of the bytes behind it. None of these is an operating system
 -- command, so it makes no difference how much of one a parser keeps.
 abbrev pub drawn_events : CharacterSets → List Event → List Event
 drawn_events s [] = []
 drawn_events s (e ∷ es) = shown s e ∷ (events 0 (behind s e) ++ drawn_events (after_event s e) es)
 
--- all that stands behind events
+-- all bytes behind events
 abbrev pub all_behind : CharacterSets → List Event → List ℕ
 all_behind s [] = []
 all_behind s (e ∷ es) = behind s e ++ all_behind (after_event s e) es

@@ -14,7 +14,7 @@ use Rattle.charset_filter.specs.declared.sets.CharacterSets.{CharacterSets}
 abbrev pub is_drawable : ℕ → Bool
 is_drawable b = is_in_range 0x5F 0x7E b
 
--- what is drawn of the last character that the events print; where they print none, as before
+-- what is drawn of the last character that the events print; if they print no character, as before
 abbrev pub drawn_by : CharacterSets → Option ℕ → Event → Option ℕ
 drawn_by s d (Print c) = Some (mapped (drawing_set s) c)
 drawn_by s d e = d
@@ -27,16 +27,16 @@ abbrev pub drawn_or : ℕ → Option ℕ → List ℕ
 drawn_or b None = b ∷ []
 drawn_or b (Some c) = encode_utf8 c
 
--- the byte, or in its place what is drawn of the character that it prints, where the line drawing set may have another
+-- the byte, or in its place what is drawn of the character that it prints, if the line drawing set may have another
 abbrev pub given_byte : ℕ → Option ℕ → List ℕ
 given_byte b drawn = if is_drawable b then drawn_or b drawn else b ∷ []
 
--- what stands behind the last of the events; where there are none, as before
+-- the bytes behind the last of the events; if there are no events, as before
 abbrev pub last_behind : CharacterSets → List ℕ → List Event → List ℕ
 last_behind s bytes [] = bytes
 last_behind s bytes (e ∷ es) = last_behind (after_event s e) (behind s e) es
 
--- Only the last event of a byte can have something behind it.
+-- Only the last event of a byte can have bytes behind it.
 abbrev pub given_for : Pending → CharacterSets → ℕ → List ℕ
 given_for q s b =
     let es = events_of_byte 0 q b in given_byte b (last_drawn s None es) ++ last_behind s [] es
@@ -49,7 +49,7 @@ given_from q s (b ∷ bs) = given_for q s b ++ given_from (after_byte q b) (afte
 abbrev pub sets_of : List ℕ → CharacterSets
 sets_of bs = after_events first_sets (events 0 bs)
 
--- what bytes add behind a past
+-- what bytes add after a past
 abbrev pub given_after : List ℕ → List ℕ → List ℕ
 given_after past bs = given_from (pending past) (sets_of past) bs
 

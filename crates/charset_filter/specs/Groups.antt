@@ -6,11 +6,11 @@ abbrev pub has_some : List (List ℕ) → Bool
 has_some [] = false
 has_some (g ∷ gs) = true
 
--- what stands before a group: others, or none
+-- the bytes before a group: `;` after other groups, else the start of the sequence
 abbrev pub lead : Bool → List ℕ
 lead some = if some then codes ";" else 0x1B ∷ codes "["
 
--- the text of the first group, if there is one, behind others or as the first of an SGR
+-- the text of the first group, if there is one, after others or as the first of an SGR
 abbrev pub first_text : Bool → List (List ℕ) → List ℕ
 first_text some [] = []
 first_text some (g ∷ gs) = lead some ++ group_text g

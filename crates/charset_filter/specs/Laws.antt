@@ -10,8 +10,8 @@ use Rattle.charset_filter.specs.Sets.{first_sets}
 use Rattle.charset_filter.specs.declared.sets.CharacterSets.{CharacterSets}
 
 -- The events of what is given are the events of what was read, each printed character as the events before it have it
--- drawn, and behind each event those of what stands there. A parser may keep any number n of bytes of an operating
--- system command.
+-- drawn. After each event come the events of the bytes behind it. A parser may keep any number n of bytes of an
+-- operating system command.
 abbrev pub DrawsEvents : Type 0
 DrawsEvents = (n : ℕ) (bs : List ℕ) → events n (filtered bs) ≡ drawn_events first_sets (events n bs)
 
@@ -28,7 +28,7 @@ abbrev pub names_none : List Event → Bool
 names_none [] = true
 names_none (e ∷ es) = not (names_lines e) && names_none es
 
--- a stream that never designates the line drawing set, and with nothing behind its events, is given as it is
+-- a stream that never designates the line drawing set, and has no bytes behind its events, is given as it is
 abbrev pub KeepsAscii : Type 0
 KeepsAscii = (n : ℕ) (bs : List ℕ) → names_none (events n bs) ≡ true → all_behind first_sets (events n bs) ≡ []
     → filtered bs ≡ bs
@@ -47,7 +47,7 @@ abbrev pub sgr_events : List (List ℕ) → List Event
 sgr_events [] = []
 sgr_events groups = Csi groups [] false 0x6D ∷ []
 
--- behind SGR with a group that isn't known stands one SGR, whose groups are those that are known in their place
+-- the bytes behind an SGR with a group that isn't known are one SGR, with the groups that are known in their place
 abbrev pub StandsAsKnown : Type 0
 StandsAsKnown = (n : ℕ) (s : CharacterSets) (groups : List (List ℕ)) → AreGroups groups
     → list_all is_known groups ≡ false

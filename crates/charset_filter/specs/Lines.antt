@@ -35,10 +35,10 @@ abbrev pub given_where : LineDrawing → List ℕ → List ℕ → List ℕ
 given_where Kept drawn piece = piece
 given_where Drawn drawn piece = drawn
 
--- what a filter answers for the piece that passed last
+-- what a filter returns for the piece that passed last
 abbrev pub piece_of : PieceFilter → List ℕ → List ℕ
 piece_of filter piece = given_where filter.lines filter.drawn.items piece
 
--- how many bytes a piece may give without memory being asked for
+-- how many bytes a piece may give without an allocation
 abbrev pub room_of : PieceFilter → ℕ
 room_of filter = vec_capacity filter.drawn

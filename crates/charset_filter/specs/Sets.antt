@@ -69,7 +69,7 @@ showing alternate s = record s { alternate = alternate }
 abbrev pub reset_softly : CharacterSets → CharacterSets
 reset_softly s = saved (record s { current = ascii; single = None })
 
--- the set that a final byte names behind one intermediate; behind more it names none that draws lines
+-- the set that a final byte names after one intermediate; after more than one it never names the line drawing set
 abbrev pub set_of : List ℕ → ℕ → StandardCharset
 set_of [] f = if f == 0x30 then SpecialCharacterAndLineDrawing else Ascii
 set_of (i ∷ is) f = Ascii
@@ -118,7 +118,7 @@ abbrev pub is_bare : List (List ℕ) → Bool
 is_bare ((n ∷ []) ∷ []) = n == 0
 is_bare groups = false
 
--- one without intermediates: SCOSC and SCORC, where it has no parameter
+-- one without intermediates: SCOSC and SCORC, if it has no parameter
 abbrev pub after_plain_sequence : CharacterSets → Bool → ℕ → CharacterSets
 after_plain_sequence s bare f =
     if bare && f == 0x73 then saved s else (if bare && f == 0x75 then restored s else s)

@@ -1,4 +1,4 @@
--- Runs in which no set can change, and behind which nothing stands.
+-- Runs in which no set can change, and without bytes behind their events.
 use Rattle.std.specs.Prelude.{◌≡◌, ℕ, Bool, not, ◌&&◌, ◌||◌, ◌==◌, List, [], ◌∷◌, None, if◌then◌else◌}
 use Rattle.std.specs.Int.{is_in_range}
 use Rattle.vte_core.specs.Bytes.{is_esc, is_header}
@@ -8,14 +8,14 @@ use Rattle.charset_filter.specs.declared.sets.CharacterSets.{CharacterSets}
 use Rattle.charset_filter.specs.declared.steady.Place.{Place}
 use Rattle.charset_filter.specs.declared.steady.Place.TheVariants.{Outside, BehindEsc, InHeader, Broken}
 
--- ASCII is drawn, and no single shift is pending; and so it is where saved sets are brought back
+-- no single shift is pending, and the sets in use and all saved ones draw ASCII
 pub record IsSteady (s : CharacterSets) : Type 0 where
   pub single : s.single ≡ None
   pub current : locked_set s.current ≡ Ascii
   pub main : locked_set s.main_saved ≡ Ascii
   pub alternate : locked_set s.alternate_saved ≡ Ascii
 
--- the final byte of a control sequence behind which nothing stands if it has no `:`; others are h, l, p, r, s and u
+-- the final byte of a control sequence that has no bytes behind it if it has no `:`; others are h, l, p, r, s and u
 abbrev pub is_quiet_final : ℕ → Bool
 is_quiet_final b = is_in_range 0x40 0x7E b
     && not (b == 0x68 || (b == 0x6C || (b == 0x70 || (b == 0x72 || (b == 0x73 || b == 0x75)))))

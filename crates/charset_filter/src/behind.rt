@@ -1,4 +1,4 @@
-//! What stands behind an event: bytes that have a screen do what a terminal does at it.
+//! The bytes behind an event. They make a screen do what a terminal does at the event.
 
 ghost use Rattle.std.specs.Prelude.{◌≡◌, ◌∷◌, [], ◌||◌, decimal};
 ghost use Rattle.std.specs.List.{list_all};
@@ -15,10 +15,10 @@ use arrayvec::ArrayVec;
 use itoa::Buffer;
 use vte_core::Params;
 
-/// How many bytes stand behind an event at most.
+/// The largest number of bytes behind an event.
 pub const MOST_BEHIND: usize = 252;
 
-/// The bytes behind an event. What has no room is dropped; all that stands behind an event has room.
+/// The bytes behind an event. Bytes without room are dropped, but all bytes behind an event have room.
 pub type Behind = ArrayVec<u8, MOST_BEHIND>;
 
 /// DECSC and DECRC.
@@ -26,7 +26,7 @@ const SAVE: &[u8] = b"\x1b7";
 
 const RESTORE: &[u8] = b"\x1b8";
 
-/// What DECSTR sets back: the attributes, the cursor's and its keys' modes, the keypad, and the region.
+/// What DECSTR resets: the attributes, the modes of the cursor and of the cursor keys, the keypad, and the region.
 const SOFT_RESET: &[u8] = b"\x1b[m\x1b[?25h\x1b[?1l\x1b>\x1b7\x1b[r\x1b8";
 
 /// Appends bytes.
@@ -36,7 +36,7 @@ fn push(behind: &mut Behind, bytes: &[u8])
     let _fits = behind.try_extend_from_slice(bytes);
 }
 
-/// Appends what stands behind an escape sequence.
+/// Appends the bytes behind an escape sequence.
 pub fn push_escape(behind: &mut Behind, intermediates: &[u8], last: u8)
     ensures { Appends behind.old.items (escape_behind intermediates.now last) behind.new.items }
 {
@@ -47,7 +47,7 @@ pub fn push_escape(behind: &mut Behind, intermediates: &[u8], last: u8)
     }
 }
 
-/// Appends what stands behind a control sequence, with the sets before it.
+/// Appends the bytes behind a control sequence. `sets` are those before it.
 pub fn push_csi(
     behind: &mut Behind,
     sets: CharacterSets,
@@ -83,7 +83,7 @@ pub fn is_bare(params: &Params) -> bool
     }
 }
 
-/// Appends what stands behind private modes that are set or reset, one after the other, with the sets before them.
+/// Appends the bytes behind private modes that are set or reset, one after the other. `sets` are those before them.
 fn push_modes(behind: &mut Behind, sets: CharacterSets, params: &Params, set: bool)
     ensures { Appends behind.old.items (modes_behind set sets params.now) behind.new.items }
 {
@@ -95,7 +95,7 @@ fn push_modes(behind: &mut Behind, sets: CharacterSets, params: &Params, set: bo
     }
 }
 
-/// Appends what stands behind the private mode that a group names.
+/// Appends the bytes behind the private mode that a group names.
 fn push_mode(behind: &mut Behind, sets: &CharacterSets, group: &[u16], set: bool)
     ensures { Appends behind.old.items (mode_behind set sets.now group.now) behind.new.items }
 {
@@ -108,7 +108,7 @@ fn push_mode(behind: &mut Behind, sets: &CharacterSets, group: &[u16], set: bool
     }
 }
 
-/// Appends what stands behind SGR.
+/// Appends the bytes behind SGR.
 fn push_sgr(behind: &mut Behind, params: &Params)
     ensures { Appends behind.old.items (sgr_behind params.now) behind.new.items }
 {
@@ -145,8 +145,8 @@ fn is_known(group: &[u16]) -> bool
     matches!(group, [_] | [38 | 48, 5, _] | [38 | 48, 2, _, _, _])
 }
 
-/// Appends a group as `vt100` reads it, if there is one. `some` says whether others stand before it. Returns whether
-/// some group stands there now.
+/// Appends the group, or the one that `vt100` reads in its place, if there is one. `some` says whether a group was
+/// appended before. Returns whether a group has been appended now.
 fn push_group(behind: &mut Behind, group: &[u16], some: bool) -> bool
     ensures some { result ≡ (some || has_some (as_known group.now)) }
     ensures text { Appends behind.old.items (first_text some (as_known group.now)) behind.new.items }
@@ -173,7 +173,7 @@ fn push_group(behind: &mut Behind, group: &[u16], some: bool) -> bool
     true
 }
 
-/// Appends a group of numbers behind others, or as the first one.
+/// Appends a group of numbers, after others or as the first one.
 fn push_numbers(behind: &mut Behind, some: bool, group: &[u16])
     ensures { Appends behind.old.items (first_text some (group.now ∷ [])) behind.new.items }
 {

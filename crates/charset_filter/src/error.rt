@@ -1,13 +1,13 @@
-//! Why a filter read no further.
+//! Why a filter stopped reading.
 
 use std::alloc::AllocError;
 use thiserror::Error;
 
-/// Memory for the output was refused.
+/// An allocation for the output failed.
 #[derive(Clone, Copy, Debug, Error, PartialEq, Eq)]
 #[error("memory was refused after {read} bytes")]
 pub struct AdvanceError {
-    /// How many bytes have been read of those that the filter was given, at their start.
+    /// How many of the bytes that were passed to the filter have been read, from their start on.
     pub read: usize,
 }
 

@@ -17,14 +17,14 @@ use crate::steady::steady_len;
 use std::alloc::AllocError;
 use vte_core::Parser;
 
-/// How many bytes are given for one at most: a character, and what stands behind its event.
+/// The largest number of bytes that are given for one byte: a character, and the bytes behind its event.
 const MOST_GIVEN: usize = 4 + MOST_BEHIND;
 
-/// Reads a program's bytes in pieces, and gives them on with each printed character as its set draws it. Behind a
+/// Reads a program's bytes in pieces, and passes them on with each printed character as its set draws it. After a
 /// sequence that `vt100` doesn't know it gives others that do the same.
 ///
-/// The contract of `advance` speaks of every past that the filter has read: the bytes since it was made. A new filter
-/// has read nothing. It holds no bytes back and allocates nothing but the output.
+/// The contract of `advance` holds for every past: the bytes that the filter has read since it was created. A new
+/// filter has read nothing. A filter holds no bytes back, and allocates nothing but the output.
 #[derive(Drop)]
 pub struct CharsetFilter {
     parser: Parser<0>,
@@ -48,7 +48,7 @@ impl CharsetFilter {
     /// Reads the next bytes, and appends to the output what they give: at most eight bytes for each, and 512 more for a
     /// sequence that began before them.
     ///
-    /// Memory is refused only where the output has no room for so many bytes. Then the error tells how many bytes at
+    /// An allocation fails only if the output has no room for that many bytes. Then the error reports how many bytes at
     /// the start have been read, and what these give is appended. The others, at least one, have not been read.
     pub fn advance(&mut self, bytes: &[u8], output: &mut Vec<u8>) -> Result<(), AdvanceError>
         ensures given { OnOk result (Gives self.old bytes.now (length bytes.now) self.new output.old.items
@@ -95,7 +95,7 @@ impl CharsetFilter {
         Ok(1)
     }
 
-    /// Reads a steady run, as many bytes at the start, and gives it as it is.
+    /// Reads a steady run, `len` bytes at the start, and gives it as it is.
     fn read_steady(
         &mut self,
         bytes: &[u8],
@@ -138,8 +138,8 @@ impl CharsetFilter {
         Ok(())
     }
 
-    /// Gives the parser a byte. Then the listener has what it drew of the last character that was printed, and what
-    /// stands behind the last event.
+    /// Gives the parser a byte. Then the listener has what it drew of the last character that was printed, and the
+    /// bytes behind the last event.
     fn listen(&mut self, byte: u8)
         ensures reads { (past : List ℕ) → HasRead self.old past → HasRead self.new (past ++ byte ∷ []) }
         ensures drawn { (past : List ℕ) → HasRead self.old past → self.new.listener.drawn
@@ -153,7 +153,8 @@ impl CharsetFilter {
     }
 }
 
-/// Whether an escape sequence or a control sequence may be unfinished after a byte, where `before` says it of before.
+/// Whether an escape sequence or a control sequence may be unfinished after a byte. `before` says the same of the state
+/// before it.
 fn may_be_in_sequence(before: bool, byte: u8) -> bool
     ensures { result ≡ (if is_esc byte then true else (if ends_both byte then false else before)) }
 {
@@ -164,7 +165,7 @@ fn may_be_in_sequence(before: bool, byte: u8) -> bool
     }
 }
 
-/// Appends the byte, or what is drawn of the character that it prints, where there is room for it.
+/// Appends the byte, or what is drawn of the character that it prints. The output has room for it.
 fn push_given(output: &mut Vec<u8>, byte: u8, drawn: Option<char>)
     requires { vec_len output.old + 4 ≤ vec_capacity output.old }
     ensures items { output.new.items ≡ output.old.items ++ given_byte byte drawn }
@@ -181,14 +182,14 @@ fn push_given(output: &mut Vec<u8>, byte: u8, drawn: Option<char>)
     }
 }
 
-/// Whether the byte is one of those that the special graphics draw otherwise.
+/// Whether the byte is one of those that the special graphics draw as another character.
 fn is_drawable(byte: u8) -> bool
     ensures { result ≡ is_drawable byte }
 {
     (0x5F..=0x7E).contains(&byte)
 }
 
-/// Appends bytes where there is room for them.
+/// Appends bytes. The output has room for them.
 fn push_bytes(output: &mut Vec<u8>, bytes: &[u8])
     requires { vec_len output.old + length bytes.now ≤ vec_capacity output.old }
     ensures items { output.new.items ≡ output.old.items ++ bytes.now }

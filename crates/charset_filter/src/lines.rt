@@ -14,23 +14,23 @@ use std::alloc::{AllocError, Global};
 pub enum LineDrawing {
     /// They stay the letters that the program wrote, as `lqqk`.
     Kept,
-    /// They come as the Unicode characters that they stand for, as `┌──┐`.
+    /// They become the Unicode characters that they mean, as `┌──┐`.
     Drawn,
 }
 
 /// A filter that a program's output passes on its way to a screen, piece by piece.
 ///
-/// The contract of `pass` speaks of every past: the bytes that have passed since the filter was made.
+/// The contract of `pass` holds for every past: the bytes that have passed since the filter was created.
 #[derive(Drop)]
 pub struct PieceFilter {
     lines: LineDrawing,
     filter: CharsetFilter,
-    /// What the last piece gave, where lines are drawn.
+    /// What the last piece gave, if lines are drawn.
     drawn: Vec<u8>,
 }
 
 impl PieceFilter {
-    /// A filter that nothing has passed, and that gives nothing for nothing.
+    /// A filter that nothing has passed. It gives no bytes for an empty piece.
     pub fn new(alloc: Global, lines: LineDrawing) -> Self
         ensures passed { HasPassed result lines [] }
         ensures given { piece_of result [] ≡ [] }
@@ -42,11 +42,11 @@ impl PieceFilter {
         }
     }
 
-    /// Reads the next piece. Then [`given`](PieceFilter::given) answers what it gives.
+    /// Reads the next piece. Then [`given`](PieceFilter::given) returns what it gives.
     ///
-    /// Where lines are drawn, it takes room for eight times as many bytes as the piece has, and 512 more, and fails
-    /// only if there is no memory for that. Then the piece has not passed, and may be handed over again. It keeps that
-    /// room, so a piece that is no longer than one before it never fails. Where lines are kept none does.
+    /// If lines are drawn, the call takes room for eight times as many bytes as the piece has, and 512 more. It fails
+    /// only if there is no memory for that. Then the piece has not passed, and may be given again. The filter keeps
+    /// that room, so a piece that is no longer than one before it never fails. If lines are kept, no piece fails.
     pub fn pass(&mut self, piece: &[u8]) -> Result<(), AllocError>
         ensures passed { OnOk result ((lines : LineDrawing) (past : List ℕ) → HasPassed self.old lines past
             → HasPassed self.new lines (past ++ piece.now)
@@ -90,7 +90,7 @@ impl PieceFilter {
         Ok(())
     }
 
-    /// What the piece gives that passed last: itself, or what it is with its lines drawn.
+    /// What the last piece that passed gives: itself, or what it is with its lines drawn.
     pub fn given<'a>(&'a self, piece: &'a [u8]) -> &'a [u8]
         ensures { result.now ≡ piece_of self.now piece.now }
     {
@@ -101,7 +101,7 @@ impl PieceFilter {
     }
 }
 
-/// Makes room in an empty output for all that so many bytes can give; for no bytes it makes none.
+/// Makes room in an empty output for all that `len` bytes can give. If `len` is 0, it makes no room.
 fn make_room(output: &mut Vec<u8>, len: usize) -> Result<(), AllocError>
     requires { vec_len output.old ≡ 0 }
     ensures empty { output.new.items ≡ output.old.items }

@@ -1,10 +1,10 @@
-//! What a byte prints, and what stands behind its event.
+//! What a byte prints, and the bytes behind its event.
 
 use crate::behind::{Behind, push_csi, push_escape};
 use crate::sets::CharacterSets;
 use vte_core::{Event, Perform};
 
-/// The character sets, what is drawn of the last character that was printed, and what stands behind the last event.
+/// The character sets, what is drawn of the last character that was printed, and the bytes behind the last event.
 #[derive(Drop)]
 pub struct Listener {
     pub sets: CharacterSets,
@@ -27,7 +27,7 @@ impl Listener {
         }
     }
 
-    /// Forgets the events, but not the sets that they made.
+    /// Forgets the events, but keeps the sets after them.
     pub fn forget(&mut self)
         ensures sets { self.new.sets ≡ self.old.sets }
         ensures drawn { self.new.drawn ≡ None }

@@ -67,11 +67,11 @@ impl Designations {
     }
 }
 
-/// What the events so far have made of the character sets.
+/// The character sets after the events so far.
 #[derive(Clone, Copy)]
 pub struct CharacterSets {
     current: Designations,
-    /// What the next character alone is drawn from.
+    /// The one of the four that only the next character is drawn from: a pending single shift.
     single: Option<CharsetIndex>,
     /// Whether the alternate screen is shown.
     alternate: bool,
@@ -105,7 +105,7 @@ impl CharacterSets {
         }
     }
 
-    /// Whether ASCII is drawn, and no single shift is pending; and so it is where saved sets are brought back.
+    /// Whether no single shift is pending, and the sets in use and all saved ones draw ASCII.
     pub fn is_steady(&self) -> bool
         ensures { IsTrue result → IsSteady self.now }
     {
@@ -133,7 +133,7 @@ impl CharacterSets {
         }
     }
 
-    /// Brings back what was saved while this screen was shown.
+    /// Restores what was saved while this screen was shown.
     fn restore(&mut self)
         ensures { self.new ≡ restored self.old }
     {

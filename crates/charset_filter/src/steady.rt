@@ -1,24 +1,24 @@
-//! Runs in which no set can change, and behind which nothing stands.
+//! Runs in which no set can change, and without bytes behind their events.
 
 ghost use Rattle.std.specs.Prelude.{◌≡◌, ◌≤◌, length, take, ◌==◌, ◌||◌};
 ghost use Rattle.std.specs.Int.{is_in_range};
 ghost use Rattle.charset_filter.specs.Steady.{IsSteadyRun, is_quiet_final, place_after};
 
-/// Where a run is that is scanned.
+/// Where the scan of a run is.
 #[derive(Clone, Copy)]
 pub enum Place {
     /// Outside of escape and control sequences.
     Outside,
-    /// Directly behind ESC.
+    /// Directly after ESC.
     BehindEsc,
     /// In the header of a control sequence.
     InHeader,
-    /// Behind a byte that breaks the run off.
+    /// After a byte that breaks the run off.
     Broken,
 }
 
 impl Place {
-    /// Where the run is after a byte.
+    /// Where the scan is after a byte.
     fn after(self, byte: u8) -> Place
         ensures { result ≡ place_after self byte }
     {
@@ -62,7 +62,7 @@ fn after_header(byte: u8) -> Place
     }
 }
 
-/// How many bytes at the start are such a run, one that begins and ends outside of sequences.
+/// How many bytes at the start are a steady run, which begins and ends outside of sequences.
 #[tactic(auto, using(crate::proofs::SteadyLemmas::run_byte))]
 pub fn steady_len(bytes: &[u8]) -> usize
     ensures within { result ≤ length bytes.now }

@@ -1,4 +1,4 @@
--- Calls that are made with the words after a program's name.
+-- Calls with the arguments after a program's name.
 use Rattle.std.proofs.Common.{◌≡◌, refl, subst, sym, ℕ, List, map, Result, Ok, Err, IfOk, IfErr, Bor, MutBor}
 use Rattle.std.specs.Fn.{FnOnceReturnsAtMut, Once}
 use Rattle.command_line.specs.Running.{ReturnsWith}

@@ -11,18 +11,18 @@ use Rattle.command_line.specs.declared.input.InputError.{InputError}
 use Rattle.command_line.specs.declared.input.InputError.TheVariants.{Memory, Read, TooManyReads}
 use Rattle.command_line.specs.Input.{Drains, ended, failed, refused, stopped, again, more}
 
--- what holds of the one error that may come
+-- what holds of the only possible error
 pub if_error : {A E : Type 0} (r : Result A E) (m : E) (P : E → Type 0) → IsErrAnd r (λ e. e ≡ m) → P m → IfErr r P
 if_error (Ok a) m P is holds = tt
 if_error (Err e) m P is holds = subst P (sym is) holds
 
--- a source that has no more gave all that it had
+-- a source that is at its end has given all that it had
 all_read : (a b : Option (List ℕ)) (bytes : List ℕ) → Consumes a b bytes → IsAtEnd b → IfSome a (λ all. bytes ≡ all)
 all_read None b bytes h end = tt
 all_read (Some x) None bytes h end = absurd h
 all_read (Some x) (Some y) bytes h end = sym (h ∙ ap (λ ys. bytes ++ ys) end ∙ append-nil bytes)
 
--- some reads were made: whatever the others do completes the whole
+-- some reads were made, and the reads after them complete the whole
 pub record GoesOn {S : Type 0} (step : S → ℕ → Result (List ℕ) Error → S → Type 0) (room : ℕ) (old : S) (all : ℕ)
     (now : S) (rest : ℕ) (got : List ℕ) : Type 0 where
   pub further : (bytes : List ℕ) (answer : Result (Unit {0}) InputError) (t : S) → Drains step room now rest bytes
@@ -36,7 +36,7 @@ begun step room old all = record { further = λ bytes answer t d. d }
 module _ {S : Type 0} {step : S → ℕ → Result (List ℕ) Error → S → Type 0} {room : ℕ} {old : S} {all : ℕ} {now : S}
     {rest : ℕ} {got : List ℕ} (g : GoesOn step room old all now rest got) (left : ℕ) (one : rest ≡ suc left) (new : S)
   where
-    -- one read more, which was interrupted
+    -- one more read, which was interrupted
     pub once_more : (e : Error) → step now room (Err e) new → error_kind e ≡ Interrupted
         → GoesOn step room old all new left got
     once_more e read is = record {
@@ -44,7 +44,7 @@ module _ {S : Type 0} {step : S → ℕ → Result (List ℕ) Error → S → Ty
           (subst (λ n. Drains step room now n bytes answer t) (sym one) (again new e read is d));
     }
 
-    -- one that gave some bytes
+    -- one more read, which gave some bytes
     pub some_more : (some : List ℕ) → some ≢ [] → length some ≤ room → step now room (Ok some) new
         → GoesOn step room old all new left (got ++ some)
     some_more some none fits read = record {
@@ -67,7 +67,7 @@ module _ {S : Type 0} {step : S → ℕ → Result (List ℕ) Error → S → Ty
     at_fault e read is = g.further [] (Err (Read e)) new
         (subst (λ n. Drains step room now n [] (Err (Read e)) new) (sym one) (failed read is))
 
-    -- memory for what a read gave was refused
+    -- an allocation for the bytes of a read failed
     pub at_refusal : (some : List ℕ) → some ≢ [] → length some ≤ room → step now room (Ok some) new
         → Drains step room old all (got ++ some) (Err Memory) new
     at_refusal some none fits read = g.further some (Err Memory) new
@@ -79,7 +79,7 @@ pub at_most : {S : Type 0} {step : S → ℕ → Result (List ℕ) Error → S �
 at_most {S} {step} {room} {old} {all} {now} {rest} {got} g none = g.further [] (Err TooManyReads) now
     (subst (λ n. Drains step room now n [] (Err TooManyReads) now) (sym none) stopped)
 
--- what is known stays so, and then some of it is read
+-- the known bytes stay the same, and then some of them are read
 kept_read : (a b c : Option (List ℕ)) (bytes : List ℕ) → Keeps a b → Consumes b c bytes → Consumes a c bytes
 kept_read None b c bytes h k = tt
 kept_read (Some x) None c bytes h k = absurd h
@@ -102,7 +102,7 @@ module _ {S : Type 0} {step : S → ℕ → Result (List ℕ) Error → S → Ty
   taken s t n bytes answer (more m some none fits read rest) =
       Consumes-trans (left s) (left m) (left t) some _ (tells s room (Ok some) m read).0 (taken m t _ _ answer rest)
 
-  -- where the last read gave nothing, the source has no more
+  -- if the last read gave nothing, the source is at its end
   pub nothing_left : (s t : S) (n : ℕ) (bytes : List ℕ) (answer : Result (Unit {0}) InputError)
       → Drains step room s n bytes answer t → answer ≡ Ok tt → 0 < room → IsAtEnd (left t)
   nothing_left s t n bytes answer (ended read) is wide = (tells s room (Ok []) t read).1 refl wide

@@ -1,4 +1,4 @@
--- Words that are short enough, and of digits alone.
+-- Arguments that are short enough, and have digits only.
 use Rattle.std.proofs.Common.{◌≡◌, ◌≤◌, ℕ, List, length, ◌&&◌, true, nat_le, arith, rules}
 use Rattle.std.proofs.lemmas.Str.Parse.{IsNumeralModel, numerals_by_fold}
 use Rattle.std.specs.Str.{all_ascii_digits}

@@ -6,9 +6,9 @@ use Rattle.std.specs.declared.io.ErrorKind.TheVariants.{Interrupted}
 use Rattle.command_line.specs.declared.input.InputError.{InputError}
 use Rattle.command_line.specs.declared.input.InputError.TheVariants.{Memory, Read, TooManyReads}
 
--- From a source, of which at most so many reads may be made, reads with this room give these bytes, end so, and leave
--- the source so. A step is what one read with so much room answers and leaves. An interrupted read gives nothing, and
--- is followed by another one. Memory is asked for after a read that gave some bytes, to keep them.
+-- Reads of a source, at most this many, each with this room: the bytes that they give, their result, and the source
+-- after them. `step` gives the result of one read with this room, and the source after it. An interrupted read gives
+-- nothing, and another one follows it. Memory is allocated after a read that gave some bytes, to keep them.
 pub data Drains {S : Type 0} (step : S → ℕ → Result (List ℕ) Error → S → Type 0) (room : ℕ) : S → ℕ → List ℕ
     → Result (Unit {0}) InputError → S → Type 0 where
   ended : {s t : S} {n : ℕ} → step s room (Ok []) t → Drains step room s (suc n) [] (Ok tt) t

@@ -1,4 +1,4 @@
--- Numbers among the words of a command line.
+-- Numbers among the arguments of a command line.
 use Rattle.std.specs.Prelude.{ℕ, Bool, nat_le, ◌&&◌, List, length, Option, Some, None, if◌then◌else◌}
 use Rattle.std.specs.Str.{all_ascii_digits}
 use Rattle.std.specs.Str.Parse.{digits_value}

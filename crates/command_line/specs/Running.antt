@@ -3,7 +3,7 @@ use Rattle.std.specs.Prelude.{◌≡◌, ℕ, List, map}
 use Rattle.std.specs.Fn.{Once}
 use denote.Ref.{Bor, MutBor}
 
--- f, called at a `&mut` to a state and at these words, may answer r and leave the state so
+-- f, called with a `&mut` to the state s and with these arguments, may return r and leave the state t
 pub record ReturnsWith {F S : Type 0}
     (g : Once F (MutBor S × (Bor (List (Bor (List ℕ))) × Unit {0})) (ℕ × (MutBor S × Unit {0}))) (f : F) (s : S)
     (words : List (List ℕ)) (r : ℕ) (t : S) : Type 0 where

@@ -1,4 +1,4 @@
-//! The words after a program's name.
+//! The arguments after a program's name.
 
 ghost use Rattle.std.specs.Prelude.{◌≡◌, ◌≢◌, [], map, drop, IfOk, IfErr, IsOk, OnErr, Err};
 ghost use Rattle.std.specs.IoError.{error_kind};
@@ -13,10 +13,10 @@ use std::env::Args;
 use std::io;
 use std::io::ErrorKind;
 
-/// The words after a program's name, from what [`args`](std::env::args) answers.
+/// The arguments after a program's name, from the result of [`args`](std::env::args).
 ///
-/// A word that isn't UTF-8 leaves none, so that no command line with one is understood. Memory may be refused; any
-/// other fault is handed back.
+/// If an argument isn't UTF-8, no arguments are returned, so that no command line with one is understood. An
+/// allocation may fail. Any other error of `args` is returned as it is.
 pub fn words_of(alloc: Global, args: io::Result<Args>) -> io::Result<Vec<String>>
     ensures words { IfOk args (λ all. IfOk result (λ words. vec_items words ≡ drop 1 (into_iter_items all))) }
     ensures not_text { IfErr args (λ e. error_kind e ≡ InvalidData → IfOk result (λ words. vec_items words ≡ [])
@@ -31,16 +31,16 @@ pub fn words_of(alloc: Global, args: io::Result<Args>) -> io::Result<Vec<String>
     }
 }
 
-// All but the first one.
+// All arguments but the first one.
 fn after_first(alloc: Global, args: Args) -> Result<Vec<String>, AllocError>
     ensures { IfOk result (λ words. vec_items words ≡ drop 1 (into_iter_items args)) }
 {
     args.skip(1).collect(alloc)
 }
 
-/// The words, lent.
+/// The arguments as `&str`.
 ///
-/// No words need no memory.
+/// If there are no arguments, nothing is allocated.
 pub fn lend<'a>(alloc: Global, words: &'a [String]) -> Result<Vec<&'a str>, AllocError>
     ensures lent { IfOk result (λ lent. map (λ w. w.now) (vec_items lent) ≡ map string_bytes words.now) }
     ensures none { words.now ≡ [] → IsOk result }
@@ -52,10 +52,10 @@ pub fn lend<'a>(alloc: Global, words: &'a [String]) -> Result<Vec<&'a str>, Allo
     Ok(lent)
 }
 
-/// Does something to a state with the words after a program's name, and answers what that gives.
+/// Calls `act` with a state and the arguments after a program's name, and returns its result.
 ///
-/// They are what [`words_of`] makes of `args`, lent. Where memory for them is refused, or `args` is another fault,
-/// nothing is done and the state stays as it was.
+/// The arguments are those that [`words_of`] returns for `args`. If an allocation for them fails, or `args` is an error
+/// of another kind than `InvalidData`, `act` isn't called and the state stays as it was.
 pub fn with_words<S, F: FnOnce(&mut S, &[&str]) -> u8>(
     alloc: Global,
     args: io::Result<Args>,

@@ -1,4 +1,4 @@
-//! Whole input.
+//! Reading the whole of an input.
 
 ghost use Rattle.std.specs.Prelude.{◌≡◌, ◌^◌, ℕ, List, IfSome, IfErr, IfOk, OnOk};
 ghost use Rattle.std.specs.Io.KnownBytes.{Consumes, IsAtEnd};
@@ -11,18 +11,18 @@ use std::alloc::{AllocError, Global};
 use std::io;
 use std::io::ErrorKind;
 
-/// Bytes that one read of a whole input is given room for.
+/// The room that each read has, in bytes.
 const ROOM_LEN: usize = 65_536;
 
-/// Reads tried, interrupted ones included, before an input is given up as endless.
+/// The number of reads, interrupted ones included, after which an input is given up as endless.
 const MAX_READS: u64 = 1 << 40;
 
-/// Why the whole of an input can't be had.
+/// Why the whole of an input couldn't be read.
 #[derive(Debug, Drop)]
 pub enum InputError {
     /// A read failed with this error, which isn't an interruption.
     Read(io::Error),
-    /// Memory for what was read was refused.
+    /// An allocation for the bytes read failed.
     Memory,
     /// The input didn't end within 2^40 reads.
     TooManyReads,
@@ -38,8 +38,9 @@ impl From<AllocError> for InputError {
 
 /// Reads to the end of the input, and returns all that was left of it.
 ///
-/// A read is given room for 65,536 bytes; an interrupted one is tried again. A fault of a read is handed back as it is.
-/// Memory is asked for after a read that gave some bytes, to keep them. At a fault, what was read by then is lost.
+/// Each read has room for 65,536 bytes. An interrupted read is tried again. Any other error of a read is returned as it
+/// is. Memory is allocated after a read that gave some bytes, to keep them. If the call fails, the bytes that it has
+/// read are lost.
 pub fn read_all<S: Source>(alloc: Global, input: &mut S) -> Result<Vec<u8>, InputError>
     ensures bytes { IfOk result (λ all. IfSome (S.left input.old) (λ left. vec_items all ≡ left)) }
     ensures end { OnOk result (IsAtEnd (S.left input.new)) }

@@ -1,5 +1,5 @@
-//! What the command lines of this repository's programs have in common: their words, the numbers among them, whole
-//! input, the exit statuses, and the line on the error output.
+//! What the command lines of this repository's programs have in common: arguments, numbers among them, the whole input,
+//! exit statuses, and a line on the error output.
 #![tactic(auto)]
 
 mod args;

@@ -1,4 +1,4 @@
-//! Numbers among the words.
+//! Numbers among the arguments.
 
 ghost use Rattle.std.specs.Prelude.{◌≡◌, ◌&&◌, nat_le, length};
 ghost use Rattle.std.specs.Option.{option_map};
@@ -33,7 +33,7 @@ pub fn parse_count(word: &str) -> Option<usize>
     }
 }
 
-// At most so many ASCII digits.
+// Whether the word has at most `digits` bytes, all of them ASCII digits.
 fn is_number(word: &str, digits: usize) -> bool
     ensures { result ≡ (nat_le (length word.now) digits && all_ascii_digits word.now) }
 {

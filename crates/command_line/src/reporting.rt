@@ -7,7 +7,7 @@ use byte_streams::{ByteSink, pump};
 /// The exit status of a command that did its work.
 pub const SUCCESS: u8 = 0;
 
-/// The exit status of a command that ended at a fault.
+/// The exit status of a command that ended with an error.
 pub const FAULT: u8 = 1;
 
 /// The exit status of a command line that isn't understood.
@@ -17,6 +17,6 @@ pub const USAGE: u8 = 2;
 pub fn report<T: ByteSink>(errors: &mut T, line: &[u8])
     ensures { Tells T.takes errors.old line.now errors.new }
 {
-    // A line that can't be written is given up: the exit status reports the fault too.
+    // A line that can't be written is given up: the exit status reports the error too.
     let _ = pump(line, errors);
 }

@@ -15,10 +15,11 @@ use std::env::Args;
 use std::io;
 use std::process::ExitCode;
 
-/// Runs a command on a state, such as a program's input and outputs, with the words after the program's name, as
-/// [`with_words`] does, and answers its exit status.
+/// Runs a command as [`with_words`] does, and returns its exit status. The command gets a state, such as a program's
+/// input and outputs, and the arguments after the program's name.
 ///
-/// Where memory for the words is refused, or they can't be had for another reason, `refuse` is run in its place.
+/// If an allocation for the arguments fails, or `args` is an error of another kind than `InvalidData`, `refuse` is run
+/// instead.
 pub fn run<S, F: FnOnce(&mut S, &[&str]) -> u8, G: FnOnce(&mut S) -> u8>(
     alloc: Global,
     args: io::Result<Args>,

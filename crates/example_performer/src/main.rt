@@ -59,7 +59,7 @@ struct UntilStopped {
 }
 
 impl Timeout for UntilStopped {
-    // What setting and clearing it do, and what it answers.
+    // What setting and clearing it do, and what it returns when asked.
     ghost ticking = { record {
       sets = λ old duration new. new.pending ≡ true;
       clears = λ old new. new.pending ≡ false;

@@ -26,7 +26,7 @@ fn framed(
     Ok(wire)
 }
 
-/// Brings bytes to the view, five at a time; what comes after so many pieces gets lost.
+/// Brings bytes to the view, five at a time. What comes after `pieces` pieces gets lost.
 fn carry(wire: &[u8], view: &mut View<UntilCleared>, pieces: usize) {
     for piece in wire.chunks(5).take(pieces) {
         view.advance(piece);

@@ -239,9 +239,9 @@ pub extern "C" fn jeihpal_screen_input_mode_diff(
     }
 }
 
-/// Copies the bytes that draw each row: `width` columns from column `start` on. They stand one behind the other, and
-/// `lengths` says how many each row has. `count` is set to how many bytes there are in all, and `rows_count` to how
-/// many rows. Refused if an allocation fails.
+/// Copies the bytes that draw each row: `width` columns from column `start` on. The rows' bytes follow one another,
+/// and `lengths` says how many each row has. `count` is set to how many bytes there are in all, and `rows_count` to
+/// how many rows. Refused if an allocation fails.
 #[unsafe(no_mangle)]
 pub extern "C" fn jeihpal_screen_rows_formatted(
     alloc: Global,

@@ -9,7 +9,8 @@ use crate::word::Word;
 use c_objects::{CLOSED, OK, filter};
 use std::alloc::Global;
 
-/// Makes a filter that draws lines, that nothing has passed, and that has given nothing. Refused if an allocation fails.
+/// Makes a filter that draws lines, through which nothing has passed, and which has given nothing. Refused if an
+/// allocation fails.
 ///
 /// An object that the word held is closed, even if the call is refused.
 #[unsafe(no_mangle)]
@@ -28,8 +29,8 @@ pub extern "C" fn jeihpal_filter_new(alloc: Global, word: &mut Word) -> i32
     }
 }
 
-/// Reads the next piece of a program's output. Refused if an allocation fails; then the piece has not passed, and may
-/// be handed over again.
+/// Reads the next piece of a program's output. Refused if an allocation fails; the piece then has not passed, and the
+/// call may be repeated with it.
 #[unsafe(no_mangle)]
 pub extern "C" fn jeihpal_filter_pass(word: &mut Word, bytes: &[u8]) -> i32
     ensures { OnWord (FilterDoes (Passes bytes.now)) word.old.held result word.new.held }
@@ -41,7 +42,7 @@ pub extern "C" fn jeihpal_filter_pass(word: &mut Word, bytes: &[u8]) -> i32
 }
 
 /// Copies as many as fit of the bytes that the last piece gave, and sets `count` to how many there are: at most eight
-/// times as many as the piece had, and 512 more. Before the first piece there are none.
+/// times as many as the piece had, and 512 more. Before the first piece `count` is 0.
 #[unsafe(no_mangle)]
 pub extern "C" fn jeihpal_filter_given(word: &mut Word, to: &mut [u8], count: &mut usize) -> i32
     ensures says { InWord (FilterSays (GivesLast to.old to.new count.new)) word.old.held result }

@@ -102,7 +102,7 @@ pub extern "C" fn jeihpal_recording_event_text(
 }
 
 /// Copies the colours that a recording has of its own, each as 0xRRGGBB: that of texts, that of backgrounds, and the
-/// first sixteen. There are none where it has none.
+/// first sixteen. If it has no colours of its own, none are copied and `count` is 0.
 #[unsafe(no_mangle)]
 pub extern "C" fn jeihpal_recording_colors(
     word: &mut Word,
@@ -139,9 +139,9 @@ fn screen_in(
     }
 }
 
-/// Makes a screen of this size that keeps at most `scrollback` rows, does to it what the recording does up to a time, in
-/// microseconds, and puts it into `screen`. It has no mark and no requests. Refused for a size without cells, and if an
-/// allocation fails; `screen` is then as it was.
+/// Makes a screen of this size that keeps at most `scrollback` rows, does to it what the recording does up to a time,
+/// in microseconds, and puts it into `screen`. It has no mark and no requests. Refused for a size without cells, and if
+/// an allocation fails; `screen` is then as it was.
 ///
 /// An object that `screen` held is closed, unless the call is refused.
 #[unsafe(no_mangle)]

@@ -1,4 +1,4 @@
-//! A writer that has only so much room.
+//! A writer with limited room.
 use crate::checks::check;
 use case_player::{Answer, StepError};
 use std::alloc::{AllocError, Global};
@@ -28,7 +28,7 @@ impl fmt::Write for Limited {
 }
 
 impl Limited {
-    /// A writer with so much room. Its memory is allocated at once.
+    /// A writer with room for this many bytes. Its memory is allocated at once.
     pub fn new(alloc: Global, room: usize) -> Result<Limited, AllocError> {
         Ok(Limited {
             taken: String::with_capacity(alloc, room)?,
@@ -44,8 +44,8 @@ impl Limited {
     }
 }
 
-/// Tells a text that is also written to a writer. One with room for this text gets it in one call, or in no call if it
-/// is empty. A second time it refuses the text, and that is told.
+/// Appends a text that is also written to a writer. A writer with room for this text gets it in one call, or in no call
+/// if it is empty. A second time it refuses the text, and that is reported.
 pub fn tell_written<F: Fn(&mut Limited) -> fmt::Result>(
     alloc: Global,
     text: &str,

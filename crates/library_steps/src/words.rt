@@ -46,7 +46,7 @@ fn parse_color(word: &str) -> Option<Color> {
     }
 }
 
-// A colour of three parts. The second and the third one stand together.
+// A colour of three parts. The second and the third one are in `others`.
 fn parse_rgb(red: &str, others: &str) -> Option<Color> {
     let (green, blue) = others.split_once(';')?;
     match (parse_byte(red), parse_byte(green), parse_byte(blue)) {
@@ -59,7 +59,7 @@ fn parse_byte(word: &str) -> Option<u8> {
     word.parse::<u8>().ok()
 }
 
-/// Attributes: the colours of the text and behind it, and the bits of the mode.
+/// Attributes: the colours of the text and of the background, and the bits of the mode.
 pub fn attributes(words: &Words) -> Attrs {
     let (fgcolor, bgcolor) = (color(words), color(words));
     let mode = parse_byte(words.word());
@@ -70,7 +70,7 @@ pub fn attributes(words: &Words) -> Attrs {
     }
 }
 
-/// The same, or the default ones where no word is left.
+/// The same, or the default attributes where no word is left.
 pub fn attributes_or_default(words: &Words) -> Attrs {
     if words.is_empty() {
         Attrs::default()

@@ -103,7 +103,7 @@ names_reference old more b r = adds_part old more (Name (b ∷ [])) (escaped_one
 pub names_byte : (old : List ℕ) (b : ℕ) → None ≡ reference b → Adds old (old ++ b ∷ []) []
 names_byte old b r = adds_part old (b ∷ []) (Name (b ∷ [])) (escaped_one b None r)
 
--- a byte more of a text that is taken from the left
+-- one byte more of a text that is taken from the left
 pub adds_more : (a b c text : List ℕ) (i x : ℕ) → take (i + 1) text ≡ take i text ++ x ∷ [] → Adds a b (take i text)
     → Adds b c (x ∷ []) → Adds a c (take (i + 1) text)
 adds_more a b c text i x more first second = subst (λ t. Adds a c t) (sym more) (adds_both a b c (take i text) (x ∷ [])
@@ -195,7 +195,7 @@ pub if_joined : {T E : Type 0} (r : Result T E) (a b c x y : List ℕ) → b ≡
     → OnOk r (c ≡ a ++ (x ++ y))
 if_joined r a b c x y first = on_ok_weaker r (joined_more a b c x y first)
 
--- a byte more, escaped, of a text that is taken from the left
+-- one byte more, escaped, of a text that is taken from the left
 pub escaped_more : (a b c text : List ℕ) (i x : ℕ) → take (i + 1) text ≡ take i text ++ x ∷ []
     → b ≡ a ++ escaped (take i text) → c ≡ b ++ escaped (x ∷ []) → c ≡ a ++ escaped (take (i + 1) text)
 escaped_more a b c text i x more first second =
@@ -209,7 +209,7 @@ escaped_as_reference old more b r = ap (λ xs. old ++ xs) (escaped_one b (Some m
 pub escaped_as_byte : (old : List ℕ) (b : ℕ) → None ≡ reference b → old ++ b ∷ [] ≡ old ++ escaped (b ∷ [])
 escaped_as_byte old b r = ap (λ xs. old ++ xs) (escaped_one b None r)
 
--- a character more of a title, escaped
+-- one character more of a title, escaped
 pub titled_more : (a b c cs : List ℕ) (x : ℕ) → b ≡ a ++ escaped (title_characters cs)
     → c ≡ b ++ escaped (encode_utf8 (title_character x)) → c ≡ a ++ escaped (title_characters (cs ++ x ∷ []))
 titled_more a b c cs x first second =
@@ -220,7 +220,7 @@ titled_more a b c cs x first second =
     joined_more a b c (escaped (title_characters cs)) (escaped y) first second
     ∙ ap (λ xs. a ++ xs) (sym (ap escaped more ∙ escaped-append (title_characters cs) y))
 
--- a number more of those that are taken from the left
+-- one number more of those that are taken from the left
 pub numbers_more : (a b c : List ℕ) (ns : List (Tag × ℕ)) (i : ℕ) (x : Tag × ℕ) → take (i + 1) ns ≡ take i ns ++ x ∷ []
     → b ≡ a ++ numbers_bytes (take i ns) → c ≡ b ++ (tag_bytes x.0 ++ decimal x.1)
     → c ≡ a ++ numbers_bytes (take (i + 1) ns)

@@ -210,7 +210,7 @@ numbers_plain (p ∷ ps) h =
     plain-append (tag_bytes p.0 ++ decimal p.1) (numbers_bytes ps)
     (plain-append (tag_bytes p.0) (decimal p.1) all.0 (decimal_plain p.1)) (numbers_plain ps all.1)
 
--- numbers, each behind its piece of markup
+-- numbers, each after its piece of markup
 pub draws_numbers : (old new : List ℕ) (o : Bool) (p : Tag × ℕ) (ps : List (Tag × ℕ))
     → ends_outside o (tag_bytes p.0) ≡ false → are_plain ps ≡ true → new ≡ old ++ numbers_bytes (p ∷ ps)
     → Draws old new o false (seen_from o (tag_bytes p.0))
@@ -219,7 +219,7 @@ draws_numbers old new o p ps opens h joined =
     (plain-append (decimal p.1) (numbers_bytes ps) (decimal_plain p.1) (numbers_plain ps h))
     (joined ∙ ap (λ xs. old ++ xs) (append_assoc (tag_bytes p.0) (decimal p.1) (numbers_bytes ps)))
 
--- a text more of a picture
+-- one text more of a picture
 pub draws_more_text : (a b c s t : List ℕ) → Draws a b true true (escaped s) → Draws b c true true (escaped t)
     → Draws a c true true (escaped (s ++ t))
 draws_more_text a b c s t first second =
@@ -238,7 +238,7 @@ pub if_tag : {T E : Type 0} (r : Result T E) (old new : List ℕ) (t : Tag) (o p
     → OnOk r (Draws old new o p s)
 if_tag r old new t o p s ends sees = on_ok_weaker r (draws_tag old new t o p s ends sees)
 
--- markup without < and > that may be wanted, within a tag
+-- markup without < and >, within a tag, where it is appended on a condition
 pub draws_wanted : (old new : List ℕ) (on : Bool) (t : Tag) → is_plain (tag_bytes t) ≡ true
     → new ≡ old ++ (if on then tag_bytes t else []) → Draws old new false false []
 draws_wanted old new true t h joined = draws_unseen old new (tag_bytes t) h joined
@@ -264,7 +264,7 @@ pub if_text : {T E : Type 0} (r : Result T E) (old new t : List ℕ) → OnOk r 
     → OnOk r (Draws old new true true (escaped t))
 if_text r old new t = on_ok_weaker r (draws_text old new t)
 
--- a text more that may be seen
+-- one text more that may be seen
 pub if_more_text : {T E : Type 0} (r : Result T E) (a b c s t : List ℕ) → Draws a b true true (escaped s)
     → OnOk r (c ≡ b ++ escaped t) → OnOk r (Draws a c true true (escaped (s ++ t)))
 if_more_text r a b c s t first = on_ok_weaker r (λ second. draws_more_text a b c s t first (draws_text b c t second))

@@ -7,7 +7,7 @@ pub record EachExampleHolds : Type 0 where
   pub digit : seen (codes "<span style=\"color:#00cd00\">a b</span>1") ≡ codes "a b1"
   -- a text in a label alone
   pub label : seen (codes "<path fill=\"#cdcd00\" aria-label=\"a b\"/>") ≡ []
-  -- a letter of a path's data that stands outside of the path
+  -- a letter of a path's data that is outside of the path
   pub letter : seen (codes "<path d=\"M0 9h9\"/>M0") ≡ codes "M0"
   -- a text that was escaped
   pub escaped : seen (codes "<b>a &lt;b&gt;</b>") ≡ codes "a &lt;b&gt;"

@@ -6,7 +6,7 @@ use Rattle.std.specs.Prelude.{if◌then◌else◌, unwrap_or}
 use Rattle.picture_page.specs.declared.tag.Tag.{Tag}
 use Rattle.picture_page.specs.Tags.{tag_bytes}
 
--- what stands for a byte of a text that isn't written as it is: & < > " '
+-- what is written for a byte of a text that isn't written as it is: & < > " '
 abbrev pub reference : ℕ → Option (List ℕ)
 reference b =
     if nat_eq b 38 then Some (codes "&amp;") else (if nat_eq b 60 then Some (codes "&lt;")
@@ -61,7 +61,7 @@ pub record Shows (bytes text : List ℕ) : Type 0 where
   pub joined : bytes ≡ parts_bytes parts
   pub text_is : parts_text parts ≡ text
 
--- the new bytes are the old ones and then parts in which this text of the screen is
+-- the new bytes are the old ones and then parts, which contain this text of the screen
 pub record Adds (old new text : List ℕ) : Type 0 where
   pub parts : List Part
   pub joined : new ≡ old ++ parts_bytes parts

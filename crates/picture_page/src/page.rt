@@ -22,7 +22,7 @@ pub struct Rgb {
     pub blue: u8,
 }
 
-/// The bytes of a picture. However it was made, they are pieces of markup, digits and escaped texts.
+/// The bytes of a picture. Whatever calls built it, they are pieces of markup, digits and escaped texts.
 #[derive(Drop)]
 pub struct Page {
     bytes: Vec<u8>,
@@ -40,7 +40,7 @@ impl Model for Page {
 }
 
 impl Page {
-    /// An empty one.
+    /// An empty page.
     pub fn new(alloc: Global) -> Self
         ensures { result ≡ [] }
     {
@@ -66,7 +66,7 @@ impl Page {
         Ok(())
     }
 
-    /// Appends a piece of markup, if it is wanted.
+    /// Appends a piece of markup if `on`.
     pub fn markup_if(&mut self, on: bool, tag: Tag) -> Result<(), AllocError>
         ensures adds { OnOk result (Adds self.old self.new []) }
         ensures bytes { OnOk result (self.new ≡ self.old ++ (if on then tag_bytes tag else [])) }
@@ -83,7 +83,7 @@ impl Page {
         Ok(())
     }
 
-    /// Appends a digit. The value counts modulo 16.
+    /// Appends a digit. The value is taken modulo 16.
     pub fn digit(&mut self, value: u8) -> Result<(), AllocError>
         ensures adds { OnOk result (Adds self.old self.new []) }
         ensures bytes { OnOk result (self.new ≡ self.old ++ digit_byte (value % 16) ∷ []) }
@@ -233,7 +233,7 @@ impl Page {
     }
 }
 
-// What stands for a byte that isn't written as it is.
+// What is written for a byte that isn't written as it is.
 fn reference(byte: u8) -> Option<&'static [u8]>
     ensures { option_map (λ r. r.now) result ≡ reference_of byte }
 {
@@ -247,7 +247,7 @@ fn reference(byte: u8) -> Option<&'static [u8]>
     }
 }
 
-// The digit of this value, which counts modulo 16.
+// The digit of this value, which is taken modulo 16.
 fn digit_of(value: u8) -> u8
     ensures { result ≡ digit_byte (value % 16) }
 {

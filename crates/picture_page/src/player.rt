@@ -1,6 +1,6 @@
 //! The fixed parts of a page that plays a recording.
 
-/// What comes before the page's title. A browser runs the one script whose checksum stands here.
+/// What comes before the page's title. A browser runs the one script whose checksum is in it.
 pub const PLAYER_HEAD: &[u8] = br#"<!DOCTYPE html>
 <html lang="en"><head><meta charset="utf-8"><meta name="viewport" content="width=device-width">
 <meta http-equiv="Content-Security-Policy" content="default-src 'none'; style-src 'unsafe-inline';

@@ -106,7 +106,7 @@ pub enum Tag {
     Opacity,
     /// What comes before the parts of a path.
     LinesData,
-    /// What comes before the characters for which it stands.
+    /// What comes before the characters that it draws.
     LinesLabel,
     /// A part of a path begins at this place.
     MoveTo,
@@ -126,7 +126,7 @@ pub enum Tag {
     RowName,
     /// What comes before its cells.
     RowNameEnd,
-    /// The beginning of when a film shows what, before its length in seconds.
+    /// The beginning of a film's times, before its length in seconds.
     FilmLength,
     /// What comes between its length in seconds and how often it plays.
     FilmLengthEnd,
@@ -136,7 +136,7 @@ pub enum Tag {
     Forwards,
     /// The end of a film, in percent.
     AtEnd,
-    /// The beginning of when a track of a film shows what, before the track's number.
+    /// The beginning of the times of a film's track, before the track's number.
     Keyframes,
     /// What comes after the number.
     KeyframesStart,
@@ -150,7 +150,7 @@ pub enum Tag {
     Animation,
     /// What comes after that.
     AnimationEnd,
-    /// What ends when a film shows what: nothing plays for a reader who wants less motion.
+    /// The end of a film's times: nothing plays for a reader who prefers less motion.
     Still,
     /// The point of a number.
     Point,
@@ -184,7 +184,7 @@ pub enum Tag {
     PlayerStyle,
     /// What comes between its heading and the length of the recording in seconds.
     PlayerLength,
-    /// The longest time for which a moment stands.
+    /// The longest time for which a moment stays.
     PlayerIdle,
     /// The speed at first.
     PlayerSpeed,

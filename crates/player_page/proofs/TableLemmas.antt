@@ -51,7 +51,7 @@ none_there eq items equal value (x ∷ xs) zero h = λ at.
 none_there eq items equal value (x ∷ xs) (suc i) h =
     none_there eq items equal value xs i (neither (eq value x) (list_any (eq value) xs) h).1
 
--- where an insertion says what becomes of the keys, and which of them is equal to the value
+-- from what an insertion says of the keys afterwards, and of the key that is equal to the value
 pub takes_number : {V : Type 0} (eq : V → V → Bool) (items : V → List ℕ)
     → ((x y : V) → eq x y ≡ true → items x ≡ items y) → ((x y : V) → items x ≡ items y → eq x y ≡ true)
     → (old new : List V) (value k : V) (number : ℕ) (is_new : Bool) → is_new ≡ not (list_any (eq value) old)

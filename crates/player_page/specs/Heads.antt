@@ -23,7 +23,7 @@ titles_bytes look =
 abbrev pub seconds_bytes : Tag → ℕ → List ℕ
 seconds_bytes t millionths = tag_bytes t ++ decimal_point 6 millionths
 
--- the longest time for which a moment stands, if there is one
+-- the longest time for which a moment stays, if there is one
 abbrev pub idle_bytes : Option ℕ → List ℕ
 idle_bytes idle = option_map_or (seconds_bytes tag.PlayerIdle) idle []
 

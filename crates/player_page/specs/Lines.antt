@@ -18,7 +18,7 @@ abbrev pub changed : List ℕ → List (ℕ × ℕ) → List ℕ
 changed numbers [] = numbers
 changed numbers (c ∷ cs) = changed (set numbers c.0 c.1) cs
 
--- These bytes say numbers: all of them, or those that differ from the ones before, each after its place.
+-- These bytes give numbers: all of them, or those that differ from the ones before, each after its place.
 pub data Say (before : List ℕ) : List ℕ → List ℕ → Type 0 where
   all : (numbers : List ℕ) → Say before numbers (tag_bytes tag.Whole ++ spaced numbers)
   changes : (cs : List (ℕ × ℕ))
@@ -30,12 +30,12 @@ pub record IsLine (time : ℕ) (before numbers bytes : List ℕ) : Type 0 where
   pub is : bytes ≡ decimal_point 6 time ++ (said ++ tag_bytes tag.Newline)
   pub say : Say before numbers said
 
--- what a line tells
+-- what a line says
 pub record Told : Type 0 where
   pub time : ℕ
   pub numbers : List ℕ
 
--- what these lines tell, one after another, and the numbers of the last one
+-- what these lines say, one after another, and the numbers of the last one
 pub data AreLines : List ℕ → List Told → List ℕ → Type 0 where
   none : AreLines [] [] []
   line : {lines : List ℕ} {told : List Told} {before : List ℕ} (time : ℕ) (numbers bytes : List ℕ)

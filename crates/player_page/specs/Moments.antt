@@ -25,7 +25,7 @@ pub record Moment : Type 0 where
   pub rows : List (List ℕ)
 
 -- These are the moments of the screens after 0 events, 1, 2 and so on, fewer than n; the screen has the last rows then.
--- Events at one time are one moment, and a screen that is painted as before is no moment of its own.
+-- Events at the same time are one moment, and a screen that is painted as before is no moment of its own.
 pub data AreMoments (look : Look) (size : ScreenSize) (events : List Event) : ℕ → List Moment → List (List ℕ) → Type 0 where
   none : AreMoments look size events 0 [] []
   passed : {n : ℕ} {moments : List Moment} {rows : List (List ℕ)} → is_moment events n ≡ false

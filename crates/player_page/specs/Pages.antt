@@ -79,9 +79,9 @@ pub record IsPlayer (look : Look) (size : ScreenSize) (events : List Event) (pla
   pub table_is : IsTable look size events table
   pub plays : Plays look size events (suc (length events)) table lines
 
--- ---- too long a page
+-- ---- a page that is too long
 
--- Already the rows of some of the recording's screens, or the lines of its first moments, have more bytes than this.
+-- The rows of some of the recording's screens alone, or the lines of its first moments, have more bytes than this.
 pub data HasLongPart (most : ℕ) (look : Look) (size : ScreenSize) (events : List Event) : Type 0 where
   rows : (table : List (List ℕ)) → IsTable look size events table → most < length (rows_bytes table)
       → HasLongPart most look size events

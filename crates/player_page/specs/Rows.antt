@@ -13,7 +13,7 @@ use Rattle.recorded_screen.specs.Picture.{cells_shown}
 abbrev pub acts_of : List Event → List Act
 acts_of events = map (λ e. act_of e.change) events
 
--- the cells are a row of the screen of a new terminal of this size to which these acts were done
+-- the cells are a row of the screen of a new terminal of this size to which these acts were applied
 pub record IsRowAfter (rows cols : ℕ) (acts : List Act) (cells : List CellView) : Type 0 where
   pub row : ℕ
   pub is : cells ≡ cells_shown (made rows cols 0 acts).shown row

@@ -1,4 +1,4 @@
--- The rows and the moments of a recording in the making.
+-- The rows and the moments of a recording, while they are collected.
 use Rattle.std.specs.Prelude.{◌≡◌, ◌≢◌, ◌⊎◌, ◌<◌, ◌≤◌, ℕ, Bool, true, false, List, [], ◌∷◌, ◌++◌, Some, get_or, length, map, slice_get}
 use Rattle.std.specs.List.{All}
 use Rattle.picture_page.specs.Page.{Adds}
@@ -29,7 +29,7 @@ abbrev pub added : {A : Type 0} → Bool → A → List A
 added true item = item ∷ []
 added false item = []
 
--- an item is added, unless it was there; this is its number
+-- an item is added, unless it was there already; this is its number
 pub record Takes {A : Type 0} (item : A) (old new : List A) (number : ℕ) (is_new : Bool) : Type 0 where
   pub is : new ≡ old ++ added is_new item
   pub at : slice_get new number ≡ Some item
@@ -50,7 +50,7 @@ pub record IsDrawn (look : Look) (size : ScreenSize) (events : List Event) (s : 
   pub rows : s.rows ≡ rows_bytes (table_of s)
   pub text : AddsRows size.rows.value size.cols.value events [] s.rows
 
--- these are the numbers of the first rows of the screen in this state; of the strip its table alone got longer
+-- these are the numbers of the first rows of the screen in this state; of the strip, only the table got longer
 pub record AreNumbers (look : Look) (s : State) (old new : Strip) (numbers : List ℕ) : Type 0 where
   pub more : List (List ℕ)
   pub longer : table_of new ≡ table_of old ++ more
@@ -61,7 +61,7 @@ pub record AreNumbers (look : Look) (s : State) (old new : Strip) (numbers : Lis
 
 -- ---- moments
 
--- bytes are appended that say numbers, and no text of the screen
+-- bytes are appended that give numbers, and no text of the screen
 pub record AddsNumbers (before numbers old new : List ℕ) : Type 0 where
   pub said : List ℕ
   pub joined : new ≡ old ++ said

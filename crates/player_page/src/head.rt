@@ -43,7 +43,7 @@ fn push_title(page: &mut Page, look: &Look) -> Result<(), AllocError>
     }
 }
 
-// Appends the longest time for which a moment stands, if there is one.
+// Appends the longest time for which a moment stays, if there is one.
 fn push_idle(page: &mut Page, idle: Option<u64>) -> Result<(), AllocError>
     ensures adds { OnOk result (Adds page.old page.new []) }
     ensures bytes { OnOk result (page.new ≡ page.old ++ idle_bytes idle) }

@@ -31,7 +31,7 @@ pub struct Play {
     pub length: u64,
     /// The time of the moment that is shown before it is played, in microseconds of the recording.
     pub poster: u64,
-    /// How fast it is played at first, and how long a moment may stand.
+    /// How fast it is played at first, and how long a moment may stay.
     pub pace: Pace,
 }
 
@@ -68,7 +68,7 @@ pub fn player(
     Ok(page.into_bytes())
 }
 
-/// A page that gets longer than the longest one is given up.
+/// Fails if the page is longer than the longest one.
 pub(crate) fn check_length(page: &Page) -> Result<(), PlayerError>
     ensures short { OnOk result (length page.now ≤ LONGEST_PLAYER) }
     ensures long { IfErr result (λ e. (e ≡ TooLong) × (LONGEST_PLAYER < length page.now)) }

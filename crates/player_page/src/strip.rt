@@ -22,26 +22,27 @@ use row_pictures::{Look, Page, Tag, push_html_row};
 use std::alloc::{AllocError, Global};
 use vt100::{Parser, Screen};
 
-// Of so many moments at least one has the numbers of all its rows, so that each is found in as many steps.
+// After at most this many moments that list only changes, a moment lists all its rows. So each moment is found in a
+// bounded number of steps.
 const WHOLE: usize = 64;
 
 /// The rows that are drawn, each once, and the moments, each a line of numbers.
 #[derive(Drop)]
 pub(crate) struct Strip {
-    /// The rows as they stand in the page.
+    /// The rows as they are in the page.
     pub(crate) rows: Page,
-    /// When which rows are shown.
+    /// Which rows are shown from when on.
     pub(crate) moments: Page,
     // The rows as they are painted.
     known: IndexSet<Vec<u8>>,
     // The numbers of the rows of the last moment.
     last: Vec<u32>,
-    // How many moments came after the last one with the numbers of all its rows.
+    // How many moments came after the last one that lists all its rows.
     since: usize,
 }
 
-/// The rows and moments of a recording. Events at one time are one moment, and a screen that is painted as before is no
-/// moment of its own.
+/// The rows and moments of a recording. Events at the same time are one moment, and a screen that is painted as before
+/// is no moment of its own.
 pub(crate) fn strip_of(
     alloc: Global,
     size: ScreenSize,
@@ -78,7 +79,7 @@ impl Strip {
         }
     }
 
-    // The screen is shown from this time on.
+    // Records that the screen is shown from this time on.
     fn shoot(
         &mut self,
         alloc: Global,
@@ -167,7 +168,7 @@ impl Strip {
         Ok(number)
     }
 
-    // From this time on rows with these numbers are shown.
+    // Appends a line: the rows with these numbers are shown from this time on.
     fn tell(&mut self, time: u64, numbers: Vec<u32>) -> Result<(), AllocError>
         requires few { length numbers.items < 2 ^ 16 }
         ensures { OnOk result (TellsLine time numbers.items self.old self.new) }
@@ -228,7 +229,7 @@ pub(crate) fn push_row(page: &mut Page, painted: &Page) -> Result<(), AllocError
     page.end_row()
 }
 
-// Inserts a painted row, and returns its number with whether it is new.
+// Inserts a painted row. Returns its number and whether it is new.
 fn insert_row(known: &mut IndexSet<Vec<u8>>, row: Vec<u8>) -> Result<(usize, bool), PlayerError>
     ensures takes { IfOk result (λ r. Takes row.items (map (λ v. v.items) known.old.keys)
         (map (λ v. v.items) known.new.keys) r.0 r.1) }
@@ -237,7 +238,7 @@ fn insert_row(known: &mut IndexSet<Vec<u8>>, row: Vec<u8>) -> Result<(usize, boo
     Ok(known.insert_full(row)?)
 }
 
-// Whether there are as many rows, and at most a third of them has another number.
+// Whether both have the same number of rows, and at most a third of these have another number.
 fn are_mostly_same(old: &[u32], new: &[u32]) -> bool
     ensures { IsTrue result → length old.now ≡ length new.now }
 {
@@ -253,7 +254,7 @@ fn are_mostly_same(old: &[u32], new: &[u32]) -> bool
     others <= new.len() / 3
 }
 
-// Appends the rows whose number is another, each with its number.
+// Appends the rows whose number differs, each with its new number.
 fn push_changed(page: &mut Page, old: &[u32], new: &[u32]) -> Result<(), AllocError>
     requires count { length old.now ≡ length new.now }
     requires few { length new.now < 2 ^ 16 }

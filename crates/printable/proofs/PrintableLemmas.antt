@@ -36,7 +36,7 @@ printable-ascii [] p i = omega arith
 printable-ascii (x ∷ xs) p zero = let one = p zero 0 (omega arith) in omega (arith, one.1)
 printable-ascii (x ∷ xs) p (suc i) = printable-ascii xs (All-drop IsPrintable 1 (x ∷ xs) p) i
 
--- a text may be cut behind them, and they are its first characters
+-- a text may be cut after them, and they are its first characters
 pub printable-boundary : (bs : List ℕ) (n : ℕ) → IsUtf8 bs → n ≤ length bs → All IsPrintable (take n bs)
     → IsCharBoundary bs n
 printable-boundary bs n u within p =

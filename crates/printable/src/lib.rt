@@ -68,7 +68,7 @@ fn first_len(bytes: &[u8]) -> usize
     FIRST_LEN
 }
 
-/// How many bytes at the start stand in whole blocks of printable ASCII.
+/// How many bytes at the start lie in whole blocks of printable ASCII.
 #[inline(always)]
 fn blocks_len(bytes: &[u8]) -> usize
     ensures within { result ≤ length bytes.now }

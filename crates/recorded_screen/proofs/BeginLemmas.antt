@@ -10,7 +10,7 @@ use Rattle.recorded_screen.specs.Film.{EarlierScreensDontStand, film_time, may_s
 use Rattle.recorded_screen.specs.Reel.{in_64_bits}
 use Rattle.recorded_screen.specs.declared.films.Pace.{Pace}
 
--- no time of the recording is none of the film
+-- a time of 0 in the recording is 0 in the film
 no_time : (pace : Pace) → paced pace 0 ≡ 0
 no_time pace =
     ap (λ (n : ℕ). in_64_bits (n * 1000000 / max pace.speed 1)) (shortest pace.idle)

@@ -345,13 +345,13 @@ shots_still look size pace events drawn drawn_after r rows rows_after _ _ more l
     (is_at_still rows rows_after place _ longer at))
     shown
 
--- the shots of a row of the screen that a film in the making has
+-- the shots of a row of the screen, in a film that is being built
 abbrev pub HasShots : Look → ScreenSize → Pace → List Event → Reel → ℕ → ℕ → Type 0
 HasShots look size pace events reel n r =
     let track = track_at (tracks_of reel) r in
     AreShots look size pace events (rows_of reel) r track.rows n track.shots
 
--- the screen after so many events was looked at
+-- the screen after n events was handled: a shot of it was taken, or it is skipped
 moment_passed : (look : Look) (size : ScreenSize) (pace : Pace) (events : List Event) (old new : Reel) (n r : ℕ)
     (on : Bool) (start : ℕ) → on ≡ may_stand pace events n → start ≡ slot_start pace (film_time pace events n)
     → r < new.size.rows.value → TakesShotIf on look (state_after size events n) start old new
@@ -438,7 +438,7 @@ pub time_reached : (pace : Pace) (events : List Event) (i gap waited : ℕ) (fir
 time_reached pace events i gap waited first old gap_is waited_is waits before =
     time_goes_on pace events i gap waited first.time old.time gap_is waited_is before (ap (λ (r : Reel). r.time) waits)
 
--- the screens after up to so many events were looked at
+-- the screens after up to n events were handled: a shot of each was taken, or it is skipped
 pub record IsTaken (look : Look) (size : ScreenSize) (pace : Pace) (moment : ℕ) (events : List Event) (reel : Reel)
     (n : ℕ) : Type 0 where
   pub is_reel : IsReel reel

@@ -44,7 +44,7 @@ written_line_drawn a b c look s t k n r screen row first second =
     (adds_both a b c (written_lines look s k n) (written_line look (scrolled s k (suc n)) (n - k)) first
     (line_is b c (written_line look) s t k n r screen row second))
 
--- a text more behind those that are seen
+-- one text more after those that are seen
 text_seen : (a b c front s t : List ℕ) → Draws a b true true (front ++ escaped s) → Draws b c true true (escaped t)
     → Draws a c true true (front ++ escaped (s ++ t))
 text_seen a b c front s t first second =

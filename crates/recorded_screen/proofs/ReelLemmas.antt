@@ -1,4 +1,4 @@
--- The rows, the tracks and the shots of a film in the making.
+-- The rows, the tracks and the shots of a film that is being built.
 use Rattle.std.proofs.Common.{◌≡◌, ◌≢◌, ◌⊎◌, inl, inr, ◌<◌, ◌≤◌, ◌+◌, ◌*◌, ◌/◌, ◌%◌, ◌^◌, ◌++◌, ℕ, zero, suc, max, List, [], ◌∷◌, Bool}
 use Rattle.std.proofs.Common.{true, false, not, cond, ◌&&◌, ◌||◌, Some, sym, ap, ◌∙◌, length, map}
 use Rattle.std.proofs.Common.{subst, take, append-nil, append_assoc, refl, arith, true≢false, nat_eq, decimal}
@@ -283,7 +283,7 @@ decimal_begins a b d value parts places is first second =
     ∙ sym (joined_more a b (d ++ last_digits places value) _ _ first
     (joined_more b d (d ++ last_digits places value) _ _ second refl))
 
--- the digits that are left, where so many places are
+-- the digits that are still to be written, where this many places are left
 pub record IsRest (unit : ℕ) (whole page : List ℕ) (value : ℕ) : Type 0 where
   pub places : ℕ
   pub is : unit ≡ 10 ^ places

@@ -6,7 +6,7 @@ use Rattle.recorded_screen.specs.Film.{film_time, is_moment, may_stand, slot_sta
 use Rattle.recorded_screen.specs.Reel.{decimal_point, place}
 use Rattle.recorded_screen.specs.declared.films.Pace.{Pace}
 
--- two events at once, and one two seconds later
+-- two events at the same time, and one two seconds later
 abbrev pub three_events : Change → List Event
 three_events change =
     record { time = 0; change = change } ∷ record { time = 0; change = change }
@@ -29,10 +29,10 @@ pub record EachExampleHolds : Type 0 where
   pub seconds : decimal_point 6 750000 ≡ codes "0.750000"
   -- the fifth place of a track of 80 columns
   pub fifth : place 80 4 ≡ 2880
-  -- no screen stands between two events at once
+  -- no screen is shown between two events at the same time
   pub between : (change : Change) → is_moment (three_events change) 1 ≡ false
   pub behind : (change : Change) → is_moment (three_events change) 2 ≡ true
-  -- at twice the speed, where no screen stands for more than a second and a half
+  -- at twice the speed, where no screen stays for more than a second and a half
   pub faster : (change : Change)
       → film_time (record { speed = 2000000; idle = Some 1500000; rate = 30; plays = None; from = 0; poster = None })
       (three_events change) 3 ≡ 750000

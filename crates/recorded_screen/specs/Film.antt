@@ -21,22 +21,22 @@ use Rattle.recorded_screen.specs.declared.reel.Shot.{Shot}
 
 -- ---- times
 
--- the time that has been reached after so many events, in microseconds of the recording
+-- the time that has been reached after the first n events, in microseconds of the recording
 abbrev pub reached : List Event → ℕ → ℕ
 reached events zero = 0
 reached events (suc n) = option_map_or (λ e. e.time) (slice_get events n) 0
 
--- How long a time of the recording is in the film: a screen stands no longer than `idle`, and the film has its own
+-- How long a time of the recording is in the film: a screen stays no longer than `idle`, and the film has its own
 -- speed.
 abbrev pub paced : Pace → ℕ → ℕ
 paced pace time = in_64_bits (option_map_or (min time) pace.idle time * 1000000 / max pace.speed 1)
 
--- the time of the recording to which a film has played after so many events: what comes before its beginning is there
--- at once
+-- the time of the recording to which a film has played after the first n events: what comes before its beginning is
+-- there at once
 abbrev pub played_to : Pace → List Event → ℕ → ℕ
 played_to pace events n = max pace.from (reached events n)
 
--- the time of the film that has been reached after so many events
+-- the time of the film that has been reached after the first n events
 abbrev pub film_time : Pace → List Event → ℕ → ℕ
 film_time pace events zero = 0
 film_time pace events (suc n) =
@@ -52,17 +52,17 @@ time_in_film pace events time =
     let n = count_until time events in
     in_64_bits (film_time pace events n + paced pace (max pace.from time - played_to pace events n))
 
--- the time of what is shown where nothing plays, if the pace says it
+-- the time of what is shown where nothing plays, if the pace has a poster
 abbrev pub poster_time : Pace → List Event → Option ℕ
 poster_time pace events = option_map (time_in_film pace events) pace.poster
 
--- after so many events the next one, if there is one, comes at another time
+-- whether the event after the first n comes at another time than they, or there is no such event
 abbrev pub is_moment : List Event → ℕ → Bool
 is_moment events n = option_map_or (λ e. not (e.time == reached events n)) (slice_get events n) true
 
 -- ---- slots
 
--- A second of a film is cut into slots, as many as it has screens at most. A time is in the one of this number.
+-- A second of a film is cut into slots, as many as it has screens at most. A time is in the slot of this number.
 abbrev pub slot : Pace → ℕ → ℕ
 slot pace time = time * max pace.rate 1 / 1000000
 
@@ -70,13 +70,13 @@ slot pace time = time * max pace.rate 1 / 1000000
 abbrev pub slot_start : Pace → ℕ → ℕ
 slot_start pace time = in_64_bits (slot pace time * 1000000 / max pace.rate 1)
 
--- after so many events a film may show the screen: the next event, if there is one, comes in another slot of its time
+-- whether a film may show the screen after the first n events: the next event comes in another slot, or there is none
 abbrev pub may_stand : Pace → List Event → ℕ → Bool
 may_stand pace events n =
     option_map_or (λ e. not (slot pace (film_time pace events (suc n)) == slot pace (film_time pace events n)))
     (slice_get events n) true
 
--- no screen stands in a film after which another event comes by its beginning
+-- a film doesn't show a screen after which another event comes at or before the film's beginning
 abbrev pub EarlierScreensDontStand : Type 0
 EarlierScreensDontStand = (pace : Pace) (events : List Event) (n : ℕ) (e : Event) → slice_get events n ≡ Some e
     → reached events n ≤ pace.from → e.time ≤ pace.from → may_stand pace events n ≡ false
@@ -109,7 +109,7 @@ most_cols moment size events =
 
 -- ---- screens
 
--- the state of a new terminal of this size after so many events
+-- the state of a new terminal of this size after the first n events
 abbrev pub state_after : ScreenSize → List Event → ℕ → State
 state_after size events n = made size.rows.value size.cols.value 0 (map (λ e. act_of e.change) (take n events))
 
@@ -121,13 +121,13 @@ pub record TakesShot (look : Look) (s : State) (start : ℕ) (old new : Reel) : 
   pub size : new.size ≡ old.size
   pub time : new.time ≡ old.time
 
--- a shot of this state is taken, if it is wanted
+-- a shot of this state is taken, if the flag says so
 abbrev pub TakesShotIf : Bool → Look → State → ℕ → Reel → Reel → Type 0
 TakesShotIf true look s start old new = TakesShot look s start old new
 TakesShotIf false look s start old new = new ≡ old
 
--- These are the shots of row r of the screens after 0 events, 1, 2 and so on, fewer than this many: of each screen that
--- may stand, the row is shown from the beginning of its slot on, and of no other. A row below the last one is empty.
+-- These are the shots of row r of the screens after 0 events, 1, 2 and so on, fewer than this many. The row is shown
+-- for the screens where `may_stand` holds, from the beginning of the slot on. A row below the last one is empty.
 pub data AreShots (look : Look) (size : ScreenSize) (pace : Pace) (events : List Event) (drawn : List (List ℕ)) (r : ℕ)
     (rows : List ℕ) : ℕ → List Shot → Type 0 where
   none : AreShots look size pace events drawn r rows 0 []
@@ -140,10 +140,10 @@ pub data AreShots (look : Look) (size : ScreenSize) (pace : Pace) (events : List
       → AreShots look size pace events drawn r rows (suc n) new
 
 -- A film of the first n events, at the size of all up to a time. Each row of the screen has a track, which shows that
--- row of the screens that may stand, each from its slot on, and the last one for a second. It plays as often as the
--- pace says, and then shows its last screen. Where nothing plays, it shows what it shows at the poster's time. The rows
--- that are drawn are all different, and each stands in a track. Those of a track are all different too, and each is
--- shown.
+-- row of the screens where `may_stand` holds, each from its slot on, and the last one for a second. It plays as often
+-- as the pace says, and then shows its last screen. Where nothing plays, it shows what it shows at the poster's time.
+-- The rows that are drawn are all different, and each is in a track. Those of a track are all different too, and each
+-- is shown.
 pub record IsFilmOf (look : Look) (size : ScreenSize) (pace : Pace) (moment : ℕ) (events : List Event) (n : ℕ)
     (bytes : List ℕ) : Type 0 where
   pub rows : List (List ℕ)

@@ -8,7 +8,7 @@ use Rattle.recordings.specs.declared.recording.ScreenSize.{ScreenSize}
 use Rattle.recorded_screen.specs.Film.{IsFilmOf, count_until, most_cols, most_rows}
 use Rattle.recorded_screen.specs.declared.films.Pace.{Pace}
 
--- these bytes are such a picture, of so many rows and columns, in its frame
+-- these bytes are such a picture, of this many rows and columns, in its frame
 pub record IsFramed (f : FrameView) (theme : Theme) (rows cols : ℕ) (IsPicture : List ℕ → Type 0) (bytes : List ℕ)
     : Type 0 where
   pub picture : List ℕ

@@ -22,7 +22,7 @@ block_head look =
     ++ (html_colors look.theme.fgcolor look.theme.bgcolor
     ++ (font_bytes tag.BlockFont tag.BlockFontEnd look ++ tag_bytes tag.BlockRows))
 
--- The head of a picture in SVG of so many rows and columns: its size, its title, and behind the rows a rectangle as
+-- The head of a picture in SVG of this many rows and columns: its size, its title, and as background a rectangle as
 -- large as the picture.
 abbrev pub svg_head : Look → ℕ → ℕ → List ℕ
 svg_head look rows cols =

@@ -19,7 +19,7 @@ cells_shown g r = option_map_or (λ v. take g.width v.cells) (visible_row_at g r
 abbrev pub line_text : GridView → ℕ → List ℕ
 line_text g r = row_text (cells_shown g r) ++ 10 ∷ []
 
--- the column of a row in which the cursor is shown, if it is: one behind the last column is shown there
+-- the column of a row in which the cursor is shown, if it is: one after the last column is shown in that column
 abbrev pub cursor_shown : Look → State → ℕ → Option ℕ
 cursor_shown look s r =
     if (look.hides_cursor || s.hidden) || not (s.shown.kept.offset + s.shown.row == r) then None
@@ -39,7 +39,7 @@ font_line look s r = font_texts (cells_written look s r) ++ 10 ∷ []
 
 -- ---- the rows of a picture
 
--- how many kept rows come before those of the screen, of at most so many: a picture has at most 65,535 rows
+-- how many kept rows come before those of the screen, `history` at most: a picture has at most 65,535 rows
 abbrev pub kept_pictured : ℕ → State → ℕ
 kept_pictured history s = min history (min (length s.shown.kept.rows) (2 ^ 16 - 1 - s.shown.height))
 
@@ -80,11 +80,11 @@ font_text look history s = font_lines look s (kept_pictured history s) (rows_pic
 
 -- ---- what is seen
 
--- what stands outside of the tags before the rows: a title between two newlines
+-- what is outside of the tags before the rows: a title between two newlines
 abbrev pub front_seen : List ℕ → List ℕ
 front_seen title = codes "\n" ++ (title ++ codes "\n")
 
--- what stands outside of the tags of a block in HTML that has these rows: they, behind a newline
+-- what is outside of the tags of a block in HTML that has these rows: a newline, and then the rows
 abbrev pub block_seen : List ℕ → List ℕ
 block_seen rows = codes "\n" ++ rows
 

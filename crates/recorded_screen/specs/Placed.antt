@@ -1,4 +1,4 @@
--- Where the rows of a whole picture stand: one below the other, each as its runs of cells.
+-- Where the rows of a whole picture are: one below the other, each as its runs of cells.
 use Rattle.std.specs.Prelude.{◌≡◌, ℕ, suc, ◌-◌, ◌*◌, List, [], ◌∷◌, ◌++◌, length}
 use Rattle.picture_page.specs.Bytes.{numbers_bytes}
 use Rattle.picture_page.specs.Tags.{tag_bytes}
@@ -47,7 +47,7 @@ IsSvgLineOf look s count n bytes = IsSvgLine look (scrolled s count (suc n)) (n 
 
 -- ---- pictures
 
--- a block in HTML that has the rows of a screen, one line each, behind the newest kept rows, so many at most
+-- a block in HTML that has the newest kept rows, `history` at most, and then the rows of a screen, one line each
 pub record IsBlock (look : Look) (history : ℕ) (s : State) (bytes : List ℕ) : Type 0 where
   pub lines : List ℕ
   pub is : bytes ≡ block_head look ++ (lines ++ tag_bytes tag.BlockEnd)
@@ -59,7 +59,7 @@ pub record IsAround (before after : List ℕ) (look : Look) (history : ℕ) (s :
   pub is : bytes ≡ before ++ (block ++ after)
   pub placed : IsBlock look history s block
 
--- a picture in SVG that has the rows of a screen, each at its place, behind the newest kept rows, so many at most
+-- a picture in SVG that has the newest kept rows, `history` at most, and then those of a screen, each at its place
 pub record IsSvg (look : Look) (history : ℕ) (s : State) (bytes : List ℕ) : Type 0 where
   pub lines : List ℕ
   pub is : bytes ≡ svg_head look (rows_pictured history s) s.shown.width ++ (lines ++ tag_bytes tag.SvgFoot)

@@ -1,4 +1,4 @@
--- The bytes of a film: the rows that are drawn, and for each row of the screen a track in which they stand.
+-- The bytes of a film: the rows that are drawn, and for each row of the screen a track that uses them.
 use Rattle.std.specs.Prelude.{ℕ, zero, suc, ◌+◌, ◌*◌, ◌/◌, ◌%◌, ◌^◌, min, max, List, [], ◌∷◌, ◌++◌, decimal}
 use Rattle.std.specs.Prelude.{◌-◌, Option, Some, None, get_or, if◌then◌else◌, length, nat_lt, nat_le, slice_get}
 use Rattle.std.specs.List.{flat_map, prefix_len}
@@ -34,7 +34,7 @@ drawn_row number runs =
 
 -- ---- tracks
 
--- A track: the drawn rows that stand in it, by their numbers, from the left; and which of these places is shown when.
+-- A track: the drawn rows that it has, by their numbers, from the left; and which of these places is shown when.
 pub record Track : Type 0 where
   pub rows : List ℕ
   pub shots : List Shot
@@ -50,12 +50,12 @@ track_at tracks r = get_or tracks r no_track
 abbrev pub place : ℕ → ℕ → ℕ
 place cols n = in_32_bits (n * (cols * 9))
 
--- a drawn row at a place of a track, which is so many pixels from the top
+-- a drawn row at a place of a track, which is y pixels from the top
 abbrev pub used_row : ℕ → ℕ → ℕ → ℕ → List ℕ
 used_row cols y n number =
     numbers_bytes ((tag.Use, in_32_bits number) ∷ (tag.X, place cols n) ∷ (tag.Y, y) ∷ []) ++ tag_bytes tag.Close
 
--- the last shot, and where its row stands
+-- the last shot, and where its row is
 abbrev pub last_shot : List Shot → Option Shot
 last_shot shots = slice_get shots (length shots - 1)
 
@@ -66,12 +66,12 @@ last_place cols shots = option_map_or (λ shot. place cols shot.place) (last_sho
 abbrev pub shots_until : ℕ → List Shot → ℕ
 shots_until time shots = prefix_len (λ shot. nat_le shot.time time) shots
 
--- where the row stands that is shown at a time
+-- where the row is that is shown at a time
 abbrev pub place_at : ℕ → ℕ → List Shot → ℕ
 place_at cols time shots =
     option_map_or (λ shot. place cols shot.place) (slice_get shots (shots_until time shots - 1)) 0
 
--- where the row stands that is shown where nothing plays: at the time of the poster, or else at the end
+-- where the row is that is shown where nothing plays: that of the poster's time, or else that of the end
 abbrev pub still_place : ℕ → Option ℕ → List Shot → ℕ
 still_place cols None shots = last_place cols shots
 still_place cols (Some time) shots = place_at cols time shots
@@ -85,12 +85,12 @@ track_bytes cols poster row track =
 
 -- ---- when what is shown
 
--- the last digits of a number, so many
+-- the last digits of a number, this many
 unfoldable pub last_digits : ℕ → ℕ → List ℕ
 last_digits zero value = []
 last_digits (suc places) value = digit_byte (value / 10 ^ places % 10) ∷ last_digits places value
 
--- a number of parts of one, as a decimal with so many digits behind the point
+-- a value in units of 10^-places, as a decimal with this many digits after the point
 abbrev pub decimal_point : ℕ → ℕ → List ℕ
 decimal_point places value =
     decimal (in_32_bits (value / 10 ^ places)) ++ (tag_bytes tag.Point ++ last_digits places value)
@@ -111,7 +111,7 @@ last_bytes cols shots =
 abbrev pub end_bytes : Option ℕ → ℕ → List Shot → List ℕ
 end_bytes plays cols shots = option_map_or (λ n. last_bytes cols shots) plays []
 
--- the shots of a row of the screen, in a film that is shown so
+-- the shots of a row of the screen, in a film that is shown in this way
 abbrev pub keyframes : ℕ → Showing → ℕ → List Shot → List ℕ
 keyframes cols s row shots =
     numbers_bytes ((tag.Keyframes, in_32_bits row) ∷ [])
@@ -126,7 +126,7 @@ abbrev pub track_times : ℕ → Showing → ℕ → Track → List ℕ
 track_times cols s row track =
     if nat_lt 1 (length track.shots) then keyframes cols s row track.shots else []
 
--- how often a film plays: over and over, or so many times, and then it stays as it is at its end
+-- how often a film plays: over and over, or this many times, and then it stays as it is at its end
 abbrev pub plays_bytes : Option ℕ → List ℕ
 plays_bytes None = tag_bytes tag.Endless
 plays_bytes (Some n) = decimal (max n 1) ++ tag_bytes tag.Forwards
@@ -151,12 +151,12 @@ changes_in (track ∷ tracks) = (length track.shots - 1) + changes_in tracks
 abbrev pub drawn_bytes : List ℕ → List ℕ → List ℕ
 drawn_bytes rows tracks = tag_bytes tag.DefsStart ++ (rows ++ (tag_bytes tag.DefsEnd ++ tracks))
 
--- how a film is shown whose last screen comes at this time: it stands for a second
+-- how a film is shown whose last screen comes at this time: that screen is shown for a second
 abbrev pub showing : Option ℕ → Option ℕ → ℕ → Showing
 showing plays poster time = record { length = in_64_bits (time + 1000000); plays = plays; poster = poster }
 
--- A film of so many rows and columns, which is shown so: when what is shown, the rows that are drawn, and the tracks
--- from the top.
+-- A film of this many rows and columns, which is shown in this way: the times of its shots, the rows that are drawn,
+-- and the tracks from the top.
 abbrev pub film_bytes : Look → ℕ → ℕ → Showing → List (List ℕ) → List Track → List ℕ
 film_bytes look height cols s rows tracks =
     svg_head look height cols

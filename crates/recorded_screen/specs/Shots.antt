@@ -1,4 +1,4 @@
--- A film in the making: its rows, and its tracks, which say what is shown from when on.
+-- A film that is being built: its rows, and its tracks, which say what is shown from when on.
 use Rattle.std.specs.Prelude.{◌≡◌, ◌≢◌, ◌⊎◌, ℕ, ◌<◌, List, [], ◌∷◌, ◌++◌, Bool, true, false, Some, length, map, slice_get}
 use Rattle.recorded_screen.specs.Reel.{Track, drawn_row, last_shot, numbered, track_at}
 use Rattle.recorded_screen.specs.declared.reel.Reel.{Reel}
@@ -18,13 +18,13 @@ tracks_of reel = map track_of reel.tracks.items
 abbrev pub AreDifferent : {A : Type 0} → List A → Type 0
 AreDifferent {A} xs = (i j : ℕ) (x : A) → slice_get xs i ≡ Some x → slice_get xs j ≡ Some x → i ≡ j
 
--- the one of this number is such a one
+-- the item of this number exists, and this holds of it
 pub record IsAt {A : Type 0} (xs : List A) (number : ℕ) (Holds : A → Type 0) : Type 0 where
   pub item : A
   pub at : slice_get xs number ≡ Some item
   pub holds : Holds item
 
--- the drawn row of this number stands in one of the tracks
+-- the drawn row of this number is in one of the tracks
 pub record IsUsed (tracks : List Track) (number : ℕ) : Type 0 where
   pub row : ℕ
   pub place : ℕ
@@ -47,7 +47,7 @@ pub record IsDrawn (reel : Reel) : Type 0 where
   pub rows : reel.drawn_rows ≡ numbered drawn_row 0 (rows_of reel)
   pub different : AreDifferent (rows_of reel)
 
--- each of its rows stands in one of its tracks
+-- each of its rows is in one of its tracks
 pub record IsReel (reel : Reel) : Type 0 where
   pub drawn : IsDrawn reel
   pub used : (i : ℕ) → i < length (rows_of reel) → IsUsed (tracks_of reel) i

@@ -28,7 +28,7 @@ use vt100::{Parser, Screen};
 pub struct Pace {
     /// How many millionths of the recorded speed.
     pub speed: u64,
-    /// The longest time of the recording for which a screen stands, in microseconds.
+    /// The longest time for which a screen stays, in microseconds of the recording.
     pub idle: Option<u64>,
     /// How many screens a second a film shows at most.
     pub rate: u16,
@@ -67,7 +67,7 @@ impl Pace {
         u64::try_from(start).unwrap_or(u64::MAX)
     }
 
-    // How much of a time a screen stands.
+    // How much of a time a screen stays.
     fn standing(self, time: u64) -> u64
         ensures { result ≡ option_map_or (min time) self.idle time }
     {
@@ -80,9 +80,9 @@ impl Pace {
 
 /// A picture in SVG that plays the events from the time on that the pace says, up to a moment, and needs no script. It
 /// begins with the screen of that time, and plays as often as the pace says. A row that occurs more than once is drawn
-/// once. The last screen stands for a second.
+/// once. The last screen is shown for a second.
 ///
-/// Where nothing plays, and for a reader who wants less motion, it is as at the poster's time, or else as at its end.
+/// Where nothing plays, and for a reader who prefers less motion, it is as at the poster's time, or else as at its end.
 pub fn film(
     alloc: Global,
     size: ScreenSize,
@@ -113,7 +113,7 @@ pub fn film(
     reel.develop(alloc, look, pace.plays, poster_time(pace, events))
 }
 
-// Takes a shot of the screen, if it is wanted.
+// Takes a shot of the screen if `on`.
 fn shoot_if(
     on: bool,
     reel: &mut Reel,
@@ -178,7 +178,7 @@ fn gap_before(pace: Pace, events: &[Event], i: usize) -> u64
     played_to(pace, events, i + 1).saturating_sub(played_to(pace, events, i))
 }
 
-// The time of what is shown where nothing plays, if the pace says it.
+// The time of what is shown where nothing plays, if the pace has a poster.
 fn poster_time(pace: Pace, events: &[Event]) -> Option<u64>
     ensures { result ≡ poster_time pace events.now }
 {
@@ -200,7 +200,7 @@ fn time_in_film(pace: Pace, events: &[Event], time: u64) -> u64
     film_time(pace, events, count).saturating_add(pace.of_time(left))
 }
 
-// The time of the film that has been reached after so many events.
+// The time of the film that has been reached after `count` events.
 fn film_time(pace: Pace, events: &[Event], count: usize) -> u64
     requires { count ≤ length events.now }
     ensures { result ≡ film_time pace events.now count }
@@ -212,14 +212,14 @@ fn film_time(pace: Pace, events: &[Event], count: usize) -> u64
     time
 }
 
-// The time of the recording to which a film has played after so many events.
+// The time of the recording to which a film has played after `count` events.
 fn played_to(pace: Pace, events: &[Event], count: usize) -> u64
     ensures { result ≡ played_to pace events.now count }
 {
     pace.from.max(time_after(events, count))
 }
 
-// The time that has been reached after so many events.
+// The time of the recording that has been reached after `count` events.
 fn time_after(events: &[Event], count: usize) -> u64
     ensures { result ≡ reached events.now count }
 {
@@ -232,8 +232,8 @@ fn time_after(events: &[Event], count: usize) -> u64
     }
 }
 
-// Whether a film may show the screen after so many events, by the time that it has reached: the next one comes in
-// another slot.
+// Whether a film, which has reached this time, may show the screen after `count` events: the next event comes in
+// another slot, or there is none.
 fn may_stand(pace: Pace, events: &[Event], count: usize, time: u64) -> bool
     requires { time ≡ film_time pace events.now count }
     ensures { result ≡ may_stand_of pace events.now count }
@@ -245,7 +245,7 @@ fn may_stand(pace: Pace, events: &[Event], count: usize, time: u64) -> bool
     pace.slot(next) != pace.slot(time)
 }
 
-// Whether the event after so many comes at another time, or there is none.
+// Whether the event after the first `count` comes at another time than they, or there is none.
 fn is_moment(events: &[Event], count: usize) -> bool
     ensures { result ≡ is_moment_of events.now count }
 {

@@ -79,7 +79,7 @@ pub fn framed_film(
     short(framed)
 }
 
-// A film that is longer than the longest one is given up.
+// Fails if a film is longer than the longest one.
 fn short(film: Vec<u8>) -> Result<Vec<u8>, FilmError>
     ensures same { IfOk result (λ bytes. bytes.items ≡ film.items) }
     ensures page { IsPage film.items → IfOk result (λ bytes. IsPage bytes.items) }

@@ -8,7 +8,7 @@ pub fn examples_hold()
     ensures { EachExampleHolds }
 {}
 
-/// No screen stands in a film that the recording shows before the film begins.
+/// A film shows no screen after which another event comes at or before the film's beginning.
 pub fn earlier_screens_dont_stand()
     ensures { EarlierScreensDontStand }
 {}

@@ -13,8 +13,8 @@ use vt100::{Parser, ScreenError};
 /// The moment at which a recording has ended.
 pub const END: u64 = u64::MAX;
 
-/// The terminal at a moment: what the events whose time is at most that do to a new one, in their order, makes its
-/// screen. It is refused only for memory.
+/// The terminal at a moment: a new one to which the events up to that time were applied, in order. It is refused only
+/// for memory.
 pub fn terminal_at(
     alloc: Global,
     size: ScreenSize,
@@ -31,7 +31,7 @@ pub fn terminal_at(
     Ok(parser)
 }
 
-// Does what the events up to a moment do.
+// Applies the events up to a moment.
 fn play(parser: &mut Parser<()>, events: &[Event], moment: u64) -> Result<(), ScreenError>
     requires live { parser.old.screen.failed ≡ false }
     ensures live { OnOk result (parser.new.screen.failed ≡ false) }
@@ -46,7 +46,7 @@ fn play(parser: &mut Parser<()>, events: &[Event], moment: u64) -> Result<(), Sc
     Ok(())
 }
 
-// Does what an event does, unless it comes after a moment.
+// Applies an event, unless it comes after a moment.
 fn step(parser: &mut Parser<()>, event: &Event, moment: u64) -> Result<(), ScreenError>
     requires live { parser.old.screen.failed ≡ false }
     ensures live { OnOk result (parser.new.screen.failed ≡ false) }
@@ -61,7 +61,7 @@ fn step(parser: &mut Parser<()>, event: &Event, moment: u64) -> Result<(), Scree
     act(parser, &event.change)
 }
 
-/// Does what an event does.
+/// Applies an event's change.
 pub fn act(parser: &mut Parser<()>, change: &Change) -> Result<(), ScreenError>
     requires live { parser.old.screen.failed ≡ false }
     ensures live { OnOk result (parser.new.screen.failed ≡ false) }

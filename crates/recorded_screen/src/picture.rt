@@ -26,8 +26,8 @@ use vt100::Screen;
 /// A page in HTML that shows the screen: markup, and the texts of its cells, row by row, escaped. Its title is that of
 /// `look`, or else `screentext`.
 ///
-/// The newest kept rows come first, `history` at most. A picture has at most 65,535 rows. The screen is left scrolled
-/// back to none. Where it has failed, the answer is as where memory is refused.
+/// The newest kept rows come first, `history` at most. A picture has at most 65,535 rows. Afterwards the screen isn't
+/// scrolled back. A failed screen gives the same error as refused memory.
 pub fn html(
     alloc: Global,
     screen: &mut Screen,
@@ -51,7 +51,7 @@ pub fn html(
     Ok(page.into_bytes())
 }
 
-/// A block in HTML that shows the screen: the part of the page of [`html`] that can stand in another page.
+/// A block in HTML that shows the screen: the part of the page of [`html`] that can be put into another page.
 pub fn html_block(
     alloc: Global,
     screen: &mut Screen,
@@ -110,7 +110,7 @@ pub(crate) fn kept_of(screen: &Screen, history: usize) -> u16
     }
 }
 
-/// How many rows a picture has, where so many kept ones come first.
+/// How many rows a picture has, where `count` kept ones come first.
 pub(crate) fn rows_of(screen: &Screen, count: u16) -> u16
     requires { count + screen.now.state.shown.height ≤ 2 ^ 16 - 1 }
     ensures { result ≡ count + screen.now.state.shown.height }
@@ -119,7 +119,7 @@ pub(crate) fn rows_of(screen: &Screen, count: u16) -> u16
     count + rows.get()
 }
 
-// Scrolls back so that row `row` of a picture is shown, where so many kept rows come first.
+// Scrolls back so that row `row` of a picture is shown, where `count` kept rows come first.
 fn scroll_to(screen: &mut Screen, count: u16, row: u16) -> Result<(), AllocError>
     ensures { OnOk result (screen.new.state ≡ kept_shown (count - row) screen.old.state) }
 {
@@ -199,7 +199,7 @@ pub fn svg(
     Ok(page.into_bytes())
 }
 
-/// Appends the head of a picture in SVG of this many rows and columns, and what is behind it.
+/// Appends the head of a picture in SVG of this many rows and columns, and its background.
 pub(crate) fn push_svg_head(
     page: &mut Page,
     rows: u16,
@@ -261,7 +261,7 @@ pub fn cells_of(screen: &Screen, row: u16) -> &[Cell]
     }
 }
 
-/// The column of a row in which the cursor is shown, if it is. One behind the last column is shown there.
+/// The column of a row in which the cursor is shown, if it is. One after the last column is shown in that column.
 pub fn cursor_in(screen: &Screen, row: u16, look: &Look) -> Option<usize>
     ensures { result ≡ cursor_shown look.now screen.now.state row }
 {

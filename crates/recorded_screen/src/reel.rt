@@ -26,20 +26,20 @@ use std::alloc::{AllocError, Global};
 /// The longest film, in bytes.
 pub const LONGEST_FILM: usize = 8 << 20;
 
-// How long the last screen stands, in microseconds.
+// How long the last screen is shown, in microseconds.
 const LAST: u64 = 1_000_000;
 
 // A change in a track takes at least this many bytes of a film.
 const CHANGE_LEN: usize = 27;
 
-/// A film in the making.
+/// A film that is being built.
 #[derive(Drop)]
 pub(crate) struct Reel {
     // The size of the picture.
     size: ScreenSize,
     // The rows that are drawn, as they are written.
     rows: IndexSet<Vec<u8>>,
-    // The rows as they stand in the picture.
+    // The rows as they are in the picture.
     drawn_rows: Page,
     // The tracks, one for each row of the screen.
     tracks: Vec<Track>,
@@ -50,13 +50,13 @@ pub(crate) struct Reel {
 /// The track of a row of the screen.
 #[derive(Drop)]
 pub(crate) struct Track {
-    // What stands in it at some time: drawn rows, by their numbers.
+    // The drawn rows that it shows at some time, by their numbers.
     rows: IndexSet<usize>,
     // Which of these is shown from when on.
     shots: Vec<Shot>,
 }
 
-/// From a time of the film on, in microseconds, the row at this place of a track is shown.
+/// The row at this place of a track is shown from this time of the film on, in microseconds.
 #[derive(Clone, Copy)]
 pub(crate) struct Shot {
     time: u64,
@@ -75,7 +75,7 @@ pub(crate) struct Showing {
 }
 
 impl Track {
-    // An empty one.
+    // An empty track.
     fn new(alloc: Global) -> Self
         ensures { track_of result ≡ no_track }
     {
@@ -85,7 +85,7 @@ impl Track {
         }
     }
 
-    // The row of this number is shown from a time on.
+    // Shows the row of this number from a time on.
     fn show(&mut self, time: u64, number: usize) -> Result<(), FilmError>
         requires track { IsTrack (track_of self.old) }
         ensures track { OnOk result (IsTrack (track_of self.new)) }
@@ -106,7 +106,7 @@ impl Track {
 }
 
 impl Reel {
-    /// An empty one, of so many rows and columns.
+    /// An empty reel of this size.
     pub(crate) fn new(alloc: Global, size: ScreenSize) -> Result<Self, FilmError>
         ensures reel { IfOk result (λ reel. IsReel reel) }
         ensures rows { IfOk result (λ reel. rows_of reel ≡ []) }
@@ -138,14 +138,14 @@ impl Reel {
         self.time
     }
 
-    /// Time goes on.
+    /// Advances the film's time.
     pub(crate) fn wait(&mut self, time: u64)
         ensures { self.new ≡ record self.old { time = in_64_bits (self.old.time + time) } }
     {
         self.time = self.time.saturating_add(time);
     }
 
-    /// These cells are shown in a row of the screen from this time of the film on, in microseconds.
+    /// Shows these cells in a row of the screen from this time of the film on, in microseconds.
     pub(crate) fn show(
         &mut self,
         alloc: Global,
@@ -191,7 +191,7 @@ impl Reel {
         Ok(number)
     }
 
-    /// A film is given up whose rows are longer than the longest film, or that changes too often.
+    /// Fails if the rows are longer than the longest film, or the tracks change too often.
     pub(crate) fn check(&self) -> Result<(), FilmError>
         ensures { IfErr result (λ e. (e ≡ TooLong) × ((LONGEST_FILM < length self.now.drawn_rows)
             ⊎ (LONGEST_FILM < 27 * changes_in (tracks_of self.now)))) }
@@ -200,8 +200,8 @@ impl Reel {
         check_changes(&self.tracks)
     }
 
-    /// The film, which plays so often, or else over and over. Where nothing plays, it is as it is at the poster's time,
-    /// or else at its end.
+    /// The film. It plays `plays` times, or over and over without this number. Where nothing plays, it is as it is at
+    /// the poster's time, or else at its end.
     pub(crate) fn develop(
         self,
         alloc: Global,
@@ -228,7 +228,7 @@ impl Reel {
         Ok(page.into_bytes())
     }
 
-    // How it is shown, where the film plays so often and has such a poster.
+    // How the film is shown that plays this often and has this poster.
     fn showing(&self, plays: Option<u16>, poster: Option<u64>) -> Showing
         ensures { result ≡ showing plays poster self.now.time }
     {
@@ -239,7 +239,7 @@ impl Reel {
         }
     }
 
-    // Appends when what is shown.
+    // Appends the film's length, how often it plays, and the key frames of its tracks.
     fn push_times(&self, page: &mut Page, showing: Showing) -> Result<(), AllocError>
         ensures { OnOk result (page.new ≡ page.old ++ times_bytes self.now.size.cols.value showing
             (tracks_of self.now)) }
@@ -264,7 +264,7 @@ impl Reel {
     }
 }
 
-// So many empty tracks.
+// Returns `count` empty tracks.
 fn empty_tracks(alloc: Global, count: u16) -> Result<Vec<Track>, FilmError>
     ensures tracks { IfOk result (λ tracks. map track_of tracks.items ≡ replicate count no_track) }
     ensures memory { IfErr result (λ e. e ≡ Memory) }
@@ -276,7 +276,7 @@ fn empty_tracks(alloc: Global, count: u16) -> Result<Vec<Track>, FilmError>
     Ok(tracks)
 }
 
-// Inserts a row that is written so, and returns its number with whether it is new.
+// Inserts a row, given as its bytes. Returns its number and whether it is new.
 fn insert_row(rows: &mut IndexSet<Vec<u8>>, row: Vec<u8>) -> Result<(usize, bool), FilmError>
     ensures inserts { IfOk result (λ r. Inserts (map (λ v. v.items) rows.old.keys) (map (λ v. v.items) rows.new.keys)
         row.items r.0 r.1) }
@@ -293,7 +293,7 @@ fn insert_number(numbers: &mut IndexSet<usize>, number: usize) -> Result<usize, 
     Ok(numbers.insert_full(number)?.0)
 }
 
-// The row at another place of a track is shown from this time on, unless it is shown already.
+// Shows the row at this place of a track from this time on, unless it is shown already.
 fn push_shot(shots: &mut Vec<Shot>, time: u64, place: usize) -> Result<(), AllocError>
     ensures { OnOk result (IsShown shots.old.items shots.new.items time place) }
 {
@@ -306,7 +306,7 @@ fn push_shot(shots: &mut Vec<Shot>, time: u64, place: usize) -> Result<(), Alloc
     }
 }
 
-// A film that gets longer than the longest one is given up.
+// Fails if the page is longer than the longest film.
 fn check_length(page: &Page) -> Result<(), FilmError>
     ensures short { OnOk result (length page.now ≤ LONGEST_FILM) }
     ensures long { IfErr result (λ e. (e ≡ TooLong) × (LONGEST_FILM < length page.now)) }
@@ -317,7 +317,7 @@ fn check_length(page: &Page) -> Result<(), FilmError>
     Ok(())
 }
 
-// A film whose tracks change so often that it gets longer than the longest one is given up.
+// Fails if the tracks change so often that the film gets longer than the longest one.
 fn check_changes(tracks: &[Track]) -> Result<(), FilmError>
     ensures { IfErr result (λ e. (e ≡ TooLong) × (LONGEST_FILM < 27 * changes_in (map track_of tracks.now))) }
 {
@@ -331,7 +331,7 @@ fn check_changes(tracks: &[Track]) -> Result<(), FilmError>
     Ok(())
 }
 
-// Draws a row, if it is wanted.
+// Draws a row if `on`.
 fn draw_row_if(on: bool, page: &mut Page, number: usize, row: &Page) -> Result<(), AllocError>
     ensures { OnOk result (page.new ≡ page.old ++ (if on then drawn_row number row.now else [])) }
 {
@@ -353,7 +353,7 @@ fn draw_row(page: &mut Page, number: usize, row: &Page) -> Result<(), AllocError
     page.end_row()
 }
 
-// Appends the tracks of a film that has so many columns.
+// Appends the tracks of a film that has `cols` columns.
 fn push_tracks(
     page: &mut Page,
     cols: u16,
@@ -390,7 +390,7 @@ fn push_track(
     page.markup(Tag::TrackEnd)
 }
 
-// Appends rows that are drawn, by their numbers, side by side, so many pixels from the top.
+// Appends rows that are drawn, by their numbers, side by side, `y` pixels from the top.
 fn use_rows(page: &mut Page, cols: u16, y: u32, rows: &IndexSet<usize>) -> Result<(), AllocError>
     ensures { OnOk result (page.new ≡ page.old ++ numbered (used_row cols y) 0 rows.now.keys) }
 {
@@ -410,7 +410,7 @@ fn number_at(rows: &IndexSet<usize>, place: usize) -> usize
     }
 }
 
-// Appends a row that is drawn, at a place, so many pixels from the top.
+// Appends a row that is drawn, at a place, `y` pixels from the top.
 fn use_row(page: &mut Page, cols: u16, y: u32, place: usize, row: usize) -> Result<(), AllocError>
     ensures { OnOk result (page.new ≡ page.old ++ used_row cols y place row) }
 {
@@ -435,7 +435,7 @@ fn push_plays(page: &mut Page, plays: Option<u16>) -> Result<(), AllocError>
     }
 }
 
-// Appends the key frames of each track that changes, in a film that is shown so.
+// Appends the key frames of each track that changes, in a film that is shown in this way.
 fn push_all_keyframes(
     page: &mut Page,
     cols: u16,
@@ -468,7 +468,7 @@ fn push_keyframes_if(
     }
 }
 
-// Appends the key frames of a track, in a film that is shown so.
+// Appends the key frames of a track, in a film that is shown in this way.
 fn push_keyframes(
     page: &mut Page,
     cols: u16,
@@ -537,7 +537,7 @@ fn push_time(page: &mut Page, cols: u16, shot: Shot, film_length: u64) -> Result
     page.markup(Tag::PercentEnd)
 }
 
-// Where the row at a place of a track stands, in pixels from the left.
+// Where the row at a place of a track is, in pixels from the left.
 fn place_of(cols: u16, place: usize) -> u32
     ensures { result ≡ place_in cols place }
 {
@@ -545,7 +545,7 @@ fn place_of(cols: u16, place: usize) -> u32
     u32::try_from((place as u64).saturating_mul(width)).unwrap_or(u32::MAX)
 }
 
-// Where the row stands that is shown where nothing plays, in pixels from the left.
+// Where the row is that is shown where nothing plays, in pixels from the left.
 fn still_place(cols: u16, poster: Option<u64>, shots: &[Shot]) -> u32
     ensures { result ≡ still_place_in cols poster shots.now }
 {
@@ -555,7 +555,7 @@ fn still_place(cols: u16, poster: Option<u64>, shots: &[Shot]) -> u32
     }
 }
 
-// Where the row stands that is shown at a time, in pixels from the left.
+// Where the row is that is shown at a time, in pixels from the left.
 fn place_at(cols: u16, time: u64, shots: &[Shot]) -> u32
     ensures { result ≡ place_at_in cols time shots.now }
 {
@@ -578,7 +578,7 @@ fn shots_until(shots: &[Shot], time: u64) -> usize
     shots.len()
 }
 
-// Where the row stands that is shown last, in pixels from the left.
+// Where the row is that is shown last, in pixels from the left.
 fn last_place(cols: u16, shots: &[Shot]) -> u32
     ensures { result ≡ last_place_in cols shots.now }
 {
@@ -588,14 +588,14 @@ fn last_place(cols: u16, shots: &[Shot]) -> u32
     }
 }
 
-// As much of a count as fits.
+// A count, or `u32::MAX` if that is less.
 fn in_32_bits(count: usize) -> u32
     ensures { result ≡ in_32_bits_of count }
 {
     u32::try_from(count).unwrap_or(u32::MAX)
 }
 
-// The hundred thousandths of a hundredth of a length that a time is.
+// A time as a part of a length, in hundred-thousandths of a percent.
 fn part_of(time: u64, length: u64) -> u64
     ensures { result ≡ in_64_bits (time * 10000000 / max length 1) }
 {
@@ -603,7 +603,7 @@ fn part_of(time: u64, length: u64) -> u64
     u64::try_from(parts).unwrap_or(u64::MAX)
 }
 
-/// Appends a number that counts such parts of one, as a decimal. The unit is a power of ten.
+/// Appends `value / unit` as a decimal. The unit is a power of ten.
 pub fn push_decimal(page: &mut Page, value: u64, unit: u32) -> Result<(), AllocError>
     ensures adds { OnOk result (Adds page.old page.new []) }
     ensures bytes { OnOk result ((places : ℕ) → unit ≡ 10 ^ places
@@ -620,7 +620,7 @@ pub fn push_decimal(page: &mut Page, value: u64, unit: u32) -> Result<(), AllocE
     Ok(())
 }
 
-// The whole ones of so many parts of one.
+// The quotient `value / parts`, or `u32::MAX` if that is less.
 fn whole_of(value: u64, parts: u64) -> u32
     requires { 0 < parts }
     ensures { result ≡ in_32_bits_of (value / parts) }

@@ -233,7 +233,7 @@ other_count end colors all words is a b p =
     let palette : palette_of p.some ≡ None = grind (arith, nat_tests) in
     sym (palette_is end colors all words is p ∙ ap (option_map behind_two) palette)
 
--- ---- the same of words that are lent
+-- ---- the same of borrowed words
 
 abbrev pub words_of : List (Bor (List ℕ)) → List (List ℕ)
 words_of ys = map {A = Bor (List ℕ)} {B = List ℕ} (λ w. w.now) ys

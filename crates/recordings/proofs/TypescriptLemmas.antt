@@ -106,7 +106,7 @@ stopped shared output lines i n d rows left t lt number fine ill state_after =
       state_after,
     )
 
--- one more line of those that are lent
+-- one more of the borrowed lines
 pub next_step : (shared : Bool) (output : List ℕ) (lines : List (Bor (List ℕ))) (i : ℕ) (d : Bor (List ℕ))
     (rows : List Row)
     (left : List ℕ) (row : Row)

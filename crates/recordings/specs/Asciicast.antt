@@ -69,7 +69,7 @@ resize_in text =
     else option_and_then (λ cols. option_map (λ rows. (rows, cols)) (size_in (after_first (λ b. b == 0x78) text)))
     (size_in (before_first (λ b. b == 0x78) text))
 
--- what an event of this code does with its text; other codes are of no account to a screen or a reader, and need none
+-- what an event of this code does with its text; other codes do nothing to a screen or a reader, and need no text
 abbrev pub deed_in : List ℕ → Option (List ℕ) → Option (Option Deed)
 deed_in code text =
     if bytes_eq code (codes "o") then option_map (λ bytes. Some (writes bytes)) text
@@ -87,7 +87,7 @@ abbrev pub text_in : Items → Option (List ℕ)
 text_in (item text more) = as_str text
 text_in no_items = None
 
--- `[TIME, CODE, TEXT]`; what follows is of no account
+-- `[TIME, CODE, TEXT]`; what follows is ignored
 abbrev pub row_of_items : Items → Option Row
 row_of_items (item time (item code more)) = row_of_parts (time_of time) (as_str code) (text_in more)
 row_of_items _ = None
@@ -100,7 +100,7 @@ abbrev pub comments : Pace → List ℕ → Bool
 comments FromStart line = false
 comments FromLast line = slice_index line 0 == 0x23
 
--- a line is an event, or none where it is blank or a comment
+-- a line is an event, or no event if it is blank or a comment
 abbrev pub rows_in : Pace → List ℕ → Option (List Row)
 rows_in pace line =
     if list_all is_ascii_whitespace line || comments pace line then Some []

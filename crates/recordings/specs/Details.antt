@@ -8,19 +8,19 @@ use Rattle.recordings.specs.Themes.{text_at, theme_in, theme_reported}
 use Rattle.recordings.specs.Times.{json_in, time_of}
 use Rattle.recordings.specs.declared.recording.Recording.{Recording}
 
--- its colours, how long a screen stands at most, in microseconds, and its title
+-- its colours, how long a screen stays the same at most, in microseconds, and its title
 pub record Details : Type 0 where
   pub theme : Option (List ℕ)
   pub idle : Option ℕ
   pub title : Option (List ℕ)
 
--- a limit of 0 is none
+-- a limit of 0 counts as no limit
 abbrev pub idle_in : Data → Option ℕ
 idle_in json =
     option_and_then (λ time. then_some (nat_lt 0 time) time)
     (option_and_then time_of (get (codes "idle_time_limit") json))
 
--- an empty title is none
+-- an empty title counts as no title
 abbrev pub title_in : Data → Option (List ℕ)
 title_in json =
     option_and_then (λ title. then_some (nat_lt 0 (length title)) title) (text_at (codes "title") json)

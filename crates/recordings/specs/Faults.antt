@@ -1,4 +1,4 @@
--- What is said of a fault.
+-- What is reported of a fault.
 use Rattle.std.specs.Prelude.{List, ℕ, ◌++◌, codes}
 use Rattle.std.specs.Fmt.{decimal}
 use Rattle.recordings.specs.declared.error.RecordingError.{RecordingError}

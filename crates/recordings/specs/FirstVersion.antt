@@ -25,7 +25,7 @@ is_first json = option_map_or (λ n. n == 1)
 abbrev pub first_version : List ℕ → Option Data
 first_version text = option_and_then (λ json. then_some (is_first json) json) (json_in (unmarked text))
 
--- `[DELAY, TEXT]`; what follows is of no account
+-- `[DELAY, TEXT]`; what follows is ignored
 abbrev pub output_of_items : Items → Option Row
 output_of_items (item time (item text more)) =
     option_and_then (λ t. option_map (λ bytes. (t, Some (writes bytes))) (as_str text)) (time_of time)

@@ -21,7 +21,7 @@ kind_named word =
     else (if bytes_eq word (codes "ttyrec") then Some Ttyrec
     else (if bytes_eq word (codes "raw") then Some Raw else None)))
 
--- by the first bytes; a typescript isn't told from its output alone
+-- by the first bytes; a typescript can't be recognized by its output alone
 abbrev pub kind_guessed : List ℕ → Kind
 kind_guessed bytes =
     if is_header bytes then Asciicast

@@ -30,11 +30,11 @@ Moment = ℕ × Deed
 abbrev pub said : List Event → List Moment
 said = map (λ e. (e.time, deed_of e.change))
 
--- an event as it is stored: its time, and what it does where a screen or a reader has a part in it
+-- an event as it is stored: its time, and what it does if that concerns a screen or a reader
 abbrev pub Row : Type 0
 Row = ℕ × Option Deed
 
--- the time of an event, by that of the one before
+-- the time of an event, given that of the previous one
 abbrev pub reached : Pace → ℕ → ℕ → ℕ
 reached FromStart before time = max before time
 reached FromLast before time = min (before + time) (2 ^ 64 - 1)

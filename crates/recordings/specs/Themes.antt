@@ -28,7 +28,7 @@ palette_of colors =
     if length colors == 16 then Some colors
     else (if length colors == 8 then Some (colors ++ colors) else None)
 
--- between colons; what follows the sixteenth is of no account
+-- between colons; what follows the sixteenth is ignored
 abbrev pub palette_in : List ℕ → Option (List ℕ)
 palette_in text = option_and_then palette_of (colors_in (take 16 (slice_split (λ b. b == 0x3a) text)))
 

@@ -21,15 +21,15 @@ use Rattle.recordings.specs.declared.typescript.TimingLine.TheVariants as declar
 
 -- ---- the lines of a timing file
 
--- what stands before the first space, and what after it
+-- what comes before the first space, and what comes after it
 abbrev pub word_of : List ℕ → List ℕ
 word_of text = before_first (λ b. b == 0x20) text
 
 abbrev pub rest_of : List ℕ → List ℕ
 rest_of text = after_first (λ b. b == 0x20) text
 
--- what a line says: so many bytes are written, the screen gets this size, so many bytes aren't output, or only time
--- passes
+-- what a line says: this many bytes are written, the screen gets this size, this many bytes aren't output, or only
+-- time passes
 pub data Step : Type 0 where
   gives : ℕ → ℕ → Step
   resizes_to : ℕ → ℕ × ℕ → Step
@@ -67,7 +67,7 @@ signal_in text = option_and_then (λ time. signal_of time (rest_of text)) (time_
 abbrev pub other_in : List ℕ → Option Step
 other_in text = option_map passes (time_in (word_of text))
 
--- what was typed, which stands among the output if both are in one file
+-- what was typed, which is among the output if both are in one file
 abbrev pub input_in : Bool → List ℕ → Option Step
 input_in shared text = if shared then option_map (λ p. skips p.0 p.1) (counted_in text) else other_in text
 

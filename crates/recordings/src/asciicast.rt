@@ -188,7 +188,7 @@ fn side(object: &Value, name: &str) -> Option<NonZeroU16>
     }
 }
 
-// The events in the lines after the first, up to one that is none: then its number is told too.
+// The events in the lines after the first, up to a line that isn't one. That line's number is returned too.
 fn read_lines(
     alloc: Global,
     pace: Pace,
@@ -208,7 +208,7 @@ fn read_lines(
     Ok((timeline, None))
 }
 
-// Appends the event in a line, if it has one. Answers whether the line makes sense.
+// Appends the event in a line, if it has one. Returns whether the line makes sense.
 fn push_line(
     alloc: Global,
     timeline: &mut Timeline,
@@ -234,7 +234,7 @@ fn push_line(
 pub enum Entry {
     /// Blank, or a comment.
     Blank,
-    /// An event: its time, and what it does where a screen or a reader has a part in it.
+    /// An event: its time, and what it does if that concerns a screen or a reader.
     Row(u64, Option<Change>),
     /// Not an event.
     Fault,

@@ -10,14 +10,14 @@ use crate::time::microseconds;
 use serde_json::Value;
 use std::alloc::{AllocError, Global};
 
-/// The header's `idle_time_limit` in microseconds, if it has one. A limit of 0 is none.
+/// The header's `idle_time_limit` in microseconds, if it has one. A limit of 0 counts as no limit.
 pub(crate) fn idle_in(header: &Value) -> Option<u64>
     ensures { result ≡ idle_in_data (view header.now) }
 {
     microseconds(header.get("idle_time_limit")?).filter(|time| *time > 0)
 }
 
-/// The header's `title`, if it has one. An empty title is none.
+/// The header's `title`, if it has one. An empty title counts as no title.
 pub(crate) fn title_in(alloc: Global, header: &Value) -> Result<Option<String>, AllocError>
     ensures { IfOk result (λ title. option_map string_bytes title ≡ title_in_data (view header.now)) }
 {

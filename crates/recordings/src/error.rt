@@ -23,7 +23,7 @@ pub enum Packer {
 /// Why a recording isn't read. Lines are counted from 1, bytes from 0.
 #[derive(Clone, Copy, Debug, PartialEq, Eq)]
 pub enum RecordingError {
-    /// Memory was refused.
+    /// An allocation failed.
     Memory,
     /// The first line is no header of an asciicast: no object, one of another version, or one without a size. Or the
     /// text is an object of version 1 without a size or with a value that is no output.

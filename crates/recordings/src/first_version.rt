@@ -71,7 +71,7 @@ fn outputs_of(object: &Value) -> Option<&[Value]>
     Some(object.get("stdout")?.as_array()?.as_slice())
 }
 
-// Reads outputs. There is no answer where one of the values is no output.
+// Reads outputs. Returns `None` if one of the values isn't an output.
 fn read_outputs(alloc: Global, outputs: &[Value]) -> Result<Option<Timeline>, AllocError>
     ensures { IfOk result (AreOutputs (items_view outputs.now)) }
 {

@@ -25,7 +25,7 @@ pub(crate) fn lines_of(alloc: Global, text: &[u8]) -> Result<Vec<&[u8]>, AllocEr
     text.split(|b| *b == b'\n').collect(alloc)
 }
 
-/// What stands before the first newline.
+/// What comes before the first newline.
 pub(crate) fn first_line(text: &[u8]) -> &[u8]
     ensures { result.now ≡ first_line_in text.now }
 {

@@ -107,13 +107,13 @@ pub struct Recording {
     pub size: Option<ScreenSize>,
     /// The colours of its own, where the recording says them.
     pub theme: Option<RecordedTheme>,
-    /// The longest time for which a screen is to stand, in microseconds, where the recording says one:
+    /// The longest time for which a screen stays the same, in microseconds, where the recording says one:
     /// `idle_time_limit` in the header of an asciicast. It isn't 0.
     pub idle: Option<u64>,
     /// Its title, where the recording says one: `title` in the header of an asciicast. It isn't empty.
     pub title: Option<String>,
     /// What happens, in order.
     pub events: Vec<Event>,
-    /// Microseconds from the beginning to the last event, be it one in which a screen has no part.
+    /// Microseconds from the beginning to the last event, even if it does nothing to a screen.
     pub length: u64,
 }

@@ -45,7 +45,7 @@ pub(crate) fn text_at<'a>(object: &'a Value, name: &str) -> Option<&'a str>
     object.get(name)?.as_str()
 }
 
-// The first sixteen colours, behind two others.
+// The first sixteen colours, after two others.
 fn palette_in(palette: &str) -> Option<[u32; 18]>
     ensures { result ≡ option_map (λ colors. 0 ∷ 0 ∷ colors) (palette_of palette.now) }
 {

@@ -10,14 +10,14 @@ use std::alloc::{AllocError, Global};
 /// From where a time counts.
 #[derive(Clone, Copy)]
 pub enum Pace {
-    /// From the beginning. A time before that of the event before is that one's.
+    /// From the beginning. A time before that of the previous event counts as that one.
     FromStart,
-    /// From the event before.
+    /// From the previous event.
     FromLast,
 }
 
 impl Pace {
-    // The time of an event, by that of the one before.
+    // The time of an event, given that of the previous one.
     fn reach(self, before: u64, time: u64) -> u64
         ensures { result ≡ reached self before time }
     {
@@ -49,7 +49,7 @@ impl Timeline {
         }
     }
 
-    /// Appends an event, with what it does, if a screen or a reader has a part in that.
+    /// Appends an event, with what it does if that concerns a screen or a reader.
     pub(crate) fn push(&mut self, time: u64, change: Option<Change>) -> Result<(), AllocError>
         ensures { OnOk result ((pace : Pace) (rows : List Row) → IsStateAfter pace rows self.old
             → IsStateAfter pace (rows ++ (time, option_map deed_of change) ∷ []) self.new) }

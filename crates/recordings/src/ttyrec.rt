@@ -1,4 +1,4 @@
-//! Ttyrecs: frames of output, each behind its time and its length.
+//! Ttyrecs: frames of output, each after its time and its length.
 
 ghost use Rattle.std.specs.Prelude.{◌≡◌, ◌++◌, ◌<◌, ◌^◌, ◌+◌, length, map, MatchOption, IfOk, IfErr};
 ghost use Rattle.std.specs.Prelude.{◌⊎◌};
@@ -73,7 +73,7 @@ pub(crate) fn begins_ttyrec(bytes: &[u8]) -> bool
     }
 }
 
-// The frames up to one that isn't whole: then it is told too where that begins.
+// The frames up to one that isn't whole. Where that one begins is returned too.
 fn read_frames(alloc: Global, bytes: &[u8]) -> Result<(Vec<Frame<'_>>, Option<u64>), AllocError>
     ensures { IfOk result (λ read. AreFrames bytes.now (map piece_of read.0.items) read.1) }
 {

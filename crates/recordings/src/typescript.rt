@@ -72,7 +72,7 @@ fn step_fault(line: Option<u64>) -> Option<RecordingError>
     }
 }
 
-// The events of the lines, up to one that is no step: then its number is told too.
+// The events of the lines, up to a line that isn't a step. That line's number is returned too.
 fn read_steps(
     alloc: Global,
     shared: bool,
@@ -108,17 +108,17 @@ fn after_line(text: &[u8]) -> &[u8]
 /// What a line of a timing file says.
 #[derive(Clone, Copy)]
 pub enum TimingLine {
-    /// After so many microseconds the program writes so many bytes.
+    /// After this many microseconds the program writes this many bytes.
     Output(u64, usize),
-    /// After so many microseconds so many bytes follow that aren't output.
+    /// After this many microseconds this many bytes follow that aren't output.
     Skip(u64, usize),
-    /// After so many microseconds the terminal gets this size.
+    /// After this many microseconds the terminal gets this size.
     Resize(u64, ScreenSize),
-    /// So many microseconds pass.
+    /// This many microseconds pass.
     Other(u64),
 }
 
-// Does a step, and answers what is left of the typescript, unless that has too few bytes.
+// Does a step, and returns what is left of the typescript, unless that has too few bytes.
 fn push_step<'a>(
     alloc: Global,
     timeline: &mut Timeline,
@@ -194,7 +194,7 @@ fn output_step(alloc: Global, text: &[u8]) -> Result<Option<TimingLine>, AllocEr
     }
 }
 
-// What was typed: its bytes stand among the output if both are in one file.
+// What was typed: its bytes are among the output if both are in one file.
 fn input_step(alloc: Global, shared: bool, text: &[u8]) -> Result<Option<TimingLine>, AllocError>
     ensures { IfOk result (λ step. option_map step_said step ≡ input_in shared text.now) }
 {
@@ -309,7 +309,7 @@ fn count_in(text: &[u8]) -> Option<usize>
     }
 }
 
-// What stands before the first space, and what after it.
+// What comes before the first space, and what comes after it.
 fn cut(text: &[u8]) -> (&[u8], &[u8])
     ensures word { result.0.now ≡ word_of text.now }
     ensures rest { result.1.now ≡ rest_of text.now }

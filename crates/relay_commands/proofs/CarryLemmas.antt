@@ -48,7 +48,7 @@ printed (Err e) known P text a b is took = tt
 printed (Ok u) None P text a b is took = tt
 printed (Ok u) (Some bytes) P text a b is took = (text, is bytes refl, took)
 
--- what holds whatever is answered holds where all went well
+-- what holds for any result holds where all went well
 pub on-any : (answer : Result (Unit {0}) RelayError) (A : Type 0) → A → OnOk answer A
 on-any (Ok u) A a = a
 on-any (Err e) A a = tt
@@ -202,7 +202,7 @@ module _ (rows cols : ℕ) (lines : LineDrawing) (past : List (List ℕ)) (piece
         subst (λ (o : Option Shown). Relaying rows cols fed o g key) (sym (base-push rows cols before here)) turned.2,
       )
 
--- the second answer, where the first call went well
+-- the second result, where the first call went well
 abbrev pub then : Result (Unit {0}) RelayError → Result (Unit {0}) RelayError → Result (Unit {0}) RelayError
 then (Ok u) last = last
 then (Err e) last = Err e

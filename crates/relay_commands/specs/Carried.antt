@@ -30,7 +30,7 @@ pub record Carries (old : View UntilCleared) (bytes : List ℕ) (new : View Unti
   pub joined : concat pieces ≡ bytes
   pub led : Led old pieces new
 
--- this is what is pumped to a client, where these pieces are fed
+-- `text` is what is pumped to a client where these pieces are fed
 pub record IsPumped (rows cols : ℕ) (pieces : List (List ℕ)) (text : List ℕ) : Type 0 where
   pub key : ℕ
   pub story : Story
@@ -38,27 +38,27 @@ pub record IsPumped (rows cols : ℕ) (pieces : List (List ℕ)) (text : List �
   pub fits : has_overlong story ≡ false
   pub pumped : story.session.pumped ≡ text
 
--- This is what is relayed of a program's output, and of the farewell: a frame after each 4,096 bytes, and one at the
--- end. Either the bytes are fed as they are, or what the filter gives of each piece.
+-- `text` is what is relayed of a program's output and of the farewell: a frame after each 4,096 bytes, and one at the
+-- end. Each piece is fed unchanged, or the filter's output for it is fed.
 abbrev pub IsRelayedThrough : LineDrawing → ℕ → ℕ → List ℕ → List ℕ → Type 0
 IsRelayedThrough lines rows cols input text = IsPumped rows cols (all_passed lines (ended (pieces_of input))) text
 
--- A fresh view of this size was given, in some pieces, what is relayed of a program's output, and of the farewell. This
--- is the text of what it shows.
+-- A fresh view of this size was given, in some pieces, what is relayed of a program's output and of the farewell.
+-- `text` is the text of what it shows.
 pub record IsFarText (lines : LineDrawing) (rows cols : ℕ) (input text : List ℕ) : Type 0 where
   pub pieces : List (List ℕ)
   pub relayed : IsRelayedThrough lines rows cols input (concat pieces)
   pub shown : IsTextShown (sized rows cols) pieces text
 
--- What is appended to a writer is the text of the screen that a program's output makes, where the modes and the update
--- are ended that it left on: unless that screen shows U+FE0F.
+-- The text that is appended to a writer is that of the screen that a program's output makes, after the modes and the
+-- update that it left on are ended. This holds unless that screen shows U+FE0F.
 abbrev pub AppendsScreen : LineDrawing → ℕ → ℕ → List ℕ → Option (List ℕ) → Option (List ℕ) → Type 0
 AppendsScreen lines rows cols input old new =
     is_unsure (sized rows cols) (shown_state (screen_at_end lines rows cols input)) ≡ false
     → Appends old new (screen_text (sized rows cols) (shown_state (screen_at_end lines rows cols input)).cell)
 
--- After other pieces this one was fed by a turn, and the client had this base: so the turn is answered. The frame
--- reached the view, or there was no memory for what may want some, or it would be too long.
+-- A turn feeds this piece after these other pieces, where the client has this base, and has this result. The frame
+-- reached the view, or there was no memory where some may be needed, or the frame would be too long.
 abbrev pub Carried : LineDrawing → ℕ → ℕ → List (List ℕ) → List ℕ → Option Shown → ℕ → View UntilCleared
     → Result (Unit {0}) RelayError → View UntilCleared → HubState as_kept → Type 0
 Carried lines rows cols past piece base key old (Ok u) new g =
@@ -83,20 +83,21 @@ CarriesPiece h old piece answer g new = (g.client ≡ h.client)
     → Relaying rows cols fed base h.hub h.client → HasPassed h.filter lines past
     → Carried lines rows cols fed (passed lines past piece) base h.client old answer new g.hub)
 
--- From a source these pieces come: they were read; or the input ended, and the last one is the farewell.
+-- These pieces come from a source: they were read; or the input ended, and the last one is the farewell.
 pub data Comes {S : Type 0} (gives : S → ℕ → Result (List ℕ) Error → S → Type 0) (s : S) : List (List ℕ) → S
     → Type 0 where
   read : {t : S} {pieces : List (List ℕ)} → Begun gives piece_len s pieces t → Comes gives s pieces t
   at_end : {t : S} {pieces : List (List ℕ)} → Drained gives piece_len s pieces (Ok tt) t → Comes gives s (ended pieces) t
 
--- From a source pieces come and pass, and these frames are made of them: so it is answered, and so the source is left.
+-- Pieces come from a source and pass the filter, and these frames are made of them. The constructors say which result
+-- this has, and how it leaves the source.
 pub data Follows (lines : LineDrawing) {S : Type 0} (gives : S → ℕ → Result (List ℕ) Error → S → Type 0)
     (rows cols : ℕ) (s : S) : List (List ℕ) → Result (Unit {0}) RelayError → S → Type 0 where
-  -- a read failed, or as many were made as may be
+  -- a read failed, or there were too many reads
   unread : {t : S} {frames : List (List ℕ)} (pieces : List (List ℕ)) (rest : List ℕ) (e : RelayError)
       → Drained gives piece_len s (pieces ++ rest ∷ []) (Err e) t
       → AreRelayed rows cols (all_passed lines pieces) frames → Follows lines gives rows cols s frames (Err e) t
-  -- there was no memory for the last piece or its frame, which may want some
+  -- there was no memory for the last piece or its frame, which may need some
   unmade : {t : S} {frames : List (List ℕ)} (pieces : List (List ℕ)) (piece : List ℕ)
       → Comes gives s (pieces ++ piece ∷ []) t → AreRelayed rows cols (all_passed lines pieces) frames
       → WantsRoom lines rows cols pieces piece → Follows lines gives rows cols s frames (Err Memory) t
@@ -109,7 +110,7 @@ pub data Follows (lines : LineDrawing) {S : Type 0} (gives : S → ℕ → Resul
   followed : {t : S} {frames : List (List ℕ)} (pieces : List (List ℕ)) → Drained gives piece_len s pieces (Ok tt) t
       → AreRelayed rows cols (all_passed lines (ended pieces)) frames → Follows lines gives rows cols s frames (Ok tt) t
 
--- From a source and a writer it answers so, and leaves both so. Nothing is written before the input has ended.
+-- The result of the call, and how it leaves the source and the writer. Nothing is written before the input has ended.
 pub data PrintsFar (lines : LineDrawing) {S W : Type 0} (i : Source S) (o : Sink W)
     (flushes : W → Result (Unit {0}) Error → W → Type 0) (rows cols : ℕ) : Result (Unit {0}) RelayError → Type 0 where
   -- there was no memory for the hub, its client or the view: nothing is read

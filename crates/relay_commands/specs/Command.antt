@@ -1,4 +1,4 @@
--- What a command answers, reads, writes and reports.
+-- What a command returns, reads, writes and reports.
 use Rattle.std.specs.Prelude.{◌≡◌, ℕ, List, [], ◌++◌, Option, Ok, Err, Result, IfSome}
 use Rattle.std.specs.Io.KnownBytes.{Appends}
 use Rattle.std.specs.declared.io.Error.{Error}
@@ -31,7 +31,7 @@ HasWritten (print help) left old new = Appends old new help
 HasWritten (run job rows cols) left old new = IfSome left (λ bytes. (text : List ℕ)
     × IsTextOf job rows cols bytes text × Appends old new text)
 
--- From a source and a writer, a job is answered so and leaves both so.
+-- A job's result, and how it leaves the source and the writer.
 abbrev pub DoesJob : {S W : Type 0} → Source S → Sink W → (W → Result (Unit {0}) Error → W → Type 0) → Job → ℕ → ℕ
     → Result (Unit {0}) RelayError → Type 0
 DoesJob i o flushes Relay rows cols answer =
@@ -42,19 +42,19 @@ DoesJob i o flushes (RelayLive lines) rows cols answer =
     RelaysThrough lines i.gives o.takes flushes rows cols i.old o.old answer i.new o.new
 DoesJob i o flushes (PrintFar lines) rows cols answer = PrintsFar lines i o flushes rows cols answer
 
--- The same of what is asked for: the help was printed and nothing was read, or the job was done.
+-- The same for an invocation: the help was printed and nothing was read, or the job was done.
 abbrev pub Does : {S W : Type 0} → Source S → Sink W → (W → Result (Unit {0}) Error → W → Type 0) → Invocation
     → Result (Unit {0}) RelayError → Type 0
 Does i o flushes (print help) answer = (i.new ≡ i.old) × Prints o.takes flushes o.old help answer o.new
 Does i o flushes (run job rows cols) answer = DoesJob i o flushes job rows cols answer
 
--- the exit status that goes with an answer, and what is written of it on the error output
+-- the exit status for a result, and what is written about it to the error output
 abbrev pub Reports : {V : Type 0} → Sink V → Program → Result (Unit {0}) RelayError → ℕ → Type 0
 Reports e program (Ok u) status = (status ≡ 0) × (e.new ≡ e.old)
 Reports e program (Err fault) status = (status ≡ 1) × Tells e.takes e.old (fault_line program fault) e.new
 
--- A command was carried out, from a source to an output and an error output: what was answered, and so what was read,
--- written and reported.
+-- A command was carried out, from a source to an output and an error output. The fields say its result, what was read
+-- and written, and what was reported.
 pub record CarriesOut {S W V : Type 0} (i : Source S) (o : Sink W) (flushes : W → Result (Unit {0}) Error → W → Type 0)
     (e : Sink V) (program : Program) (invocation : Invocation) (status : ℕ) : Type 0 where
   pub answer : Result (Unit {0}) RelayError

@@ -2,13 +2,13 @@
 use Rattle.std.specs.Prelude.{ℕ, List, Result}
 use Rattle.std.specs.declared.io.Error.{Error}
 
--- what one read of a source answers and leaves, and the source before and after
+-- what one read of a source returns, and how it leaves the source; and the source before and after a call
 pub record Source (S : Type 0) : Type 1 where
   pub gives : S → ℕ → Result (List ℕ) Error → S → Type 0
   pub old : S
   pub new : S
 
--- what one write to a sink answers and leaves, and the sink before and after
+-- what one write to a sink returns, and how it leaves the sink; and the sink before and after a call
 pub record Sink (W : Type 0) : Type 1 where
   pub takes : W → List ℕ → Result ℕ Error → W → Type 0
   pub old : W

@@ -9,7 +9,7 @@ use Rattle.relay_commands.specs.declared.program.Program.TheVariants.{Screenrela
 abbrev pub line : List ℕ → List ℕ
 line cs = cs ++ (0x0A ∷ [])
 
--- what is written at words that aren't understood
+-- what is written for arguments that aren't understood
 abbrev pub usage_line : Program → List ℕ
 usage_line Screenrelay = line (codes "usage: screenrelay relay|show ROWS COLS")
 usage_line Screenlive = line (codes "usage: screenlive ROWS COLS [--no-line-drawing]")

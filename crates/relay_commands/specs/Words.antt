@@ -1,4 +1,4 @@
--- The words of the command lines.
+-- The arguments of the command lines.
 use Rattle.std.specs.Prelude.{ℕ, Bool, ◌||◌, List, [], ◌∷◌, Option, Some, None, codes, if◌then◌else◌}
 use Rattle.std.specs.Str.{bytes_eq}
 use Rattle.command_line.specs.Numbers.{size_in}
@@ -11,12 +11,12 @@ use Rattle.relay_commands.specs.declared.words.Invocation.TheVariants.{Screenliv
 use Rattle.relay_commands.specs.declared.words.Job.{Job}
 use Rattle.relay_commands.specs.declared.words.Job.TheVariants.{Relay, Show, RelayLive, PrintFar}
 
--- what a program is asked to do: print a text, or do a job on a screen of so many rows and columns
+-- what a program is asked to do: print a text, or do a job on a screen of this many rows and columns
 pub data Invocation : Type 0 where
   print : List ℕ → Invocation
   run : Job → ℕ → ℕ → Invocation
 
--- what the parsed words ask for, with the sizes as numbers
+-- what the parsed arguments ask for, with the sizes as numbers
 abbrev pub with_numbers : ParsedInvocation → Invocation
 with_numbers ScreenliveHelp = print SCREENLIVE_HELP.now
 with_numbers ScreencatHelp = print SCREENCAT_HELP.now
@@ -50,7 +50,7 @@ screen_invocation_of help drawn kept (a ∷ b ∷ c ∷ []) =
     else (if is_no_line_drawing c then run_of kept (size_in a) (size_in b) else None)
 screen_invocation_of help drawn kept _ = None
 
--- what the words after a program's name ask for, if it understands them
+-- what a program's arguments ask for, if it understands them
 abbrev pub invocation_of : Program → List (List ℕ) → Option Invocation
 invocation_of Screenrelay words = relay_invocation_of words
 invocation_of Screenlive words =

@@ -1,4 +1,4 @@
-//! Commands: what the words ask for is carried out, and its fault is reported.
+//! Commands: what the arguments ask for is carried out, and its fault is reported.
 
 ghost use Rattle.std.specs.Prelude.{◌≡◌, map, None, IfSome, OnOk};
 ghost use Rattle.byte_streams.specs.Pump.{Tells};
@@ -17,17 +17,17 @@ use relay_streams::{RelayError, Source, print_text, relay, relay_live_with, show
 use std::alloc::Global;
 
 impl Program {
-    /// Runs the program on the words after its name. Returns the exit status: 0 for success, 1 for a fault, 2 for words
-    /// that it doesn't understand.
+    /// Runs the program on `words`, the arguments after its name. Returns the exit status: 0 for success, 1 for a
+    /// fault, 2 for arguments that it doesn't understand.
     ///
     /// `screenrelay` understands `relay ROWS COLS` and `show ROWS COLS`. `screenlive` and `screencat` understand
     /// `ROWS COLS`, these with `--no-line-drawing` before or after them, and `--help` or `-h`, which prints the help
-    /// and reads nothing. At other words the usage line is written to `errors`, and nothing is read or written
-    /// otherwise.
+    /// and reads nothing. For other arguments the usage line is written to `errors`, and nothing else is read or
+    /// written.
     ///
-    /// A fault is reported in a line on `errors`, as `screencat: read`: the program's name, and `read`, `write`,
-    /// `memory`, `too many reads` or `frame too long`. A line on `errors` is written whole, unless a write of it fails
-    /// or takes nothing; that changes nothing else.
+    /// A fault is reported in a line on `errors`, such as `screencat: read`: the program's name, and `read`, `write`,
+    /// `memory`, `too many reads` or `frame too long`. A line on `errors` is written whole, unless a write of it
+    /// fails or takes nothing; that changes nothing else.
     pub fn command<S: Source, W: FlushSink, V: ByteSink>(
         self,
         alloc: Global,

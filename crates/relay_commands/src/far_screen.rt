@@ -26,11 +26,11 @@ const STEP: usize = 7;
 /// Reads a program's output to its end, and writes the rows of the screen that it makes, as a far terminal of this size
 /// shows them, with a newline each. Then the output is flushed.
 ///
-/// Each piece first passes a [`PieceFilter`], which draws the line drawing set's characters or keeps the letters. At the
-/// end of the input the program is gone, so what it left on is ended ([`farewell`]), a synchronized update too.
+/// Each piece first passes a [`PieceFilter`], which draws the line drawing set's characters or keeps the letters. At
+/// the end of the input the program is gone, so what it left on is ended ([`farewell`]), a synchronized update too.
 ///
-/// What is written are the rows of the screen that the output makes, with its lines drawn or not (`shows`): unless that
-/// screen shows U+FE0F.
+/// The rows that are written are those of the screen that the output makes, with its lines drawn or not (`shows`).
+/// This holds unless that screen shows U+FE0F.
 ///
 /// Full pieces of 4,096 bytes are read, by at most 2^40 reads; an interrupted read is tried again and counted. A frame
 /// that would be longer than 2,097,150 bytes is a fault. Nothing is written before the input has ended. What was
@@ -68,7 +68,7 @@ pub fn print_far_screen<S: Source, W: FlushSink>(
     print_view(&view, output)
 }
 
-/// A hub with one client, behind a filter.
+/// A hub with one client, and a filter that its input passes first.
 #[derive(Drop)]
 struct FilteredHub {
     alloc: Global,
@@ -77,8 +77,8 @@ struct FilteredHub {
     client: Client,
 }
 
-// Reads the whole input in full pieces, and brings the view the frame that is due after each. At its end the farewell is
-// fed, and the view gets the frame that is then due.
+// Reads the whole input in full pieces, and brings the view the frame that is due after each. At its end the farewell
+// is fed, and the view gets the frame that is then due.
 fn carry_frames<S: Source>(
     mut relay: FilteredHub,
     input: &mut S,

@@ -1,5 +1,5 @@
-//! The command lines of `screenrelay`, `screenlive` and `screencat`: their words, the jobs that they ask for, their
-//! exit statuses, and the lines that report a fault.
+//! The command lines of `screenrelay`, `screenlive` and `screencat`: their arguments, the jobs that they ask for,
+//! their exit statuses, and the lines that report a fault.
 //!
 //! [`print_far_screen`] goes the whole way in one process, and so shows how the libraries are used. A hub reads a
 //! program's output, and a client of it is sent a frame of the screen after each piece. A view reads the frames in

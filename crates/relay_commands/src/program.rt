@@ -30,7 +30,7 @@ macro_rules! fault_line {
 }
 
 impl Program {
-    // What is written where the words aren't understood.
+    // What is written for arguments that aren't understood.
     pub(crate) fn usage_line(self) -> &'static str
         ensures { result.now ≡ usage_line self }
     {

@@ -1,4 +1,4 @@
-//! The words of the command lines.
+//! The arguments of the command lines.
 
 ghost use Rattle.std.specs.Prelude.{◌≡◌, map};
 ghost use Rattle.std.specs.Option.{option_map};
@@ -32,11 +32,11 @@ pub(crate) enum Invocation {
     ScreenliveHelp,
     /// Print the help of `screencat`.
     ScreencatHelp,
-    /// Do this job on a screen of so many rows and columns.
+    /// Do this job on a screen of this many rows and columns.
     Run(Job, NonZeroU16, NonZeroU16),
 }
 
-/// Reads the words after the program's name. Words that the program doesn't understand are `None`.
+/// Reads the arguments after the program's name. Returns `None` for arguments that the program doesn't understand.
 ///
 /// Rows and columns are of 1 to 5 digits each, with a value of 1 to 65,535.
 pub(crate) fn parse(program: Program, words: &[&str]) -> Option<Invocation>
@@ -84,7 +84,7 @@ fn parse_screen(words: &[&str], help: Invocation, drawn: Job, kept: Job) -> Opti
     }
 }
 
-// The job on a screen of the size that two words give.
+// The job on a screen of the size that two arguments give.
 fn run(job: Job, rows: &str, cols: &str) -> Option<Invocation>
     ensures { option_map with_numbers result ≡ run_of job (size_in rows.now) (size_in cols.now) }
 {

@@ -49,7 +49,7 @@ begun left is = record { further = λ n bytes end t f. rw zero-add (rw is at f) 
 
 module _ {S : Type 0} {step : S → ℕ → Result (List ℕ) Error → S → Type 0} {old : S} {room : ℕ} {now : S} {left made : ℕ}
     {got : List ℕ} (g : GoesOn step old room now left made got) (new : S) where
-  -- one read more, which was interrupted
+  -- one more read, which was interrupted
   pub once_more : (e : Error) → 0 < left → step now left (Err e) new → error_kind e ≡ Interrupted
       → GoesOn step old room new left (made + 1) got
   once_more e some read is = record {

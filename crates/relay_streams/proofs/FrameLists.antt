@@ -16,7 +16,7 @@ use Rattle.relay_theorem.specs.History.{Entry}
 use Rattle.relay_streams.specs.Frames.{state_after, asked, answered, is_overlong}
 use Rattle.relay_streams.specs.Pieces.{pieces_of}
 
--- what the client is answered that asks after these pieces, and gets what it is owed then
+-- the answer to a client that asks after these pieces, and then gets the bytes that wait for it
 abbrev pub entry_at : ℕ → ℕ → List (List ℕ) → Option Shown → Entry
 entry_at rows cols pieces base = record {
   moment = map Fed pieces;
@@ -24,11 +24,11 @@ entry_at rows cols pieces base = record {
   text = (asked rows cols (concat pieces) base).owed;
 }
 
--- and its base then
+-- and its base afterwards
 abbrev pub base_at : ℕ → ℕ → List (List ℕ) → Option Shown → Option Shown
 base_at rows cols pieces base = (asked rows cols (concat pieces) base).base
 
--- it asks after each piece more
+-- it asks after each further piece
 abbrev pub entries_from : ℕ → ℕ → List (List ℕ) → Option Shown → List (List ℕ) → List Entry
 entries_from rows cols past base [] = []
 entries_from rows cols past base (piece ∷ pieces) =
@@ -131,7 +131,7 @@ module _ (rows cols : ℕ) where
       ∙ map-append (λ (e : Entry). e.answer) (entries_after rows cols pieces)
       (entries_from rows cols pieces (base_of rows cols pieces) more)
 
-  -- one piece more: where no frame is too long, and neither is its own
+  -- one more piece: where no frame is too long, and neither is its own
   pub fits-push : (pieces : List (List ℕ)) (piece : List ℕ) → list_any is_overlong (answers_of rows cols pieces) ≡ false
       → is_overlong (answered rows cols (concat (pieces ++ piece ∷ [])) (base_of rows cols pieces)) ≡ false
       → list_any is_overlong (answers_of rows cols (pieces ++ piece ∷ [])) ≡ false

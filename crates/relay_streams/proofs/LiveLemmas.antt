@@ -93,7 +93,7 @@ module _ {S : Type 0} {step : S → ℕ → Result (List ℕ) Error → S → Ty
     some = more-made made n answer some;
   }
 
--- the count of a fault doesn't depend on what else could be answered
+-- the count for a fault is the same for any type of result
 counts-as : (e : RelayError) (count : ℕ) → CountsReads {A = ℕ} (Err e) count → CountsReads {A = Unit {0}} (Err e) count
 counts-as Read count h = h
 counts-as Write count h = h
@@ -143,7 +143,7 @@ module _ {S : Type 0} {step : S → ℕ → Result (List ℕ) Error → S → Ty
 
 -- ---- turns
 
--- what the piece may want that was fed, the one that was read wants
+-- if the piece that was fed may need memory, so may the piece that was read
 pub may-want : (rows cols : ℕ) (lines : LineDrawing) (past : List (List ℕ)) (piece : List ℕ) → IsSide rows
     → IsSide cols → MayWantRoom lines rows cols (all_passed lines past) (passed lines (concat past) piece)
     (base_of rows cols (all_passed lines past)) → WantsRoom lines rows cols past piece
@@ -267,7 +267,7 @@ module _ (S W : Type 0) (gives : S → ℕ → Result (List ℕ) Error → S →
 
 -- ---- parts of pieces
 
--- What is so once these pieces have passed, were fed, and their frames were sent: of these none is too long.
+-- What holds once these pieces have passed and were fed, and their frames were sent. None of the frames is too long.
 abbrev pub Sent : {W : Type 0} → (W → List ℕ → Result ℕ Error → W → Type 0)
     → (W → Result (Unit {0}) Error → W → Type 0) → ℕ → ℕ → LineDrawing → List (List ℕ) → ℕ → HubState as_kept → W → W
     → Type 0
@@ -336,7 +336,7 @@ module _ {S : Type 0} (gives : S → ℕ → Result (List ℕ) Error → S → T
         (sym (unless-some (drop k piece) some)) ∙ cut-parts past piece k is))
         (live.heard (past ++ piece ∷ []) listens)
 
--- the two parts of what was read last: the front comes up to its last end
+-- the two parts of the bytes that were read last: the front ends at the last end of an update
 module _ (S W : Type 0) (gives : S → ℕ → Result (List ℕ) Error → S → Type 0)
     (takes : W → List ℕ → Result ℕ Error → W → Type 0) (flushes : W → Result (Unit {0}) Error → W → Type 0)
     (rows cols : ℕ) (lines : LineDrawing) (past : List (List ℕ)) (piece : List ℕ) (k : ℕ)
@@ -516,7 +516,7 @@ module _ (S W : Type 0) (gives : S → ℕ → Result (List ℕ) Error → S →
     cut-joined : (pieces : List (List ℕ)) → concat (cut_pieces pieces) ≡ concat pieces
     cut-joined pieces = concat-cut [] pieces
 
-    -- behind the pieces that come, more may be left, and then the farewell
+    -- after the pieces that come, more may be left, and then the farewell
     heard-with : (s : S) (n : ℕ) (pieces : List (List ℕ)) (t : S) (bytes : List ℕ)
         → Listens gives live_len s n pieces t → left s ≡ Some bytes
         → (rest : List ℕ) × (bytes ++ farewell ≡ concat (cut_pieces pieces) ++ rest)

@@ -30,7 +30,7 @@ concat-cut_by (n ∷ ns) bytes =
 pub concat-pieces : (bytes : List ℕ) → concat (pieces_of bytes) ≡ bytes
 concat-pieces bytes = concat-cut_by (replicate (length bytes / piece_len) piece_len) bytes
 
--- one piece more of those that are cut
+-- one more piece of those that are cut
 pub cut-one : (ns : List ℕ) (i n m : ℕ) (bytes : List ℕ) → drop i ns ≡ n ∷ drop (i + 1) ns → m ≡ min n (length bytes)
     → cut_by (drop i ns) bytes ≡ take m bytes ∷ cut_by (drop (i + 1) ns) (drop m bytes)
 cut-one ns i n m bytes at least =
@@ -368,7 +368,7 @@ module _ {S : Type 0} {step : S → ℕ → Result (List ℕ) Error → S → Ty
       most.0 in
       (most.1, omega (arith, filled.counted, made))
 
-  -- its bytes, as they stand in the buffer
+  -- its bytes, as they are in the buffer
   filled_as : (n : ℕ) (end : FillEnd) → filled.end ≡ end → n ≡ length filled.bytes
       → Fills step now piece_len filled.made (take n piece) end new
   filled_as n end is e =
@@ -417,6 +417,6 @@ module _ {S : Type 0} {step : S → ℕ → Result (List ℕ) Error → S → Ty
       drained S step piece_len old now new before filled.made past filled.bytes filled.end (Err fault) d filled.fills
       end.0 (subst (λ (k : ℕ). CountsTo filled.end k) filled.counted (filled.most few)) end.1
 
--- the bytes of one piece more
+-- the bytes of one more piece
 pub concat-push : (pieces : List (List ℕ)) (piece : List ℕ) → concat (pieces ++ piece ∷ []) ≡ concat pieces ++ piece
 concat-push pieces piece = concat-append pieces (piece ∷ []) ∙ ap (λ zs. concat pieces ++ zs) (append-nil piece)

@@ -35,7 +35,7 @@ use Rattle.relay_streams.specs.Sessions.{relay_calls, IsRelayed, has_overlong}
 use Rattle.relay_streams.proofs.FrameLists.{entry_at, entries_after, base_of, pieces-make, entries-more, answers-more}
 use Rattle.relay_streams.proofs.SessionLemmas.{frames-of, relayed-by, relays-are-pumped}
 
--- an answer to a client that is owed nothing isn't put off, where no update is open and no frame is too long
+-- an answer isn't put off where no bytes wait for the client, no update is open and no frame is too long
 due-ready : (z : Size) (s : State) (base : Option Shown) (a : Answer) → IsDue z s (idle base) a → s.updating ≡ false
     → is_overlong a ≡ false → IsReady a
 due-ready z s base a (behind owes) ended fits = absurd (owes refl)

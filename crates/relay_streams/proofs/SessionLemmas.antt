@@ -88,7 +88,7 @@ module _ (rows cols key : ℕ) where
   abbrev past_of : List (List ℕ) → Past
   past_of past = record { rows = rows; cols = cols; acts = map Fed past; failed = false }
 
-  -- these pieces have been fed, the client has this base and is owed nothing, and it has the only session
+  -- these pieces have been fed, no bytes wait for the client, and it has this base and the only session
   pub record IsAt (past : List (List ℕ)) (base : Option Shown) (h : HubState as_reported) (t : Story) : Type 0 where
     pub parser : h.parser ≡ past_of past
     pub client : h.clients key ≡ Some (idle base)
@@ -99,14 +99,14 @@ module _ (rows cols key : ℕ) where
   state-at past h e =
       ap (λ (p : Past). made p.rows p.cols 0 p.acts) e ∙ pieces-make rows cols past
 
-  -- a piece more is fed
+  -- one more piece is fed
   fed-at : (past : List (List ℕ)) (p : List ℕ) (h g : HubState as_reported) → h.parser ≡ past_of past
       → g.parser ≡ record (h.parser) { acts = h.parser.acts ++ Fed p ∷ [] } → g.parser ≡ past_of (past ++ p ∷ [])
   fed-at past p h g e f =
       f ∙ ap (λ (q : Past). record q { acts = q.acts ++ Fed p ∷ [] }) e
       ∙ ap (λ (acts : List Act). record (past_of past) { acts = acts }) (sym (map-append Fed past (p ∷ [])))
 
-  -- the client once it has asked, and what it is answered
+  -- the client after its request, and the answer to it
   asked-at : (past : List (List ℕ)) (base : Option Shown) (g : HubState as_reported) → g.parser ≡ past_of past
       → asked_on (screen_in g).state base ≡ asked rows cols (concat past) base
   unfolding asked
@@ -123,7 +123,7 @@ module _ (rows cols key : ℕ) where
   abbrev with_answer : Entry → Story → Story
   with_answer e t = with_session (grown e.text) (with_entries (e ∷ []) t)
 
-  -- what a turn makes, with which all these have been fed
+  -- the state after a turn, with which all these pieces have been fed
   pub record Turns (got : List (List ℕ)) (base : Option Shown) (t : Story) (g : HubState as_reported) (us : List Story)
       : Type 0 where
     pub are : us ≡ with_answer (entry_at rows cols got base) t ∷ []

@@ -112,13 +112,13 @@ ends-effect (Esc [] many f) s h =
 ends-effect (Esc (i ∷ is) many f) s h = absurd (let no : false ≡ true = h in cc)
 ends-effect _ s h = absurd (let no : false ≡ true = h in cc)
 
--- ---- and so does what stands behind it
+-- ---- and so do the bytes behind it
 
 -- bytes whose events begin no update
 abbrev AreEnded : List ℕ → Type 0
 AreEnded bytes = (s : State) → Ended s → Ended (played (events_from 0 (InText []) bytes) s)
 
--- what stands behind one mode that is reset, and then the rest
+-- the bytes behind one mode that is reset, and then the rest
 mode-behind : (sets : CharacterSets) (g rest : List ℕ) → AreEnded rest → AreEnded (mode_behind false sets g ++ rest)
 mode-behind sets [] rest h = h
 mode-behind sets (m ∷ n ∷ ns) rest h = h

@@ -128,7 +128,7 @@ asks {rows} {cols} {past} {base} {old} {key} at piece h k answer feeds frames =
       long = frame-answered rows cols all base h k key answer fed frames;
     }
 
--- ---- what is refused may want memory
+-- ---- what is refused may need memory
 
 -- a request for a frame that was refused
 frame-cannot : (rows cols : ℕ) (past : List (List ℕ)) (piece : List ℕ) (base : Option Shown) (e : HubError)
@@ -169,7 +169,7 @@ module _ {rows cols : ℕ} {past : List (List ℕ)} {base : Option Shown} {old :
       frame-cannot rows cols past piece base e h.parser.screen (state-now rows cols all base h key fed)
       (lives rows cols all base h key fed) can
 
--- a client that is owed bytes got a frame
+-- a client for which bytes wait got a frame
 frame-owed : (s : State) (base : Option Shown) (a : Answer)
     → (after_answer (grid_size s.shown) (shown_state s) (idle base) a).owed ≢ [] → may_allocate a ≡ true
 frame-owed s base Full some = refl
@@ -191,7 +191,7 @@ broken-pump e (Ok u) is well = absurd (let no : Err e ≡ over = is in cc)
 broken-pump e (Err x) is well = absurd (cc)
 
 module _ (W : Type 0) (takes : W → List ℕ → Result ℕ Error → W → Type 0) where
-  -- what was owed was pumped whole
+  -- all pending bytes were pumped
   pumped-by : (h g : HubState as_kept) (key : ℕ) (c : ClientState) (w v : W) (end : Result (Unit {0}) Error) (n : ℕ)
       → Pumps takes w c.owed end n v → over ≡ pump_answer end
       → Puts h key (Some (record c { owed = drop n c.owed })) g

@@ -120,7 +120,7 @@ ends-last past (y ∷ z ∷ zs) h none =
 
 -- ---- pieces that are cut
 
--- one piece more
+-- one more piece
 pub cut-push : (past : List ℕ) (pieces : List (List ℕ)) (piece : List ℕ) → cut_after past (pieces ++ piece ∷ [])
     ≡ cut_after past pieces ++ cut_piece (past ++ concat pieces) piece
 cut-push past [] piece =
@@ -154,7 +154,7 @@ concat-cut past (piece ∷ pieces) =
     ∙ ap (λ (ys : List ℕ). ys ++ concat (cut_after (past ++ piece) pieces)) (concat-cut_piece past piece)
     ∙ ap (λ (ys : List ℕ). piece ++ ys) (concat-cut (past ++ piece) pieces)
 
--- the two parts of a piece more
+-- the two parts of one more piece
 pub cut-parts : (pieces : List (List ℕ)) (piece : List ℕ) (k : ℕ) → k ≡ last_end (concat pieces) piece
     → (cut_pieces pieces ++ unless_empty (take k piece)) ++ unless_empty (drop k piece)
     ≡ cut_pieces (pieces ++ piece ∷ [])
@@ -237,7 +237,7 @@ module _ (past bytes : List ℕ) (old new : EndSeen) (k : ℕ) (fresh : old.ende
         let small : m < k = omega (arith, lt, len) in
         ap (ends_in past) (take-take m k bytes (omega (arith, small))) ∙ none-before m small) ∙ len
 
--- so many bytes were read, and then k of the rest
+-- `read` bytes were read, and then k of the rest
 module _ (past bytes : List ℕ) (read k : ℕ) where
   abbrev rest : List ℕ
   rest = take (length bytes - read) (drop read bytes)

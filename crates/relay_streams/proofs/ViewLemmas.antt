@@ -41,7 +41,7 @@ led_more a b c ps qs first then = record {
       };
 }
 
--- one piece more
+-- one more piece
 pub led_on : (old now new : View UntilCleared) (pieces : List (List ℕ)) (piece : List ℕ) → Led old pieces now
     → ((parsed : List ℕ) (hold : Option (List ℕ)) → HoldsAt until_cleared now parsed hold
     → Taken until_cleared now parsed hold piece new)

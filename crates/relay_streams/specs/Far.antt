@@ -18,7 +18,7 @@ use Rattle.relay_theorem.specs.Isolation.{is_out_of_memory}
 use Rattle.termview.specs.Timeout.{until_cleared}
 use Rattle.relay_streams.specs.Pieces.{cut_by}
 
--- a view of this size is as these bytes, in pieces of these lengths, leave a new one
+-- a view of this size is in the state of a new one that has read these bytes, in pieces of these lengths
 pub record HasRead (z : Size) (bytes cuts : List ℕ) (v : View UntilCleared) : Type 0 where
   pub parsed : List ℕ
   pub hold : Option (List ℕ)
@@ -26,17 +26,17 @@ pub record HasRead (z : Size) (bytes cuts : List ℕ) (v : View UntilCleared) : 
   pub holds : HoldsAt until_cleared v parsed hold
   pub size : view_size v ≡ z
 
--- and of a session's size, as the first bytes that were pumped to it leave one
+-- a view of a session's size is in the state of a new one that has read the first bytes pumped to the session
 abbrev pub HasReadFirst : SessionView → ℕ → List ℕ → View UntilCleared → Type 0
 HasReadFirst s most cuts v = HasRead (size_of_session s) (take most s.pumped) cuts v
 
--- of these sessions there is no n-th one, or the view has read it
+-- there is no n-th session among these, or the view has read its first bytes
 abbrev pub FoundIn : List Story → ℕ → ℕ → List ℕ → Option (View UntilCleared) → Type 0
 FoundIn ts n most cuts None = length ts ≤ n
 FoundIn ts n most cuts (Some v) = (t : Story) × (slice_get ts n ≡ Some t) × HasReadFirst t.session most cuts v
 
--- These calls can get such replies on a new hub, none of which is a refusal for want of memory, and of the sessions
--- that they then have this view was found.
+-- A new hub can give such replies to these calls, none of them a refusal for want of memory. The view was found for
+-- the n-th of the sessions that the hub then has.
 pub record IsFarView (rows cols : ℕ) (calls : List Call) (n most : ℕ) (cuts : List ℕ)
     (found : Option (View UntilCleared)) : Type 0 where
   pub replies : List Reply
@@ -46,13 +46,14 @@ pub record IsFarView (rows cols : ℕ) (calls : List Call) (n most : ℕ) (cuts 
   pub fed : list_any is_out_of_memory replies ≡ false
   pub is : FoundIn stories n most cuts found
 
--- the last frame that lies wholly in the bytes that are given
+-- the last frame that lies wholly in the bytes that the view was given
 abbrev pub last_given : Story → ℕ → Option Entry
 last_given t most = last_whole None t.entries (length (take most t.session.pumped))
 
--- These calls can get such replies on a new hub, none of which is a refusal for want of memory, that the view, of the
--- size of the n-th session that they then have, shows what the judge says of the last frame that lies wholly in the
--- bytes that it was given, unless that one wasn't sure; and so of the last one of some frames that make up these bytes.
+-- A new hub can give such replies to these calls, none of them a refusal for want of memory. The view has the size of
+-- the n-th session that the hub then has. It shows what the judge says of the last frame that lies wholly in the
+-- bytes that it was given, unless that frame's screen was unsure. If the session's first entries make up these bytes,
+-- the same holds of the last frame among them.
 pub record ShowsJudged (rows cols : ℕ) (calls : List Call) (n most : ℕ) (v : View UntilCleared) : Type 0 where
   pub replies : List Reply
   pub story : Story
@@ -64,8 +65,8 @@ pub record ShowsJudged (rows cols : ℕ) (calls : List Call) (n most : ℕ) (v :
       ≡ texts prefix
       → IsShownRight rows cols (shown_of (shown_by v)) (last_frame None prefix)
 
--- such a view shows what the judge says of the last frame that lies wholly in the bytes that it was given, unless that
--- one wasn't sure
+-- such a view shows what the judge says of the last frame that lies wholly in the bytes that it was given, unless
+-- that frame's screen was unsure
 abbrev pub FarViewsShow : Type 0
 FarViewsShow = (rows cols : ℕ) (calls : List Call) (replies : List Reply) (n most : ℕ) (cuts : List ℕ) (t : Story)
     (v : View UntilCleared) → IsSession rows cols calls replies n t → HasReadFirst t.session most cuts v

@@ -1,4 +1,4 @@
--- Reads that fill a piece: what they make of a source, the bytes that they give, and how they end.
+-- Reads that fill a piece: how they change the source, the bytes that they give, and how they end.
 use Rattle.std.specs.Prelude.{◌≡◌, ◌≢◌, ℕ, ◌+◌, ◌-◌, ◌^◌, ◌<◌, ◌≤◌, List, [], ◌++◌, length, take, Ok, Err}
 use Rattle.std.specs.Prelude.{Result}
 use Rattle.std.specs.IoError.{error_kind}
@@ -7,15 +7,16 @@ use Rattle.std.specs.declared.io.ErrorKind.TheVariants.{Interrupted}
 use Rattle.relay_streams.specs.declared.error.RelayError.{RelayError}
 use Rattle.relay_streams.specs.declared.error.RelayError.TheVariants.{Read, TooManyReads}
 
--- how the reads end: there is no room left, the input has ended, a read failed, or no more reads may be made
+-- how the reads end: there is no room left, the input has ended, a read failed, or no further read may be made
 pub data FillEnd : Type 0 where
   Full : FillEnd
   Ended : FillEnd
   Failed : FillEnd
   TooMany : FillEnd
 
--- From a source, with so much room, so many reads give these bytes, end so, and leave the source so. A step is what one
--- read with so much room answers and leaves. An interrupted read gives nothing, and is followed by another one.
+-- `Fills step s room n bytes end t`: n reads from the source s, into a buffer of `room` bytes, give `bytes` and end
+-- with `end`. They leave the source as t. `step` says what one read returns, and how it leaves the source. An
+-- interrupted read gives nothing, and another read follows it.
 pub data Fills {S : Type 0} (step : S → ℕ → Result (List ℕ) Error → S → Type 0) : S → ℕ → ℕ → List ℕ → FillEnd → S
     → Type 0 where
   full : {s : S} → Fills step s 0 0 [] Full s
@@ -30,24 +31,25 @@ pub data Fills {S : Type 0} (step : S → ℕ → Result (List ℕ) Error → S 
       → length some ≤ room → step s room (Ok some) m → Fills step m (room - length some) n bytes end t
       → Fills step s room (1 + n) (some ++ bytes) end t
 
--- as many reads as may be made in all
+-- the most reads that may be made in all
 abbrev pub max_reads : ℕ
 max_reads = 2 ^ 40
 
--- the reads made in all, where they end so
+-- the number of reads made in all: `max_reads` if there were too many, else at most `max_reads`
 abbrev pub CountsTo : FillEnd → ℕ → Type 0
 CountsTo TooMany count = count ≡ max_reads
 CountsTo end count = count ≤ max_reads
 
--- what is answered, where the reads gave so many bytes and end so
+-- the result where the reads gave n bytes and ended like this
 abbrev pub end_answer : FillEnd → ℕ → Result ℕ RelayError
 end_answer Full n = Ok n
 end_answer Ended n = Ok n
 end_answer Failed n = Err Read
 end_answer TooMany n = Err TooManyReads
 
--- A piece of so much room was filled, after so many reads before: the reads that were made, the bytes that they gave,
--- and how they ended. There are no more reads in all than may be made, and none where there were so many before.
+-- A piece was filled up to `room` bytes, after `before` earlier reads. The fields say how many reads were made, the
+-- bytes that they gave, and how they ended. At most `max_reads` reads are made in all, and none if there were that
+-- many before.
 pub record Filled {S : Type 0} (step : S → ℕ → Result (List ℕ) Error → S → Type 0) (old : S) (room before : ℕ)
     (answer : Result ℕ RelayError) (new : S) (piece : List ℕ) (after : ℕ) : Type 0 where
   pub made : ℕ

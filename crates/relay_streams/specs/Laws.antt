@@ -20,7 +20,7 @@ use Rattle.relay_streams.specs.Sessions.{AreRelayed, IsRelayed, IsRelayText}
 use Rattle.relay_streams.specs.Shown.{IsTextShown, screen_text, sized}
 use Rattle.relay_streams.specs.Updates.{cut_pieces, last_end}
 
--- pieces have one text: it is a function of the size and the pieces
+-- the text of what is shown is a function of the size and the pieces
 abbrev pub TextsAreOne : Type 0
 TextsAreOne = (z : Size) (pieces : List (List ℕ)) (a b : List ℕ) → IsTextShown z pieces a → IsTextShown z pieces b → a
     ≡ b
@@ -31,15 +31,16 @@ WholeFramesArePrinted = (z : Size) (frames : List (List ℕ)) (text : List ℕ)
     → All IsFrame frames → IsTextShown z (pieces_of (concat frames)) text
     → text ≡ screen_text z (seen z (concat frames)).cell
 
--- Any prefix of what is relayed of some pieces, in whatever pieces it comes: a new view of the size, which has parsed
--- so much of it, shows what the judge says of the last frame that lies wholly in it, unless that one wasn't sure.
+-- A new view of this size reads a prefix of what is relayed of some pieces, in any pieces of its own, and has parsed
+-- `parsed`. It shows what the judge says of the last frame that lies wholly in the prefix, unless that frame's screen
+-- was unsure.
 abbrev pub RelayedPrefixesAreShown : Type 0
 RelayedPrefixesAreShown = (rows cols key : ℕ) (parsed : List ℕ) (fed pieces : List (List ℕ)) (t : Story)
     → IsRelayed rows cols key fed t → ReadsPrefix t.session.pumped pieces parsed
     → IsShownRight rows cols (shown_of (seen (sized rows cols) parsed)) (last_read t pieces)
 
--- what is relayed is printed, in whatever pieces it comes, as the text of the screen that the whole input makes, unless
--- that shows U+FE0F or the input ends inside an update of its own
+-- What is relayed is printed as the text of the screen that the whole input makes, whichever pieces it is read in.
+-- This holds unless that screen shows U+FE0F or the input ends inside an update of the program's own.
 abbrev pub RelayedIsShown : Type 0
 RelayedIsShown = (rows cols : ℕ) (input relayed text : List ℕ) (pieces : List (List ℕ))
     → IsRelayText rows cols input relayed → concat pieces ≡ relayed
@@ -48,7 +49,7 @@ RelayedIsShown = (rows cols : ℕ) (input relayed text : List ℕ) (pieces : Lis
     → IsTextShown (sized rows cols) pieces text
     → text ≡ screen_text (sized rows cols) (shown_state (state_after rows cols input)).cell
 
--- A view has read what was relayed of some pieces up to this one, in whatever pieces it comes.
+-- A view has read all that was relayed of these pieces, in any pieces of its own.
 pub record HasReadAll (lines : LineDrawing) (rows cols : ℕ) (pieces : List (List ℕ)) (parsed : List ℕ)
     (hold : Option (List ℕ)) : Type 0 where
   pub frames : List (List ℕ)
@@ -57,9 +58,9 @@ pub record HasReadAll (lines : LineDrawing) (rows cols : ℕ) (pieces : List (Li
   pub joined : concat cuts ≡ concat frames
   pub leads : Drives (map Gives cuts) [] None parsed hold
 
--- A new view of the size that has read all that was relayed of the pieces so far, of which there is one, shows the
--- screen that these make, with its lines drawn or not. It holds nothing back. Left out are a screen that shows U+FE0F
--- and one inside an update of its own.
+-- A new view of this size has read all that was relayed of the pieces so far, of which there is at least one. It
+-- shows the screen that these pieces make, with lines drawn or kept, and holds nothing back. A screen that shows
+-- U+FE0F is left out, and so is one inside an update of the program's own.
 abbrev pub LiveIsShown : Type 0
 LiveIsShown = (lines : LineDrawing) (rows cols : ℕ) (past : List (List ℕ)) (piece parsed : List ℕ)
     (hold : Option (List ℕ)) → HasReadAll lines rows cols (past ++ piece ∷ []) parsed hold
@@ -69,14 +70,14 @@ LiveIsShown = (lines : LineDrawing) (rows cols : ℕ) (past : List (List ℕ)) (
     → (hold ≡ None) × (shown_of (seen (sized rows cols) parsed)
     ≡ shown_state (state_after rows cols (passed lines [] (concat (past ++ piece ∷ [])))))
 
--- Up to the last end of an update in a piece, once others were read: the screen that the bytes make, lines drawn or not.
+-- the screen that the bytes make up to the last end of an update in a piece, with lines drawn or kept; `past` was
+-- read before
 abbrev pub screen_at_last_end : LineDrawing → ℕ → ℕ → List ℕ → List ℕ → State
 screen_at_last_end lines rows cols past piece =
     state_after rows cols (passed lines [] (past ++ take (last_end past piece) piece))
 
--- Where an update ended in the piece that was read last: a new view of the size that has read what was relayed up to the
--- last end, of which there is one, shows the screen that was made then. It holds nothing back. Left out is a screen that
--- shows U+FE0F.
+-- An update ended in the piece that was read last. A new view of this size that has read what was relayed up to the
+-- last end shows the screen at that end, and holds nothing back. A screen that shows U+FE0F is left out.
 abbrev pub LiveUpdatesAreShown : Type 0
 LiveUpdatesAreShown = (lines : LineDrawing) (rows cols : ℕ) (past : List (List ℕ)) (piece parsed : List ℕ)
     (hold : Option (List ℕ)) → 0 < last_end (concat past) piece
@@ -102,9 +103,9 @@ abbrev pub FarewellEndsAll : Type 0
 FarewellEndsAll = (lines : LineDrawing) (rows cols : ℕ) (input : List ℕ)
     → HasNothingOn rows cols (screen_at_end lines rows cols input)
 
--- A new view of the size that has read all that is written of a live output, in whatever pieces it comes, shows the
--- screen that the output makes, with its lines drawn or not, where the modes and the update are ended that it left on.
--- It holds nothing back. Left out is a screen that shows U+FE0F.
+-- A new view of this size has read all that is written of a live output, in any pieces. It shows the screen that the
+-- output makes, with lines drawn or kept, after the modes and the update that the program left on are ended. It holds
+-- nothing back. A screen that shows U+FE0F is left out.
 abbrev pub LiveEndIsShown : Type 0
 LiveEndIsShown = (lines : LineDrawing) (rows cols : ℕ) (input text parsed : List ℕ) (hold : Option (List ℕ))
     (cuts : List (List ℕ)) → IsLiveText rows cols (passed lines [] (input ++ farewell)) text → concat cuts ≡ text

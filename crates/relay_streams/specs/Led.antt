@@ -17,7 +17,7 @@ pub record LedTo (old : View UntilCleared) (parsed : List ℕ) (hold : Option (L
   pub holds : HoldsAt until_cleared new parsed' hold'
   pub size : view_size new ≡ view_size old
 
--- from whatever state the view is in, the pieces take it on
+-- the pieces lead the view on, whichever parsed text and hold it has
 pub record Led (old : View UntilCleared) (pieces : List (List ℕ)) (new : View UntilCleared) : Type 0 where
   pub goes : (parsed : List ℕ) (hold : Option (List ℕ)) → HoldsAt until_cleared old parsed hold
       → LedTo old parsed hold pieces new

@@ -1,4 +1,4 @@
--- What `relay_live` answers, reads and writes.
+-- What `relay_live` returns, reads and writes.
 use Rattle.std.specs.Prelude.{◌≡◌, ◌≢◌, ◌⊎◌, ℕ, ◌+◌, false, List, [], ◌∷◌, ◌++◌, Option, Ok, Err, Result}
 use Rattle.std.specs.Prelude.{◌<◌, ◌≤◌, ⊤, take, IfOk}
 use Rattle.std.specs.List.{concat}
@@ -23,14 +23,15 @@ use Rattle.relay_streams.specs.Sessions.{IsRelayed, has_overlong, AreRelayed, En
 use Rattle.relay_streams.specs.Turns.{MayWantMemory, Turned}
 use Rattle.relay_streams.specs.Updates.{cut_pieces, last_end}
 
--- bytes of the room that a live read is given
+-- the size of the buffer of a live read, in bytes
 abbrev pub live_len : ℕ
 live_len = 65536
 
 -- ---- reading
 
--- From a source, with so much room, so many reads are made until one isn't interrupted: it gives these bytes, none at
--- the input's end, or fails; or no more reads may be made.
+-- `Tries step room s n answer t`: n reads from the source s, into a buffer of `room` bytes, until one isn't
+-- interrupted. That read gives bytes (none at the input's end) or fails. Or no further read may be made. The source
+-- is then t.
 pub data Tries {S : Type 0} (step : S → ℕ → Result (List ℕ) Error → S → Type 0) (room : ℕ)
     : S → ℕ → Result (List ℕ) RelayError → S → Type 0 where
   gave : {s t : S} {bytes : List ℕ} → step s room (Ok bytes) t → Tries step room s 1 (Ok bytes) t
@@ -40,17 +41,17 @@ pub data Tries {S : Type 0} (step : S → ℕ → Result (List ℕ) Error → S 
   again : {s t : S} {n : ℕ} {answer : Result (List ℕ) RelayError} (m : S) (e : Error) → step s room (Err e) m
       → error_kind e ≡ Interrupted → Tries step room m n answer t → Tries step room s (1 + n) answer t
 
--- the reads made in all, where this is answered: there were too many only after as many as may be made
+-- the number of reads made in all: `max_reads` if the result is `TooManyReads`, else at most `max_reads`
 abbrev pub CountsReads : {A : Type 0} → Result A RelayError → ℕ → Type 0
 CountsReads (Err TooManyReads) count = count ≡ max_reads
 CountsReads answer count = count ≤ max_reads
 
--- the bytes that one read gave, where a function answers so and leaves its room so
+-- the bytes that one read gave, by a function's result and what it leaves in the buffer
 abbrev pub read_as : Result ℕ RelayError → List ℕ → Result (List ℕ) RelayError
 read_as (Ok n) room = Ok (take n room)
 read_as (Err e) room = Err e
 
--- One read that isn't interrupted was made, after so many reads before.
+-- One read that isn't interrupted was made, after `before` earlier reads.
 pub record TriesOnce {S : Type 0} (step : S → ℕ → Result (List ℕ) Error → S → Type 0) (old : S) (room before : ℕ)
     (answer : Result ℕ RelayError) (new : S) (piece : List ℕ) (after : ℕ) : Type 0 where
   pub made : ℕ
@@ -60,7 +61,8 @@ pub record TriesOnce {S : Type 0} (step : S → ℕ → Result (List ℕ) Error 
   pub within : IfOk answer (λ n. n ≤ room)
   pub some : IfOk answer (λ n. 0 < made)
 
--- From a source, so many reads give these pieces, each by a read that gives something, and leave the source so.
+-- `Listens step room s n pieces t`: n reads from the source s give these pieces, each by a read that gives something.
+-- The source is then t.
 pub data Listens {S : Type 0} (step : S → ℕ → Result (List ℕ) Error → S → Type 0) (room : ℕ) (s : S)
     : ℕ → List (List ℕ) → S → Type 0 where
   begun : Listens step room s 0 [] s
@@ -69,16 +71,16 @@ pub data Listens {S : Type 0} (step : S → ℕ → Result (List ℕ) Error → 
 
 -- ---- the end
 
--- what ends all that a program may have left on (the law `FarewellEndsAll`)
+-- the bytes that end all that a program may have left on (the law `FarewellEndsAll`)
 abbrev pub farewell : List ℕ
 farewell = FAREWELL.now
 
--- these pieces of an output are fed, and at its end the farewell
+-- these pieces of an output, and at its end the farewell
 abbrev pub ended : List (List ℕ) → List (List ℕ)
 ended pieces = pieces ++ farewell ∷ []
 
--- From a source, so many reads give these pieces, each cut at the last end of an update in it, and leave the source so.
--- At the input's end the farewell comes.
+-- `Hears step room s n pieces t`: n reads from the source s give bytes that are cut into these pieces, those of each
+-- read at the last end of an update in them. The source is then t. At the input's end the farewell follows.
 pub data Hears {S : Type 0} (step : S → ℕ → Result (List ℕ) Error → S → Type 0) (room : ℕ) (s : S)
     : ℕ → List (List ℕ) → S → Type 0 where
   heard : {t : S} {n : ℕ} (pieces : List (List ℕ)) → Listens step room s n pieces t
@@ -92,8 +94,9 @@ pub data Hears {S : Type 0} (step : S → ℕ → Result (List ℕ) Error → S 
 
 -- ---- writing
 
--- From a writer, each of these texts is pumped, and the writer is flushed after each: so the last of these calls is
--- answered, and so the writer is left. All before it end well.
+-- `SendsFlushed takes flushes w texts answer v`: each of these texts is pumped to the writer w, which is flushed
+-- after each. `answer` is the result of the last of these calls, and v is the writer after it. All calls before it
+-- succeed.
 pub data SendsFlushed {W : Type 0} (takes : W → List ℕ → Result ℕ Error → W → Type 0)
     (flushes : W → Result (Unit {0}) Error → W → Type 0) (w : W)
     : List (List ℕ) → Result (Unit {0}) Error → W → Type 0 where
@@ -107,20 +110,20 @@ pub data SendsFlushed {W : Type 0} (takes : W → List ℕ → Result ℕ Error 
 
 -- ---- both
 
--- What a piece may want memory for that passes and is fed after these: where lines are drawn, also for what the filter
--- gives of it.
+-- A piece may need memory if it passes the filter and is fed after these pieces. Where lines are drawn this is always
+-- so, since the filter's output may need some.
 abbrev pub WantsRoom : LineDrawing → ℕ → ℕ → List (List ℕ) → List ℕ → Type 0
 WantsRoom Kept rows cols pieces piece = WantsMemory rows cols pieces piece
 WantsRoom Drawn rows cols pieces piece = ⊤
 
--- A turn with a piece that passed may want memory: one of its events may take some, or a frame is made after it. Where
--- lines are drawn, there must also be room for what the filter gives.
+-- A turn with a piece that passed may need memory: one of its events may take some, or a frame is made after it.
+-- Where lines are drawn this is always so, since there must be room for the filter's output.
 abbrev pub MayWantRoom : LineDrawing → ℕ → ℕ → List (List ℕ) → List ℕ → Option Shown → Type 0
 MayWantRoom Kept rows cols fed piece base = MayWantMemory rows cols fed piece base
 MayWantRoom Drawn rows cols fed piece base = ⊤
 
--- After other pieces this one was fed by a turn, and the client had this base and a writer w, which was then flushed: so
--- it is answered, the writer is then v, and the hub g.
+-- A turn feeds this piece after these other pieces, where the client has this base and its writer is w. Then the
+-- writer is flushed. Both have this result; the writer is then v, and the hub g.
 abbrev pub PassedOn : LineDrawing → {W : Type 0} → (W → List ℕ → Result ℕ Error → W → Type 0)
     → (W → Result (Unit {0}) Error → W → Type 0) → ℕ → ℕ → List (List ℕ) → List ℕ → Option Shown → ℕ → W
     → Result (Unit {0}) RelayError → W → HubState as_kept → Type 0
@@ -136,7 +139,8 @@ PassedOn lines {W} takes flushes rows cols fed piece base key w (Err Write) v g 
 PassedOn lines takes flushes rows cols fed piece base key w (Err Read) v g = ⊥
 PassedOn lines takes flushes rows cols fed piece base key w (Err TooManyReads) v g = ⊥
 
--- Once these bytes have passed, this part of a piece was passed on so, unless it is empty; the hub was h.
+-- The same for a part of a piece that follows these bytes through the filter. If the part is empty, nothing is done;
+-- the hub was h.
 abbrev pub PassedPart : LineDrawing → {W : Type 0} → (W → List ℕ → Result ℕ Error → W → Type 0)
     → (W → Result (Unit {0}) Error → W → Type 0) → ℕ → ℕ → List (List ℕ) → List ℕ → List ℕ → Option Shown → ℕ → W
     → HubState as_kept → Result (Unit {0}) RelayError → W → HubState as_kept → Type 0
@@ -144,19 +148,19 @@ PassedPart lines takes flushes rows cols fed past [] base key w h answer v g = (
 PassedPart lines takes flushes rows cols fed past (b ∷ bs) base key w h answer v g =
     PassedOn lines takes flushes rows cols fed (passed lines past (b ∷ bs)) base key w answer v g
 
--- From a source and a writer, pieces are read, and each is cut at the last end of an update in it. Its parts pass, and
--- the frame that is due after each is sent and flushed before the next piece is read. At the end the farewell is fed. So
--- it is answered, and so both are left.
+-- Pieces are read from a source, and each is cut at the last end of an update in it. Its parts pass the filter. The
+-- frame that is due after each part is sent to the writer and flushed before the next piece is read. At the end the
+-- farewell is fed. The constructors say which result this has, and how it leaves the source and the writer.
 pub data StreamsThrough (lines : LineDrawing) {S W : Type 0} (gives : S → ℕ → Result (List ℕ) Error → S → Type 0)
     (takes : W → List ℕ → Result ℕ Error → W → Type 0) (flushes : W → Result (Unit {0}) Error → W → Type 0)
     (rows cols : ℕ) (s : S) (w : W) : Result (Unit {0}) RelayError → S → W → Type 0 where
-  -- a read failed, or as many were made as may be: the frames of the pieces were sent
+  -- a read failed, or there were too many reads: the frames of the pieces were sent
   unread : {t : S} {v : W} {n k : ℕ} (m : S) (pieces frames : List (List ℕ)) (e : RelayError)
       → Listens gives live_len s n pieces m → Tries gives live_len m k (Err e) t
       → AreRelayed rows cols (all_passed lines (cut_pieces pieces)) frames
       → SendsFlushed takes flushes w frames (Ok tt) v → CountsReads {A = Unit {0}} (Err e) (n + k)
       → StreamsThrough lines gives takes flushes rows cols s w (Err e) t v
-  -- there was no memory for the last piece or its frame, which may want some: the frames before it were sent
+  -- there was no memory for the last piece or its frame, which may need some: the frames before it were sent
   unmade : {t : S} {v : W} {n : ℕ} (pieces frames : List (List ℕ)) (piece : List ℕ)
       → Hears gives live_len s n (pieces ++ piece ∷ []) t → AreRelayed rows cols (all_passed lines pieces) frames
       → WantsRoom lines rows cols pieces piece → SendsFlushed takes flushes w frames (Ok tt) v → n ≤ max_reads
@@ -177,8 +181,8 @@ pub data StreamsThrough (lines : LineDrawing) {S W : Type 0} (gives : S → ℕ 
       → SendsFlushed takes flushes w frames (Ok tt) v → n + k ≤ max_reads
       → StreamsThrough lines gives takes flushes rows cols s w (Ok tt) t v
 
--- From a source and a writer it answers so, and leaves both so: there was no memory for the screen, and nothing is read
--- or written; or pieces were read and frames sent.
+-- The result, and how the source and the writer are left. Either there was no memory for the screen, and nothing is
+-- read or written; or pieces were read and frames sent.
 pub data RelaysThrough (lines : LineDrawing) {S W : Type 0} (gives : S → ℕ → Result (List ℕ) Error → S → Type 0)
     (takes : W → List ℕ → Result ℕ Error → W → Type 0) (flushes : W → Result (Unit {0}) Error → W → Type 0)
     (rows cols : ℕ) (s : S) (w : W) : Result (Unit {0}) RelayError → S → W → Type 0 where
@@ -196,12 +200,13 @@ RelaysLive gives takes flushes rows cols s w answer t v =
 
 -- ---- what comes out
 
--- the screen that a program's output makes, its lines drawn or kept, where the modes and the update are ended that it
--- left on
+-- the screen that a program's output makes, with lines drawn or kept, after the modes and the update that it left on
+-- are ended
 abbrev pub screen_at_end : LineDrawing → ℕ → ℕ → List ℕ → State
 screen_at_end lines rows cols input = state_after rows cols (passed lines [] (input ++ farewell))
 
--- This is what is pumped to a client to whom the whole input is relayed, in some pieces, a frame for each that is due.
+-- The text is what is pumped to a client to which the whole input is relayed, in some pieces, with each frame that is
+-- due.
 pub record IsLiveText (rows cols : ℕ) (input text : List ℕ) : Type 0 where
   pub pieces : List (List ℕ)
   pub whole : concat pieces ≡ input
@@ -211,8 +216,8 @@ pub record IsLiveText (rows cols : ℕ) (input text : List ℕ) : Type 0 where
   pub fits : has_overlong story ≡ false
   pub pumped : story.session.pumped ≡ text
 
--- A writer has taken a prefix of what is pumped to a client to whom the first bytes of the input are relayed, in some
--- pieces.
+-- A writer has taken a prefix of what is pumped to a client to which the first bytes of the input are relayed, in
+-- some pieces.
 pub record TakesLive (rows cols : ℕ) (input : List ℕ) (before after : Option (List ℕ)) : Type 0 where
   pub pieces : List (List ℕ)
   pub rest : List ℕ

@@ -10,7 +10,7 @@ abbrev pub cut_by : List ℕ → List ℕ → List (List ℕ)
 cut_by [] bytes = bytes ∷ []
 cut_by (n ∷ ns) bytes = take n bytes ∷ cut_by ns (drop n bytes)
 
--- bytes of a full piece
+-- the length of a full piece, in bytes
 abbrev pub piece_len : ℕ
 piece_len = 4096
 
@@ -18,8 +18,8 @@ piece_len = 4096
 abbrev pub pieces_of : List ℕ → List (List ℕ)
 pieces_of bytes = cut_by (replicate (length bytes / piece_len) piece_len) bytes
 
--- From a source, so many reads fill these pieces, each with so much room; all but the last one are full. They end as
--- its reads do, and leave the source so.
+-- `Drains step room s n pieces end t`: n reads from the source s fill these pieces, each up to `room` bytes. All but
+-- the last one are full. The reads of the last one end with `end`, and the source is then t.
 pub data Drains {S : Type 0} (step : S → ℕ → Result (List ℕ) Error → S → Type 0) (room : ℕ)
     : S → ℕ → List (List ℕ) → FillEnd → S → Type 0 where
   last : {s t : S} {n : ℕ} {bytes : List ℕ} {end : FillEnd} → Fills step s room n bytes end t
@@ -28,15 +28,15 @@ pub data Drains {S : Type 0} (step : S → ℕ → Result (List ℕ) Error → S
       → Fills step s room n bytes Full m → Drains step room m k pieces end t
       → Drains step room s (n + k) (bytes ∷ pieces) end t
 
--- what is answered where reads end so
+-- the result where reads end like this
 abbrev pub outcome_of : FillEnd → Result (Unit {0}) RelayError
 outcome_of Full = Ok tt
 outcome_of Ended = Ok tt
 outcome_of Failed = Err Read
 outcome_of TooMany = Err TooManyReads
 
--- An input was read in full pieces of so much room, to its end or to a fault: the reads that were made, these pieces,
--- and how they ended.
+-- An input was read in these full pieces of `room` bytes, to its end or to a fault. The fields say how many reads
+-- were made, and how they ended.
 pub record Drained {S : Type 0} (step : S → ℕ → Result (List ℕ) Error → S → Type 0) (room : ℕ) (old : S)
     (pieces : List (List ℕ)) (answer : Result (Unit {0}) RelayError) (new : S) : Type 0 where
   pub made : ℕ

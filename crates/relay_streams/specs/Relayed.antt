@@ -1,4 +1,4 @@
--- What `relay` answers, reads and writes.
+-- What `relay` returns, reads and writes.
 use Rattle.std.specs.Prelude.{ℕ, List, [], ◌∷◌, ◌++◌, Ok, Err, Result}
 use Rattle.std.specs.declared.io.Error.{Error}
 use Rattle.relay_streams.specs.declared.error.RelayError.{RelayError}
@@ -7,16 +7,16 @@ use Rattle.relay_streams.specs.Pieces.{piece_len, Begun, Drained}
 use Rattle.relay_streams.specs.Sessions.{AreRelayed, EndsOverlong, WantsMemory}
 use Rattle.byte_streams.specs.Sent.{Sends}
 
--- From a source and a writer, pieces are read, and the frame that is due after each is sent before the next one is
--- read: so it is answered, and so both are left.
+-- Pieces are read from a source, and the frame that is due after each is sent to the writer before the next piece is
+-- read. The constructors say which result this has, and how it leaves the source and the writer.
 pub data Streams {S W : Type 0} (gives : S → ℕ → Result (List ℕ) Error → S → Type 0)
     (takes : W → List ℕ → Result ℕ Error → W → Type 0) (rows cols : ℕ) (s : S) (w : W)
     : Result (Unit {0}) RelayError → S → W → Type 0 where
-  -- a read failed, or as many were made as may be: the frames of the full pieces were sent
+  -- a read failed, or there were too many reads: the frames of the full pieces were sent
   unread : {t : S} {v : W} (pieces frames : List (List ℕ)) (rest : List ℕ) (e : RelayError)
       → Drained gives piece_len s (pieces ++ rest ∷ []) (Err e) t → AreRelayed rows cols pieces frames
       → Sends takes w frames (Ok tt) v → Streams gives takes rows cols s w (Err e) t v
-  -- there was no memory for the last piece or its frame, which may want some: the frames before it were sent
+  -- there was no memory for the last piece or its frame, which may need some: the frames before it were sent
   unmade : {t : S} {v : W} (pieces frames : List (List ℕ)) (piece : List ℕ)
       → Begun gives piece_len s (pieces ++ piece ∷ []) t → AreRelayed rows cols pieces frames
       → WantsMemory rows cols pieces piece → Sends takes w frames (Ok tt) v
@@ -35,7 +35,7 @@ pub data Streams {S W : Type 0} (gives : S → ℕ → Result (List ℕ) Error �
       → AreRelayed rows cols pieces frames → Sends takes w frames (Ok tt) v
       → Streams gives takes rows cols s w (Ok tt) t v
 
--- From a source and a writer it answers so, and leaves both so.
+-- The result of `relay`, and how it leaves the source and the writer.
 pub data Relays {S W : Type 0} (gives : S → ℕ → Result (List ℕ) Error → S → Type 0)
     (takes : W → List ℕ → Result ℕ Error → W → Type 0) (flushes : W → Result (Unit {0}) Error → W → Type 0)
     (rows cols : ℕ) (s : S) (w : W) : Result (Unit {0}) RelayError → S → W → Type 0 where

@@ -17,12 +17,13 @@ use Rattle.relay_streams.specs.Frames.{is_overlong, state_after}
 use Rattle.relay_streams.specs.Pieces.{pieces_of}
 use Rattle.relay_streams.specs.Shown.{sized}
 
--- with each piece: it is fed, the client of a key asks for a frame, and it gets what it is owed then
+-- the calls for each piece: it is fed, the client of a key asks for a frame, and the bytes that wait for it are
+-- pumped
 abbrev pub turn_calls : ℕ → List (List ℕ) → List Call
 turn_calls key [] = []
 turn_calls key (piece ∷ pieces) = Feed piece ∷ Frame key ∷ Pump key [] ∷ turn_calls key pieces
 
--- once the client has come
+-- the same after the client's attach
 abbrev pub relay_calls : ℕ → List (List ℕ) → List Call
 relay_calls key pieces = Attach ∷ turn_calls key pieces
 
@@ -40,7 +41,7 @@ pub record IsRelayed (rows cols key : ℕ) (pieces : List (List ℕ)) (t : Story
 abbrev pub answers_in : Story → List Answer
 answers_in t = map (λ e. e.answer) t.entries
 
--- and their texts: that of the frame, or nothing where none was made
+-- and their texts: that of the frame, or nothing where no frame was made
 abbrev pub texts_of : Story → List (List ℕ)
 texts_of t = map (λ e. e.text) t.entries
 
@@ -48,7 +49,7 @@ texts_of t = map (λ e. e.text) t.entries
 abbrev pub has_overlong : Story → Bool
 has_overlong t = list_any is_overlong (answers_in t)
 
--- these are the texts that are relayed of some pieces, where no frame would be too long
+-- `frames` are the texts that are relayed of these pieces, where no frame would be too long
 pub record AreRelayed (rows cols : ℕ) (pieces frames : List (List ℕ)) : Type 0 where
   pub key : ℕ
   pub story : Story
@@ -56,7 +57,7 @@ pub record AreRelayed (rows cols : ℕ) (pieces frames : List (List ℕ)) : Type
   pub fits : has_overlong story ≡ false
   pub texts : texts_of story ≡ frames
 
--- and this is what is pumped to the client where an input is fed in full pieces
+-- `text` is what is pumped to the client where the input is fed in full pieces
 pub record IsRelayText (rows cols : ℕ) (input text : List ℕ) : Type 0 where
   pub key : ℕ
   pub story : Story
@@ -72,25 +73,25 @@ pub record EndsOverlong (rows cols : ℕ) (pieces : List (List ℕ)) : Type 0 wh
   pub prefix : List Answer
   pub answers : answers_in story ≡ prefix ++ TooLong ∷ []
 
--- What a piece may want memory for that is fed after these.
+-- What a piece may need memory for that is fed after these.
 pub data WantsMemory (rows cols : ℕ) (pieces : List (List ℕ)) (piece : List ℕ) : Type 0 where
-  -- one of its events may take some
+  -- one of its events may allocate
   by_event : some_may_allocate (events_added (concat pieces) piece) (state_after rows cols (concat pieces)) ≡ true
       → WantsMemory rows cols pieces piece
-  -- a frame is made after it, be it too long or not
+  -- a frame is made after it, whether it is too long or not
   by_frame : (key : ℕ) (story : Story) (prefix : List Answer) (answer : Answer)
       → IsRelayed rows cols key (pieces ++ piece ∷ []) story → answers_in story ≡ prefix ++ answer ∷ []
       → may_allocate answer ≡ true → WantsMemory rows cols pieces piece
 
 -- ---- laws
 
--- whatever the pieces are, there is one
+-- there is such a story for any pieces
 abbrev pub EachRelayIsASession : Type 0
 EachRelayIsASession = (rows cols key : ℕ) (pieces : List (List ℕ)) → IsSide rows → IsSide cols
     → (t : Story) × IsRelayed rows cols key pieces t
 
--- It has the hub's size and an answer for each piece, given when just the pieces up to it had been fed; and all its
--- frames are pumped.
+-- The story has the hub's size and an answer for each piece, given when just the pieces up to it had been fed. All
+-- its frames are pumped.
 pub record AnswersEach (rows cols : ℕ) (pieces : List (List ℕ)) (t : Story) : Type 0 where
   pub size : size_of_story t ≡ sized rows cols
   pub each : length t.entries ≡ length pieces
@@ -101,7 +102,7 @@ abbrev pub EachRelayIsPumped : Type 0
 EachRelayIsPumped = (rows cols key : ℕ) (pieces : List (List ℕ)) (t : Story) → IsRelayed rows cols key pieces t
     → AnswersEach rows cols pieces t
 
--- and whichever it is, its answers, with their texts, and what is pumped are the same
+-- all such stories have the same answers, with the same texts, and the same bytes are pumped to them
 abbrev pub RelayedAreOne : Type 0
 RelayedAreOne = (rows cols key other : ℕ) (pieces : List (List ℕ)) (t u : Story) → IsRelayed rows cols key pieces t
     → IsRelayed rows cols other pieces u → (t.entries ≡ u.entries) × (t.session.pumped ≡ u.session.pumped)

@@ -1,4 +1,4 @@
--- What `show` answers, reads and writes.
+-- What `show` returns, reads and writes.
 use Rattle.std.specs.Prelude.{◌≡◌, ℕ, List, [], ◌∷◌, ◌++◌, map, Option, None, Ok, Err, Result, encode_utf8_all}
 use Rattle.std.specs.List.{concat, range_with_len}
 use Rattle.std.specs.declared.io.Error.{Error}
@@ -20,7 +20,7 @@ sized rows cols = record { rows = rows; cols = cols }
 abbrev pub row_line : Size → (ℕ → ℕ → CellView) → ℕ → List ℕ
 row_line z cell row = encode_utf8_all (line_text (cell row) 0 z.cols) ++ (0x0A ∷ [])
 
--- the same of n rows from a row on
+-- the same for n rows from `row` on
 abbrev pub rows_text : Size → (ℕ → ℕ → CellView) → ℕ → ℕ → List ℕ
 rows_text z cell row n = concat (map (row_line z cell) (range_with_len row n))
 
@@ -28,15 +28,16 @@ rows_text z cell row n = concat (map (row_line z cell) (range_with_len row n))
 abbrev pub screen_text : Size → (ℕ → ℕ → CellView) → List ℕ
 screen_text z cell = rows_text z cell 0 z.rows
 
--- A fresh view of this size was given these pieces, one after another, and this is the text of what it shows: what it
--- has parsed, and not what it holds.
+-- A fresh view of this size was given these pieces, one after another, and `text` is the text of what it shows. What
+-- the view has parsed is shown, and not what it holds back.
 pub record IsTextShown (z : Size) (pieces : List (List ℕ)) (text : List ℕ) : Type 0 where
   pub parsed : List ℕ
   pub hold : Option (List ℕ)
   pub leads : Drives (map Gives pieces) [] None parsed hold
   pub text_is : text ≡ screen_text z (seen z parsed).cell
 
--- A text was sent to a writer, which was then flushed: so it is answered, and so the writer is left.
+-- `Prints takes flushes w text answer v`: a text was sent to the writer w, which was then flushed. The result is
+-- `answer`, and the writer is then v.
 pub data Prints {W : Type 0} (takes : W → List ℕ → Result ℕ Error → W → Type 0)
     (flushes : W → Result (Unit {0}) Error → W → Type 0) (w : W) (text : List ℕ) : Result (Unit {0}) RelayError → W
     → Type 0 where
@@ -49,13 +50,13 @@ pub data Prints {W : Type 0} (takes : W → List ℕ → Result ℕ Error → W 
   printed : {v : W} (m : W) → SendsText takes w text (Ok tt) m → flushes m (Ok tt) v
       → Prints takes flushes w text (Ok tt) v
 
--- From a source and a writer it answers so, and leaves both so.
+-- The result of `show`, and how it leaves the source and the writer.
 pub data Shows {S W : Type 0} (gives : S → ℕ → Result (List ℕ) Error → S → Type 0)
     (takes : W → List ℕ → Result ℕ Error → W → Type 0) (flushes : W → Result (Unit {0}) Error → W → Type 0) (z : Size)
     (s : S) (w : W) : Result (Unit {0}) RelayError → S → W → Type 0 where
   -- there was no memory for the view: nothing is read or written
   refused : Shows gives takes flushes z s w (Err Memory) s w
-  -- a read failed, or as many were made as may be: nothing is written
+  -- a read failed, or there were too many reads: nothing is written
   unread : {t : S} (pieces : List (List ℕ)) (e : RelayError) → Drained gives piece_len s pieces (Err e) t
       → Shows gives takes flushes z s w (Err e) t w
   -- the input was read to its end, and what a view shows of it was printed

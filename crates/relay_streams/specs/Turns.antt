@@ -1,4 +1,4 @@
--- A turn of `relay`: a piece is fed, a frame asked for, and what is owed is pumped.
+-- A turn of `relay`: a piece is fed, a frame is asked for, and the pending bytes are pumped.
 use Rattle.std.specs.Prelude.{◌≡◌, ◌⊎◌, ℕ, true, false, List, [], ◌∷◌, ◌++◌, map, Option, Some, Ok, Err, Result}
 use Rattle.std.specs.List.{concat}
 use Rattle.std.specs.declared.io.Error.{Error}
@@ -17,7 +17,7 @@ use Rattle.relay_streams.specs.declared.error.RelayError.TheVariants.{Read, Writ
 use Rattle.relay_streams.specs.declared.relaying.OneClientHub.{OneClientHub}
 use Rattle.relay_streams.specs.Frames.{idle, asked, answered, is_overlong, state_after}
 
--- these pieces were fed to a new hub of this size, and the client at the key is owed nothing and has this base
+-- these pieces were fed to a new hub of this size; no bytes wait for the client at the key, which has this base
 pub record Relaying (rows cols : ℕ) (pieces : List (List ℕ)) (base : Option Shown) (h : HubState as_kept)
     (key : ℕ)
     : Type 0 where
@@ -33,15 +33,15 @@ fault_of hub.Failed = Memory
 fault_of hub.UnknownClient = Memory
 fault_of (hub.Write e) = Write
 
--- A turn with this piece may want memory: one of its events may take some, or a frame is made after it.
+-- A turn with this piece may need memory: one of its events may allocate, or a frame is made after it.
 abbrev pub MayWantMemory : ℕ → ℕ → List (List ℕ) → List ℕ → Option Shown → Type 0
 MayWantMemory rows cols past piece base =
     (some_may_allocate (events_added (concat past) piece) (state_after rows cols (concat past)) ≡ true)
     ⊎ (may_allocate (answered rows cols (concat (past ++ piece ∷ [])) base) ≡ true)
 
--- After other pieces this one was fed by a turn, and the client had this base and a writer w: the turn is answered so,
--- the writer is then v, and the hub g. Nothing is pumped where the frame would be too long, and then, and only then,
--- that is the fault.
+-- A turn feeds this piece after these other pieces, where the client has this base and its writer is w. The turn has
+-- this result; the writer is then v, and the hub g. Nothing is pumped where the frame would be too long. Then, and
+-- only then, the fault is `FrameTooLong`.
 abbrev pub Turned : {W : Type 0} → (W → List ℕ → Result ℕ Error → W → Type 0) → ℕ → ℕ → List (List ℕ) → List ℕ
     → Option Shown → ℕ → W → Result (Unit {0}) RelayError → W → HubState as_kept → Type 0
 Turned takes rows cols past piece base key w (Ok u) v g =

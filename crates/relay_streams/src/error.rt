@@ -24,7 +24,7 @@ pub enum RelayError {
     /// The input didn't end within 2^40 reads.
     #[error("too many reads")]
     TooManyReads,
-    /// A frame would be longer than 2,097,150 bytes, which is what a terminal holds of an update.
+    /// A frame would be longer than 2,097,150 bytes, which is the most that a terminal holds of an update.
     #[error("frame too long")]
     FrameTooLong,
 }
@@ -53,7 +53,7 @@ impl From<ViewError> for RelayError {
     }
 }
 
-/// Only a writer's fault is one of writing: a hub that has failed found no memory.
+/// Only a writer's fault becomes a fault of writing. A hub that has failed found no memory.
 impl From<HubError> for RelayError {
     ghost from_gives = { λ refusal e. e ≡ fault_of refusal };
 

@@ -20,13 +20,14 @@ use termview::{UntilCleared, View};
 
 /// What a far terminal makes of a session of a run.
 ///
-/// The calls are made in order on a new hub of this size. A fresh view of the session's size is given the first `take`
-/// bytes that were pumped to the session, or all where there are fewer, in pieces of the lengths `cuts`, each cut to
-/// what is left, and then the rest. There is none where the run began no such session. It is refused only for memory,
-/// also where a call of the run was.
+/// The calls are made in order on a new hub of this size. A fresh view of the session's size is given the first
+/// `take` bytes that were pumped to the session, or all if there are fewer. They come in pieces of the lengths
+/// `cuts`, each cut to what is left, and then the rest. Returns `None` if the run began no such session. Refused
+/// only for memory, also if a call of the run was.
 ///
-/// The view shows what the program's bytes and the resizes had made when the last frame was taken that lies wholly in
-/// the bytes given, else a blank screen (`shows`): unless that frame's screen showed U+FE0F.
+/// The view shows what the program's bytes and the resizes had made when a frame was taken: the last one that lies
+/// wholly in the bytes given. If there is no such frame, the view shows a blank screen. This holds (`shows`) unless
+/// that frame's screen showed U+FE0F.
 pub fn far_view(
     alloc: Global,
     rows: NonZeroU16,
@@ -55,7 +56,7 @@ pub fn far_view(
     }
 }
 
-// A fresh view of a session's size that was given the first bytes that were pumped to it, in such pieces.
+// Returns a fresh view of a session's size that was given the session's first bytes, in pieces of these lengths.
 fn view_session(
     alloc: Global,
     session: &Session,

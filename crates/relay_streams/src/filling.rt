@@ -13,8 +13,8 @@ pub const PIECE_LEN: usize = 4096;
 /// Reads tried, interrupted ones included, before the input is given up as endless.
 pub(crate) const MAX_READS: u64 = 1 << 40;
 
-/// Reads until the piece is full or the input ends, and answers how many bytes were read. Reads are counted from those
-/// made before; an interrupted one is tried again. Once there were 2^40, none is made.
+/// Reads until the piece is full or the input ends, and returns how many bytes were read. `reads` counts all reads,
+/// also those made before. An interrupted read is tried again. After 2^40 reads no further one is made.
 pub fn fill<S: Source>(
     input: &mut S,
     piece: &mut [u8],

@@ -20,22 +20,22 @@ use std::io::ErrorKind;
 use std::num::NonZeroU16;
 use termrelay::{Client, Hub};
 
-/// Bytes that one read of a live input is given room for.
+/// The size of the buffer of one read of a live input, in bytes.
 pub const LIVE_LEN: usize = 65_536;
 
-/// Reads a program's output to its end, and after each read that gave something writes the frame that is then due, if
-/// there is one, and flushes. Where a synchronized update of the program's own ended in what was read, the frame that is
-/// due at the last end is written first. So an update is shown that ends in the bytes with which the next one begins. The
-/// output equals the bytes that a hub sends to a client that attaches before the first read, and asks for a frame at each
-/// of these places.
+/// Reads a program's output to its end. After each read that gives something, it writes the frame that is then due,
+/// if there is one, and flushes. If a synchronized update of the program's own ended in what was read, the frame that
+/// is due at the last end is written first. So an update is shown even if the next one begins in the same read. The
+/// output equals the bytes that a hub sends to a client that attaches before the first read, and asks for a frame at
+/// each of these places.
 ///
-/// A read is given room for 65,536 bytes, so the output of a fast program is gathered while a write waits. No frame is
-/// due while an update is open. At the end of the input the program is gone, so what it
-/// left on is ended ([`farewell`]), and the frame that is then due is written. A frame that would be longer than
-/// 2,097,150 bytes is a fault, [`RelayError::FrameTooLong`], and nothing of it is written.
+/// The buffer of a read has 65,536 bytes, so the output of a fast program is gathered while a write waits. No frame
+/// is due while an update is open. At the end of the input the program is gone, so what it left on is ended
+/// ([`farewell`]), and the frame that is then due is written. A frame that would be longer than 2,097,150 bytes is a
+/// fault, [`RelayError::FrameTooLong`], and nothing of it is written.
 ///
-/// At most 2^40 reads are made; an interrupted one is tried again and counted. A fault ends it. What was written by
-/// then stays written.
+/// At most 2^40 reads are made; an interrupted one is tried again and counted. A fault ends the relay. What was
+/// written by then stays written.
 pub fn relay_live<S: Source, W: FlushSink>(
     alloc: Global,
     rows: NonZeroU16,
@@ -54,9 +54,9 @@ pub fn relay_live<S: Source, W: FlushSink>(
     relay_live_with(alloc, rows, cols, LineDrawing::Kept, input, output)
 }
 
-/// Does what [`relay_live`] does, where each piece first passes a [`PieceFilter`]. With [`LineDrawing::Kept`] pieces
-/// pass as they are. With [`LineDrawing::Drawn`] what is written is what [`relay_live`] writes of the bytes that
-/// `charset_filter` gives, and still each read brings a frame at once.
+/// Does what [`relay_live`] does, but each piece first passes a [`PieceFilter`]. With [`LineDrawing::Kept`] pieces
+/// pass unchanged. With [`LineDrawing::Drawn`] the output is what [`relay_live`] writes for the bytes that
+/// `charset_filter` gives. Each read still brings a frame at once.
 ///
 /// A filtered piece has up to eight times as many bytes as were read, and 512 more.
 pub fn relay_live_with<S: Source, W: FlushSink>(
@@ -82,8 +82,8 @@ pub fn relay_live_with<S: Source, W: FlushSink>(
     relay_reads(&mut hub, client, &mut filter, input, output)
 }
 
-// Reads the whole input. What each read gives is passed on up to the last end of an update in it, and then the rest; at
-// the end the farewell is.
+// Reads the whole input. The bytes of each read are passed on up to the last end of an update in them, and then the
+// rest. At the end the farewell is passed on.
 fn relay_reads<S: Source, W: FlushSink>(
     hub: &mut Hub,
     client: Client,
@@ -111,12 +111,12 @@ fn relay_reads<S: Source, W: FlushSink>(
     }
 }
 
-/// What ends all that a program may have left on.
+/// The bytes that end all that a program may have left on.
 pub const FAREWELL: &[u8] =
     b"\x1b[?9;1000;1002;1003;1005;1006;2004;1l\x1b>\x1b[?25h\x1b[0 q\x1b[?2026l";
 
-/// What ends all that a program may have left on: mouse reports, bracketed paste, application keys and keypad, a hidden
-/// cursor and its style, and a synchronized update. The law `farewell_ends_all` says that it does.
+/// The bytes that end all that a program may have left on: mouse reports, bracketed paste, application keys and
+/// keypad, a hidden cursor and its style, and a synchronized update. The law `farewell_ends_all` says that they do.
 pub fn farewell() -> &'static [u8]
     ensures { result.now ≡ farewell }
 {
@@ -144,7 +144,7 @@ fn pass_part<W: FlushSink>(
     pass_on(hub, client, filter, part, output)
 }
 
-// Has a piece pass, feeds what it gives, sends the frame that is then due, and flushes the writer.
+// Passes a piece through the filter, feeds the result, sends the frame that is then due, and flushes the writer.
 fn pass_on<W: FlushSink>(
     hub: &mut Hub,
     client: Client,
@@ -167,7 +167,7 @@ fn pass_on<W: FlushSink>(
     }
 }
 
-// One read that isn't interrupted. Reads are counted from those made before.
+// Makes one read that isn't interrupted. `reads` counts all reads, also those made before.
 fn read_some<S: Source>(
     input: &mut S,
     room: &mut [u8],

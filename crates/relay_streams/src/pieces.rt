@@ -7,11 +7,11 @@ use crate::error::RelayError;
 use crate::filling::{PIECE_LEN, fill};
 use byte_streams::Source;
 
-/// What takes the pieces of an input, one after another, and hands on what comes of them: to a writer, or to a view.
+/// Takes the pieces of an input, one after another, and passes the results on to a writer or a view.
 pub trait TakesPieces<T> {
     ghost use Rattle.relay_streams.specs.declared.error.RelayError.{RelayError};
 
-    // what one piece does: the answer, and what both are afterwards
+    // what one piece does: the result, with `self` and the output before and after
     ghost step: { Self → T → List ℕ → Result (Unit {0}) RelayError → Self → T → Type 0 };
 
     /// Takes the next piece.
@@ -19,8 +19,8 @@ pub trait TakesPieces<T> {
         ensures step { step self.old to.old piece.now result self.new to.new };
 }
 
-/// Reads the whole input in full pieces of 4,096 bytes and then the rest, and has each taken before the next one is
-/// read. A fault ends it. The rest is taken too, also where it is empty.
+/// Reads the whole input in full pieces of 4,096 bytes and then the rest. Each piece is taken before the next one is
+/// read. A fault ends the reading. The rest is taken too, even if it is empty.
 ///
 /// At most 2^40 reads are made; an interrupted one is tried again and counted.
 pub fn each_piece<S: Source, T, P: TakesPieces<T>>(

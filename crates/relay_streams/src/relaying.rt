@@ -56,7 +56,7 @@ pub fn relay<S: Source, W: FlushSink>(
     }
 }
 
-// Reads the whole input in full pieces, and has a turn with each.
+// Reads the whole input in full pieces, and makes a turn with each.
 fn relay_pieces<S: Source, W: FlushSink>(
     hub: Hub,
     client: Client,
@@ -69,7 +69,7 @@ fn relay_pieces<S: Source, W: FlushSink>(
     each_piece(input, &mut OneClientHub { hub, client }, output)
 }
 
-/// A hub with one client, to whom the frame is sent that is due after each piece.
+/// A hub with one client, which is sent the frame that is due after each piece.
 #[derive(Drop)]
 struct OneClientHub {
     hub: Hub,
@@ -106,7 +106,7 @@ pub(crate) fn turn<W: FlushSink>(
     Ok(())
 }
 
-/// Whether a client that asked for a frame gets none since it would be too long.
+/// Whether a client that asked for a frame gets none because it would be too long.
 pub fn is_overlong(answer: Answer) -> bool
     ensures { result ≡ overlong answer }
 {

@@ -53,7 +53,7 @@ fn read_view<S: Source>(view: &mut View<UntilCleared>, input: &mut S) -> Result<
     each_piece(input, &mut Unchanged, view)
 }
 
-/// Pieces that reach a view as they are.
+/// Passes pieces to a view unchanged.
 #[derive(Clone, Copy)]
 struct Unchanged;
 

@@ -24,8 +24,8 @@ impl UpdateEnds {
         }
     }
 
-    /// Searches the next bytes, and returns how many of them come up to the last end of an update: 0 where none ends in
-    /// them. An end is found wherever pieces cut its sequence.
+    /// Searches the next bytes, and returns how many of them there are up to the last end of an update, or 0 if no
+    /// update ends in them. An end is found wherever its sequence is cut into pieces.
     pub fn last_end(&mut self, bytes: &[u8]) -> usize
         ensures searched { (past : List ℕ) → HasSearched self.old past → HasSearched self.new (past ++ bytes.now) }
         ensures within { result ≤ length bytes.now }
@@ -46,7 +46,7 @@ impl UpdateEnds {
     }
 }
 
-/// Whether an update has ended, at which the parser stops.
+/// Whether an update has ended. The parser stops there.
 #[derive(Drop)]
 struct EndSeen {
     ended: bool,
@@ -78,7 +78,7 @@ impl Perform for EndSeen {
     fn execute_all(&mut self, _controls: &[u8]) {}
 }
 
-// Whether an event ends an update: private mode 2026 is reset, or all is.
+// Whether an event ends an update: private mode 2026 is reset, or the whole terminal is.
 fn ends_update(event: Event<'_>) -> bool
     ensures { result ≡ specs.ends_update (event_of event.entry) }
 {

@@ -1,4 +1,4 @@
--- The length of frames, and of the bytes owed.
+-- The length of frames, and of the pending bytes.
 use Rattle.std.proofs.Common.{◌≡◌, ℕ, Bool, true, false, List, [], ◌∷◌, ◌++◌, length, Option, IfSome, sym, ap}
 use Rattle.std.proofs.Common.{subst, arith, length-append}
 use Rattle.std.specs.List.{AllByRecursion}
@@ -13,7 +13,7 @@ use Rattle.relay_theorem.specs.Bounds.{EachSessionIsBounded, EachFrameFitsTheHol
 use Rattle.relay_theorem.proofs.HistoryLemmas.{sessions-reported}
 use Rattle.relay_theorem.proofs.HeadlineLemmas.{entries-short, entries-fit, entries-made}
 
--- the bytes owed are a suffix of the last frame's text
+-- the pending bytes are a suffix of the last frame's text
 text-short : (z : Size) (frame : Bool) (text : List ℕ) (e : Entry) → IsShortFrame z text → IsShortFrame z e.text
     → IsShortFrame z (if frame then e.text else text)
 text-short z true text e h k = k
@@ -28,7 +28,7 @@ last-short z text (e ∷ es) h k =
 owed-short : (z : Size) (read owed last : List ℕ) → read ++ owed ≡ last → IsShortFrame z last → IsShortFrame z owed
 owed-short z read owed last is h = omega (arith, length-append read owed, ap length is, h)
 
--- the bytes that a session's client is owed
+-- the bytes that wait for a session's client
 client-short : (rows cols : ℕ) (clients : ℕ → Option ClientState) (t : Story) → IsReported rows cols clients t
     → AllByRecursion (λ e. IsShortFrame (size_of_story t) e.text) t.entries → t.session.ended ≡ false
     → IfSome (clients t.session.client) (λ c. IsShortFrame (size_of_story t) c.owed)

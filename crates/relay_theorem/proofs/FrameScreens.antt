@@ -70,7 +70,7 @@ fed-made z acts r =
     played-added [] (fresh_state z.rows z.cols 0) acts r
     ∙ ap (λ (es : List Event). played es (fresh_state z.rows z.cols 0)) (added-first 1024 (bytes_fed acts))
 
--- bytes behind others that end at ground
+-- bytes after others that end at ground
 pub state-more : (z : Size) (past bytes : List ℕ) → AtGround 1024 past
     → state_after z (past ++ bytes) ≡ played (events 1024 bytes) (state_after z past)
 state-more z past bytes g =

@@ -22,7 +22,7 @@ stays t = record { later = []; entries = sym (append-nil t.entries); size = refl
 same-grown : (t : Story) (ts : List Story) (n : ℕ) → slice_get ts n ≡ Some t → Grown t ts n
 same-grown t ts n at = (t, at, stays t)
 
--- others come behind
+-- others come after
 pushed-grown : (t : Story) (ts more : List Story) (n : ℕ) → slice_get ts n ≡ Some t → Grown t (ts ++ more) n
 pushed-grown t [] more n at = absurd (let no : None ≡ Some t = at in cc)
 pushed-grown t (x ∷ ts) more zero at = (t, at, stays t)

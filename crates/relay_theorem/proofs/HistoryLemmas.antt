@@ -99,7 +99,7 @@ size-fed rows cols acts bytes h =
     size-is rows cols (acts ++ Fed bytes ∷ []) (acts-more rows cols acts h (Fed bytes) tt) ∙ same
     ∙ sym (size-is rows cols acts h)
 
--- ---- one entry more
+-- ---- one more entry
 
 more-texts : (es : List Entry) (e : Entry) → texts (es ++ e ∷ []) ≡ texts es ++ e.text
 more-texts [] e = append-nil e.text
@@ -153,7 +153,7 @@ module _ (z : Size) (now : Shown) (c : ClientState) where
   served-base base true h = refl
   served-base base false h = h
 
--- a session that hasn't ended is served, by whichever client stands at its key
+-- a session that hasn't ended is served by the client at its key, whichever that is
 abbrev pub IsServedBy : ℕ → ℕ → (ℕ → Option ClientState) → Story → Type 0
 IsServedBy rows cols clients t =
     (c : ClientState) × (clients t.session.client ≡ Some c) × IsServed rows cols t c

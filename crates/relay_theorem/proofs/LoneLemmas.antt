@@ -82,7 +82,7 @@ module _ (rows cols : ℕ) where
     own-now n l h g ts Leaves owns reply can s fed serves =
         ap (own_at key (Detach key)) (detach-done key l h g reply s.client serves) ∙ here Leaves
 
-    -- one more of its own, by what is said of those after it
+    -- one more call of its own, by what is said of those after it
     own-more : (n : ℕ) (l : Life) (g : HubState as_reported) (us : List Story) (own : Own) (owns later : List Own)
         → CanLive rows cols l (own ∷ owns) → Goes rows cols key n g us l (Some own)
         → ((m : Life) → CanLive rows cols m owns → Lives rows cols key n g us m → later ≡ owns)

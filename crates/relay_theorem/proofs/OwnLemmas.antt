@@ -199,7 +199,7 @@ module _ (rows cols : ℕ) where
     its-own : (other : ℕ) (o : Option ClientState) → (other == key) ≡ true → clients other ≡ o → o ≡ Some l.client
     its-own other o e at = sym at ∙ ap clients (eqb-true other key e) ∙ client
 
-    -- where there is none at a key, it isn't its own
+    -- where there is no client at a key, that isn't the session's own key
     free-by : (b : Bool) (other : ℕ) → (other == key) ≡ b → clients other ≡ None → b ≡ false
     free-by true other e free = let no : None ≡ Some l.client = its-own other None e free in absurd (cc)
     free-by false other e free = refl

@@ -70,7 +70,7 @@ module _ (rows cols : ℕ) where
     pub client : (life_on rows cols l owns).1 ≡ false → k.clients key ≡ Some (life_on rows cols l owns).0.client
     pub can : CanLive rows cols l owns
 
-  -- one call more, by what those after it make
+  -- one more call, by what those after it make
   module _ (key n : ℕ) (g k : HubState as_reported) (ts us : List Story) (owns : List Own)
       (more : (l : Life) → Lives rows cols key n g ts l → EndsAs key n k us l owns)
       (gone : (l : Life) → slice_get ts n ≡ Some (story_of rows cols key true l)

@@ -349,7 +349,7 @@ logs-follow rows cols calls replies h g ss new run =
 
 -- ---- pumps
 
--- how a pump that takes so many of n bytes is answered
+-- the reply to a pump that takes `taken` of n bytes
 abbrev Ends : ℕ → ℕ → Result (Unit {0}) Error → Type 0
 Ends taken n end = IsPumpReply (taken == n) (done (pump_answer end))
 

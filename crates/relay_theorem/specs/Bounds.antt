@@ -1,4 +1,4 @@
--- The length of frames, and of the bytes owed.
+-- The length of frames, and of the pending bytes.
 use Rattle.std.specs.Prelude.{◌≡◌, ℕ, ◌*◌, ◌<◌, ◌≤◌, false, List, length, IfSome}
 use Rattle.std.specs.List.{AllByRecursion}
 use Rattle.vte.specs.Hold.{limit}
@@ -11,7 +11,7 @@ use Rattle.relay_theorem.specs.History.{Story, size_of_story}
 use Rattle.relay_theorem.specs.Laws.{IsSession}
 
 -- Each frame of a session has at most 1,024 bytes for each cell, and 1,024 more. The same bound holds for the bytes
--- owed to its client while it hasn't ended.
+-- that wait for its client while the session hasn't ended.
 abbrev pub EachSessionIsBounded : Type 0
 EachSessionIsBounded = (rows cols : ℕ) (calls : List Call) (replies : List Reply) (n : ℕ) (t : Story)
     → (s : IsSession rows cols calls replies n t)

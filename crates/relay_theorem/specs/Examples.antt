@@ -13,8 +13,8 @@ use Rattle.termrelay.specs.Hub.{HubState}
 use Rattle.relay_theorem.specs.History.{as_reported, Entry, Story, fresh, RunsReported}
 use Rattle.relay_theorem.specs.Judge.{last_whole}
 
--- On one row of two columns a client is owed a frame of an `a`. Its writer takes 10 bytes and fails, and later takes
--- the rest. Then the client ends by a resize.
+-- On a screen of one row and two columns, a frame of an `a` waits for a client. Its writer takes 10 bytes and fails,
+-- and later takes the rest. Then the client ends by a resize.
 abbrev pub calls : List Call
 calls =
     Attach ∷ Feed (codes "a") ∷ Frame 0 ∷ Pump 0 (Bytes 10 ∷ Fault ∷ []) ∷ Frame 0 ∷ Pump 0 [] ∷ Frame 0 ∷ Resize 1 2
@@ -50,6 +50,6 @@ pub record ExampleIsReported (e : Error) : Type 0 where
   pub torn : answer_in (last_whole None (entries_of_all stories) 46) ≡ []
   pub whole : answer_in (last_whole None (entries_of_all stories) 47) ≡ Full ∷ []
 
--- the history is so for any error of the writer
+-- this is the history for any error of the writer
 abbrev pub EachExampleIsReported : Type 0
 EachExampleIsReported = (e : Error) → ExampleIsReported e

@@ -62,7 +62,7 @@ abbrev pub own_of : ℕ → List Call → List Reply → List Own
 own_of key (call ∷ calls) (reply ∷ replies) = own_then (own_at key call reply) (own_of key calls replies)
 own_of key calls replies = []
 
--- an own call as a list; empty if there is none
+-- an own call as a list; empty if there is no call
 abbrev pub own_list : Option Own → List Own
 own_list None = []
 own_list (Some own) = own ∷ []
@@ -74,7 +74,7 @@ own_put owns key own other = if other == key then own else owns other
 -- The own calls of the n-th session that begins by these calls. Before them the session that lives at each key had
 -- these own calls (`owns`), and the screen these feeds and resizes (`acts`). An attach's session has the feeds and
 -- resizes before it, and then its attach. A fork's session has the own calls of the one that was forked, and then a
--- pump that takes all that was owed.
+-- pump that takes all the bytes that waited then.
 abbrev pub own_since : (ℕ → List Own) → List Own → ℕ → List Call → List Reply → List Own
 own_since owns acts n (Attach ∷ calls) (Attached key ∷ replies) =
     if n == 0 then (acts ++ Comes ∷ []) ++ own_of key calls replies
@@ -102,8 +102,8 @@ alone key Leaves = Detach key
 
 -- ---- laws
 
--- Two sessions are alike: they have the same size, the same bytes were pumped to them, and both have ended or both not.
--- While they haven't ended, their clients are owed the same bytes after the same last frame.
+-- Two sessions are alike: they have the same size, the same bytes were pumped to them, and both have ended or both
+-- not. While they haven't ended, the same bytes wait for their clients after the same last frame.
 pub record AreAlike (s z : SessionView) (these those : ℕ → Option ClientState) : Type 0 where
   pub rows : s.rows ≡ z.rows
   pub cols : s.cols ≡ z.cols

@@ -21,14 +21,14 @@ abbrev pub base_after : ℕ → ℕ → Option Shown → List Entry → Option S
 base_after rows cols base [] = base
 base_after rows cols base (e ∷ es) = base_after rows cols (base_then rows cols base e) es
 
--- the text of the last frame; `text` if there is none
+-- the text of the last frame; `text` if there is no frame
 abbrev pub last_text : List ℕ → List Entry → List ℕ
 last_text text [] = text
 last_text text (e ∷ es) = last_text (if is_frame e.answer then e.text else text) es
 
 -- An answer to a session of size z, whose last frame showed `base`, on a hub whose first size was rows and cols. The
--- screen had the session's size. The answer depends only on the screen's state, the base and the bytes then owed. A
--- frame is made from the base and what was shown.
+-- screen had the session's size. The answer depends only on the screen's state, the base and the bytes that were
+-- pending then. A frame is made from the base and what was shown.
 pub record IsAnswered (rows cols : ℕ) (z : Size) (base : Option Shown) (e : Entry) : Type 0 where
   pub acts : AreActs rows cols 0 e.moment
   pub size : size_at rows cols e ≡ z
@@ -42,8 +42,8 @@ AreAnswered rows cols z base [] = Unit {0}
 AreAnswered rows cols z base (e ∷ es) =
     IsAnswered rows cols z base e × AreAnswered rows cols z (base_then rows cols base e) es
 
--- The bytes pumped and the bytes owed to the client are the frames' texts. The bytes owed are a suffix of the last
--- frame, so at most one frame is owed. The hub keeps what was shown at that frame.
+-- The bytes pumped and the bytes that wait for the client are the frames' texts. The pending bytes are a suffix of
+-- the last frame, so at most one frame is pending. The hub keeps what was shown at that frame.
 pub record IsServed (rows cols : ℕ) (t : Story) (c : ClientState) : Type 0 where
   pub bytes : t.session.pumped ++ c.owed ≡ texts t.entries
   pub read : List ℕ

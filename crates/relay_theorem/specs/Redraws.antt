@@ -65,7 +65,7 @@ NoRedrawIsTorn = (rows cols : ℕ) (calls : List Call) (replies : List Reply) (n
     ≡ whole_in (redrawn_then redraw first later) (length (concat pieces))
     → shown_of (seen (size_of_story t) parsed') ≡ shown_of (seen (size_of_story t) parsed)
 
--- what a hub answers to a request for a redraw is the redraw after all answers to the client's session so far
+-- the redraw that a hub gives on request is the redraw after all answers to the client's session so far
 abbrev pub EachRedrawIsReported : Type 0
 EachRedrawIsReported = (rows cols : ℕ) (calls : List Call) (replies : List Reply) (n : ℕ) (t : Story)
     → (s : IsSession rows cols calls replies n t) → t.session.ended ≡ false
@@ -105,14 +105,15 @@ pub record RedrawnIn (rows cols : ℕ) (calls : List Call) (replies : List Reply
   pub session : IsSession rows cols before replied n t
   pub live : t.session.ended ≡ false
 
--- the redraw is that after the session's answers before it, and its further answers come after these
+-- the redraw is the one after the session's answers before it, and the session's further answers come after these
 abbrev pub EachRunRedraws : Type 0
 EachRunRedraws = (rows cols : ℕ) (calls : List Call) (replies : List Reply) (n : ℕ) (t u : Story) (redraw : List ℕ)
     → RedrawnIn rows cols calls replies n t redraw → IsSession rows cols calls replies n u
     → (redraw_after rows cols t t.entries ≡ Some redraw) × GrowsTo t u
 
--- The same for a log: a view of the session's size reads a redraw that a call of the run was answered with, and then
--- the bytes that were pumped to the session later, in any pieces. What the client was still owed then isn't among them.
+-- The same for a log. A view of the session's size reads a redraw that a call of the run was answered with, and then
+-- the bytes that were pumped to the session later, in any pieces. Bytes that were still pending at that call aren't
+-- among them.
 abbrev pub LoggedRedrawsAreShown : Type 0
 LoggedRedrawsAreShown = (rows cols : ℕ) (calls : List Call) (l : LogView) (n : ℕ) (s : SessionView) (t : Story)
     (redraw : List ℕ) (pieces : List (List ℕ)) (parsed : List ℕ) → IsLogged rows cols calls l n s

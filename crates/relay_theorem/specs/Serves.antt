@@ -15,13 +15,13 @@ use Rattle.relay_theorem.specs.History.{Story, as_reported, fresh, RunsReported}
 
 -- ---- pumps
 
--- the reply to a pump that has taken all that is owed, and to one that hasn't
+-- the reply to a pump that has taken all pending bytes, and to one that hasn't
 abbrev pub IsPumpReply : Bool → Reply → Type 0
 IsPumpReply true reply = reply ≡ Done
 IsPumpReply false reply = (e : Error) × (reply ≡ Refused (Write e))
 
--- A pump to a scripted writer takes the bytes that the script says, and the others stay owed. Its reply says whether
--- all were taken. This holds in any way to describe a hub.
+-- A pump to a scripted writer takes the bytes that the script says, and the others stay pending. Its reply says
+-- whether all were taken. This holds for any way to describe a hub.
 abbrev pub EachPumpTakesAsReported : Telling → Type 0
 EachPumpTakesAsReported way = (h g : HubState way) (key : ℕ) (takes : List Take) (reply : Reply) (c : ClientState)
     → clients_in h key ≡ Some c → Serves h (Pump key takes) reply g

@@ -23,7 +23,7 @@ pub record AreFedFrom (bytes : List ℕ) (acts : List Act) : Type 0 where
 abbrev pub last_fed : Story → List Act → Option Entry
 last_fed t acts = last_whole None t.entries (length (bytes_fed acts))
 
--- what was fed and resized before a request; nothing if there is none
+-- what was fed and resized before a request; nothing without a request
 abbrev pub acts_at : Option Entry → List Act
 acts_at None = []
 acts_at (Some e) = e.moment

@@ -64,7 +64,7 @@ EachFrameEndsAtGround = (rows cols : ℕ) (calls : List Call) (replies : List Re
     (prefix back : List Entry) → IsSession rows cols calls replies n t → t.entries ≡ prefix ++ back
     → AtGround 1024 (texts prefix)
 
--- what a hub answers to a request for a whole frame is the one after all answers to the client's session so far
+-- the whole frame that a hub gives on request is the one after all answers to the client's session so far
 abbrev pub EachWholeIsReported : Type 0
 EachWholeIsReported = (rows cols : ℕ) (calls : List Call) (replies : List Reply) (n : ℕ) (t : Story)
     → (s : IsSession rows cols calls replies n t) → t.session.ended ≡ false

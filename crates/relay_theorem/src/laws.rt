@@ -25,10 +25,10 @@ use termrelay::ByteSink;
 
 /// Facts about each session of a new hub, after any calls with any replies.
 ///
-/// While a session hasn't ended, the bytes pumped followed by the bytes owed are its frames, joined. At most one frame
-/// is owed, and the hub keeps what was shown at the last one. After the session has ended, the bytes pumped are a
-/// prefix of its frames. Each frame is made from what was shown at the frame before it and what was shown at its own
-/// request. Both screens have the session's size.
+/// While a session hasn't ended, the bytes pumped followed by the pending bytes are its frames, joined. At most one
+/// frame is pending, and the hub keeps what was shown at the last one. After the session has ended, the bytes pumped
+/// are a prefix of its frames. Each frame is made from what was shown at the frame before it and what was shown at
+/// its own request. Both screens have the session's size.
 pub fn sessions_are_reported()
     ensures { EachSessionIsReported }
 {}
@@ -80,9 +80,9 @@ pub fn clients_have_sessions()
     ensures { EachClientHasASession }
 {}
 
-/// A pump to a scripted writer takes the bytes that the script says, and the others stay owed. Its reply says whether
-/// it took all of them. This holds for a hub described by the code's fields (`kept`), and for one described by its
-/// history (`reported`).
+/// A pump to a scripted writer takes the bytes that the script says, and the others stay pending. Its reply says
+/// whether it took all of them. This holds for a hub described by the code's fields (`kept`), and for one described
+/// by its history (`reported`).
 pub fn pumps_take_as_reported()
     ensures kept { EachPumpTakesAsReported as_kept }
     ensures reported { EachPumpTakesAsReported as_reported }
@@ -128,14 +128,14 @@ pub fn logged_frames_are_shown()
 
 /// A session depends only on its own calls. These are its attach, the feeds and resizes until it ends, also those
 /// before its attach, and the calls on its key until it ends. The scripts of its pumps are parts of these calls. A
-/// fork's own calls are those of the session that it was forked from, up to the fork, a pump that takes all that was
-/// owed then, and those on its own key.
+/// fork's own calls are those of the session that it was forked from, up to the fork, then a pump that takes all the
+/// bytes that waited then, and those on its own key.
 ///
 /// If two sessions have the same own calls, the same bytes are pumped to them, and they get the same answers at the
-/// same moments. They have the same size, and have both ended or both not. While they haven't ended, their clients are
-/// owed the same bytes, and the screens at their last frames show the same. This holds whatever the other calls and the
-/// keys were, if no call of the two runs failed for want of memory. It holds for two histories (`reported`), and for
-/// the sessions of two logs (`logged`).
+/// same moments. They have the same size, and have both ended or both not. While they haven't ended, the same bytes
+/// wait for their clients, and the screens at their last frames show the same. This holds whatever the other calls
+/// and the keys were, if no call of the two runs failed for want of memory. It holds for two histories (`reported`),
+/// and for the sessions of two logs (`logged`).
 pub fn sessions_are_isolated()
     ensures reported { SessionsAreIsolated }
     ensures logged { LoggedSessionsAreIsolated }
@@ -153,7 +153,7 @@ pub fn sessions_stand_alone()
 {}
 
 /// Each frame of a session has at most 1,024 bytes for each cell, and 1,024 more. The same bound holds for the bytes
-/// that its client is owed.
+/// that wait for its client.
 pub fn sessions_are_bounded()
     ensures { EachSessionIsBounded }
 {}
@@ -173,9 +173,9 @@ pub fn whole_logged_frames_are_shown()
     ensures { WholeLoggedFramesAreShown }
 {}
 
-/// The redraw of a client whose session hasn't ended is that after all answers to the session so far (`answered`).
-/// Whatever calls come later, the session's further answers come after these (`grows`). So it is for the redraws that
-/// the calls of a run are answered with (`run`).
+/// The redraw of a client whose session hasn't ended is the one after all answers to the session so far (`answered`).
+/// Whatever calls come later, the session's further answers come after these (`grows`). The same holds for the
+/// redraws that the calls of a run are answered with (`run`).
 pub fn redraws_are_reported()
     ensures answered { EachRedrawIsReported }
     ensures grows { EachStoryGrows }
@@ -187,9 +187,10 @@ pub fn redraws_are_reported()
 /// The redraw counts as the client's last frame before it. If no frame lies wholly in it, the screen is blank. This
 /// holds unless the screen at that request showed U+FE0F. The client may be a fork.
 ///
-/// If the view reads more bytes, but no further frame is whole, it still shows the same: neither the redraw nor a frame
-/// is shown in part (`untorn`). For a log, the redraw is one that a call of the run was answered with, and the later
-/// frames are what was pumped to the session, without what was pumped and owed at that call (`logged`).
+/// If the view reads more bytes, but no further frame is whole, it still shows the same: neither the redraw nor a
+/// frame is shown in part (`untorn`). For a log, the redraw is one that a call of the run was answered with. The
+/// later frames are then what was pumped to the session, without what had been pumped or was pending at that call
+/// (`logged`).
 pub fn redrawn_frames_are_shown()
     ensures shown { RedrawnFramesAreShown }
     ensures untorn { NoRedrawIsTorn }
@@ -210,26 +211,26 @@ pub fn whole_frames_lead_from_anything()
     ensures ground { EachFrameEndsAtGround }
 {}
 
-/// The whole frame of a client whose session hasn't ended is that after all answers to the session so far (`answered`).
-/// What a hub answers to requests for whole frames, it answers by its history (`whole`).
+/// The whole frame of a client whose session hasn't ended is the one after all answers to the session so far
+/// (`answered`). A hub's answers to requests for whole frames are those that its history gives (`whole`).
 pub fn whole_frames_are_reported()
     ensures answered { EachWholeIsReported }
     ensures whole { EachWholeMatches }
 {}
 
-/// A new screen of a session's size that keeps no rows is fed any prefix of the session's bytes, from the first one on,
-/// in any pieces. While it is in no synchronized update, it shows the program's screen at the request for the last frame
-/// that lies wholly in the prefix, or a blank screen if none does (`screens`). The same holds of the screen of a new hub
-/// of that size that is fed so and never resized, whatever its other calls, wherever its answer isn't `Held` (`hubs`).
-/// This holds unless the program's screen showed U+FE0F.
+/// A new screen of a session's size that keeps no rows is fed any prefix of the session's bytes, from the first one
+/// on, in any pieces. While it is in no synchronized update, it shows the program's screen at the request for the
+/// last frame that lies wholly in the prefix, or a blank screen if there is no such frame (`screens`). The same holds
+/// of the screen of a new hub of that size that is fed in this way and never resized, whatever its other calls,
+/// wherever its answer isn't `Held` (`hubs`). This holds unless the program's screen showed U+FE0F.
 pub fn fed_screens_are_right()
     ensures screens { EachFedScreenIsRight }
     ensures hubs { EachFedHubIsRight }
 {}
 
-/// A tree of hubs: a new second hub of a session's size is fed any prefix of the session's bytes, from the first one on,
-/// in any pieces. It is never resized, and has clients of its own. A new view reads any prefix of the bytes pumped to
-/// one of these, in any pieces.
+/// A tree of hubs: a new second hub of a session's size is fed any prefix of the session's bytes, from the first one
+/// on, in any pieces. It is never resized, and has clients of its own. A new view reads any prefix of the bytes
+/// pumped to one of these, in any pieces.
 ///
 /// It shows the program's screen at the request for a whole frame, or a blank screen. The frame is the last one that
 /// the second hub had been fed wholly when it made the last frame that the view has read wholly. This holds unless the

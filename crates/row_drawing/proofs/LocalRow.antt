@@ -55,7 +55,7 @@ wide-there : (s : Scene) → IsScene s → (n : ℕ) (f : ℕ → CellView) → 
     → (f n).wide ≡ true → (s.row_change.old n).wide ≡ true
 wide-there s h n f l wide = sym (line-wide_is s.row_change.old s.row_change.new n f h.old.paired l) ∙ wide
 
--- behind a cell
+-- the column after a cell
 half-of : (f : ℕ → CellView) (k m : ℕ) (b : Bool) → IsPaired f → k ≡ m + 1 → (f m).wide ≡ b → (f k).continuation ≡ b
 half-of f k m b p e w = ap (λ i. (f i).continuation) e ∙ p.next m ∙ w
 

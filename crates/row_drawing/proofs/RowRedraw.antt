@@ -23,7 +23,7 @@ use Rattle.row_drawing.proofs.RowEnd.{last-is, last-text, flags-off, flags-kept}
 use Rattle.row_drawing.proofs.RowStart.{redraw-filled}
 use Rattle.row_drawing.proofs.LocalRow.{any-room}
 
--- the pen is behind column c, and no column is pending
+-- the pen is at column n, and no column is pending
 record IsBehind (j : RowChange) (n : ℕ) (p : Pen) : Type 0 where
   row : p.pos.row ≡ j.row
   col : p.pos.col ≡ n

@@ -65,7 +65,7 @@ pub reprint-empty : (j : RowChange) (x : CellView) (p : Pen) (b : Bool) → has_
 unfolding reprint
 reprint-empty j x p b h e = rw (e, h) refl
 
--- ---- nothing is owed
+-- ---- the first cell isn't printed once more
 
 not-owed : (s : Scene) (p : Pen) → IsScene s → IsReady s p → owes_flag s.row_change p ≡ false
     → Standing s s.flags p (edge p.erase (past s.row_change 0))

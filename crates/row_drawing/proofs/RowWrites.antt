@@ -36,7 +36,7 @@ wrote_marking n a p s q e = record { pen_is = sym e; text_is = sym (append-nil s
 pub colored_as : {p q : Pen} {s t : List ℕ} {a b : Attrs} → a ≡ b → Wrote (color a) p s q t → Wrote (color b) p s q t
 colored_as {p = p} {q = q} {s = s} {t = t} e w = subst (λ x. Wrote (color x) p s q t) e w
 
--- ---- where the cursor stands
+-- ---- where the cursor is
 
 pub turned_col : (row : ℕ) (p q : Pen) → q ≡ (turn row p).pen → q.pos.col ≡ 0
 unfolding turn
@@ -186,7 +186,7 @@ goes_on {j = j} {n = n} {m = m} {p = p} {r = r} {s = s} {u = u} i k x behind_is 
 pub behind-within : (x : CellView) (n k i : ℕ) → i ≡ behind x n k → n < k → (n < i) × (i ≤ k)
 behind-within x n k i e inside = rw e (grind (arith, nat_tests), grind (arith, nat_tests))
 
--- the cursor is behind it
+-- the cursor is after it
 pub here_behind : (j : RowChange) (n k i : ℕ) (p q : Pen) (x : CellView) → i ≡ behind x n k → q ≡ (print x false p).pen
     → IsAt j (j.start + n) p → i < k → IsAt j (j.start + i) q
 unfolding print

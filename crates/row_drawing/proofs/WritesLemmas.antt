@@ -104,7 +104,7 @@ pub wrote_skip : (p : Pen) (s : List ℕ) → Wrote skip p s p s
 unfolding skip
 wrote_skip p s = record { pen_is = refl; text_is = sym (append-nil s) }
 
--- the same text behind another one
+-- the same text after another one
 pub wrote_behind : {f : Writer} {p : Pen} {s : List ℕ} {q : Pen} {u : List ℕ} (t : List ℕ) → Wrote f p s q u
     → Wrote f p (t ++ s) q (t ++ u)
 wrote_behind {f = f} {p = p} {s = s} t a = record {
@@ -281,7 +281,7 @@ stays q = rw (ne_eqb q.row (q.row + 1) (λ e. omega (arith, e)), eq-eqb q.row q.
 unchanged : (a : Attrs) → change a a ≡ []
 unchanged a = rw (attrs_eq-refl a) refl
 
--- the cursor stands there
+-- the cursor is there already
 pub goto_here : (p : Pen) (pos : Pos) (s : List ℕ) → p.pos ≡ pos → Wrote (goto pos.row pos.col) p s p s
 unfolding goto
 goto_here p pos s e = record {

@@ -64,7 +64,7 @@ pub record EachExampleIsWritten : Type 0 where
   -- a row is drawn that has two red columns before its end
   pub drawn : (row_redraw (row_job 4 [] (letters (codes "a") ++ red ∷ red ∷ letters (codes "b"))) 4
       (at_start 1 0)).forms ≡ text (codes "a") ++ reddened ∷ EraseChar 2 ∷ MoveRight 2 ∷ ClearAttrs ∷ text (codes "b")
-  -- the row above wraps into this one, which stays; the cursor is behind the last column of the row above
+  -- the row above wraps into this one, which stays; the cursor is past the last column of the row above
   pub flagged : (row_difference (record kept { above = true }) 3 (at_start 0 3)).forms ≡ text (codes "a") ++ Backspace
       ∷ []
   -- the same, if this row begins with an empty column

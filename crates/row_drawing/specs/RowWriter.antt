@@ -126,7 +126,7 @@ last_cell_of j = j.new (last_col_of j)
 unfoldable pub unflag : CellView → Writer
 unflag x = if has_text x then erasing 1 true else (color x.attrs >> erasing 1 true)
 
--- the last cell is printed, and the cursor is then behind it
+-- the last cell is printed, and the cursor is then after it
 unfoldable pub print_last : CellView → Writer
 print_last x = if has_text x then (color x.attrs >> print x false) else skip
 

@@ -61,7 +61,7 @@ pub record IsScene (s : Scene) : Type 0 where
       ≡ true
   pub above_flag : s.row_change.above ≡ true → s.row_change.was_above ≡ true → s.flags (s.row_change.row - 1) ≡ true
 
--- the pen at the start of the row: if the row above still needs its flag, the cursor is behind that row's last column
+-- the pen at the start of the row: if the row above still needs its flag, the cursor is past that row's last column
 pub record IsReady (s : Scene) (p : Pen) : Type 0 where
   pub closed : p.erase ≡ None
   pub kept : p.lost ≡ false
@@ -69,7 +69,7 @@ pub record IsReady (s : Scene) (p : Pen) : Type 0 where
   pub waits : s.row_change.above ≡ true → s.row_change.was_above ≡ false → (p.pos.row + 1 ≡ s.row_change.row)
       × (p.pos.col ≡ s.row_change.cols)
 
--- The row is drawn, and the pen is right. The terminal has the row's flag; or the row wraps, and the cursor is behind
+-- The row is drawn, and the pen is right. The terminal has the row's flag; or the row wraps, and the cursor is past
 -- its last column, so that the next row sets the flag. `keeps_flag` says which, and the next row relies on it.
 pub record IsDrawn (s : Scene) (p : Pen) (t : Term) : Type 0 where
   pub flags : ℕ → Bool

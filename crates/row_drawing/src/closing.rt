@@ -51,7 +51,7 @@ impl<'a> Drawing<'a> {
         pen.print_last(run, cell);
     }
 
-    /// Corrects the row's flag, after its columns are drawn. To set it, the cursor is left behind the last column: the
+    /// Corrects the row's flag, after its columns are drawn. To set it, the cursor is left past the last column: the
     /// next row's first character then wraps.
     pub(crate) fn closing(&self, pen: &mut Pen, contents: &mut String) -> Result<(), GridError>
         requires { 0 < length self.now.cells.now }
@@ -103,8 +103,8 @@ impl<'a> Drawing<'a> {
             && self.shows_all(same)
     }
 
-    /// Draws those of `count` columns, from `start` on, that the terminal shows otherwise, and sets or resets the row's
-    /// flag. A row that stays costs one comparison.
+    /// Draws those of `count` columns, from `start` on, that the terminal shows differently. Sets or resets the row's
+    /// flag. A row that stays the same costs one comparison.
     ///
     /// Fails only if an allocation fails; `contents` may then have got some of the forms.
     pub fn difference(
@@ -143,7 +143,7 @@ impl Pen {
         self.erase(run, 1, true);
     }
 
-    /// Prints the last cell of a row, if it has a text: 79 bytes at most. The cursor is then behind the last column.
+    /// Prints the last cell of a row, if it has a text: 79 bytes at most. The cursor is then past the last column.
     fn print_last(&mut self, run: &mut TextRun, cell: &Cell)
         requires room { length run.old + 79 ≤ 192 }
         requires fits { self.old.pos.col + span_of cell.now < 2 ^ 16 }

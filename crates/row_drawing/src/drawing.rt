@@ -16,7 +16,7 @@ pub struct Place {
     pub width: u16,
     /// Whether the row above wraps into this one.
     pub above: bool,
-    /// Whether the terminal has the flag of the row above. On a blank row it has none, whatever stands here.
+    /// Whether the terminal has the flag of the row above. On a blank row it has none, whatever this field says.
     pub was_above: bool,
 }
 

@@ -5,13 +5,13 @@ ghost use Rattle.row_drawing.specs.Laws.{EachDifferenceIsLocal};
 ghost use Rattle.row_drawing.specs.Small.{EachNumberIsSmall};
 
 /// A terminal that shows an earlier row, and reads the difference, shows the present one. It has the row's flag, or the
-/// cursor is behind the last column and the next row sets the flag. The flag of the row above is set if that row wraps.
+/// cursor is past the last column and the next row sets the flag. The flag of the row above is set if that row wraps.
 pub fn differences_lead()
     ensures { EachDifferenceLeads }
 {}
 
 /// A terminal that shows a blank row, and reads the redraw, shows the present one. It has the row's flag, or the cursor
-/// is behind the last column and the next row sets the flag. The flag of the row above is set if that row wraps.
+/// is past the last column and the next row sets the flag. The flag of the row above is set if that row wraps.
 pub fn redraws_lead()
     ensures { EachRedrawLeads }
 {}

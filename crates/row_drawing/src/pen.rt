@@ -50,7 +50,7 @@ impl Pen {
         self.travel(run, pos);
     }
 
-    // Apart, so that the test before it is inlined alone.
+    // A function of its own, so that only the test before it is inlined.
     #[inline(never)]
     fn travel(&mut self, run: &mut TextRun, pos: Pos)
         requires { length run.old + 14 ≤ 192 }
@@ -61,7 +61,7 @@ impl Pen {
         self.pos = pos;
     }
 
-    /// Takes the cursor as at the start of this row: the next character doesn't fit in the row above, and wraps.
+    /// Treats the cursor as at the start of this row: the next character doesn't fit in the row above, and wraps.
     #[tactic(auto, unfolding(crate::specs::Writer::turn))]
     pub(crate) fn turn(&mut self, row: u16)
         ensures { self.new ≡ (turn row self.old).pen }
@@ -79,7 +79,7 @@ impl Pen {
 
     /// Sets the attributes of a cell: 58 bytes at most. `like`, if given, is a cell with the terminal's current
     /// attributes.
-    // Whole cells are compared, so that no colour has to be put together first.
+    // Whole cells are compared, so that no colour has to be assembled first.
     #[inline(always)]
     pub(crate) fn color(&mut self, run: &mut TextRun, cell: &Cell, like: Option<&Cell>)
         requires room { length run.old + 58 ≤ 192 }
@@ -120,7 +120,7 @@ impl Pen {
         self.lost = self.lost || loses;
     }
 
-    /// Moves as printing a cell does, whose text the run gets apart.
+    /// Moves the cursor as printing the cell does. The cell's text is appended to the run separately.
     #[inline(always)]
     pub(crate) fn pass(&mut self, cell: &Cell)
         requires { self.old.pos.col + span_of cell.now < 2 ^ 16 }

@@ -35,7 +35,7 @@ impl<'a> Drawing<'a> {
         }
     }
 
-    /// How many of `count` columns, of which the first `n` are drawn, need no more forms.
+    /// How many of `count` columns need no further forms, once the first `n` are drawn.
     fn after_quiet(&self, pen: &Pen, n: u16, count: u16) -> u16
         requires some { n ≤ count }
         requires in_row { self.now.start + count ≤ length self.now.cells.now }

@@ -23,7 +23,7 @@ shows_appended old new picture text joined shows = record {
   text_is = shows.text_is;
 }
 
--- what a call may add after a head, a bar, a head and a page, behind which something ends
+-- what a call may add after a head, a bar, a head and a page, after which something ends
 pub text_around : {T E : Type 0} (r : Result T E) (a b c d e f g picture : List ℕ) → Adds a b [] → Adds b c []
     → Adds c d [] → e ≡ d ++ picture → Adds e f [] → OnOk r (Adds f g [])
     → OnOk r ((text : List ℕ) → Shows picture text → Adds a g text)
@@ -32,7 +32,7 @@ text_around r a b c d e f g picture head bar inner joined foot =
     (after_markup c d g text inner (before_markup d e g text (shows_appended d e picture text joined shows)
     (after_markup e f g [] foot last)))))
 
--- the end of a picture ends a tag that is open, and shows the same, be a tag open or not
+-- the end of a picture ends a tag that is open, and shows the same, whether a tag is open or not
 foot_ends : (o : Bool) → ends_outside o (tag_bytes SvgFoot) ≡ true
 foot_ends true = refl
 foot_ends false = refl
@@ -74,7 +74,7 @@ seen_around f picture bare = ap (λ v. if v then picture else around_seen f pict
 
 -- ---- parts of a frame
 
--- a head of as many pixels
+-- a head of that many pixels
 pub head_of_size : {T E : Type 0} (r : Result T E) (a b : List ℕ) (f : Frame) (theme : Theme)
     (width height rows cols : ℕ) → width ≡ framed_width (frame_said f) (cols * 9)
     → height ≡ framed_height (frame_said f) (rows * 18)
@@ -84,7 +84,7 @@ head_of_size r a b f theme width height rows cols width_is height_is =
     on_ok_weaker r (λ (is : b ≡ a ++ head_bytes theme width height).
     is ∙ ap₂ (λ (w h : ℕ). a ++ head_bytes theme w h) width_is height_is)
 
--- a bar of as high letters
+-- a bar of letters of that height
 pub bar_of_size : {T E : Type 0} (r : Result T E) (a b : List ℕ) (theme : Theme) (m n width : ℕ) (title : List ℕ)
     → m ≡ n → OnOk r (b ≡ a ++ bar_bytes m theme width title) → OnOk r (b ≡ a ++ bar_bytes n theme width title)
 bar_of_size r a b theme m n width title size_is =

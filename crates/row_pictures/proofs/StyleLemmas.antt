@@ -32,7 +32,7 @@ one_flag true false h = absurd (false≢true h)
 one_flag false true h = absurd (false≢true h)
 one_flag false false h = refl
 
--- what `==` answers
+-- what `==` returns
 abbrev pub are_equal : Style → Style → Bool
 are_equal a b =
     color_eq a.fgcolor b.fgcolor && (color_eq a.bgcolor b.bgcolor && (beq a.bold b.bold && (beq a.dim b.dim

@@ -11,7 +11,7 @@ use Rattle.row_pictures.specs.declared.theme.Theme.{Theme}
 abbrev theme_with : Rgb → Rgb → List Rgb → Theme
 theme_with front back first = record { fgcolor = front; bgcolor = back; colors = first; bold_is_bright = false }
 
--- the first sixteen colours stand behind two others
+-- the first sixteen colours come after two others
 pub theme_is : (colors : List ℕ) (first : List Rgb) (front back : Rgb) → length colors ≡ 18 → length first ≡ 16
     → front ≡ rgb_of (get_or colors 0 0) → back ≡ rgb_of (get_or colors 1 0)
     → ((k : ℕ) → k < 16 → get_or first k (rgb_of 0) ≡ rgb_of (get_or colors (k + 2) 0))

@@ -33,16 +33,16 @@ font_text x = if is_drawn x then [] else cell_text x
 abbrev pub font_texts : List CellView → List ℕ
 font_texts cells = flat_map font_text cells
 
--- Three of these characters are shades, of which so many hundredths are opaque. The others are solid.
+-- Three of these characters are shades, with an opacity in hundredths. The others are solid.
 abbrev pub ink_of_character : ℕ → Ink
 ink_of_character c =
     if c == 0x2591 then Shade 25 else (if c == 0x2592 then Shade 50 else (if c == 0x2593 then Shade 75 else Solid))
 
--- with what a cell is drawn
+-- what a cell is drawn with
 abbrev pub ink_of : CellView → Ink
 ink_of x = option_map_or ink_of_character (drawn_character x) Font
 
--- the rectangles of the character that is so far after U+2500: the left and the top of each, its width and its height
+-- the rectangles of the character this far after U+2500: the left and the top of each, its width and its height
 abbrev pub glyph_areas : ℕ → List (ℕ × ℕ × ℕ × ℕ)
 glyph_areas place = slice_index_or (map (λ areas. areas.now) GLYPHS) place []
 

@@ -30,7 +30,7 @@ is_bare f = is_none f.title && (f.padding == 0 && f.font_size == 15)
 
 -- ---- sizes, in pixels
 
--- so many pixels of the picture, as large as they are shown
+-- the size at which this many pixels of the picture are shown
 abbrev pub enlarged : FrameView → ℕ → ℕ
 enlarged f pixels = (pixels * f.font_size + 14) / 15
 
@@ -46,7 +46,7 @@ framed_height f height = bar_height f + (enlarged f height + 2 * f.padding)
 
 -- ---- what is around a picture
 
--- what comes first, where all has this size: it, and a rectangle as large, in the background of the theme
+-- what comes first: the size of the whole, and a rectangle of that size, in the background of the theme
 abbrev pub head_bytes : Theme → ℕ → ℕ → List ℕ
 head_bytes theme width height =
     tag_bytes tag.Frame
@@ -60,13 +60,13 @@ frame_head f theme width height = head_bytes theme (framed_width f width) (frame
 abbrev pub theme_color : Theme → ℕ → Rgb
 theme_color theme index = slice_index_or theme.colors index (rgb_of 0)
 
--- a round button, whose middle is so far to the right
+-- a round button with its middle this far to the right
 abbrev pub button : ℕ → ℕ → Rgb → List ℕ
 button size x color =
     numbers_bytes ((tag.Button, x) ∷ (tag.MiddleY, size) ∷ (tag.Radius, size / 3) ∷ [])
     ++ (filled tag.Fill color ++ tag_bytes tag.Close)
 
--- the title, with its middle so far to the right
+-- the title, with its middle this far to the right
 abbrev pub title_text : ℕ → ℕ → Rgb → List ℕ → List ℕ
 title_text size x color title =
     numbers_bytes ((tag.Text, x) ∷ (tag.Y, size + size / 3) ∷ (tag.TitleSize, size) ∷ [])
@@ -93,15 +93,15 @@ inner_head f width height =
     ∷ (tag.Height, enlarged f height) ∷ (tag.ViewBox, width) ∷ (tag.Space, height) ∷ [])
     ++ tag_bytes tag.SvgRows
 
--- what is around a picture of this size: its parts are the head, the bar of a window, if there is one, the picture as it
--- is, and the ends
+-- what is around a picture of this size: its parts are the head, the bar of a window, if there is one, the unchanged
+-- picture, and the ends
 abbrev pub around : FrameView → Theme → ℕ → ℕ → List ℕ → List ℕ
 around f theme width height picture =
     frame_head f theme width height
     ++ (window_bar f theme width
     ++ (inner_head f width height ++ (picture ++ (tag_bytes tag.SvgFoot ++ tag_bytes tag.SvgFoot))))
 
--- a picture of so many rows and columns in its frame; one that adds nothing leaves it as it is
+-- a picture of this many rows and columns in its frame; a frame that adds nothing leaves it as it is
 abbrev pub framed : FrameView → Theme → ℕ → ℕ → List ℕ → List ℕ
 framed f theme rows cols picture =
     if is_bare f then picture else around f theme (cols * 9) (rows * 18) picture

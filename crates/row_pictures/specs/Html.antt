@@ -12,7 +12,7 @@ use Rattle.row_pictures.specs.Text.{row_text}
 use Rattle.row_pictures.specs.declared.look.Look.{Look}
 use Rattle.row_pictures.specs.declared.style.Style.{Style}
 
--- the colours of texts and of what is behind them, as properties of a style
+-- the colours of texts and of their backgrounds, as properties of a style
 abbrev pub html_colors : Rgb → Rgb → List ℕ
 html_colors front back = filled tag.Color front ++ filled tag.Background back
 

@@ -93,7 +93,7 @@ between a b = record {
   blue = a.blue / 2 + b.blue / 2;
 }
 
--- the colours that a style names, of texts and of what is behind them
+-- the colours that a style names, of texts and of their backgrounds
 abbrev pub named_front : Look → Style → Rgb
 named_front look s =
     painted look.theme look.theme.fgcolor (brightened (bright look.theme look.bold_is_bright && s.bold)
@@ -102,13 +102,13 @@ named_front look s =
 abbrev pub named_back : Look → Style → Rgb
 named_back look s = painted look.theme look.theme.bgcolor s.bgcolor
 
--- what is behind a text: inverse colours are swapped
+-- the background of a text: inverse colours are swapped
 abbrev pub back_color : Look → Style → Rgb
 back_color look s = if s.inverse then named_front look s else named_back look s
 
 abbrev pub front_color : Look → Style → Rgb
 front_color look s = if s.inverse then named_back look s else named_front look s
 
--- the colour of a text: a dim one is halfway to what is behind it
+-- the colour of a text: a dim one is halfway to the background
 abbrev pub text_color : Look → Style → Rgb
 text_color look s = if s.dim then between (front_color look s) (back_color look s) else front_color look s

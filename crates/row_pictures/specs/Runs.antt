@@ -26,7 +26,7 @@ AreInPlace cells start end = (col : ℕ) → start < col → col < end
     → (KeepsWidth (cell_in cells start) × KeepsWidth (cell_in cells col))
     ⊎ ((cell_in cells col).continuation ≡ true)
 
--- with what the first cell of a run is drawn
+-- what the first cell of a run is drawn with
 abbrev pub first_ink : List CellView → Ink
 first_ink run = ink_of (cell_in run 0)
 

@@ -19,7 +19,7 @@ use Rattle.row_pictures.specs.declared.glyph.Ink.TheVariants.{Font, Shade, Solid
 use Rattle.row_pictures.specs.declared.look.Look.{Look}
 use Rattle.row_pictures.specs.declared.style.Style.{Style}
 
--- as far as 32 bits go
+-- limited to the largest number of 32 bits
 abbrev pub in_32_bits : ℕ → ℕ
 in_32_bits n = min n (2 ^ 32 - 1)
 
@@ -36,7 +36,7 @@ rectangle x width height color =
     numbers_bytes ((tag.Rect, x) ∷ (tag.Width, width) ∷ (tag.Height, height) ∷ [])
     ++ (filled tag.Fill color ++ tag_bytes tag.Close)
 
--- what is behind a run: a rectangle as high as a row, unless it is what is behind the picture
+-- the background of a run: a rectangle as high as a row, unless it is the background of the picture
 abbrev pub behind : Look → ℕ → ℕ → Rgb → List ℕ
 behind look x width color = if same_color color look.theme.bgcolor then [] else rectangle x width 18 color
 
@@ -65,7 +65,7 @@ abbrev pub glyphs : ℕ → List CellView → ℕ → List ℕ
 glyphs col run zero = []
 glyphs col run (suc n) = glyphs col run n ++ glyph (pixels (col + n)) (cell_in run n)
 
--- how opaque rectangles are: wholly, or so many hundredths
+-- how opaque rectangles are: wholly, or a number of hundredths
 abbrev pub opacity_of : Ink → List ℕ
 opacity_of Font = []
 opacity_of Solid = []
@@ -78,7 +78,7 @@ path ink col color run =
     ++ (opacity_of ink ++ (tag_bytes tag.LinesData ++ (glyphs col run (length run)
     ++ (tag_bytes tag.LinesLabel ++ (escaped (row_text run) ++ tag_bytes tag.Close)))))
 
--- what stands for the cells of a run: a text, or a path, which is as opaque as they are
+-- what draws the cells of a run: a text, or a path, which is as opaque as they are
 abbrev pub inked : Ink → ℕ → Rgb → Style → List CellView → List ℕ
 inked Font col color s run = letters col color s run
 inked Solid col color s run = path Solid col color run

@@ -3,7 +3,7 @@ use Rattle.std.specs.Prelude.{ℕ, ◌==◌, ◌||◌, List, [], ◌∷◌, enco
 use Rattle.std.specs.List.{flat_map}
 use Rattle.vt100_cells.specs.Cell.{CellView, has_text}
 
--- U+FFFE and U+FFFF, which no XML may have, come as U+FFFD
+-- U+FFFE and U+FFFF, which XML doesn't allow, become U+FFFD
 abbrev pub shown_character : ℕ → ℕ
 shown_character c = if c == 0xFFFE || c == 0xFFFF then 0xFFFD else c
 

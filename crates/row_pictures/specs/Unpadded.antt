@@ -13,7 +13,7 @@ has_color Default = false
 has_color (Idx i) = true
 has_color (Rgb r g b) = true
 
--- a space in this style shows: it has a colour behind it, or is inverse or underlined
+-- a space in this style shows: it has a background colour, or is inverse or underlined
 abbrev pub shows_on_spaces : Style → Bool
 shows_on_spaces s = (has_color s.bgcolor || s.inverse) || s.underline
 

@@ -35,7 +35,7 @@ impl Frame {
         }
     }
 
-    // So many pixels of a picture, as large as they are shown.
+    // The size at which this many pixels of a picture are shown.
     fn enlarged(&self, pixels: u32) -> u32
         requires { pixels ≤ 65535 * 18 }
         ensures pixels { result ≡ enlarged_of (frame_said self.now) pixels }
@@ -55,14 +55,14 @@ impl Frame {
         }
     }
 
-    // The width of a picture of so many columns with what is around it.
+    // The width of a picture of this many columns with what is around it.
     fn width(&self, cols: u16) -> u32
         ensures { result ≡ framed_width (frame_said self.now) (cols * 9) }
     {
         self.enlarged(u32::from(cols) * COL_WIDTH) + 2 * u32::from(self.padding)
     }
 
-    // The height of a picture of so many rows with what is around it.
+    // The height of a picture of this many rows with what is around it.
     fn height(&self, rows: u16) -> u32
         ensures { result ≡ framed_height (frame_said self.now) (rows * 18) }
     {
@@ -71,13 +71,12 @@ impl Frame {
     }
 }
 
-/// A picture in SVG of so many rows and columns in its frame. Where the frame adds nothing, it is the picture as it is.
+/// A picture in SVG of this many rows and columns in its frame. If the frame adds nothing, it is the picture alone.
 ///
-/// The picture stands as it is in another one, which has the background of the theme. There are as many pixels around it
-/// as the padding says. It is shown larger by as much as the letters are higher than 15 pixels. A size in pixels that
-/// isn't whole is rounded up. Above it is the bar of the window, if there is one, which is twice as high as the letters:
-/// in the theme's black, with a red, a yellow and a green button, and the title in white. A title that is wider than the
-/// bar is cut.
+/// The picture lies unchanged in another one, which has the background of the theme. There are as many pixels around it
+/// as the padding says. It is scaled by `font_size / 15`. A size in pixels that isn't whole is rounded up. Above it is
+/// the bar of the window, if there is one, which is twice as high as the letters. The bar is in the theme's black, with
+/// a red, a yellow and a green button, and the title in white. A title that is wider than the bar is cut.
 pub fn framed(
     alloc: Global,
     picture: Vec<u8>,
@@ -174,7 +173,7 @@ fn push_window_bar(
     }
 }
 
-// Appends the bar of a window that is so wide, with letters of this size.
+// Appends the bar of a window of this width, with letters of this size.
 fn push_bar(
     page: &mut Page,
     size: u8,
@@ -195,7 +194,7 @@ fn push_bar(
     page.markup(Tag::Newline)
 }
 
-// Appends a round button, whose middle is so far to the right.
+// Appends a round button with its middle this far to the right.
 fn push_button(page: &mut Page, size: u32, x: u32, color: Rgb) -> Result<(), AllocError>
     ensures adds { OnOk result (Adds page.old page.new []) }
     ensures seen { OnOk result (Draws page.old page.new true true []) }
@@ -211,7 +210,7 @@ fn push_button(page: &mut Page, size: u32, x: u32, color: Rgb) -> Result<(), All
     page.markup(Tag::Close)
 }
 
-// Appends the title, with its middle so far to the right.
+// Appends the title, with its middle this far to the right.
 fn push_title(page: &mut Page, size: u32, x: u32, color: Rgb, title: &str) -> Result<(), AllocError>
     requires { size ≤ 255 }
     ensures adds { OnOk result (Adds page.old page.new []) }

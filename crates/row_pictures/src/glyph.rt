@@ -11,19 +11,19 @@ use picture_page::{Page, Tag};
 use std::alloc::AllocError;
 use vt100_cells::Cell;
 
-/// With what a cell is drawn.
+/// What a cell is drawn with.
 #[derive(Clone, Copy, PartialEq, Eq)]
 pub(crate) enum Ink {
     /// A text in the font.
     Font,
     /// Rectangles.
     Solid,
-    /// Rectangles of which so many hundredths are opaque.
+    /// Rectangles with this opacity, in hundredths.
     Shade(u32),
 }
 
 impl Ink {
-    /// With what a cell is drawn: with rectangles where it has one character from U+2500 to U+259F.
+    /// What a cell is drawn with: rectangles if it has one character from U+2500 to U+259F.
     pub(crate) fn of(cell: &Cell) -> Self
         ensures { result ≡ ink_of cell.now }
     {
@@ -73,7 +73,7 @@ fn areas(cell: &Cell) -> &'static [Area]
     }
 }
 
-// The rectangles of the character that is so far after U+2500.
+// The rectangles of the character this far after U+2500.
 fn glyph(place: usize) -> &'static [Area]
     requires { place < 160 }
     ensures { result.now ≡ glyph_areas place }

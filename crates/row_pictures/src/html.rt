@@ -68,7 +68,7 @@ fn push_span_head(page: &mut Page, style: Style, wide: bool, look: &Look) -> Res
     page.markup(Tag::SpanText)
 }
 
-/// Appends two colours, of texts and of what is behind them, as properties of a style.
+/// Appends two colours, of texts and of their backgrounds, as properties of a style.
 pub fn push_html_colors(page: &mut Page, fgcolor: Rgb, bgcolor: Rgb) -> Result<(), AllocError>
     ensures adds { OnOk result (Adds page.old page.new []) }
     ensures seen { OnOk result (Draws page.old page.new false false []) }

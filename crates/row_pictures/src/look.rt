@@ -7,10 +7,10 @@ use crate::theme::Theme;
 pub struct Look {
     /// The colours.
     pub theme: Theme,
-    /// The font's name, before which none is tried; monospace is the last.
+    /// The font's name. This font is tried first, and monospace last.
     pub font: Option<String>,
-    /// Whether a bold text in one of the first eight colours has the bright one in its place. Where it isn't said, the
-    /// theme says it.
+    /// Whether a bold text in one of the first eight colours has the bright one in its place. `None` leaves it to the
+    /// theme.
     pub bold_is_bright: Option<bool>,
     /// Whether the cursor isn't shown.
     pub hides_cursor: bool,

@@ -6,7 +6,7 @@ ghost use Rattle.row_pictures.specs.Unpadded.{has_ink, shows_at, unpadded as unp
 use crate::row::style_at;
 use vt100_cells::Cell;
 
-/// The cells of a row up to the last one that shows something. Behind it are spaces on the background of the picture.
+/// The cells of a row up to the last one that shows something. After it are only spaces on the picture's background.
 pub fn unpadded(cells: &[Cell], cursor: Option<usize>) -> &[Cell]
     ensures { result.now ≡ unpadded_of cells.now cursor }
 {

@@ -14,7 +14,7 @@ use vt100_forms::Color;
 // How much red, green or blue the steps of the colour cube have.
 const LEVELS: [u8; 6] = [0, 95, 135, 175, 215, 255];
 
-/// The colours of a text and of what is behind it.
+/// The colours of a text and of its background.
 #[derive(Clone, Copy)]
 pub(crate) struct Paint {
     pub(crate) fgcolor: Rgb,
@@ -22,7 +22,7 @@ pub(crate) struct Paint {
 }
 
 impl Paint {
-    /// The colours of a style. Inverse ones are swapped, and a dim text is halfway to what is behind it.
+    /// The colours of a style. Inverse ones are swapped, and a dim text is halfway to its background.
     pub(crate) fn of(style: Style, look: &Look) -> Self
         ensures text { result.fgcolor ≡ text_color look.now style }
         ensures back { result.bgcolor ≡ back_color look.now style }

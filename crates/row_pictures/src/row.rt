@@ -117,7 +117,7 @@ fn push_characters(page: &mut Page, cell: &Cell) -> Result<(), AllocError>
     Ok(())
 }
 
-// A character as pictures have it: no XML may have U+FFFE and U+FFFF.
+// A character as pictures have it: XML doesn't allow U+FFFE and U+FFFF.
 fn shown(c: char) -> char
     ensures { result ≡ shown_character c }
 {

@@ -12,7 +12,7 @@ use vt100_forms::Color;
 pub struct Style {
     /// The colour of the text.
     pub fgcolor: Color,
-    /// The colour of what is behind it.
+    /// The colour of its background.
     pub bgcolor: Color,
     /// Bold.
     pub bold: bool,
@@ -53,7 +53,7 @@ impl Style {
         }
     }
 
-    /// Whether a space in it shows: it has a colour behind it, or is inverse or underlined.
+    /// Whether a space in it shows: it has a background colour, or is inverse or underlined.
     pub(crate) fn shows_on_spaces(self) -> bool
         ensures { result ≡ shows_on_spaces self }
     {

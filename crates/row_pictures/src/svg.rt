@@ -29,7 +29,7 @@ pub const COL_WIDTH: u32 = 9;
 /// How many pixels high a row is.
 pub const ROW_HEIGHT: u32 = 18;
 
-// How many pixels below the top of a row its text stands.
+// How many pixels below the top of a row the baseline of its text is.
 const BASELINE: u32 = 14;
 
 /// Appends a row of cells in SVG, its top at 0, up to the last cell that shows something. The cursor is shown in its
@@ -90,7 +90,7 @@ fn keeps_width(cell: &Cell) -> bool
     Ink::of(cell) != Ink::Font || cell.contents().is_ascii()
 }
 
-// Appends a run of cells that begins in a column: what is behind it, unless it is what is behind the picture, and its
+// Appends a run of cells that begins in a column: its background, unless it is the background of the picture, and its
 // text.
 fn push_run(
     page: &mut Page,
@@ -115,7 +115,7 @@ fn push_run(
     }
 }
 
-// With what a run is drawn.
+// What a run is drawn with.
 fn first_ink(run: &[Cell]) -> Ink
     ensures { result ≡ first_ink_of run.now }
 {
@@ -192,7 +192,7 @@ fn push_path(
     page.markup(Tag::Close)
 }
 
-// Appends how opaque rectangles are, unless they are wholly.
+// Appends how opaque rectangles are, unless they are wholly opaque.
 fn push_opacity(page: &mut Page, ink: Ink) -> Result<(), AllocError>
     ensures adds { OnOk result (Adds page.old page.new []) }
     ensures seen { OnOk result (Draws page.old page.new false false []) }

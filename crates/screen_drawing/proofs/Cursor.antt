@@ -161,7 +161,7 @@ module _ (S : ℕ → ℕ → Type 0) (z : Size) (s : Shown) (h : IsDrawable z s
         let there : s.col ≡ z.cols = omega (arith, past, h.shown.in_cols) in
         waits (row_with_end z s.cell s.row) there (ends z s s.row) (room there)))
 
--- if the cursor of s is behind the last column, the last cell of one row may be touched
+-- if the cursor of s is past the last column, the last cell of one row may be touched
 pub cursor-within : (S : ℕ → ℕ → Type 0) (z : Size) (t : Term) (s : Shown) (p : Option Pos) (a : Attrs) (r c : ℕ)
     → IsDrawable z s → IsProper a → Known p r c → (s.col ≡ z.cols → IsEndRoom S z s (waiting_row z s))
     → Within S z (cursor_position_formatted z s p a) (at t s.cell s.wrapped r c a)

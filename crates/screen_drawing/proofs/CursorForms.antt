@@ -247,7 +247,7 @@ ends z s (suc r) =
     cond_both (has_text (end_cell z s.cell (suc r))) (Some (suc r)) (row_with_end z s.cell r) (Ends z s (suc r))
     (λ h. (omega arith, h)) (λ h. ends-above z s r (row_with_end z s.cell r) h (ends z s r))
 
--- ---- where the cursor is known to stand
+-- ---- where the cursor is known to be
 
 pub known-some : (row col : ℕ) → Known (Some (place row col)) row col
 unfolding Known

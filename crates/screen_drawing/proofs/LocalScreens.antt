@@ -1,4 +1,4 @@
--- The differences of screens touch local cells, and the last cell of one row if the cursor is behind the last column.
+-- The differences of screens touch local cells, and the last cell of one row if the cursor is past the last column.
 use Rattle.std.proofs.Common.{◌≡◌, ℕ, Bool, false, [], ◌∷◌, ◌++◌, Some, refl, sym, subst, inl, inr}
 use Rattle.std.proofs.lemmas.Bool.{cond_both, or_right}
 use Rattle.vt100_forms.specs.Attrs.{IsProper}

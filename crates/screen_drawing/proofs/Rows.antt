@@ -35,7 +35,7 @@ continued-is W (suc i) h = let back : i ≡ suc i - 1 = omega arith in ap W back
 -- ---- between two rows
 
 -- The rows before i are drawn, and those from i on are as before. The last one that is drawn may lack its flag, if it
--- wraps; then the cursor is behind its last column.
+-- wraps; then the cursor is past its last column.
 pub record Between (z : Size) (t : Term) (old new : Shown) (i : ℕ) (p : Pen) (u : Term) : Type 0 where
   pub flags : ℕ → Bool
   pub state_after : u ≡ at t (splice old.cell 0 i new.cell) flags p.pos.row p.pos.col p.attrs

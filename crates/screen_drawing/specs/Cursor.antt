@@ -1,6 +1,6 @@
 -- The forms that move the cursor to its place, on a screen whose rows are drawn.
 --
--- A cursor is behind the last column only after a character is printed there. So the last cell of the row is printed
+-- A cursor is past the last column only after a character is printed there. So the last cell of the row is printed
 -- again. If it has no text, that of the nearest row above that has one is printed, and the cursor moves down from
 -- there. If no row has one, a space is printed, and erased again while the cursor is saved.
 use Rattle.std.specs.Prelude.{ℕ, zero, suc, ◌-◌, ◌==◌, ◌&&◌, Bool, false, nat_lt, List, [], ◌∷◌, ◌++◌, replicate}
@@ -48,7 +48,7 @@ row_with_end z cells (suc r) = if has_text (end_cell z cells (suc r)) then Some 
 abbrev pub printed_with : Attrs → CellView → List Form
 printed_with a x = change a x.attrs ++ (Text x.text ∷ change x.attrs a)
 
--- the cursor moves behind the last column of row r, whose last cell has a text
+-- the cursor moves past the last column of row r, whose last cell has a text
 unfoldable pub wait_behind : Size → Cells → Option Pos → Attrs → ℕ → List Form
 wait_behind z cells p a r =
     if is_pen_at p (place r z.cols) then []
@@ -58,11 +58,11 @@ wait_behind z cells p a r =
 abbrev pub replaced : Attrs → Attrs → List Form
 replaced a b = change a b ++ SaveCursor ∷ Backspace ∷ EraseChar 1 ∷ RestoreCursor ∷ change b a
 
--- the cursor moves behind the last column of row r, whose last cell x is empty
+-- the cursor moves past the last column of row r, whose last cell x is empty
 unfoldable pub wait_on_empty : Size → Option Pos → Attrs → ℕ → CellView → List Form
 wait_on_empty z p a r x = arriving p (place r (z.cols - 1)) ++ Text (32 ∷ []) ∷ replaced a x.attrs
 
--- the cursor moves behind the last column of row q, by way of the end of row r if one is given
+-- the cursor moves past the last column of row q, by way of the end of row r if one is given
 unfoldable pub wait : Size → Cells → Option Pos → Attrs → ℕ → Option ℕ → List Form
 wait z cells p a q (Some r) = wait_behind z cells p a r ++ replicate (q - r) Lf
 wait z cells p a q None = wait_on_empty z p a q (cells q (z.cols - 1))

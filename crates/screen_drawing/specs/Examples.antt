@@ -95,14 +95,14 @@ abbrev pub wide_moved : Shown
 wide_moved = screen ((plain_cells (codes "a") ++ wide ++ plain_cells (codes "x")) ∷ plain_cells (codes "y") ∷ [])
     (true ∷ []) 1 1
 
--- the cursor is behind the last column of a full row, and then of the empty row
+-- the cursor is past the last column of a full row, and then of the empty row
 abbrev pub full_row : Shown
 full_row = screen (plain_cells (codes "ab") ∷ []) [] 0 2
 
 abbrev pub emptied_row : Shown
 emptied_row = screen [] [] 0 2
 
--- it is behind the last column of an empty row under a full one
+-- it is past the last column of an empty row under a full one
 abbrev pub below_full : Shown
 below_full = screen (plain_cells (codes "ab") ∷ []) [] 1 2
 
@@ -150,7 +150,7 @@ pub record EachExampleIsWritten : Type 0 where
       ∷ MoveRight 1 ∷ text (codes "d") ++ MoveTo 0 3 ∷ text (codes "dx") ++ Backspace ∷ MoveTo 0 3 ∷ text (codes "d")
   pub moved_diff : contents_diff (size 2 4) wide_last wide_moved ≡ MoveTo 0 1 ∷ Text (0x4E2D ∷ [])
       ∷ text (codes "x") ++ MoveTo 0 3 ∷ text (codes "xy") ++ Backspace ∷ MoveRight 1 ∷ []
-  -- a cursor behind the last column
+  -- a cursor past the last column
   pub full_redrawn : contents_formatted (size 2 2) full_row ≡ start ++ text (codes "ab")
   pub emptied_diff : contents_diff (size 2 2) full_row emptied_row ≡ MoveTo 0 0 ∷ ClearRowForward ∷ MoveRight 1
       ∷ Text (32 ∷ []) ∷ SaveCursor ∷ Backspace ∷ EraseChar 1 ∷ RestoreCursor ∷ []

@@ -1,5 +1,5 @@
 -- Which cells the differences of screens touch: local ones, which differ or are near one that does. If the cursor is
--- behind the last column, the last cell of one row may also be touched.
+-- past the last column, the last cell of one row may also be touched.
 use Rattle.std.specs.Prelude.{ℕ, ◌≡◌, List, Option, Some, None}
 use Rattle.vt100_forms.specs.Attrs.{IsProper}
 use Rattle.vt100_forms.specs.Form.{Form}
@@ -23,13 +23,13 @@ abbrev pub row_or : ℕ → Option ℕ → ℕ
 row_or r None = r
 row_or r (Some i) = i
 
--- The row at whose end a character is printed, if the cursor of s is behind the last column. It is the nearest one,
+-- The row at whose end a character is printed, if the cursor of s is past the last column. It is the nearest one,
 -- from the cursor's row upwards, whose last cell has a text; the cursor's own if none has.
 abbrev pub waiting_row : Size → Shown → ℕ
 waiting_row z s = row_or s.row (row_with_end z s.cell s.row)
 
 -- Read by a terminal that shows `old`, whatever cursor it has saved, the forms touch only local cells of the two
--- pictures. If the cursor of `new` is behind the last column, they may also touch the last cell of that one row, with
+-- pictures. If the cursor of `new` is past the last column, they may also touch the last cell of that one row, with
 -- its other half.
 abbrev pub IsLocalList : Size → Shown → Shown → List Form → Type 0
 IsLocalList z old new fs = (v : Saved) → Within (IsLocalOrEnd z old new (waiting_row z new)) z fs (term_of old v)

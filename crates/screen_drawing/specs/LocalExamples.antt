@@ -57,10 +57,10 @@ pub record EachDifferenceTouches : Type 0 where
       ≡ codes "...x" ∷ codes "...." ∷ []
   -- the flag is lost and set again, by the first cell of the next row
   pub lost : touched (size 2 4) wide_end wide_covered ≡ codes "..xx" ∷ codes "x..." ∷ []
-  -- the cursor moves behind the last column of a full row
+  -- the cursor moves past the last column of a full row
   pub waits : touched (size 2 2) (record full_row { col = 0 }) full_row ≡ codes ".x" ∷ codes ".." ∷ []
-  -- and behind that of the empty row under it, by way of the full one
+  -- and past that of the empty row under it, by way of the full one
   pub waits_below : touched (size 2 2) full_row below_full ≡ codes ".." ∷ codes ".." ∷ []
   pub comes_below : touched (size 2 2) (record below_full { col = 0 }) below_full ≡ codes ".x" ∷ codes ".." ∷ []
-  -- and behind that of an empty row without a full one above it
+  -- and past that of an empty row without a full one above it
   pub waits_on_empty : touched (size 1 2) (record emptied_row { col = 0 }) emptied_row ≡ codes ".x" ∷ []

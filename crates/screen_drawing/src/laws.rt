@@ -93,7 +93,7 @@ pub fn state_differences_lead()
 
 /// The differences of grids, of screens' contents, and of screens with their modes touch only local cells. Local are
 /// the cells that differ. In rows that differ, and right below them, empty cells and those of the first and the last
-/// column are local too. So are the other halves of all these. If the present cursor is behind the last column, the
+/// column are local too. So are the other halves of all these. If the present cursor is past the last column, the
 /// last cell of one row may also be touched.
 pub fn differences_touch_local_cells()
     ensures grids { EachGridDifferenceIsLocal }

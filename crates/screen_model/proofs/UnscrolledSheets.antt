@@ -41,14 +41,14 @@ pub record HasLimits (l : Limits) (rows cols : ℕ) (some : Bool) (most shown : 
   pub few : l.capacity < 2 ^ 64
   pub hidden : shown ≡ 0
 
--- it has this size, keeps so many rows, and shows none of them
+-- it has this size, keeps at most this many rows if any, and shows none of them
 abbrev pub IsUnscrolledSheet : Limits → GridView → Type 0
 IsUnscrolledSheet l g = HasLimits l g.height g.width g.kept.keeps g.kept.capacity g.kept.offset
 
 abbrev pub sized : Limits → ℕ → ℕ → Limits
 sized l height width = record l { height = height; width = width }
 
--- as many rows are kept on a screen of another size, and none of them is shown
+-- a screen of another size can keep as many rows, and none of them is shown
 pub sized-limits : (l : Limits) (g : GridView) (height width rows cols offset : ℕ) → IsUnscrolledSheet l g
     → rows ≡ height → cols ≡ width → offset ≡ 0
     → HasLimits (sized l height width) rows cols g.kept.keeps g.kept.capacity offset

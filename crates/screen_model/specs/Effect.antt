@@ -89,11 +89,11 @@ abbrev pub later : List (List ℕ) → List (List ℕ)
 later [] = []
 later (g ∷ gs) = gs
 
--- that number; a default if there is none, or it is 0
+-- that number; a default if it is absent or 0
 abbrev pub number_or : ℕ → List (List ℕ) → ℕ
 number_or d gs = if nat_eq (unwrap_or (given gs) 0) 0 then d else unwrap_or (given gs) 0
 
--- a count or a position: 1 if there is none, or it is 0
+-- a count or a position: 1 if it is absent or 0
 abbrev pub count : List (List ℕ) → ℕ
 count gs = number_or 1 gs
 
@@ -118,7 +118,7 @@ style_rows =
     ∷ (4, style.SteadyUnderline)
     ∷ (5, style.BlinkVerticalBar) ∷ (6, style.SteadyVerticalBar) ∷ []
 
--- the effect of a table's row; unhandled if there is none
+-- the effect of a table's row; unhandled if there is no row
 abbrev pub row_partly : Option (State → Stepped) → State → Partly
 row_partly None s = record { state = s; reports = []; unhandled = 1 }
 row_partly (Some f) s = record { state = (f s).state; reports = (f s).reports; unhandled = 0 }

@@ -32,6 +32,6 @@ made_on past s [] = s
 made_on past s (Fed bs ∷ acts) = made_on (past ++ bs) (played (events_added past bs) s) acts
 made_on past s (Resized rows cols ∷ acts) = made_on past (resized_to rows cols s).state acts
 
--- the state after these acts, for a new terminal of this size that keeps at most so many rows
+-- the state after these acts, for a new terminal of this size that keeps at most `capacity` rows
 abbrev pub made : ℕ → ℕ → ℕ → List Act → State
 made rows cols capacity acts = made_on [] (fresh_state rows cols capacity) acts

@@ -54,7 +54,7 @@ rgb r g b = None
 -- ---- what the groups at the start of a list ask for
 
 pub data Asks : Type 0 where
-  -- a change, by the first group and so many after it
+  -- a change, made by the first group and by this many groups after it
   change : (Attrs → Attrs) → ℕ → Asks
   -- the first group is unhandled, and the next one is read as usual
   passed_over : Asks

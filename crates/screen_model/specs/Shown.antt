@@ -8,7 +8,7 @@ use Rattle.vt100_core.specs.Grid.{visible_row_at, cell_in}
 use Rattle.vt100_core.specs.Picture.{Extras, visible_lines, visible_wraps}
 use Rattle.screen_model.specs.State.{State, IsState}
 
--- what a terminal has beside its two screens: whether the cursor is hidden, attributes, modes and cursor style
+-- what a terminal has besides its two screens: whether the cursor is hidden, attributes, modes and cursor style
 abbrev pub extras_of : State → Extras
 extras_of s = record {
   hidden = s.hidden;
@@ -60,7 +60,7 @@ pub record IsReportedSomewhere (s : State) (c : ℕ) : Type 0 where
   pub reported : reported_cell s row col ≡ Some cell
   pub state_after : Contains cell.text c
 
--- the one is true exactly when the other is
+-- a character is shown somewhere exactly when a getter returns a cell with it
 pub record IsReportedWhereShown (s : State) (c : ℕ) : Type 0 where
   pub reported : IsShownSomewhere s c → IsReportedSomewhere s c
   pub shown : IsReportedSomewhere s c → IsShownSomewhere s c

@@ -37,8 +37,8 @@ alternate_sheet s = if s.alternate then s.shown else s.other
 
 -- ---- at first
 
--- A blank main screen that keeps at most so many rows, and an alternate one. The alternate one has no rows until it is
--- shown, and keeps none.
+-- A blank main screen that keeps at most `capacity` rows, and an alternate one. The alternate one has no rows until
+-- it is shown, and keeps none.
 abbrev pub fresh_state : ℕ → ℕ → ℕ → State
 fresh_state height width capacity = record {
   shown = allocated (new_grid height width (Enabled capacity));

@@ -50,8 +50,8 @@ pub fn same_sizes()
 {}
 
 /// `Screen::cell` returns the cell that is shown, at each place of the screen, and `Screen::row_wrapped` returns each
-/// row's flag. So two terminals of one size, for which all getters return the same, show the same. A character, as
-/// U+FE0F, is shown somewhere exactly when it is in a cell that `Screen::cell` returns.
+/// row's flag. So two terminals of one size, for which all getters return the same, show the same. A character, such
+/// as U+FE0F, is shown somewhere exactly when it is in a cell that `Screen::cell` returns.
 pub fn shown_is_reported()
     ensures cells { EachCellIsReported }
     ensures wraps { EachWrapIsReported }

@@ -13,7 +13,7 @@ use vt100::{Parser, Screen};
 /// check difference same|DIFFERENT
 /// ```
 ///
-/// Where they don't, the lines that one of the two dumps alone has follow, behind `screen` or `reader`.
+/// If they don't, the lines follow that only one of the two dumps has, each after `screen` or `reader`.
 pub(crate) fn push_check(
     alloc: Global,
     out: &mut String,
@@ -74,7 +74,7 @@ fn dump_of(alloc: Global, screen: &Screen) -> Result<String, AllocError> {
     Ok(dump)
 }
 
-// The lines of a screen's dump without the modes, which a redraw doesn't set all, and the kept rows.
+// The lines of a screen's dump, without the modes, of which a redraw doesn't set all, and without the kept rows.
 fn picture_of(alloc: Global, dump: &str) -> Result<Vec<&str>, AllocError> {
     let mut picture = Vec::new(alloc);
     for line in dump.lines() {
@@ -90,7 +90,7 @@ fn is_pictured(line: &str) -> bool {
     !bytes.starts_with(b"scrollback") && !bytes.starts_with(b"modes") && line != "updating"
 }
 
-// The lines of one picture that another one hasn't.
+// The lines of one picture that another one doesn't have.
 fn push_missing(
     out: &mut String,
     name: &str,

@@ -11,8 +11,8 @@ use byte_streams::{ByteSink, FlushSink, Source};
 use command_line::{FAULT, SUCCESS, USAGE, report};
 use std::alloc::Global;
 
-/// Runs the program on the words after its name, and answers its exit status: 0 once the input was read to its end and
-/// all is written, 1 at a fault, 2 for words that aren't understood.
+/// Runs the program on the arguments after its name, and returns its exit status: 0 once the input is read to its end
+/// and all is written, 1 at a fault, 2 for arguments that aren't understood.
 ///
 /// A fault is reported in a line on `errors`: `screen_probe: read`, `write`, `memory` or `script`. Any other command
 /// line than `ROWS COLS [CAPACITY [TIMES]]` and `run` gets the usage line there, and then nothing is read or written.

@@ -46,7 +46,7 @@ pub fn dump_stream<R: Source, W: FlushSink>(
     flush(output)
 }
 
-// A parser that has processed the whole stream, the last of so many. Where there are none, it has processed nothing.
+// A parser that has processed the whole stream: the last of `dump.times` parsers. For 0, it has processed nothing.
 fn parser_of(alloc: Global, dump: Dump, bytes: &[u8]) -> Result<Parser<()>, DumpError>
     ensures { IfOk result (λ parser. ParserIsAfter parser dump.rows.value dump.cols.value dump.capacity
         (if nat_lt 0 dump.times then Fed bytes.now ∷ [] else [])) }

@@ -14,7 +14,7 @@ pub enum DumpError {
     /// A write or a flush failed, or a write took nothing.
     #[error("write")]
     Write,
-    /// Memory was refused.
+    /// An allocation failed.
     #[error("memory")]
     Memory,
     /// A line of the script isn't understood.
@@ -43,7 +43,7 @@ impl From<InputError> for DumpError {
     }
 }
 
-/// A screen refuses for memory alone: a failed one was refused before.
+/// A screen's error is a failed allocation here: a screen that has failed was refused before.
 impl From<ScreenError> for DumpError {
     fn from(_error: ScreenError) -> Self {
         DumpError::Memory

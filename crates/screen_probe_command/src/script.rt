@@ -14,7 +14,7 @@ use command_line::read_all;
 use std::alloc::Global;
 use vt100::{Parser, Screen};
 
-/// Replays a script, a line each, and writes what its lines answer. It begins with a fresh parser of 24 rows and 80
+/// Replays a script line by line, and writes the answers to its lines. It begins with a fresh parser of 24 rows and 80
 /// columns that keeps no rows.
 ///
 /// A fault ends it. What was written by then stays written.
@@ -60,7 +60,7 @@ impl Replay {
         })
     }
 
-    // Takes the step of a line, and tells its answer.
+    // Takes the step of a line, and returns the answer to it.
     fn answer_to(&mut self, line: &str) -> Result<String, DumpError> {
         let mut answer = String::new(self.alloc);
         match parse_line(self.alloc, line)? {

@@ -52,7 +52,7 @@ pub(crate) enum Question {
     Between(u16, u16, u16, u16),
 }
 
-/// Reads a line of a script. What comes after ` #`, and words past those that are wanted, don't count.
+/// Reads a line of a script. What comes after ` #`, and words past those that are needed, are ignored.
 pub(crate) fn parse_line(alloc: Global, line: &str) -> Result<Step, DumpError> {
     let body = match line.split_once(" #") {
         Some((body, _)) => body,
@@ -123,7 +123,7 @@ fn word<'a>(words: &mut SplitWhitespace<'a>) -> Result<&'a str, DumpError> {
     words.next().ok_or(DumpError::Script)
 }
 
-// The bytes of a word in hexadecimal digits, and none where there is no word.
+// The bytes of a word in hexadecimal digits. Without a word there are no bytes.
 fn parse_bytes(alloc: Global, word: Option<&str>) -> Result<Vec<u8>, DumpError> {
     match word {
         Some(word) => unhex(alloc, word),

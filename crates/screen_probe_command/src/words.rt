@@ -1,4 +1,4 @@
-//! The words of the command line.
+//! The arguments of the command line.
 
 ghost use Rattle.std.specs.Prelude.{◌≡◌, ◌&&◌, is_some, map, codes};
 ghost use Rattle.std.specs.Str.{bytes_eq};

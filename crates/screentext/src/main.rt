@@ -1,4 +1,4 @@
-//! Prints what a recorded terminal stream shows, at its end or at a moment: `screentext --help` prints the words.
+//! Prints what a recorded terminal stream shows, at its end or at a moment: `screentext --help` prints the arguments.
 //!
 //! The stream comes on standard input: an asciicast, a typescript, a ttyrec, or raw bytes.
 #![tactic(auto)]

@@ -58,7 +58,7 @@ module _ (holds : List ℕ → List ℕ → Type 0) (lacks : List ℕ → Type 0
       subst (IsMissing holds lacks o w bytes) (sym fault.0) (large r remark part fault.1)
 
 module _ (o : Origin) (w : Wish) (r : Recording) where
-  -- a word means no moment of it
+  -- an argument means no moment of it
   pub no_moment_text : (e : TextError) → IsNoMoment (said r.events.items) o.moment e
       ⊎ (IsNoMoment (said r.events.items) o.since e
       ⊎ (IsNoMoment (said r.events.items) o.from e ⊎ IsNoMoment (said r.events.items) o.poster e))

@@ -1,4 +1,4 @@
--- How the words are described to `clap`.
+-- How the arguments are described to `clap`.
 use Rattle.std.proofs.Common.{◌≡◌, ◌∙◌, ap, ap₂, Bool, false, ℕ, nat_lt, List, ◌++◌, map, inl, inr, true, refl, sym, []}
 use Rattle.std.proofs.Common.{◌∷◌, subst, Ok, Err, Result, IfOk, IfSome, Option, Some, None, is_some}
 use Rattle.std.proofs.lemmas.Result.{IfOk-weaker}
@@ -40,12 +40,12 @@ pub known_is_free : is_simple_and_free known ≡ true
 unfolding clap_on_literals
 known_is_free = refl
 
--- words that `clap` takes, by their values
+-- arguments that `clap` accepts, by their values
 pub taken : (kinds : Kinds) (rows reported : List Row) → kinds ≡ [] → reported ≡ rows → are_words reported
     ≡ is_invocation_of kinds rows
 taken kinds rows reported none same = ap are_words same ∙ ap (λ ks. is_invocation_of ks rows) (sym none)
 
--- words that it doesn't take, by the kind of its error
+-- arguments that it doesn't accept, by the kind of its error
 pub not_taken : (k : ErrorKind) (kinds reported : Kinds) (rows : List Row) → reported ≡ kinds → IsSingle kinds
     → IsAmong k reported
     → is_request k ≡ is_invocation_of kinds rows
@@ -60,12 +60,12 @@ not_taken k kinds reported rows same single among = go kinds single (subst (IsAm
 pub err_passes : {T E : Type 0} (r : Result T E) (e : E) (P : T → Type 0) → r ≡ Err e → IfOk r P
 err_passes r e P is = subst (λ q. IfOk q P) (sym is) tt
 
--- an answer that is an order where a test says so, by another test that says the same
+-- a result that is `Some` where a test says so, by another test that says the same
 pub by_same_test : {X E : Type 0} (r : Result (Option X) E) (a b : Bool) → a ≡ b → IfOk r (λ o. is_some o ≡ a)
     → IfOk r (λ o. is_some o ≡ b)
 by_same_test r a b e = IfOk-weaker r (λ o. is_some o ≡ a) (λ o. is_some o ≡ b) (λ o is. is ∙ e)
 
--- the form by the counts of its words
+-- the form by the counts of its arguments
 pub form_counts : (a b c d p e f g h q : ℕ) → a ≡ e → b ≡ f → c ≡ g → d ≡ h → p ≡ q
     → is_form (nat_lt 0 a) (nat_lt 0 b) (nat_lt 0 c) (nat_lt 0 d) (nat_lt 0 p)
     ≡ is_form (nat_lt 0 e) (nat_lt 0 f) (nat_lt 0 g) (nat_lt 0 h) (nat_lt 0 q)
@@ -119,7 +119,7 @@ says_all rows request source pictures (Print r s p) first second third made =
       subst (λ (o : Option Source). IfSome o (λ t. SaysOrigin rows (origin_of t))) made.1 second,
     )
 
--- words that are taken mean what their values say
+-- arguments that are accepted mean what their values say
 pub means : (words : List Text) (rows : List Row) (i : Invocation) → fault_of known words ≡ []
     → rows ≡ matches_of known words → Says rows i → IsMeant words i
 means words rows Help none same says = absurd says
@@ -137,7 +137,7 @@ only_kind k (x ∷ []) single (inl e) = ap (λ y. y ∷ []) (sym e)
 only_kind k (x ∷ []) single (inr a) = absurd a
 only_kind k (x ∷ (y ∷ ys)) single among = absurd single
 
--- words that ask for the help or the version mean it
+-- arguments that ask for the help or the version mean it
 pub requests : (words : List Text) (k : ErrorKind) (i : Invocation) → IsSingle (fault_of known words)
     → IsAmong k (fault_of known words) → IsRequested k i → IsMeant words i
 requests words k Help single among is = only_kind k (fault_of known words) single among ∙ ap (λ x. x ∷ []) is

@@ -1,4 +1,4 @@
--- What the words ask for.
+-- What the arguments ask for.
 use Rattle.std.specs.Prelude.{◌≡◌, ℕ, nat_eq, nat_le, nat_lt, Bool, true, false, List, [], ◌∷◌, codes}
 use Rattle.std.specs.Prelude.{Option, Some, None}
 use Rattle.std.specs.Prelude.{option_and_then, string_bytes}
@@ -32,13 +32,13 @@ use Rattle.screentext_command.specs.declared.words.Request.{Request}
 
 -- which recording is meant, and which of its moments
 pub record Origin : Type 0 where
-  -- the kind, and the path of a timing file, where words say them
+  -- the kind, and the path of a timing file, where arguments say them
   pub kind : Option Kind
   pub timing : Option Text
-  -- the words for the moment and for the earlier one
+  -- the arguments for the moment and for the earlier one
   pub moment : Option Text
   pub since : Option Text
-  -- the words for the moment at which a film begins, and for the one that is shown where nothing plays
+  -- the arguments for the moment at which a film begins, and for the one that is shown where nothing plays
   pub from : Option Text
   pub poster : Option Text
   -- whether the recording is described, in place of a screen
@@ -50,10 +50,10 @@ pub record Origin : Type 0 where
 
 -- how pictures look, what is around them, and how fast a film plays
 pub record Manner : Type 0 where
-  -- the theme and the name of the font, where words say them
+  -- the theme and the name of the font, where arguments say them
   pub theme : Option Theme
   pub font : Option Text
-  -- whether bold texts are in bright colours, where a word says it
+  -- whether bold texts are in bright colours, where an argument says it
   pub bold_is_bright : Option Bool
   pub hides_cursor : Bool
   pub pace : Pace
@@ -62,7 +62,7 @@ pub record Manner : Type 0 where
 
 -- which screen is printed, and how
 pub record Wish : Type 0 where
-  -- the size at first, where words say it
+  -- the size at first, where arguments say it
   pub size : Option (ℕ × ℕ)
   -- how many kept rows come first, at most
   pub history : ℕ
@@ -103,29 +103,29 @@ wish_of r p = record {
   manner = manner_of p;
 }
 
--- the kind, where a word says it
+-- the kind, where an argument says it
 abbrev pub kind_meant : Option Text → Option (Option Kind)
 kind_meant None = Some None
 kind_meant (Some word) = option_map (λ kind. Some kind) (kind_named word)
 
--- how many cells a size has at most: 4,000,000 without a word
+-- how many cells a size has at most: 4,000,000 without an argument
 abbrev pub cells_meant : Option Text → Option ℕ
 cells_meant None = Some 4000000
 cells_meant (Some word) = count_in word
 
--- rows and columns, where words say them
+-- rows and columns, where arguments say them
 abbrev pub screen_meant : Option Text → Option Text → Option (Option (ℕ × ℕ))
 screen_meant None None = Some None
 screen_meant (Some rows) (Some cols) =
     option_and_then (λ r. option_map (λ c. Some (r, c)) (size_in cols)) (size_in rows)
 screen_meant _ _ = None
 
--- how many kept rows come first: none without a word
+-- how many kept rows come first: none without an argument
 abbrev pub history_meant : Option Text → Option ℕ
 history_meant None = Some 0
 history_meant (Some word) = count_in word
 
--- the form, by which of its words there are
+-- the form, by which of its arguments there are
 abbrev pub form_meant : Bool → Bool → Bool → Bool → Bool → Option Form
 form_meant false false false false false = Some (Still picture.Text)
 form_meant true false false false false = Some (Still picture.Html)
@@ -135,12 +135,12 @@ form_meant false false true true false = Some Film
 form_meant false false false false true = Some Player
 form_meant _ _ _ _ _ = None
 
--- the theme, where a word names one
+-- the theme, where an argument names one
 abbrev pub theme_meant : Option Text → Option (Option Theme)
 theme_meant None = Some None
 theme_meant (Some word) = option_map (λ theme. Some theme) (theme_named word)
 
--- whether bold texts in the first eight colours have the bright ones, by which of the two words there is
+-- whether bold texts in the first eight colours have the bright ones, by which of the two arguments there is
 abbrev pub bold_meant : Bool → Bool → Option (Option Bool)
 bold_meant false false = Some None
 bold_meant true false = Some (Some true)
@@ -151,12 +151,12 @@ bold_meant true true = None
 abbrev pub speed_in : Text → Option ℕ
 speed_in word = option_and_then (λ n. then_some (nat_lt 0 n) n) (time_in word)
 
--- how many millionths of the recorded speed a film has: all of it without a word
+-- how many millionths of the recorded speed a film has: a million without an argument
 abbrev pub speed_meant : Option Text → Option ℕ
 speed_meant None = Some 1000000
 speed_meant (Some word) = speed_in word
 
--- the longest time for which a screen stands, where a word says it
+-- the longest time for which a screen stays the same, where an argument says it
 abbrev pub idle_meant : Option Text → Option (Option ℕ)
 idle_meant None = Some None
 idle_meant (Some word) = option_map (λ time. Some time) (time_in word)
@@ -165,12 +165,12 @@ idle_meant (Some word) = option_map (λ time. Some time) (time_in word)
 abbrev pub rate_in : Text → Option ℕ
 rate_in word = option_and_then (λ n. then_some (nat_le n 1000) n) (size_in word)
 
--- thirty of them without a word
+-- thirty of them without an argument
 abbrev pub rate_meant : Option Text → Option ℕ
 rate_meant None = Some 30
 rate_meant (Some word) = rate_in word
 
--- how often a film plays, where a word says it: 1 to 65,535
+-- how often a film plays, where an argument says it: 1 to 65,535
 abbrev pub plays_meant : Option Text → Option (Option ℕ)
 plays_meant None = Some None
 plays_meant (Some word) = option_map (λ n. Some n) (size_in word)
@@ -178,7 +178,7 @@ plays_meant (Some word) = option_map (λ n. Some n) (size_in word)
 abbrev pub has : Text → List Row → Bool
 has name rows = nat_lt 0 (count_of name rows)
 
--- these values of the words say which recording is meant, and which of its moments
+-- these values of the arguments say which recording is meant, and which of its moments
 pub record SaysOrigin (rows : List Row) (o : Origin) : Type 0 where
   pub kind : kind_meant (first_of (codes "kind") rows) ≡ Some o.kind
   pub timing : o.timing ≡ first_of (codes "timing") rows
@@ -218,7 +218,7 @@ pub record SaysWish (rows : List Row) (w : Wish) : Type 0 where
       (has (codes "animate") rows) (has (codes "player") rows) ≡ Some w.form
   pub manner : SaysManner rows w.manner
 
--- `clap` takes these words, and their values say so
+-- `clap` accepts these arguments, and their values say so
 pub record AskFor (words : List Text) (o : Origin) (w : Wish) : Type 0 where
   pub taken : fault_of known words ≡ []
   pub origin : SaysOrigin (matches_of known words) o
@@ -230,7 +230,7 @@ IsToldFor (DisplayHelp ∷ []) text = text ≡ HELP.now
 IsToldFor (DisplayVersion ∷ []) text = text ≡ VERSION.now
 IsToldFor _ text = ⊥
 
--- the words ask for this text
+-- the arguments ask for this text
 abbrev pub AskForText : List Text → List ℕ → Type 0
 AskForText words text = IsToldFor (fault_of known words) text
 
@@ -247,13 +247,13 @@ IsRequested kind Help = kind ≡ DisplayHelp
 IsRequested kind Version = kind ≡ DisplayVersion
 IsRequested kind (Print request source pictures) = ⊥
 
--- what is to be printed, by these values of the words
+-- what is to be printed, by these values of the arguments
 abbrev pub Says : List Row → Invocation → Type 0
 Says rows (Print request source pictures) =
     SaysWish rows (wish_of request pictures) × SaysOrigin rows (origin_of source)
 Says rows _ = ⊥
 
--- what these words mean
+-- what these arguments mean
 abbrev pub IsMeant : List Text → Invocation → Type 0
 IsMeant words Help = fault_of known words ≡ DisplayHelp ∷ []
 IsMeant words Version = fault_of known words ≡ DisplayVersion ∷ []

@@ -1,4 +1,4 @@
--- What the command answers, reads, writes and reports.
+-- What the command returns, reads, writes and reports.
 use Rattle.std.specs.Prelude.{◌≡◌, ℕ, ◌^◌, List, Option, Some, None, Ok, Err, Result}
 use Rattle.std.specs.declared.io.Error.{Error}
 use Rattle.byte_streams.specs.Pump.{Pumps}
@@ -13,7 +13,7 @@ use Rattle.screentext_command.specs.Reads.{IsAnswerTo}
 use Rattle.screentext_command.specs.declared.error.TextError.{TextError}
 use Rattle.screentext_command.specs.declared.error.TextError.TheVariants.{Memory, Write}
 
--- A text was pumped to a writer, which was then flushed: so it is answered, and so the writer is left.
+-- A text was pumped to a writer, which was then flushed: the result of this, and the writer after it.
 pub data Prints {W : Type 0} (takes : W → List ℕ → Result ℕ Error → W → Type 0)
     (flushes : W → Result (Unit {0}) Error → W → Type 0) (w : W) (text : List ℕ) : Result (Unit {0}) TextError → W
     → Type 0 where
@@ -26,12 +26,12 @@ pub data Prints {W : Type 0} (takes : W → List ℕ → Result ℕ Error → W 
   printed : {v : W} (m : W) (n : ℕ) → Pumps takes w text (Ok tt) n m → flushes m (Ok tt) v
       → Prints takes flushes w text (Ok tt) v
 
--- where all went well, this is still to be said
+-- where all went well, this is still to be reported
 abbrev pub remarked : Option TextError → Result (Unit {0}) TextError → Result (Option TextError) TextError
 remarked remark (Ok u) = Ok remark
 remarked remark (Err e) = Err e
 
--- a text was printed of which this is to be said
+-- a text was printed, and this is to be reported of it
 abbrev pub PrintsWith : {W : Type 0} → (W → List ℕ → Result ℕ Error → W → Type 0)
     → (W → Result (Unit {0}) Error → W → Type 0) → W → List ℕ → Option TextError → Result (Option TextError) TextError
     → W → Type 0
@@ -39,25 +39,25 @@ PrintsWith takes flushes w text remark answer v =
     (printing : Result (Unit {0}) TextError) × (answer ≡ remarked remark printing)
     × Prints takes flushes w text printing v
 
--- From an input and a writer it answers so, and leaves both so. With an answer comes what is to be said of it. Nothing
--- is written before the input has ended.
+-- What the command does with an input and a writer: its result, and both after it. With a successful result comes what
+-- is to be reported of it. Nothing is written before the input has ended.
 pub data Does {S W : Type 0} (holds : List ℕ → List ℕ → Type 0) (lacks : List ℕ → Type 0) (words : List Text)
     (gives : S → ℕ → Result (List ℕ) Error → S → Type 0) (takes : W → List ℕ → Result ℕ Error → W → Type 0)
     (flushes : W → Result (Unit {0}) Error → W → Type 0) (s : S) (w : W) : Result (Option TextError) TextError → S → W
     → Type 0 where
-  -- there was no memory for the words
+  -- there was no memory for the arguments
   refused : Does holds lacks words gives takes flushes s w (Err Memory) s w
-  -- the words ask for the help or the version, which was printed
+  -- the arguments ask for the help or the version, which was printed
   told : {v : W} {answer : Result (Option TextError) TextError} (text : List ℕ) → AskForText words text
       → PrintsWith takes flushes w text None answer v → Does holds lacks words gives takes flushes s w answer s v
-  -- a read failed, as many were made as may be, or there was no memory for what was read
+  -- a read failed, the limit of reads was reached, or there was no memory for what was read
   unread : {t : S} (e : InputError) (lost : List ℕ) → Drains gives 65536 s (2 ^ 40) lost (Err e) t
       → Does holds lacks words gives takes flushes s w (Err (input_fault e)) t w
   -- the input was read to its end, and for this reason no text of it is printed
   unmade : {t : S} (bytes : List ℕ) (e : TextError) (origin : Origin) (wish : Wish) → AskFor words origin wish
       → Drains gives 65536 s (2 ^ 40) bytes (Ok tt) t → IsMissing holds lacks origin wish bytes e
       → Does holds lacks words gives takes flushes s w (Err e) t w
-  -- the input was read to its end, and the text was printed that the words ask for
+  -- the input was read to its end, and the text was printed that the arguments ask for
   done : {t : S} {v : W} {answer : Result (Option TextError) TextError} (bytes text : List ℕ)
       (remark : Option TextError) (origin : Origin) (wish : Wish) → AskFor words origin wish
       → Drains gives 65536 s (2 ^ 40) bytes (Ok tt) t → IsAnswerTo holds origin wish bytes text remark
@@ -78,7 +78,7 @@ Reports takes old (Ok None) status new = (status ≡ 0) × (new ≡ old)
 Reports takes old (Ok (Some remark)) status new = (status ≡ 3) × TellsFault takes old remark new
 Reports takes old (Err e) status new = (status ≡ 1) × TellsFault takes old e new
 
--- Words that are understood were obeyed, from an input to an output and an error output.
+-- Arguments that are understood were carried out, from an input to an output and an error output.
 pub record CarriesOut {S W V : Type 0} (holds : List ℕ → List ℕ → Type 0) (lacks : List ℕ → Type 0)
     (words : List Text) (gives : S → ℕ → Result (List ℕ) Error → S → Type 0)
     (takes : W → List ℕ → Result ℕ Error → W → Type 0)

@@ -40,7 +40,7 @@ player_fault player.TooLong = Player
 abbrev pub said_of : Reason → List ℕ
 said_of r = r.before.now ++ (option_map_or decimal r.number [] ++ (r.after.now ++ r.end.now))
 
--- what is said of a fault
+-- what is reported of a fault
 abbrev pub fault_text : TextError → List ℕ
 fault_text Read = codes "read"
 fault_text Write = codes "write"

@@ -17,7 +17,7 @@ deed_within most (marks name) = true
 abbrev pub is_event_within : ℕ → Event → Bool
 is_event_within most event = deed_within most (deed_of event.change)
 
--- each size that the recording names has so many cells at most
+-- each size that the recording names has at most this many cells
 abbrev pub are_within : ℕ → Recording → Bool
 are_within most r = option_map_or (size_within most) (option_map size_said r.size) true
     && list_all (is_event_within most) r.events.items

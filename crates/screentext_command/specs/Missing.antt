@@ -22,24 +22,25 @@ abbrev pub IsUnreadAs : Option Kind → Option (List ℕ) → List ℕ → Recor
 IsUnreadAs kind timing bytes e =
     IsPacked (packer_met kind timing bytes) e ⊎ IsUnreadOfKind (kind_taken kind timing bytes) bytes timing e
 
--- there is a word, and it means no moment
+-- there is an argument, and it means no moment
 abbrev pub MeansNone : List Moment → Option (List ℕ) → Type 0
 MeansNone moments None = ⊥
 MeansNone moments (Some word) = time_meant moments word ≡ None
 
--- why there is no moment of a word: memory was refused, or it means none
+-- why an argument has no moment: an allocation failed, or it means no moment
 abbrev pub IsNoMoment : List Moment → Option (List ℕ) → TextError → Type 0
 IsNoMoment moments word e = (e ≡ error.Memory) ⊎ ((e ≡ error.Marker) × MeansNone moments word)
 
--- why there is no text in this form, but for memory: it would be too long, or a film would begin after its end
+-- why there is no text in this form, but for a failed allocation: it would be too long, or a film would begin after
+-- its end
 abbrev pub IsUnfit : Form → Recording → Moments → TextError → Type 0
 IsUnfit (Still picture) r m e = ⊥
 IsUnfit Film r m e = (e ≡ error.Film) ⊎ ((e ≡ error.Late) × (is_late r m ≡ true))
 IsUnfit Player r m e = e ≡ error.Player
 
--- Why there is no text of a recording that is shown, but for memory.
+-- Why there is no text of a recording that is shown, but for a failed allocation.
 pub data HasNoText (o : Origin) (w : Wish) (r : Recording) : TextError → Type 0 where
-  -- a word means no moment of it
+  -- an argument means no moment of it
   no_moment : MeansNone (said r.events.items) o.moment
       ⊎ (MeansNone (said r.events.items) o.since
       ⊎ (MeansNone (said r.events.items) o.from ⊎ MeansNone (said r.events.items) o.poster))
@@ -48,17 +49,17 @@ pub data HasNoText (o : Origin) (w : Wish) (r : Recording) : TextError → Type 
   unfit : (e : TextError) (m : Moments) → AreMoments (said r.events.items) o m → o.list ≡ false
       → IsUnfit w.form r m e → HasNoText o w r e
 
--- Why no text of these bytes is printed: memory was refused, or this is the first reason that holds.
+-- Why no text of these bytes is printed: an allocation failed, or this is the first reason that holds.
 pub data IsMissing (holds : List ℕ → List ℕ → Type 0) (lacks : List ℕ → Type 0) (o : Origin) (w : Wish)
     (bytes : List ℕ) : TextError → Type 0 where
-  -- memory was refused
+  -- an allocation failed
   refused : IsMissing holds lacks o w bytes error.Memory
-  -- the words name a timing file that can't be read
+  -- the arguments name a timing file that can't be read
   no_file : (path : List ℕ) → o.timing ≡ Some path → lacks path → IsMissing holds lacks o w bytes error.File
   -- nothing is read of the bytes
   unread : (timing : Option (List ℕ)) (e : RecordingError) → IsTiming holds o.timing timing
       → IsUnreadAs o.kind timing bytes e → IsMissing holds lacks o w bytes (error.Recording e)
-  -- for this reason the recording isn't whole, and the words want all of it
+  -- for this reason the recording isn't whole, and the arguments ask for all of it
   cut : (r : Reading) (e : RecordingError) → IsRead holds o bytes r → o.strict ≡ true
       → flaw_of (seems_asciicast o bytes) r.recording.kind r.fault ≡ Some e → IsMissing holds lacks o w bytes (error.Recording e)
   -- a size in what is read has too many cells

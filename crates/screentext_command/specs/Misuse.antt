@@ -1,4 +1,4 @@
--- What is said of words that aren't understood.
+-- What is reported of arguments that aren't understood.
 use Rattle.std.specs.Prelude.{◌≡◌, ℕ, true, List, ◌++◌, codes, Option, Some, None, Result}
 use Rattle.std.specs.Borrow.{Bor}
 use Rattle.std.specs.declared.io.Error.{Error}
@@ -9,7 +9,7 @@ use Rattle.screentext_command.specs.Words.{known}
 use Rattle.screentext_command.specs.declared.help.TheConstants.{USAGE}
 use Rattle.screentext_command.specs.declared.misuse.Misuse.{Misuse}
 
--- a word is among these with this value, or without one
+-- an argument is among these with this value, or without one
 abbrev pub IsGiven : List Row → Text → Option (Bor Text) → Type 0
 IsGiven rows word None = has word rows ≡ true
 IsGiven rows word (Some value) = first_of word rows ≡ Some value.now
@@ -17,7 +17,7 @@ IsGiven rows word (Some value) = first_of word rows ≡ Some value.now
 abbrev pub IsWrong : List Row → Misuse → Type 0
 IsWrong rows m = IsGiven rows m.word.now m.value
 
--- A line for these values of the words: it names a word that is among them, and its value if it has one.
+-- A line for these values of the arguments: it names an argument that is among them, and its value if it has one.
 pub data Names (rows : List Row) : Text → Type 0 where
   usage : Names rows USAGE.now
   value : (lead word value wanted : Text) → first_of word rows ≡ Some value → Names rows (lead ++ (word

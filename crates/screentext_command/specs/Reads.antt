@@ -1,4 +1,4 @@
--- What is read of a recording, and what is said of it.
+-- What is read of a recording, and what is reported of it.
 use Rattle.std.specs.Prelude.{◌≡◌, ℕ, ◌&&◌, ◌||◌, Bool, true, false, List, take, codes, Option, Some, None, is_none}
 use Rattle.std.specs.Prelude.{if◌then◌else◌}
 use Rattle.std.specs.Option.{option_map}
@@ -21,7 +21,7 @@ use Rattle.screentext_command.specs.declared.error.TextError.{TextError}
 use Rattle.screentext_command.specs.declared.error.TextError.TheVariants.{Cut, Guessed}
 use Rattle.screentext_command.specs.declared.source.Moments.{Moments}
 
--- the bytes of the timing file that the words name, if they name one
+-- the bytes of the timing file that the arguments name, if they name one
 abbrev pub IsTiming : (List ℕ → List ℕ → Type 0) → Option (List ℕ) → Option (List ℕ) → Type 0
 IsTiming holds None timing = timing ≡ None
 IsTiming holds (Some path) None = ⊥
@@ -32,7 +32,7 @@ pub record IsReadAs (kind : Option Kind) (timing : Option (List ℕ)) (bytes : L
   pub reads : IsReadOfKind (kind_taken kind timing bytes) bytes timing r.recording r.fault
   pub unpacked : packer_met kind timing bytes ≡ None
 
--- the same, with the timing file that the words name, if they name one
+-- the same, with the timing file that the arguments name, if they name one
 pub record IsRead (holds : List ℕ → List ℕ → Type 0) (o : Origin) (bytes : List ℕ) (r : Reading) : Type 0 where
   pub timing : Option (List ℕ)
   pub given : IsTiming holds o.timing timing
@@ -43,7 +43,7 @@ abbrev pub begins_as_asciicast : List ℕ → Bool
 begins_as_asciicast bytes = (bytes_eq (take 10 bytes) (codes "{\"version\"") || bytes_eq (take 2 bytes) (codes "{\n"))
     || bytes_eq (take 3 bytes) (codes "{\r\n")
 
--- what is said of a recording of this kind, read up to this fault
+-- what is reported of a recording of this kind, read up to this fault
 abbrev pub note_of : Bool → Kind → Option RecordingError → Option TextError
 note_of begins kind (Some fault) = Some (Cut fault)
 note_of begins Raw None = if begins then Some Guessed else None
@@ -55,7 +55,7 @@ flaw_of begins kind (Some fault) = Some fault
 flaw_of begins Raw None = if begins then Some Header else None
 flaw_of begins _ None = None
 
--- a recording that isn't whole isn't taken, or this is said of it
+-- a recording that isn't whole isn't accepted, or this is reported of it
 abbrev pub IsNoted : Bool → Bool → Reading → Option TextError → Type 0
 IsNoted true begins r remark = (flaw_of begins r.recording.kind r.fault ≡ None) × (remark ≡ None)
 IsNoted false begins r remark = remark ≡ note_of begins r.recording.kind r.fault
@@ -64,7 +64,7 @@ IsNoted false begins r remark = remark ≡ note_of begins r.recording.kind r.fau
 abbrev pub seems_asciicast : Origin → List ℕ → Bool
 seems_asciicast o bytes = is_none o.kind && begins_as_asciicast bytes
 
--- this is read of the bytes, and this is said of it
+-- this is read of the bytes, and this is reported of it
 pub record IsPart (holds : List ℕ → List ℕ → Type 0) (o : Origin) (bytes : List ℕ) (r : Recording)
     (remark : Option TextError) : Type 0 where
   pub reading : Reading
@@ -77,7 +77,7 @@ abbrev pub IsDrawnSo : Bool → Recording → Recording → Type 0
 IsDrawnSo true read shown = IsDrawn read shown
 IsDrawnSo false read shown = shown ≡ read
 
--- this recording is shown, and this is said of it
+-- this recording is shown, and this is reported of it
 pub record IsShown (holds : List ℕ → List ℕ → Type 0) (o : Origin) (bytes : List ℕ)
     (shown : Recording) (remark : Option TextError) : Type 0 where
   pub read : Recording
@@ -85,14 +85,14 @@ pub record IsShown (holds : List ℕ → List ℕ → Type 0) (o : Origin) (byte
   pub within : are_within o.most_cells read ≡ true
   pub drawn : IsDrawnSo o.draws_lines read shown
 
--- this text is printed of a recording: a screen or a film, at the moments that the words mean, in the form that they
--- say
+-- this text is printed of a recording: a screen or a film, at the moments that the arguments mean, in the form that
+-- they say
 pub record IsScreenText (o : Origin) (w : Wish) (r : Recording) (text : List ℕ) : Type 0 where
   pub moments : Moments
   pub meant : AreMoments (said r.events.items) o moments
   pub prints : IsAnswer w.form w (size_at_first w.size (option_map size_said r.size)) r moments text
 
--- this text is printed of the bytes, and this is said of them
+-- this text is printed of the bytes, and this is reported of them
 pub record IsAnswerTo (holds : List ℕ → List ℕ → Type 0) (o : Origin)
     (w : Wish) (bytes text : List ℕ) (remark : Option TextError) : Type 0 where
   pub recording : Recording

@@ -46,13 +46,13 @@ use Rattle.screentext_command.specs.declared.words.Picture.TheVariants.{Html, Ht
 
 -- ---- the screen at a moment
 
--- the size at first: that of the words, or else the recording's, or else 24 rows of 80 columns
+-- the size at first: that of the arguments, or else the recording's, or else 24 rows of 80 columns
 abbrev pub size_at_first : Option (ℕ × ℕ) → Option (ℕ × ℕ) → ℕ × ℕ
 size_at_first (Some size) recorded = size
 size_at_first None (Some size) = size
 size_at_first None None = (24, 80)
 
--- the screen once all events up to a moment have come, where so many rows are kept at most
+-- the screen once all events up to a moment have come, where at most this many rows are kept
 abbrev pub screen_at : ℕ × ℕ → ℕ → Recording → ℕ → State
 screen_at size history r moment = made size.0 size.1 history (acts_until moment r.events.items)
 
@@ -95,14 +95,14 @@ rows_text look history s =
 
 -- ---- pictures
 
--- the theme of the words, or else the recording's, or else xterm's
+-- the theme of the arguments, or else the recording's, or else xterm's
 abbrev pub theme_shown : Option Theme → Option (List ℕ) → Theme
 theme_shown (Some theme) recorded = theme
 theme_shown None (Some colors) = theme_of colors
 theme_shown None None = xterm_theme
 
--- How a film of a recording plays: at the pace of the words, where a screen stands no longer than the recording says,
--- unless the words say it, from the moment on that the words mean, and with the poster that they mean.
+-- How a film of a recording plays: at the pace of the arguments, from the moment on that they mean, and with the poster
+-- that they mean. A screen stays the same no longer than the arguments say, or else the recording.
 abbrev pub pace_shown : Pace → Recording → Moments → Pace
 pace_shown pace r m =
     record pace { idle = option_or pace.idle r.idle; from = unwrap_or m.from 0; poster = m.poster }
@@ -115,7 +115,7 @@ pub record IsLook (m : Manner) (r : Recording) (look : pictures.Look) : Type 0 w
   pub hides_cursor : look.hides_cursor ≡ m.hides_cursor
   pub title : option_map string_bytes look.title ≡ option_map string_bytes r.title
 
--- the rows of the screen stand at their places, in the look that the words ask for
+-- the rows of the screen are at their places, in the look that the arguments ask for
 abbrev pub HasPlaces : Manner → Recording → (pictures.Look → Type 0) → Type 0
 HasPlaces m r IsPlaced = (look : pictures.Look) × IsLook m r look × IsPlaced look
 
@@ -143,12 +143,12 @@ are_same None None = true
 are_same (Some a) (Some b) = bytes_eq a b
 are_same _ _ = false
 
--- a row that one of the screens has, behind its sign and its number, counted from 1
+-- a row that one of the screens has, after its sign and its number, counted from 1
 abbrev pub signed_text : ℕ → ℕ → Option (List ℕ) → List ℕ
 signed_text sign r None = []
 signed_text sign r (Some text) = encode_utf8 sign ++ (decimal (r + 1) ++ (codes ": " ++ (text ++ codes "\n")))
 
--- the old text of a row behind `-`, and the new one behind `+`
+-- the old text of a row after `-`, and the new one after `+`
 abbrev pub pair_text : ℕ → Option (List ℕ) → Option (List ℕ) → List ℕ
 pair_text r old new = if are_same old new then [] else signed_text 45 r old ++ signed_text 43 r new
 
@@ -172,7 +172,7 @@ IsScreen picture w size r moment (Some since) text =
     text ≡ changes_text w.look (screen_at size 0 r since).shown (screen_at size w.history r moment).shown
 
 -- a film of a terminal of this size at first, from one moment to another, in the look, at the pace and in the frame of
--- the words
+-- the arguments
 pub record IsFilm (m : Manner) (size : ℕ × ℕ) (r : Recording) (moments : Moments) (text : List ℕ) : Type 0 where
   pub safe : IsSafe text
   pub short : length text ≤ LONGEST_FILM

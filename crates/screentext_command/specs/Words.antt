@@ -1,4 +1,4 @@
--- The words of the command line.
+-- The arguments of the command line.
 use Rattle.std.specs.Prelude.{ℕ, nat_le, nat_lt, Bool, true, false, not, ◌&&◌, ◌||◌, List, [], ◌∷◌, map}
 use Rattle.std.specs.Prelude.{is_some, Option, Some}
 use Rattle.std.specs.Prelude.{None, codes}
@@ -28,12 +28,12 @@ flag_rule id = record (new_rule id) { long = Some id; action = Some Count }
 abbrev pub colors_rule : Rule
 colors_rule = record (flag_rule (codes "colours")) { aliases = codes "colors" ∷ [] }
 
--- the program's name and version, with no words
+-- the program's name and version, with no arguments
 abbrev pub program : App
 program = let a = new_app (codes "screentext") in
     record a { top = record a.top { has_version = true; no_binary_name = true; args_override_self = true } }
 
--- words of one kind after those that are known
+-- arguments of one kind after those that are known
 abbrev pub with_all : (Text → Rule) → App → List Text → App
 with_all rule a [] = a
 with_all rule a (id ∷ ids) = with_all rule (with_rule a (rule id)) ids
@@ -56,7 +56,7 @@ is_time json = option_map_or (λ value. not (is_some (as_number value)) || is_so
 abbrev pub is_moment : Option Text → Bool
 is_moment word = option_map_or (λ text. is_time (json_in text)) word true
 
--- the words for moments
+-- the arguments for moments
 abbrev pub are_moments : List Row → Bool
 are_moments rows = is_moment (first_of (codes "at") rows)
     && (is_moment (first_of (codes "diff") rows) && (is_moment (first_of (codes "from") rows)
@@ -70,7 +70,7 @@ is_form false true false false false = true
 is_form false false false false true = true
 is_form _ _ _ _ _ = false
 
--- the values of the words that `clap` takes
+-- the values of the arguments that `clap` accepts
 abbrev pub are_values : List Row → Bool
 are_values rows = is_screen (first_of (codes "ROWS") rows) (first_of (codes "COLS") rows)
     && (are_moments rows && (option_map_or is_count (first_of (codes "history") rows) true
@@ -86,7 +86,7 @@ are_sources rows = option_map_or (λ word. is_some (kind_named word)) (first_of 
 abbrev pub is_speed : Text → Bool
 is_speed word = option_map_or (λ n. nat_lt 0 n) (time_in word) false
 
--- one of the two words for bold texts at most
+-- one of the two arguments for bold texts at most
 abbrev pub is_bold : Bool → Bool → Bool
 is_bold bright plain = not (bright && plain)
 
@@ -117,7 +117,7 @@ abbrev pub is_invocation_of : Kinds → List Row → Bool
 is_invocation_of [] rows = are_words rows
 is_invocation_of (k ∷ ks) rows = is_request k
 
--- `clap` takes the words, and their values have the right form; or the first of its errors, which is the only one, is
--- that the help or the version is asked for
+-- `clap` accepts the arguments, and their values have the right form; or the first of its errors, which is the only
+-- one, is that the help or the version is asked for
 abbrev pub is_invocation : List Text → Bool
 is_invocation words = is_invocation_of (fault_of known words) (matches_of known words)

@@ -99,7 +99,7 @@ fn screen_of(
     }
 }
 
-// The terminal at a moment, which keeps at most so many rows.
+// The terminal at a moment, which keeps at most `capacity` rows.
 fn terminal_of(
     alloc: Global,
     recording: &Recording,

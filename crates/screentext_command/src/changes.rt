@@ -10,8 +10,8 @@ use std::alloc::{AllocError, Global};
 use std::fmt::Write;
 use vt100::Screen;
 
-/// Appends the rows in which two screens differ, those of the first behind `-` and those of the second behind `+`, with
-/// their numbers, counted from 1. Of a row that one of them hasn't there is no line.
+/// Appends the rows in which two screens differ, those of the first after `-` and those of the second after `+`, with
+/// their numbers, counted from 1. There is no line for a row that a screen doesn't have.
 pub(crate) fn push_changes(
     alloc: Global,
     out: &mut String,

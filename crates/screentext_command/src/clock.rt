@@ -9,7 +9,7 @@ use command_line::parse_count;
 use recordings::parse_seconds;
 use std::alloc::{AllocError, Global};
 
-/// The time that a word in minutes and seconds says, as `1:30`, in microseconds.
+/// The time that an argument gives in minutes and seconds, as `1:30`, in microseconds.
 pub(crate) fn parse_clock(alloc: Global, word: &str) -> Result<Option<u64>, AllocError>
     ensures { IfOk result (λ time. time ≡ clock_in word.now) }
 {

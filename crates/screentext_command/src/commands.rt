@@ -41,7 +41,7 @@ pub fn command<R: Source, W: FlushSink, V: ByteSink>(
         errors.old result input.new output.new errors.new }
     ensures understood { is_invocation (map (λ w. w.now) words.now) ≡ true → (result ≤ 1) ⊎ (result ≡ 3) }
 
-    // Whatever the words are:
+    // Whatever the arguments are:
     ensures usage { result ≡ 2 → (input.new ≡ input.old) × (output.new ≡ output.old)
         × TellsMisuse V.takes (map (λ w. w.now) words.now) errors.old errors.new }
     ensures done { result ≡ 0 → errors.new ≡ errors.old }
@@ -50,12 +50,12 @@ pub fn command<R: Source, W: FlushSink, V: ByteSink>(
     command_with(alloc, words, &NoFiles, input, output, errors)
 }
 
-/// Runs the program on the words after its name, and answers its exit status.
+/// Runs the program on the arguments after its name, and returns its exit status.
 ///
 /// A fault is reported in a line on `errors`. So is the reason why only a part of the recording was read, with
-/// status 3. A line there says what is wrong with words that aren't understood. Then nothing is read or written, unless
-/// memory is refused before that is known: that is a fault. Such a line is written whole, unless a write of it fails
-/// or takes nothing. That changes nothing else.
+/// status 3. A line there says what is wrong with arguments that aren't understood. Then nothing is read or written.
+/// If an allocation fails before that is known, it is a fault instead. Such a line is written whole, unless a write
+/// of it fails or takes nothing. That changes nothing else.
 pub fn command_with<F: Files, R: Source, W: FlushSink, V: ByteSink>(
     alloc: Global,
     words: &[&str],
@@ -72,7 +72,7 @@ pub fn command_with<F: Files, R: Source, W: FlushSink, V: ByteSink>(
         errors.old result input.new output.new errors.new }
     ensures understood { is_invocation (map (λ w. w.now) words.now) ≡ true → (result ≤ 1) ⊎ (result ≡ 3) }
 
-    // Whatever the words are:
+    // Whatever the arguments are:
     ensures usage { result ≡ 2 → (input.new ≡ input.old) × (output.new ≡ output.old)
         × TellsMisuse V.takes (map (λ w. w.now) words.now) errors.old errors.new }
     ensures done { result ≡ 0 → errors.new ≡ errors.old }
@@ -91,7 +91,7 @@ pub fn command_with<F: Files, R: Source, W: FlushSink, V: ByteSink>(
     }
 }
 
-// Reports what is to be said of an answer, and returns its exit status.
+// Reports the fault or the remark that a result has, if any, and returns its exit status.
 fn report_answer<V: ByteSink>(errors: &mut V, answer: Result<Option<TextError>, TextError>) -> u8
     ensures reports { Reports V.takes errors.old answer result errors.new }
     ensures status { (result ≤ 1) ⊎ (result ≡ 3) }
@@ -116,7 +116,7 @@ pub fn report_fault<V: ByteSink>(errors: &mut V, error: TextError) -> u8
     FAULT
 }
 
-// Does what the words ask for.
+// Does what the arguments ask for.
 fn obey<F: Files, R: Source, W: FlushSink>(
     alloc: Global,
     files: &F,

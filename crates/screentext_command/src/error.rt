@@ -18,11 +18,11 @@ pub enum TextError {
     Read,
     /// A write or a flush failed, or a write took nothing.
     Write,
-    /// Memory was refused.
+    /// An allocation failed.
     Memory,
-    /// A file that the words name can't be read.
+    /// A file that the arguments name can't be read.
     File,
-    /// The recording has no marker of the name that the words give.
+    /// The recording has no marker of the name that the arguments give.
     Marker,
     /// The film would be longer than the longest one.
     Film,
@@ -34,7 +34,7 @@ pub enum TextError {
     Cells(usize),
     /// Only what comes before this fault of the recording was read.
     Cut(RecordingError),
-    /// What begins as an asciicast, and is none, was read as raw bytes.
+    /// What begins as an asciicast, but isn't one, was read as raw bytes.
     Guessed,
     /// What was read is no recording.
     Recording(RecordingError),
@@ -67,7 +67,7 @@ impl From<InputError> for TextError {
     }
 }
 
-/// A screen refuses for memory alone: a failed one was refused before.
+/// A screen's error is a failed allocation here: a screen that has failed was refused before.
 impl From<ScreenError> for TextError {
     ghost from_gives = { λ _ e. e ≡ Memory };
 

@@ -1,4 +1,4 @@
-//! Files that the words name.
+//! Files that the arguments name.
 
 ghost use Rattle.std.specs.Prelude.{◌≡◌, ◌⊎◌, ℕ, List, IfOk, IfErr};
 ghost use Rattle.screentext_command.specs.declared.error.TextError.TheVariants.{File, Memory};

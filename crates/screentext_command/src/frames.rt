@@ -13,10 +13,10 @@ use command_line::parse_count;
 use recorded_screen::Frame;
 use std::alloc::{AllocError, Global};
 
-// How many pixels high letters are, where there is no word.
+// How many pixels high letters are without an argument.
 const USUAL_SIZE: u8 = 15;
 
-/// Reads the words that say it.
+/// Reads the frame from the arguments.
 pub(crate) fn frame_of(alloc: Global, matches: &ArgMatches<'_>) -> Result<Option<Frame>, AllocError>
     ensures frame { IfOk result (λ f. is_some f ≡ are_frames (rows_of (found_of matches.now))) }
     ensures says { IfOk result (λ f. IfSome f (λ frame.
@@ -39,7 +39,7 @@ fn new_frame(padding: Option<u8>, size: Option<u8>, title: Option<String>) -> Op
     })
 }
 
-/// How many pixels there are between a picture and each edge: none where there is no word.
+/// How many pixels there are between a picture and each edge: 0 without an argument.
 pub(crate) fn padding_of(word: Option<&str>) -> Option<u8>
     ensures { result ≡ padding_meant (option_map (λ w. w.now) word.entry) }
 {

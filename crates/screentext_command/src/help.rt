@@ -71,7 +71,7 @@ recording of which only a part was read.
 /// What `screentext --version` prints.
 pub const VERSION: &[u8] = b"screentext 0.1\n";
 
-/// What is printed for words that aren't understood.
+/// What is printed for arguments that aren't understood.
 pub const USAGE: &str =
     "usage: screentext [ROWS COLS] [--at SECONDS] [--diff SECONDS] [--history N] [--joined] \
 [--colours] [--html | --html-block | --player | --svg [--animate]] [--speed N] \

@@ -1,4 +1,4 @@
-//! The words that the command line knows.
+//! The arguments that the command line knows.
 
 ghost use Rattle.std.specs.Prelude.{◌≡◌, IfOk, false, map};
 ghost use Rattle.clap.specs.Words.{app_of, new_rule, rule_of, with_rule};
@@ -28,7 +28,7 @@ pub(crate) const VALUES: [&str; 17] = [
     "poster",
 ];
 
-/// The options without one, but for `--colours`.
+/// The options without a value, except `--colours`.
 pub(crate) const FLAGS: [&str; 12] = [
     "joined",
     "html",
@@ -44,8 +44,8 @@ pub(crate) const FLAGS: [&str; 12] = [
     "no-cursor",
 ];
 
-/// The words that are known: two positional ones, options with a value, and flags. A later use of an option replaces an
-/// earlier one.
+/// The arguments that are known: two positional ones, options with a value, and flags. A later use of an option
+/// replaces an earlier one.
 pub(crate) fn known_words<'a>(alloc: Global) -> Result<Command<'a>, AllocError>
     ensures { IfOk result (λ c. app_of c ≡ known) }
 {
@@ -101,7 +101,7 @@ fn colors<'a>(alloc: Global) -> Result<Arg<'a>, AllocError>
     Ok(colors.visible_alias("colors")?)
 }
 
-// A positional word.
+// A positional argument.
 fn size<'a>(alloc: Global, id: &'a str) -> Arg<'a>
     ensures rule { rule_of result ≡ new_rule id.entry.now }
     ensures local { result.global ≡ false }

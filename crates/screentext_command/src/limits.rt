@@ -7,10 +7,10 @@ ghost use Rattle.screentext_command.specs.Limits.{are_within, deed_within, is_ev
 
 use recordings::{Change, Event, Recording, ScreenSize};
 
-/// How many cells a size in a recording has at most, unless the words say another number.
+/// How many cells a size in a recording has at most, unless an argument says another number.
 pub(crate) const MOST_CELLS: usize = 4_000_000;
 
-/// Whether each size that the recording names has so many cells at most.
+/// Whether each size that the recording names has at most this many cells.
 pub(crate) fn has_only(recording: &Recording, most: usize) -> bool
     ensures { result ≡ are_within most recording.now }
 {

@@ -1,4 +1,4 @@
-//! What a recording is, in lines.
+//! A description of a recording, in lines.
 
 ghost use Rattle.std.specs.Prelude.{◌≡◌, ◌++◌, IfErr, IfOk, OnOk, codes, string_bytes};
 ghost use Rattle.std.specs.Fmt.{decimal};

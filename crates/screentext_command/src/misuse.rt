@@ -1,4 +1,4 @@
-//! What is wrong with words that aren't understood.
+//! What is wrong with arguments that aren't understood.
 
 ghost use Rattle.std.specs.Prelude.{◌++◌, IfOk, IfSome, List, codes, map};
 ghost use Rattle.clap.specs.Words.{Row, found_of, rows_of};
@@ -18,7 +18,7 @@ use byte_streams::ByteSink;
 use clap::ArgMatches;
 use std::alloc::{AllocError, Global};
 
-/// A word that isn't as it has to be, with its value if it has one, and what is wanted.
+/// An argument that isn't as it has to be, with its value if it has one, and what is wanted.
 #[derive(Clone, Copy)]
 struct Misuse<'a> {
     lead: &'static str,
@@ -27,8 +27,8 @@ struct Misuse<'a> {
     wanted: &'static str,
 }
 
-/// Says in a line what is wrong with words that aren't understood: the first one that isn't as it has to be, or else
-/// the usage.
+/// Writes in a line what is wrong with arguments that aren't understood: the first one that isn't as it has to be, or
+/// else the usage.
 pub(crate) fn tell_misuse<V: ByteSink>(alloc: Global, words: &[&str], errors: &mut V)
     ensures { TellsMisuse V.takes (map (λ w. w.now) words.now) errors.old errors.new }
 {
@@ -90,7 +90,7 @@ fn misuse_of<'a>(alloc: Global, matches: &ArgMatches<'a>) -> Result<Option<Misus
     Ok(wrong_screen(matches))
 }
 
-// A word for a moment that says a negative time.
+// An argument for a moment that says a negative time.
 fn wrong_moment<'a>(
     alloc: Global,
     matches: &ArgMatches<'a>,
@@ -113,7 +113,7 @@ fn wrong_moment<'a>(
     Ok(None)
 }
 
-// What is wrong with the words for how fast a film plays.
+// What is wrong with the arguments for how fast a film plays.
 fn wrong_pace<'a>(alloc: Global, matches: &ArgMatches<'a>) -> Result<Option<Misuse<'a>>, AllocError>
     ensures { IfOk result (λ m. IfSome m (IsWrong (rows_of (found_of matches.now)))) }
 {
@@ -132,7 +132,7 @@ fn wrong_pace<'a>(alloc: Global, matches: &ArgMatches<'a>) -> Result<Option<Misu
     Ok(None)
 }
 
-// What is wrong with the words for how pictures look.
+// What is wrong with the arguments for how pictures look.
 fn wrong_picture<'a>(matches: &ArgMatches<'a>) -> Option<Misuse<'a>>
     ensures { IfSome result (IsWrong (rows_of (found_of matches.now))) }
 {
@@ -160,7 +160,7 @@ fn wrong_picture<'a>(matches: &ArgMatches<'a>) -> Option<Misuse<'a>>
     None
 }
 
-// What is wrong with the words for the form.
+// What is wrong with the arguments for the form.
 fn wrong_form<'a>(matches: &ArgMatches<'a>) -> Option<Misuse<'a>>
     ensures { IfSome result (IsWrong (rows_of (found_of matches.now))) }
 {
@@ -179,7 +179,7 @@ fn wrong_form<'a>(matches: &ArgMatches<'a>) -> Option<Misuse<'a>>
     wrong_flag(matches, "html", "another form is asked for too")
 }
 
-// What is wrong with the words for the recording and the screen.
+// What is wrong with the arguments for the recording and the screen.
 fn wrong_screen<'a>(matches: &ArgMatches<'a>) -> Option<Misuse<'a>>
     ensures { IfSome result (IsWrong (rows_of (found_of matches.now))) }
 {
@@ -263,7 +263,7 @@ fn wrong_flag<'a>(
     })
 }
 
-// What comes before a word that is named: options have two dashes.
+// What comes before an argument that is named: options have two dashes.
 fn lead_of(word: &str) -> &'static str {
     match word {
         "ROWS" | "COLS" => "screentext: ",

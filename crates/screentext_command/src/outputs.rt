@@ -13,7 +13,7 @@ use std::alloc::{AllocError, Global};
 
 /// The recording with each character that is printed from DEC's special graphics as its Unicode character.
 ///
-/// All else in it is the same. Sets count from one output to the next. Fails only if an
+/// All else in it is the same. A selected character set stays selected in the next output. Fails only if an
 /// allocation fails.
 pub(crate) fn with_lines_drawn(
     alloc: Global,

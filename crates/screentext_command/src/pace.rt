@@ -14,13 +14,13 @@ use recorded_screen::Pace;
 use recordings::parse_seconds;
 use std::alloc::{AllocError, Global};
 
-// How many screens a second a film shows at most, where there is no word.
+// How many screens a second a film shows at most without an argument.
 const USUAL_RATE: u16 = 30;
 
-// The most that a word can say.
+// The most that an argument can say.
 const MOST_RATE: u16 = 1000;
 
-/// Reads the words that say it.
+/// Reads the pace from the arguments.
 pub(crate) fn pace_of(alloc: Global, matches: &ArgMatches<'_>) -> Result<Option<Pace>, AllocError>
     ensures pace { IfOk result (λ p. is_some p ≡ are_paces (rows_of (found_of matches.now))) }
     ensures says { IfOk result (λ p. IfSome p (SaysPace (rows_of (found_of matches.now)))) }
@@ -52,7 +52,7 @@ fn new_pace(
     })
 }
 
-/// How often a film plays, or none where there is no word: it plays over and over then.
+/// How often a film plays. `Some(None)` without an argument: it plays over and over then.
 pub(crate) fn plays_of(word: Option<&str>) -> Option<Option<u16>>
     ensures plays { is_some result ≡ option_map_or (λ w. is_some (size_in w)) (option_map (λ w. w.now) word.entry)
         true }
@@ -64,7 +64,7 @@ pub(crate) fn plays_of(word: Option<&str>) -> Option<Option<u16>>
     }
 }
 
-/// How many millionths of the recorded speed a film has: a million where there is no word.
+/// How many millionths of the recorded speed a film has: a million without an argument.
 pub(crate) fn speed_of(alloc: Global, word: Option<&str>) -> Result<Option<u64>, AllocError>
     ensures speed { IfOk result (λ s. is_some s ≡ option_map_or is_speed (option_map (λ w. w.now) word.entry) true) }
     ensures value { IfOk result (λ s. s ≡ speed_meant (option_map (λ w. w.now) word.entry)) }
@@ -75,7 +75,7 @@ pub(crate) fn speed_of(alloc: Global, word: Option<&str>) -> Result<Option<u64>,
     }
 }
 
-/// The longest time in which nothing changes, in microseconds, or none where there is no word.
+/// The longest time in which nothing changes, in microseconds. `Some(None)` without an argument.
 pub(crate) fn idle_of(alloc: Global, word: Option<&str>) -> Result<Option<Option<u64>>, AllocError>
     ensures idle { IfOk result (λ t. is_some t ≡ option_map_or (λ w. is_some (time_in w))
         (option_map (λ w. w.now) word.entry) true) }
@@ -87,7 +87,7 @@ pub(crate) fn idle_of(alloc: Global, word: Option<&str>) -> Result<Option<Option
     }
 }
 
-/// How many screens a second a film shows at most: 1 to 1,000, and 30 where there is no word.
+/// How many screens a second a film shows at most: 1 to 1,000, and 30 without an argument.
 pub(crate) fn rate_of(word: Option<&str>) -> Option<u16>
     ensures rate { is_some result ≡ option_map_or is_rate (option_map (λ w. w.now) word.entry) true }
     ensures value { result ≡ rate_meant (option_map (λ w. w.now) word.entry) }

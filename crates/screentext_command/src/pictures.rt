@@ -16,7 +16,7 @@ use clap::ArgMatches;
 use recorded_screen::{Frame, Look, Pace, Recording, Theme};
 use std::alloc::{AllocError, Global};
 
-/// What the words say of pictures.
+/// What the arguments say of pictures.
 #[derive(Drop)]
 pub(crate) struct Pictures {
     /// The theme that is named.
@@ -27,7 +27,7 @@ pub(crate) struct Pictures {
     pub(crate) bold_is_bright: Option<bool>,
     /// Whether the cursor isn't shown.
     pub(crate) hides_cursor: bool,
-    /// How fast a film plays, as far as the words say it.
+    /// How fast a film plays, as far as the arguments say it.
     pub(crate) pace: Pace,
     /// What is around pictures in SVG, and how large they are shown.
     pub(crate) frame: Frame,
@@ -47,8 +47,8 @@ impl Pictures {
         })
     }
 
-    /// How fast a film of a recording plays. Where the words don't say how long a screen stands at most, the recording
-    /// does.
+    /// How fast a film of a recording plays. Where the arguments don't say how long a screen stays the same at most,
+    /// the recording does.
     pub(crate) fn pace_of(&self, recording: &Recording, moments: Moments) -> Pace
         ensures { result ≡ pace_shown self.now.pace recording.now moments }
     {
@@ -63,7 +63,7 @@ impl Pictures {
     }
 }
 
-// The theme of the words, or else that of the recording, or else the usual one.
+// The theme of the arguments, or else that of the recording, or else the usual one.
 fn theme_shown(named: Option<Theme>, recording: &Recording) -> Theme
     ensures { result ≡ theme_shown named (theme_reported recording.now.theme) }
 {
@@ -74,7 +74,7 @@ fn theme_shown(named: Option<Theme>, recording: &Recording) -> Theme
     }
 }
 
-/// Reads the words that say it.
+/// Reads from the arguments how pictures look.
 pub(crate) fn pictures_of(
     alloc: Global,
     matches: &ArgMatches<'_>,
@@ -118,7 +118,7 @@ fn new_pictures(
     })
 }
 
-/// The theme of this name, or none where there is no word.
+/// The theme of this name. `Some(None)` without an argument.
 pub(crate) fn theme_of(word: Option<&str>) -> Option<Option<Theme>>
     ensures theme { is_some result ≡ option_map_or is_theme (option_map (λ w. w.now) word.entry) true }
     ensures value { result ≡ theme_meant (option_map (λ w. w.now) word.entry) }
@@ -129,7 +129,7 @@ pub(crate) fn theme_of(word: Option<&str>) -> Option<Option<Theme>>
     }
 }
 
-/// Whether bold texts are in bright colours: two words say it, of which there is one at most.
+/// Whether bold texts are in bright colours: two arguments say it, of which at most one is given.
 pub(crate) fn bold_of(bright: bool, plain: bool) -> Option<Option<bool>>
     ensures bold { is_some result ≡ is_bold bright plain }
     ensures value { result ≡ bold_meant bright plain }

@@ -26,12 +26,12 @@ use crate::words::Request;
 use recordings::{Kind, Reading, Recording, RecordingError, read_recording};
 use std::alloc::{AllocError, Global};
 
-/// A text, and what is to be said of the recording that it is of.
+/// A text, and what is to be reported of the recording that it is of.
 #[derive(Drop)]
 pub(crate) struct Answer {
     /// The text.
     pub(crate) text: Vec<u8>,
-    /// Why only a part of the recording was read, or that it may be none.
+    /// Why only a part of the recording was read, or that it may not be one.
     pub(crate) note: Option<TextError>,
 }
 
@@ -75,7 +75,7 @@ fn text_of(
     answer_of(alloc, recording, request, moments, pictures)
 }
 
-// What is recorded, with boxes as box characters unless the words say otherwise, and what is to be said of it.
+// What is recorded, with boxes as box characters unless the arguments say otherwise, and what is to be reported of it.
 fn recording_of<F: Files>(
     alloc: Global,
     files: &F,
@@ -114,7 +114,8 @@ fn drawn(alloc: Global, recording: Recording, draws_lines: bool) -> Result<Recor
     }
 }
 
-// What is recorded in the bytes, and in the timing file if the words have one, up to a fault that then is to be said.
+// What is recorded in the bytes, and in the timing file if the arguments name one, up to a fault that is to be
+// reported.
 fn read_part<F: Files>(
     alloc: Global,
     files: &F,
@@ -137,7 +138,7 @@ fn may_be_cast(kind: Option<Kind>, bytes: &[u8]) -> bool
     kind.is_none() && begins_as_asciicast(bytes)
 }
 
-// What was read, and what is to be said of it. In strict reading a flaw is a fault.
+// What was read, and what is to be reported of it. In strict reading a flaw is a fault.
 fn taken(
     reading: Reading,
     strict: bool,
@@ -195,7 +196,7 @@ fn read_with<F: Files>(
     Ok(reading)
 }
 
-// The bytes of the timing file that the words name, if they name one.
+// The bytes of the timing file that the arguments name, if they name one.
 fn timing_of<F: Files>(
     alloc: Global,
     files: &F,

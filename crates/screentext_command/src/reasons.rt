@@ -1,4 +1,4 @@
-//! What is said of a fault.
+//! What is reported of a fault.
 
 ghost use Rattle.std.specs.Prelude.{◌≡◌, ◌++◌, codes};
 ghost use Rattle.std.specs.Fmt.{decimal};
@@ -20,7 +20,7 @@ pub(crate) fn tell_fault<V: ByteSink>(errors: &mut V, error: TextError)
     tell_reason(errors, reason_of(error));
 }
 
-// What is said: a text with a number in it, where there is one, and a text after these.
+// What is reported: a text with a number in it, where there is one, and a text after these.
 #[derive(Clone, Copy)]
 struct Reason {
     before: &'static str,
@@ -81,7 +81,7 @@ fn cells_reason(most: u64) -> Reason
     )
 }
 
-// What is said of a fault of a recording, with the same words as its own text, and a text after it.
+// What is reported of a fault of a recording: the same words as in its own text, and a text after it.
 fn recording_reason(error: RecordingError, end: &'static str) -> Reason
     ensures { said_of result ≡ recording_fault_text error ++ end.entry.now }
 {

@@ -21,17 +21,17 @@ use recorded_screen::{Change, END, Event, Kind, Recording};
 use recordings::parse_seconds;
 use std::alloc::{AllocError, Global};
 
-/// What the words say of the recording.
+/// What the arguments say of the recording.
 #[derive(Drop)]
 pub(crate) struct Source {
     /// The kind, where it is given.
     pub(crate) kind: Option<Kind>,
     /// The path of the timing file of a typescript.
     pub(crate) timing: Option<String>,
-    /// The words for the moment and for the other one: times, or names of markers.
+    /// The arguments for the moment and for the other one: times, or names of markers.
     pub(crate) moment: Option<String>,
     pub(crate) since: Option<String>,
-    /// The words for the moment at which a film begins, and for the one that is shown where nothing plays.
+    /// The arguments for the moment at which a film begins, and for the one that is shown where nothing plays.
     pub(crate) from: Option<String>,
     pub(crate) poster: Option<String>,
     /// Whether the recording is described, in place of a screen.
@@ -44,7 +44,7 @@ pub(crate) struct Source {
     pub(crate) most_cells: usize,
 }
 
-/// Reads the words that say it.
+/// Reads from the arguments which recording is meant, and which of its moments.
 pub(crate) fn source_of(
     alloc: Global,
     matches: &ArgMatches<'_>,
@@ -68,7 +68,7 @@ pub(crate) fn source_of(
     Ok(new_source(kind, timing, moments, list, draws_lines, limits))
 }
 
-/// How many cells a size has at most: 4,000,000 where there is no word.
+/// How many cells a size has at most: 4,000,000 without an argument.
 pub(crate) fn most_cells_of(word: Option<&str>) -> Option<usize>
     ensures cells { is_some result ≡ option_map_or is_count (option_map (λ w. w.now) word.entry) true }
     ensures value { result ≡ cells_meant (option_map (λ w. w.now) word.entry) }
@@ -112,7 +112,7 @@ fn new_source(
     })
 }
 
-/// The kind of this name, or none where there is no word.
+/// The kind of this name. `Some(None)` without an argument.
 pub(crate) fn kind_of(word: Option<&str>) -> Option<Option<Kind>>
     ensures kind { is_some result ≡ option_map_or (λ word. is_some (kind_named word))
         (option_map (λ w. w.now) word.entry) true }
@@ -124,7 +124,7 @@ pub(crate) fn kind_of(word: Option<&str>) -> Option<Option<Kind>>
     }
 }
 
-/// A word of its own.
+/// An owned copy of the argument, if there is one.
 pub(crate) fn owned(alloc: Global, word: Option<&str>) -> Result<Option<String>, AllocError>
     ensures { IfOk result (λ text. option_map string_bytes text ≡ option_map (λ w. w.now) word.entry) }
 {
@@ -147,7 +147,7 @@ pub(crate) struct Moments {
     pub(crate) poster: Option<u64>,
 }
 
-/// The moments that the words say.
+/// The moments that the arguments say.
 pub(crate) fn moments_of(
     alloc: Global,
     recording: &Recording,
@@ -167,7 +167,7 @@ pub(crate) fn moments_of(
     })
 }
 
-// The moment that a word says, or the end.
+// The moment that an argument says, or the end.
 fn moment_of(alloc: Global, recording: &Recording, word: &Option<String>) -> Result<u64, TextError>
     ensures moment { IfOk result (IsMoment (said recording.now.events.items) (option_map string_bytes word.now)) }
     ensures fault { IfErr result (IsNoMoment (said recording.now.events.items) (option_map string_bytes word.now)) }
@@ -178,7 +178,7 @@ fn moment_of(alloc: Global, recording: &Recording, word: &Option<String>) -> Res
     }
 }
 
-// The moment that a word says, if there is one.
+// The moment that an argument says, if there is one.
 fn other_of(
     alloc: Global,
     recording: &Recording,
@@ -194,8 +194,8 @@ fn other_of(
     }
 }
 
-// The time that a word is in seconds, or else that of the first marker of this name, or else the time that it is in
-// minutes and seconds.
+// The time that an argument gives in seconds, or else that of the first marker of this name, or else the time that it
+// gives in minutes and seconds.
 fn time_of(alloc: Global, events: &[Event], word: &str) -> Result<u64, TextError>
     ensures time { IfOk result (λ time. time_meant (said events.now) word.now ≡ Some time) }
     ensures fault { IfErr result (IsNoMoment (said events.now) (Some word.now)) }

@@ -6,7 +6,7 @@ ghost use Rattle.screentext_command.specs.Command.{Prints, PrintsWith, TellsInPa
 use crate::error::TextError;
 use byte_streams::{ByteSink, FlushSink, pump};
 
-/// Writes all of these bytes, and flushes. Then this is still to be said.
+/// Writes all of these bytes, and flushes. Then `remark` is still to be reported.
 pub(crate) fn print<W: FlushSink>(
     output: &mut W,
     text: &[u8],

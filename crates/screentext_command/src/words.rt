@@ -1,4 +1,4 @@
-//! The words of the command line.
+//! The arguments of the command line.
 
 ghost use Rattle.std.specs.Prelude.{◌≡◌, ◌&&◌, true, map, is_some, codes, None, Some, Err, IfOk, IfErr, IfSome};
 ghost use Rattle.std.specs.Option.{option_map, option_map_or};
@@ -72,7 +72,7 @@ pub(crate) struct Request {
     pub(crate) form: Form,
 }
 
-/// Reads the words. Words that aren't understood are no order, and the only fault is that memory is refused.
+/// Reads the arguments. Returns `None` for arguments that aren't understood. Fails only if an allocation fails.
 pub(crate) fn parse(alloc: Global, words: &[&str]) -> Result<Option<Invocation>, TextError>
     ensures fault { IfErr result (λ e. e ≡ Memory) }
     ensures invocation { IfOk result (λ o. is_some o ≡ is_invocation (map (λ w. w.now) words.now)) }
@@ -84,7 +84,7 @@ pub(crate) fn parse(alloc: Global, words: &[&str]) -> Result<Option<Invocation>,
     }
 }
 
-// What words ask for with which `clap` doesn't go on: the help, the version or nothing.
+// What the arguments ask for if `clap` doesn't accept them: the help, the version or nothing.
 fn asked(error: &Error) -> Result<Option<Invocation>, TextError>
     ensures fault { IfErr result (λ e. e ≡ Memory) }
     ensures invocation { IfOk result (λ o. is_some o ≡ is_request (kind_of error.now)) }
@@ -145,7 +145,7 @@ fn request_of(alloc: Global, matches: &ArgMatches<'_>) -> Result<Option<Request>
     Ok(new_request(size, times, history, form, look))
 }
 
-// Whether each word for a moment says one.
+// Whether each argument for a moment says one.
 fn are_moments(alloc: Global, matches: &ArgMatches<'_>) -> Result<bool, TextError>
     ensures fault { IfErr result (λ e. e ≡ Memory) }
     ensures moments { IfOk result (λ t. t ≡ are_moments (rows_of (found_of matches.now))) }
@@ -163,7 +163,7 @@ fn are_all(moment: bool, since: bool, from: bool, poster: bool) -> bool
     moment && since && from && poster
 }
 
-// There is one if the times are such.
+// The request, if the times are valid and each part is there.
 fn new_request(
     size: Option<Option<ScreenSize>>,
     times: bool,
@@ -186,7 +186,7 @@ fn new_request(
     })
 }
 
-/// A size: of rows and columns, or none where there is neither.
+/// A size of rows and columns. `Some(None)` if there is neither.
 pub(crate) fn size_of(rows: Option<&str>, cols: Option<&str>) -> Option<Option<ScreenSize>>
     ensures size { is_some result
         ≡ is_screen (option_map (λ w. w.now) rows.entry) (option_map (λ w. w.now) cols.entry) }
@@ -203,7 +203,7 @@ pub(crate) fn size_of(rows: Option<&str>, cols: Option<&str>) -> Option<Option<S
     }
 }
 
-/// Whether there is no word, or one that says a moment.
+/// Whether there is no argument, or one that says a moment.
 pub(crate) fn is_moment(alloc: Global, word: Option<&str>) -> Result<bool, TextError>
     ensures fault { IfErr result (λ e. e ≡ Memory) }
     ensures moment { IfOk result (λ t. t ≡ is_moment (option_map (λ w. w.now) word.entry)) }
@@ -214,7 +214,7 @@ pub(crate) fn is_moment(alloc: Global, word: Option<&str>) -> Result<bool, TextE
     }
 }
 
-// Whether it is a number of seconds, written as in JSON, that isn't negative. Any other word is a marker's name.
+// Whether it is a number of seconds, written as in JSON, that isn't negative. Any other text is a marker's name.
 fn is_time(alloc: Global, word: &str) -> Result<bool, TextError>
     ensures fault { IfErr result (λ e. e ≡ Memory) }
     ensures time { IfOk result (λ t. t ≡ is_time (json_in word.now)) }
@@ -228,7 +228,7 @@ fn is_time(alloc: Global, word: &str) -> Result<bool, TextError>
     Ok(microseconds(&value).is_some())
 }
 
-/// How many kept rows come first: none where there is no word.
+/// How many kept rows come first: 0 without an argument.
 pub(crate) fn history_of(word: Option<&str>) -> Option<usize>
     ensures history { is_some result ≡ option_map_or is_count (option_map (λ w. w.now) word.entry) true }
     ensures value { result ≡ history_meant (option_map (λ w. w.now) word.entry) }
@@ -239,7 +239,7 @@ pub(crate) fn history_of(word: Option<&str>) -> Option<usize>
     }
 }
 
-/// The form, by which of its words there are.
+/// The form, by which of its arguments there are.
 pub(crate) fn form_of(html: bool, block: bool, svg: bool, film: bool, player: bool) -> Option<Form>
     ensures form { is_some result ≡ is_form html block svg film player }
     ensures value { result ≡ form_meant html block svg film player }

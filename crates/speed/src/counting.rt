@@ -8,7 +8,7 @@ use termrelay::ByteSink;
 use vte::ansi::{Call, Handler};
 use vte::{Event, Perform};
 
-/// Counts what it receives, and takes a text as so many characters as it has bytes.
+/// Counts what it receives. Each byte of a text counts as one character.
 #[derive(Drop)]
 pub(crate) struct Counting {
     pub(crate) count: usize,

@@ -2,11 +2,11 @@
 //! TIMES`, with the stream on standard input. What it prints is a count that depends on all that was done.
 //!
 //! - `events`: `vte_core` cuts the stream into events, which are counted, a text by its length.
-//! - `calls`: `vte` makes the calls of a handler of it, which are counted.
+//! - `calls`: `vte` turns it into a handler's calls, which are counted.
 //! - `screen`: a terminal's screen reads it, from the blank screen on.
 //! - `kept`: the same, of a terminal that keeps 10,000 rows that have left at the top.
 //! - `view`: a far terminal reads it.
-//! - `hub`: a hub reads it, and makes and sends a client's frame behind each piece.
+//! - `hub`: a hub reads it, and makes and sends a client's frame after each piece.
 //! - `redraw`: the screen that it leaves is written whole.
 //! - `difference`: what its last 2,000 bytes have changed is written.
 //! - `same`: the screen that it leaves is compared with an equal one, and the difference, which is nothing, is written.
@@ -45,7 +45,7 @@ fn main(rt: HostRuntime) -> anyhow::Result<()> {
     obey(&rt, &lend(rt.alloc(), &words)?)
 }
 
-/// Does what the words ask for.
+/// Does what the arguments ask for.
 fn obey(rt: &HostRuntime, words: &[&str]) -> anyhow::Result<()> {
     let Some((name, workload)) = parse(rt.alloc(), words) else {
         bail!("usage: speed WORK ROWS COLS TIMES");

@@ -29,7 +29,7 @@ impl<'a> Workload<'a> {
         Some(counting.count)
     }
 
-    /// A terminal that has read these bytes, and keeps so many rows.
+    /// A terminal that has read these bytes, and keeps this many rows.
     pub(crate) fn filled(&self, bytes: &[u8], kept: usize) -> Option<Parser<()>> {
         let mut parser = Parser::new(self.alloc, self.rows, self.cols, kept).ok()?;
         if process(&mut parser, bytes) {
@@ -59,7 +59,7 @@ impl<'a> Workload<'a> {
     }
 }
 
-/// Has a terminal read bytes, in pieces. Whether it could.
+/// Has a terminal read bytes, in pieces. Returns whether it could.
 pub(crate) fn process(parser: &mut Parser<()>, bytes: &[u8]) -> bool {
     for piece in bytes.chunks(PIECE_LEN) {
         if parser.process(piece).is_err() {

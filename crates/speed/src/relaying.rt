@@ -19,7 +19,7 @@ fn relay(workload: &Workload<'_>, hub: &mut Hub, work: Work) -> Option<usize> {
     }
 }
 
-/// Feeds the stream in pieces, and sends a client's frame behind each.
+/// Feeds the stream in pieces, and sends a client's frame after each.
 fn send_stream(workload: &Workload<'_>, hub: &mut Hub) -> Option<usize> {
     let client = hub.attach().ok()?;
     let mut count: usize = 0;
@@ -77,7 +77,7 @@ fn send_all(workload: &Workload<'_>, hub: &mut Hub) -> Option<usize> {
     Some(count)
 }
 
-/// Makes and sends the frame that is due, and answers how long it is.
+/// Makes and sends the frame that is due, and returns its length.
 fn send(alloc: Global, hub: &mut Hub, client: Client) -> Option<usize> {
     hub.frame(client).ok()?;
     let mut wire = Vec::new(alloc);

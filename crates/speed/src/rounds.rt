@@ -6,7 +6,7 @@ use std::alloc::Global;
 use termrelay::{Client, Hub};
 
 impl<'a> Workload<'a> {
-    /// Rounds of a hub with so many clients. In each round a half of the stream is fed, and each client is sent a frame.
+    /// Rounds of a hub with `count` clients. Each round feeds a half of the stream, and sends each client a frame.
     pub(crate) fn rounds(&self, count: usize, in_step: bool) -> Option<usize> {
         let mut hub = Hub::new(self.alloc, self.rows, self.cols).ok()?;
         let clients = attached(self.alloc, &mut hub, count)?;
@@ -24,7 +24,7 @@ impl<'a> Workload<'a> {
     }
 }
 
-/// Adds so many clients.
+/// Adds `count` clients.
 fn attached(alloc: Global, hub: &mut Hub, count: usize) -> Option<Vec<Client>> {
     let mut clients = Vec::new(alloc);
     for _ in 0..count {

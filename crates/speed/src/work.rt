@@ -19,9 +19,9 @@ pub(crate) enum Work {
     Unchanged,
     Frame,
     Client,
-    /// Of so many clients, which are sent frames of the same moments.
+    /// Of this many clients, which are sent frames of the same moments.
     InStep(usize),
-    /// Of so many clients, each of which is sent frames of moments of its own.
+    /// Of this many clients, each of which is sent frames of moments of its own.
     Apart(usize),
     Scrollback,
     Contents,
@@ -73,7 +73,7 @@ pub(crate) fn row_at(time: usize) -> &'static [u8] {
     ROWS[time % 2]
 }
 
-/// Some work, so many times, with screens of this size.
+/// Some work, a number of times, with screens of this size.
 #[derive(Clone, Copy)]
 pub(crate) struct Workload<'a> {
     pub(crate) alloc: Global,
@@ -95,7 +95,7 @@ impl<'a> Workload<'a> {
         }
     }
 
-    /// Does the work, and counts what comes of it. Nothing where memory is refused.
+    /// Does the work, and counts what comes of it. Returns `None` if an allocation fails.
     pub(crate) fn count(&self, work: Work) -> Option<usize> {
         match work {
             Work::Events => Some(self.events()),

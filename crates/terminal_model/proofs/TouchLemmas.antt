@@ -72,7 +72,7 @@ down-untouched : (z : Size) (t : Term) (r k : ℕ) → is_last_row z t ≡ false
 unfolding down
 down-untouched z t r k h = rw (room_below z t h) refl
 
--- a terminal that has wrapped, where it doesn't scroll
+-- a terminal that has wrapped, if it doesn't scroll
 wrap-is : (z : Size) (t : Term) → is_last_row z t ≡ false → ((wrap z t).cell ≡ t.cell) × ((wrap z t).row ≡ t.row + 1)
     × ((wrap z t).col ≡ 0) × ((wrap z t).attrs ≡ t.attrs)
 unfolding wrap down

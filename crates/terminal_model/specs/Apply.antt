@@ -26,7 +26,7 @@ with_line t g stays = record t {
 unfoldable pub erase : Size → ℕ → Term → Term
 erase z e t = with_line t (wiped (t.cell t.row) t.col e t.attrs) (not (wipe_unflags z.cols (t.cell t.row) t.col e))
 
--- x is put at the cursor, which moves behind it
+-- x is put at the cursor, which moves to the right of it
 unfoldable pub print : Size → CellView → Term → Term
 print z x t = record (with_line t (put (t.cell t.row) t.col x t.attrs)
     (not (put_unflags z.cols (t.cell t.row) t.col x))) { col = t.col + span_of x }

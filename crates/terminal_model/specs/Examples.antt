@@ -44,8 +44,8 @@ pub record EachExampleHolds : Type 0 where
       ∷ (each (codes "xyz") ++ [] ∷ []) ∷ []
   pub differed_texts : texts (screen 2 4) differed ≡ each (codes "abce") ∷ ((120 ∷ []) ∷ [] ∷ (122 ∷ []) ∷ [] ∷ []) ∷ []
   pub differed_flag : differed.wrapped 0 ≡ true
-  -- after a full row the cursor is behind the last column; a move to the right ends in the last one, and a move by 0
-  -- stays
+  -- after a full row the cursor is past the last column; a move to the right ends in the last column, and a move by 0
+  -- changes nothing
   pub waiting : (after (screen 1 2) (typed (codes "ab"))).col ≡ 2
   pub moved_right : (after (screen 1 2) (typed (codes "ab") ++ MoveRight 1 ∷ [])).col ≡ 1
   pub moved_by_none : (after (screen 1 2) (typed (codes "ab") ++ MoveRight 0 ∷ [])).col ≡ 2
@@ -69,7 +69,7 @@ pub record EachExampleHolds : Type 0 where
       ≡ (each (codes "ab") ++ [] ∷ []) ∷ ((w ∷ []) ∷ [] ∷ [] ∷ []) ∷ []
   pub wrapped_flag : (w : ℕ) → columns_of w ≡ 2 → is_undrawable w ≡ false
       → (after (screen 2 3) (typed (codes "ab") ++ Text (w ∷ []) ∷ [])).wrapped 0 ≡ false
-  -- a zero-width character m is added to the letter before it, also if the cursor is behind the last column
+  -- a zero-width character m is added to the letter before it, also if the cursor is past the last column
   pub joined : (m : ℕ) → columns_of m ≡ 0 → is_undrawable m ≡ false
       → texts (screen 1 2) (after (screen 1 2) (Text (97 ∷ []) ∷ Text (98 ∷ m ∷ []) ∷ []))
       ≡ ((97 ∷ []) ∷ (98 ∷ m ∷ []) ∷ []) ∷ []

@@ -30,6 +30,6 @@ IsLocal z old new r k =
 abbrev pub IsAtEnd : Size → Shown → Shown → ℕ → ℕ → Type 0
 IsAtEnd z old new r k = (k + 1 ≡ z.cols) ⊎ ((k + 2 ≡ z.cols) × (((old.cell r k).wide || (new.cell r k).wide) ≡ true))
 
--- a local cell; or, if the new cursor is behind the last column, the last cell of row `end`
+-- a local cell; or, if the new cursor is past the last column, the last cell of row `end`
 abbrev pub IsLocalOrEnd : Size → Shown → Shown → ℕ → ℕ → ℕ → Type 0
 IsLocalOrEnd z old new end r k = IsLocal z old new r k ⊎ ((new.col ≡ z.cols) × (r ≡ end) × IsAtEnd z old new r k)

@@ -18,7 +18,7 @@ use Rattle.termrelay.proofs.FrameLengths.{frame-short}
 
 -- ---- what is wanted
 
--- it isn't that a frame is too long
+-- it is never `TooLong`
 pub never-wanted : (now : State) (base : Option Shown) (owed : List ℕ) → wanted_to now base owed ≡ TooLong → ⊥
 never-wanted now None [] e = grind arith
 never-wanted now (Some base) [] e = grind arith
@@ -32,7 +32,7 @@ both-capped : (updating long : Bool) (answer : Answer)
 both-capped true long answer = refl
 both-capped false long answer = refl
 
--- what is wanted is answered, unless it is a frame that is too long
+-- the answer is what is wanted, unless that is a frame that is too long
 answer-capped : (now : State) (base : Option Shown) (owed : List ℕ) → answer_to now base owed
     ≡ unless_too_long (grid_size now.shown) (shown_state now) base (wanted_to now base owed)
 answer-capped now base [] =
@@ -56,13 +56,13 @@ module _ (now : State) (c : ClientState) (answer : Answer) (is : answer ≡ want
   pub answer-short : is_too_long (grid_size now.shown) (shown_state now) c.base ≡ false → answer ≡ answer_for now c
   answer-short short = rw (capped, short) (grind arith)
 
--- nothing is owed, and the program is in no synchronized update
+-- no bytes are pending, and the program is in no synchronized update
 pub answer-ready : (now : State) (base : Option Shown) (owed : List ℕ) → owed ≡ [] → now.updating ≡ false
     → answer_to now base owed ≡ unless_too_long (grid_size now.shown) (shown_state now) base
     (due (grid_size now.shown) (shown_state now) base)
 answer-ready now base owed none ready = rw (none, ready) refl
 
--- what is due isn't that a frame is too long
+-- what is due is never `TooLong`
 pub never-due : (z : Size) (now : Shown) (base : Option Shown) → due z now base ≡ TooLong → ⊥
 never-due z now None e = grind arith
 never-due z now (Some base) e = grind arith

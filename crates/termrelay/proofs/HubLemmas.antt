@@ -45,17 +45,17 @@ served-still now next (Some r) same h = record {
   short = subst (λ z. IsShortFrame z r.owed) same h.short;
 }
 
--- less is owed than before
+-- some of the pending bytes are taken
 pub left-served : (now : ScreenView) (r : RecordView) (n : ℕ) → IsRecordOf now r
     → IsRecordOf now (record r { owed = drop n r.owed })
 left-served now r n h = record { last = h.last; short = omega (arith, h.short, length-drop n r.owed) }
 
--- nothing is owed
+-- no bytes are pending
 pub forked-served : (now : ScreenView) (r : RecordView) → IsRecordOf now r
     → IsRecordOf now (record { owed = []; last = r.last })
 forked-served now r h = record { last = h.last; short = omega arith }
 
--- a frame is owed
+-- a frame is pending
 pub framed-served : (now : ScreenView) (f : FrameView) → IsFrameOf now f
     → IsRecordOf now (record { owed = f.text; last = Some f })
 framed-served now f h = record { last = h; short = h.short }
@@ -91,7 +91,7 @@ updated-at s t key other slot u = elim (cases_eq other key) [
   | inr ne ↦ rw (u.others other ne, ne_eqb other key ne)
 ]
 
--- this client is at the key from now on
+-- from now on this client is at the key
 pub updated-client : (p : ParserView (Unit {0})) (s t : Slab RecordView) (key : ℕ) (slot : Option RecordView)
     → Updates s t key slot → Puts (holding p s) key (option_map client_of slot) (holding p t)
 updated-client p s t key slot u = (refl, λ i other. updated-at s t key other slot u i)

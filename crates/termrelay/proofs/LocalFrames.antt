@@ -36,7 +36,7 @@ due-short now r text u h is =
 
 -- ---- which cells
 
--- where a difference is due, there is a base, and these cells are touched
+-- if a difference is due, there is a base, and these cells are touched
 pub record IsDifference (now : ScreenView) (base : Option Shown) (text : List ℕ) : Type 0 where
   pub shown : Shown
   pub is : base ≡ Some shown

@@ -53,7 +53,7 @@ module _ {A : Type 0} (test : A → Bool) where
   pub found-that : (xs : List A) (at : ℕ) (l : IsLast test xs at) → last_that test xs ≡ l.last ∷ []
   found-that xs at l = ap (last_that test) l.parts ∙ seam-that l.prefix l.back l.last l.is l.none
 
--- where no session of the client is open, its fork begins none
+-- if no session of the client is open, its fork begins no session
 pub none-branched : (h : HubState as_kept) (key : ℕ) (reply : Reply) (ss : List SessionView)
     → list_any (is_of key) ss ≡ false → ss ≡ sessions_after h (Fork key) reply ss
 none-branched h key (Attached new) ss none =

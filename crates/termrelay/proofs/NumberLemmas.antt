@@ -127,7 +127,7 @@ moment-unchanged s m now g f l is last base one sure =
 
 -- ---- no frame is due
 
--- where none is due, the same is shown
+-- if no frame is due, the same is shown
 alike-shown : (z : Size) (base now : Shown) → is_frame (due z now (Some base)) ≡ false → same_shown z base now ≡ true
 alike-shown z base now none = grind arith
 

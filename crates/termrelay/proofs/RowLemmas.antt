@@ -55,7 +55,7 @@ pub cells-cut : (n width : ℕ) (cells : List CellView) (f : ℕ → CellView) �
     → AreSame (cell_at (take n cells)) f 0 width
 cells-cut n width cells f e same k low h = get_or-take n cells k default_cell (omega (arith, h, e)) ∙ same k low h
 
--- the columns behind which a row of the screen shows nothing
+-- the columns to the right of which a row of the screen shows nothing
 pub filled-shown : (s : State) (r n : ℕ) → IsState s → r < s.shown.height
     → MatchOption (visible_row_at s.shown r) (n ≡ 0) (λ v. IsBlankFrom v.cells n) → (k : ℕ) → n ≤ k
     → (shown_state s).cell r k ≡ default_cell

@@ -92,7 +92,7 @@ same-one z s t i j h =
       style = look n;
     }
 
--- what tells whether two screens show the same is the comparison's answer
+-- if a Boolean says whether two screens show the same, it is the comparison's result
 pub asked-same : (z : Size) (s t : Shown) (answer : Bool) → IsShown z s → IsShown z t → (answer ≡ true → s ≡ t)
     → (s ≡ t → answer ≡ true) → answer ≡ same_shown z s t
 asked-same z s t true i j to from = sym (ap (same_shown z s) (sym (to refl)) ∙ one-same z s)

@@ -89,7 +89,7 @@ prefix-kept bytes owed n left is =
     omega (arith, ap length whole, length-append (bytes ++ take n owed) (drop n owed), is) in
     rw (count, whole) (take-append_seam (bytes ++ take n owed) (drop n owed))
 
--- how many of the bytes a client was owed are left after a pump, and which were taken
+-- how many of a client's pending bytes are left after a pump, and which were taken
 pub record IsPumped {way : Telling} (h : HubState way) (key : ℕ) (takes : List Take) (owed : List ℕ) (left : ℕ) : Type 0
   where
     pub count : ℕ

@@ -1,4 +1,4 @@
--- What is due if there is a sure base, and if there is none.
+-- What is due if there is a sure base, and if there isn't one.
 use Rattle.std.proofs.Common.{◌≡◌, ◌∙◌, ℕ, List, Bool, true, false, Option, Some, None, refl, sym, ap, if◌then◌else◌}
 use Rattle.std.proofs.Common.{arith}
 use denote.Enum.Bare.{sameb}

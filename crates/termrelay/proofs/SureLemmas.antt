@@ -1,4 +1,4 @@
--- Where a screen is sure, no cell asks for an emoji.
+-- If a screen is sure, no cell asks for an emoji.
 use Rattle.std.proofs.Common.{◌≡◌, ◌∙◌, ℕ, ◌<◌, ◌≤◌, ◌==◌, Bool, true, false, length, arith, ap, sym}
 use mathlib.Core.Logic.{⊎_elim}
 use Rattle.std.proofs.lemmas.Bool.{cases_lt, eq-eqb, false≢true}

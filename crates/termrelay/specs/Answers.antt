@@ -44,7 +44,7 @@ EachOneIsSame = (z : Size) (s : Shown) → same_shown z s s ≡ true
 
 -- ---- answers
 
--- a client: the bytes that it is owed, and what was shown at its last frame
+-- a client: the bytes that wait for it, and what was shown at its last frame
 pub record ClientState : Type 0 where
   pub owed : List ℕ
   pub base : Option Shown
@@ -59,7 +59,7 @@ is_frame Behind = false
 is_frame Held = false
 is_frame TooLong = false
 
--- the answer if nothing is owed, the program is in no synchronized update and the present screen is sure
+-- the answer if no bytes are pending, the program is in no synchronized update and the present screen is sure
 abbrev pub due_from : Size → Shown → Option Shown → Answer
 due_from z now None = Full
 due_from z now (Some base) =
@@ -67,7 +67,7 @@ due_from z now (Some base) =
     else if same_shown z base now then Unchanged
     else Difference
 
--- the answer if nothing is owed and the program is in no synchronized update
+-- the answer if no bytes are pending and the program is in no synchronized update
 abbrev pub due : Size → Shown → Option Shown → Answer
 due z now base = if is_unsure z now then Unsure else due_from z now base
 
@@ -75,7 +75,7 @@ due z now base = if is_unsure z now then Unsure else due_from z now base
 abbrev pub unless_updating : State → Answer → Answer
 unless_updating now answer = if now.updating then Held else answer
 
--- the answer to a client that is owed these bytes, if a frame could have any length
+-- the answer to a client for which these bytes wait, if a frame could have any length
 abbrev pub wanted_to : State → Option Shown → List ℕ → Answer
 wanted_to now base [] = unless_updating now (due (grid_size now.shown) (shown_state now) base)
 wanted_to now base (b ∷ bs) = Behind
@@ -95,7 +95,7 @@ is_too_long z now base = nat_lt longest_frame (length (frame_text z base now))
 abbrev pub unless_too_long : Size → Shown → Option Shown → Answer → Answer
 unless_too_long z now base answer = if is_frame answer && is_too_long z now base then TooLong else answer
 
--- the answer to a client that is owed these bytes
+-- the answer to a client for which these bytes wait
 abbrev pub answer_to : State → Option Shown → List ℕ → Answer
 answer_to now base [] =
     unless_updating now (unless_too_long (grid_size now.shown) (shown_state now) base
@@ -140,7 +140,7 @@ pub record EachExampleIsAnswered : Type 0 where
   pub unsure : answer_after (Some blank_shown) emoji ≡ Unsure
   pub again : answer_after (Some emoji) emoji ≡ Unsure
   pub sure_again : answer_after (Some emoji) moved ≡ Full
-  -- bytes that are owed come first, then the program's update, then what is due, unless it is too long
+  -- pending bytes come first, then the program's update, then what is due, unless it is too long
   pub owed : (now : State) (base : Option Shown) → answer_for now (record { owed = 0 ∷ []; base = base }) ≡ Behind
   pub held : (now : State) (base : Option Shown) → now.updating ≡ true
       → answer_for now (record { owed = []; base = base }) ≡ Held

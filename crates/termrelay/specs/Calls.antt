@@ -76,7 +76,7 @@ done result = replied (λ u. Done) result
 
 -- For each way to describe a hub:
 module _ {way : Telling} where
-  -- a request for a redraw of the client at a key is replied to so
+  -- a request for a redraw of the client at a key gets this reply
   abbrev pub IsRedrawn : HubState way → ℕ → Reply → Type 0
   IsRedrawn h key (Redrawn redraw) = Redraws h key (Ok (option_map (λ text. text.items) redraw))
   IsRedrawn h key (Refused e) = Redraws h key (Err e)

@@ -24,12 +24,12 @@ pub record FrameView : Type 0 where
   pub text : List ℕ
   pub base : BaseView
 
--- the bytes that the client is owed, and its last frame, if there was one
+-- the bytes that wait for the client, and its last frame, if there was one
 pub record RecordView : Type 0 where
   pub owed : List ℕ
   pub last : Option FrameView
 
--- the last so many bytes of a frame
+-- the last `left` bytes of a frame
 abbrev pub left_of : Option FrameView → ℕ → List ℕ
 left_of None left = []
 left_of (Some f) left = drop (length f.text - left) f.text
@@ -61,8 +61,8 @@ pub record IsFrameOf (now : ScreenView) (f : FrameView) : Type 0 where
   pub short : IsShortFrame (grid_size now.state.shown) f.text
   pub fits : nat_lt longest_frame (length f.text) ≡ false
 
--- the client's last frame, if it had one, fits the present screen, and the client is owed at most the longest frame's
--- bytes
+-- the client's last frame, if it had one, fits the present screen, and at most the longest frame's bytes wait for the
+-- client
 pub record IsRecordOf (now : ScreenView) (s : RecordView) : Type 0 where
   pub last : IfSome s.last (IsFrameOf now)
   pub short : IsShortFrame (grid_size now.state.shown) s.owed

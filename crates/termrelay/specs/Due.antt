@@ -1,4 +1,4 @@
--- What is due to a client that is owed nothing, if the program is in no synchronized update.
+-- What is due to a client without pending bytes, if the program is in no synchronized update.
 use Rattle.std.specs.Prelude.{◌≡◌, ◌+◌, min, false, Option, Some, None, Result, Ok, Err, MatchOption, IsSomeAnd}
 use Rattle.vt100_core.specs.Picture.{grid_size}
 use Rattle.screen_model.specs.Call.{ScreenView}

@@ -14,7 +14,7 @@ pub record FramesView : Type 0 where
   pub latest : Option FrameView
   pub moments : ℕ
 
--- as many moments have a number of their own
+-- this many moments have a number of their own
 abbrev pub most_moments : ℕ
 most_moments = 18446744073709551615
 
@@ -24,8 +24,8 @@ pub record IsLatestOf (now : ScreenView) (moments : ℕ) (f : FrameView) : Type 
   pub shown : shown_state f.base.screen.state ≡ shown_state now.state
   pub counted : moments < most_moments
 
--- By what was shown at each of so many moments: a frame shows what was shown at its moment, and it is the frame that was
--- due then, from what was shown at the moment that it leads on from.
+-- By what was shown at each of the first `moments` moments: a frame shows what was shown at its moment, and it is the
+-- frame that was due then, from what was shown at the moment that it leads on from.
 pub record IsNumbered (shown_at : ℕ → Shown) (moments : ℕ) (z : Size) (f : FrameView) : Type 0 where
   pub known : IfSome f.from (λ n. n < moments)
   pub moment : f.base.moment < moments
@@ -37,7 +37,7 @@ pub record IsNumbered (shown_at : ℕ → Shown) (moments : ℕ) (z : Size) (f :
 abbrev pub EachLast : Slab RecordView → (FrameView → Type 0) → Type 0
 EachLast clients P = (key : ℕ) → IfSome (get clients key) (λ r. IfSome r.last P)
 
--- two lists of what was shown agree on so many moments
+-- two lists of what was shown agree on the first `moments` moments
 abbrev pub AgreeOn : ℕ → (ℕ → Shown) → (ℕ → Shown) → Type 0
 AgreeOn moments s t = (n : ℕ) → n < moments → t n ≡ s n
 
@@ -46,7 +46,7 @@ pub record AreNumbered (shown_at : ℕ → Shown) (z : Size) (v : FramesView) (o
   pub latest : IfSome v.latest (IsNumbered shown_at v.moments z)
   pub last : IfSome other (IsNumbered shown_at v.moments z)
 
--- what was shown at each moment can be told, unless there are too many of them
+-- what was shown at each moment can be given, unless there are too many moments
 abbrev pub CanNumber : Size → FramesView → Option FrameView → Type 0
 CanNumber z v last = v.moments < most_moments → (shown_at : ℕ → Shown) × AreNumbered shown_at z v last
 
@@ -56,7 +56,7 @@ pub record GoesOnNumbering (shown_at : ℕ → Shown) (z : Size) (v w : FramesVi
   pub agree : AgreeOn v.moments shown_at shown_then
   pub after : AreNumbered shown_then z w given
 
--- the same, whatever was shown at each moment, unless there are too many of them
+-- the same, whatever was shown at each moment, unless there are too many moments
 pub record KeepsNumbers (z : Size) (v : FramesView) (last : Option FrameView) (w : FramesView) (given : Option FrameView)
     : Type 0 where
   pub more : w.moments < most_moments → v.moments ≤ w.moments

@@ -99,7 +99,7 @@ module _ {way : Telling} where
   abbrev pub screen_in : HubState way → ScreenView
   screen_in h = way.screen h.parser
 
-  -- a hub has failed where its screen has
+  -- a hub has failed if its screen has
   abbrev pub is_failed : HubState way → Bool
   is_failed h = (screen_in h).failed
 
@@ -174,11 +174,11 @@ module _ {way : Telling} where
   abbrev pub Frames : HubState way → ℕ → Result Answer HubError → HubState way → Type 0
   Frames h key result g = CanFrame (screen_in h) (clients_in h key) result × Framed h key (clients_in h key) result g
 
-  -- the client at a key, if there is one, is owed no more than the longest frame of a screen of this size
+  -- at most the longest frame of a screen of this size waits for the client at a key, if there is one
   abbrev pub OwesOneFrame : HubState way → ℕ → Type 0
   OwesOneFrame h key = IfSome (clients_in h key) (λ c. IsShortFrame (size_in h) c.owed)
 
-  -- The client at a key was owed nothing, and is now owed a frame. The frame's forms touch only local cells of its
+  -- No bytes waited for the client at a key, and now a frame does. The frame's forms touch only local cells of its
   -- base's picture and the screen's.
   pub record OwesLocalFrame (h : HubState way) (key : ℕ) (g : HubState way) : Type 0 where
     pub base : Shown
@@ -190,7 +190,7 @@ module _ {way : Telling} where
   -- ---- pump
 
   -- A pump of the client at a key, if there is one, takes a writer s to t. `step` gives the result of one write of
-  -- these bytes, and the writer after it. Bytes that were taken are no longer owed. A failed hub can pump too.
+  -- these bytes, and the writer after it. Bytes that were taken are no longer pending. A failed hub can pump too.
   abbrev pub PumpsFrom : {S : Type 0} → (S → List ℕ → Result ℕ Error → S → Type 0) → HubState way → ℕ
       → Option ClientState → S → Result (Unit {0}) HubError → S → HubState way → Type 0
   PumpsFrom step h key None s result t g = (result ≡ Err UnknownClient) × (t ≡ s) × (g ≡ h)

@@ -30,8 +30,8 @@ pub record EachIsNumbered (z : Size) (clients : Slab RecordView) (v : FramesView
   pub latest : IfSome v.latest (IsNumbered shown_at v.moments z)
 
 -- Unless the hub has failed, its parser is in the state after some acts. Then each client's last frame has the screen's
--- size, and each client is owed at most the longest frame's bytes. The latest frame leads to what the screen shows. Unless
--- there are too many moments, the frames are numbered.
+-- size, and at most the longest frame's bytes wait for each client. The latest frame leads to what the screen shows.
+-- Unless there are too many moments, the frames are numbered.
 pub record IsHub (h : Inside) : Type 0 where
   pub made : h.parser.screen.failed ≡ false → IsMade h.parser
   pub served : h.parser.screen.failed ≡ false → (key : ℕ)

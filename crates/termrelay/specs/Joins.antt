@@ -8,7 +8,7 @@ use Rattle.termrelay.specs.Hub.{Telling, HubState, is_failed, size_in, clients_i
 use Rattle.termrelay.specs.declared.error.HubError.{HubError}
 use Rattle.termrelay.specs.declared.error.HubError.TheVariants.{Memory, Failed, UnknownClient, Write}
 
--- a fork of the client: its next frame starts from the same screen, and it is owed nothing
+-- a fork of the client: its next frame starts from the same screen, and no bytes wait for it
 abbrev pub forked : ClientState → ClientState
 forked c = record { owed = []; base = c.base }
 

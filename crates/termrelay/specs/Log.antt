@@ -42,7 +42,7 @@ change_last test f (x ∷ xs) =
     else if test x then f x ∷ xs
     else x ∷ xs
 
--- a list of the last item that passes the test; empty if there is none
+-- a list of only the last item that passes the test; empty if no item does
 abbrev pub last_that : {A : Type 0} → (A → Bool) → List A → List A
 last_that test [] = []
 last_that test (x ∷ xs) =
@@ -72,16 +72,16 @@ ended s = record s { ended = true }
 abbrev pub grown : List ℕ → SessionView → SessionView
 grown bytes s = record s { pumped = s.pumped ++ bytes }
 
--- the bytes that the client is owed; none if there is no client
+-- the bytes that wait for the client; no bytes if there is no client
 abbrev pub bytes_owed : Option ClientState → List ℕ
 bytes_owed None = []
 bytes_owed (Some c) = c.owed
 
--- the session of a fork with this key, if its client's session was this one, and was still owed these bytes
+-- the session of a fork with this key, if its client's session was this one, and these bytes were still pending
 abbrev pub branched : ℕ → List ℕ → SessionView → SessionView
 branched key owed s = record s { client = key; pumped = s.pumped ++ owed; ended = false }
 
--- the bytes that a scripted writer takes of those that the client is owed; none if there is no client
+-- the bytes that a scripted writer takes of those that wait for the client; no bytes if there is no client
 abbrev pub bytes_taken : List Take → Option ClientState → List ℕ
 bytes_taken takes None = []
 bytes_taken takes (Some c) = take (taken_by takes (length c.owed)) c.owed

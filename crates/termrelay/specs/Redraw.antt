@@ -12,7 +12,7 @@ abbrev pub redraw_text : Size → Option Shown → List ℕ
 redraw_text z None = []
 redraw_text z (Some base) = frame_text z None base
 
--- the redraw; none if it is too long
+-- the redraw; `None` if it is too long
 abbrev pub redraw_of : Size → Option Shown → Option (List ℕ)
 redraw_of z base = if nat_lt longest_frame (length (redraw_text z base)) then None else Some (redraw_text z base)
 

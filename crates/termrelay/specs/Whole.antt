@@ -33,8 +33,8 @@ whole_forms z now = modes_off ++ state_formatted z now
 abbrev pub whole_text : Size → Shown → List ℕ
 whole_text z now = start_mark ++ (bytes_of (whole_forms z now) ++ end_mark)
 
--- The whole frame of what was shown at the client's last frame. There is none before its first frame, and none if it is
--- too long.
+-- The whole frame of what was shown at the client's last frame. It is `None` before the client's first frame, and if it
+-- is too long.
 abbrev pub whole_of : Size → Option Shown → Option (List ℕ)
 whole_of z None = None
 whole_of z (Some base) =

@@ -14,7 +14,7 @@ pub enum Answer {
     Unsure,
     /// No frame: the screen shows the same as at the last one.
     Unchanged,
-    /// No frame: bytes of an earlier one are still owed.
+    /// No frame: bytes of an earlier one still wait for the client.
     Behind,
     /// No frame: the program is in a synchronized update of its own (private mode 2026), which has to end first. There
     /// is no timeout; a full reset and a resize end the update too.

@@ -95,7 +95,7 @@ fn unsure_or(unsure: bool, answer: Answer) -> Answer
 pub(crate) struct ClientRecord {
     /// The last frame, which other clients may have too.
     last: Option<Arc<Frame>>,
-    /// How many bytes at its end are still owed.
+    /// How many bytes at its end still wait for the client.
     left: usize,
 }
 
@@ -125,7 +125,7 @@ impl ClientRecord {
         }
     }
 
-    /// The record of a client that has had what this one has had and is owed nothing. The two share the last frame.
+    /// The record of a client that has had what this one has had, without pending bytes. The two share the last frame.
     /// Fails only if an allocation fails.
     pub(crate) fn fork(&self) -> Result<Self, HubError>
         ensures fork { IfOk result (λ fork. fork ≡ record { owed = []; last = self.now.last }) }
@@ -170,7 +170,7 @@ impl ClientRecord {
         }
     }
 
-    /// The bytes that are owed.
+    /// The bytes that wait for the client.
     pub(crate) fn owed(&self) -> &[u8]
         ensures { result.now ≡ self.now.owed }
     {
@@ -231,8 +231,8 @@ impl ClientRecord {
         }
     }
 
-    /// The answer if nothing is owed and the program isn't in a synchronized update. A screen that shows the same as a
-    /// sure base is itself sure.
+    /// The answer if no bytes are pending and the program isn't in a synchronized update. A screen that shows the same
+    /// as a sure base is itself sure.
     pub(crate) fn due(&self, now: &Screen) -> Answer
         requires unscrolled { IsUnscrolled now.now.state }
         requires served { IsRecordOf now.now self.now }
@@ -247,8 +247,8 @@ impl ClientRecord {
         unsure_or(is_unsure_since(base, now), Answer::Difference)
     }
 
-    /// The answer to a request for a frame, if it needs no look at what is shown: bytes are owed, or the program is in
-    /// a synchronized update.
+    /// The answer to a request for a frame, if it needs no look at what is shown: bytes are pending, or the program is
+    /// in a synchronized update.
     pub(crate) fn waits(&self, now: &Screen) -> Option<Answer>
         ensures { MatchOption result
             ((self.now.owed ≡ []) × (now.now.state.updating ≡ false))
@@ -305,7 +305,7 @@ impl ClientRecord {
         }
     }
 
-    /// The client is owed a frame from now on. Returns the frame before it.
+    /// A frame waits for the client from now on. Returns the frame before it.
     pub(crate) fn owe(&mut self, frame: Arc<Frame>) -> Option<Arc<Frame>>
         ensures { self.new ≡ record { owed = frame.value.text; last = Some frame.value } }
     {
@@ -324,7 +324,7 @@ impl ClientRecord {
     }
 }
 
-/// The last so many bytes of a text.
+/// The last `count` bytes of a text.
 fn last_bytes(text: &[u8], count: usize) -> &[u8]
     requires { count ≤ length text.now }
     ensures { result.now ≡ drop (length text.now - count) text.now }

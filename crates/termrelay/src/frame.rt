@@ -76,10 +76,10 @@ impl Base {
     }
 }
 
-/// A frame. Clients that are owed the same bytes share it.
+/// A frame. Clients for which the same bytes wait share it.
 #[derive(Drop)]
 pub(crate) struct Frame {
-    /// The moment that it leads on from. None if it is a first frame.
+    /// The moment that it leads on from. `None` if it is a first frame.
     from: Option<u64>,
     /// The answer that brings it.
     answer: Answer,

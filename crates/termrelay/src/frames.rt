@@ -21,7 +21,7 @@ use std::marker::Model;
 use std::sync::Arc;
 use vt100::Screen;
 
-/// As many moments have a number of their own.
+/// This many moments have a number of their own.
 const MOST_MOMENTS: u64 = u64::MAX;
 
 /// What is due to a client.
@@ -89,7 +89,7 @@ impl SharedFrames {
         }
     }
 
-    /// What is due to a client that is owed nothing, if the program isn't in a synchronized update. Fails only if an
+    /// What is due to a client without pending bytes, if the program isn't in a synchronized update. Fails only if an
     /// allocation fails.
     pub(crate) fn due(&mut self, record: &ClientRecord, now: &Screen) -> Result<Due, HubError>
         requires unscrolled { IsUnscrolled now.now.state }

@@ -86,9 +86,9 @@ impl Hub {
     /// Gives the program's next bytes to the screen. A feed may end anywhere, also inside a character or an escape
     /// sequence.
     ///
-    /// If an allocation fails, the hub has failed: it makes no more frames, but the bytes that are owed can still be
-    /// pumped. Only the first switch to the alternate screen since the start or a full reset allocates memory. Other
-    /// bytes are refused only by a hub that has failed.
+    /// If an allocation fails, the hub has failed: it makes no further frames, but pending bytes can still be pumped.
+    /// Only the first switch to the alternate screen since the start or a full reset allocates memory. Other bytes are
+    /// refused only by a hub that has failed.
     pub fn feed(&mut self, bytes: &[u8]) -> Result<(), HubError>
         ensures { Feeds self.old bytes.now result self.new }
     {
@@ -133,8 +133,8 @@ impl Hub {
         }
     }
 
-    /// Adds a client that has what this one has once it has read all its frames. The new client is owed nothing, and
-    /// its next frame starts from the screen at this one's last frame, which the two share.
+    /// Adds a client that has what this one has once it has read all its frames. No bytes wait for the new client. Its
+    /// next frame starts from the screen at this one's last frame, which the two share.
     ///
     /// A terminal that has read this client's frames so far, or its [`redraw`](Self::redraw), goes on with the new
     /// client's frames. If this client has had no frame, the call does what [`attach`](Self::attach) does. Fails only
@@ -153,7 +153,7 @@ impl Hub {
         }
     }
 
-    /// Ends the client. The bytes that it is still owed are dropped. Fails only for an unknown client.
+    /// Ends the client. Its pending bytes are dropped. Fails only for an unknown client.
     pub fn detach(&mut self, client: Client) -> Result<(), HubError>
         ensures { Detaches self.old client result self.new }
     {
@@ -164,8 +164,8 @@ impl Hub {
     }
 
     /// The bytes of the client's last frame that haven't been pumped yet. Unless the hub has failed, these are at most
-    /// 1,024 bytes for each cell of the screen, and 1,024 more (`short`). When a hub fails, its clients are still owed
-    /// the same bytes. Fails only for an unknown client.
+    /// 1,024 bytes for each cell of the screen, and 1,024 more (`short`). When a hub fails, the same bytes still wait
+    /// for its clients. Fails only for an unknown client.
     pub fn owed(&self, client: Client) -> Result<&[u8], HubError>
         ensures owed { MatchOption (clients_in self.now client) (result ≡ Err UnknownClient)
             (λ c. IsOkAnd result (λ bytes. bytes.now ≡ c.owed)) }
@@ -178,7 +178,7 @@ impl Hub {
     }
 
     /// What draws, on a fresh terminal of the screen's size, what the client shows once it has read all its frames.
-    /// Frames that are still owed count as read. Nothing changes.
+    /// Frames that still wait for the client count as read. Nothing changes.
     ///
     /// It is the first frame of the screen at the client's last frame, or no bytes if the client has had no frame. A
     /// terminal that has read the redraw goes on with the client's later frames. The answer is `None` if the redraw
@@ -199,7 +199,7 @@ impl Hub {
     /// frames, on any terminal of the screen's size, whatever frames the terminal has read before. Nothing changes.
     ///
     /// It is the client's [`redraw`](Self::redraw), with what turns off each mouse mode, encoding and cursor style
-    /// behind its start mark (xterm's private modes 9, 1000, 1002, 1003, 1005 and 1006, and DECSCUSR 0). So terminals
+    /// after its start mark (xterm's private modes 9, 1000, 1002, 1003, 1005 and 1006, and DECSCUSR 0). So terminals
     /// can begin with it, and those that have read the client's frames so far show the same after it. All go on with
     /// the client's later frames.
     ///
@@ -216,12 +216,12 @@ impl Hub {
         }
     }
 
-    /// Writes the bytes that the client is owed to a writer. It doesn't flush the writer, and writes nothing if nothing
-    /// is owed.
+    /// Writes the bytes that wait for the client to a writer. It doesn't flush the writer, and writes nothing if no
+    /// bytes wait.
     ///
     /// The first error of a write ends the call and is returned, also if the write was interrupted. A write that takes
-    /// no byte is an error of kind `WriteZero`. Bytes that were taken are no longer owed. If a write returns more than
-    /// the number of bytes it was offered, it counts as having taken all of them.
+    /// no byte is an error of kind `WriteZero`. Bytes that were taken are no longer pending. If a write returns more
+    /// than the number of bytes it was offered, it counts as having taken all of them.
     pub fn pump<T: ByteSink>(&mut self, client: Client, to: &mut T) -> Result<(), HubError>
         ensures { PumpsClient T.takes self.old client to.old result to.new self.new }
     {
@@ -234,8 +234,9 @@ impl Hub {
         }
     }
 
-    /// Asks for a frame for the client. If the answer brings a frame, the client is owed its bytes from now on, and its
-    /// next frame starts from the present screen. If the call fails, or with any other answer, nothing has changed.
+    /// Asks for a frame for the client. If the answer brings a frame, its bytes wait for the client from now on, and
+    /// the client's next frame starts from the present screen. If the call fails, or with any other answer, nothing has
+    /// changed.
     ///
     /// The answer is `Held` while the program is in a synchronized update of its own: it has set private mode 2026 and
     /// hasn't reset it. Then no memory is allocated. There is no timeout: only the program, a full reset or a resize
@@ -246,7 +247,7 @@ impl Hub {
     /// first, so this answer allocates memory too. It never comes on a screen of at most 2,000 cells (`small`). A later
     /// frame may be shorter; else a host can resize to fewer cells.
     ///
-    /// Whatever the answer is, the client is owed at most 1,024 bytes for each cell of the screen, and 1,024 more
+    /// Whatever the answer is, at most 1,024 bytes for each cell of the screen, and 1,024 more, wait for the client
     /// (`short`).
     ///
     /// The body of a difference touches only local cells (`local`): cells that differ, and some in rows that differ and
@@ -281,7 +282,7 @@ impl Hub {
     }
 }
 
-/// The client is owed a frame from now on. Returns the frame before it.
+/// A frame waits for the client from now on. Returns the frame before it.
 fn owe(clients: &mut Slab<ClientRecord>, client: Client, frame: Arc<Frame>) -> Option<Arc<Frame>>
     requires { IsSome (get clients.old client) }
     ensures { clients.new ≡ with_value clients.old client (record { owed = frame.value.text; last = Some frame.value }) }

@@ -38,7 +38,7 @@ fn cells_of(screen: &Screen, row: u16) -> &[Cell]
     }
 }
 
-/// How many columns of a row that is shown are looked at: the cells behind them are default cells.
+/// How many columns of a row that is shown are looked at: the cells to the right of them are default cells.
 fn filled_cols(screen: &Screen, row: u16) -> usize
     requires state { IsState screen.now.state }
     requires inside { row < screen.now.state.shown.height }
@@ -85,7 +85,7 @@ pub(crate) fn is_unsure(screen: &Screen) -> bool
     false
 }
 
-/// Whether two rows of one width have the same cells. Behind the first `filled` they have.
+/// Whether two rows of one width have the same cells. After the first `filled` cells they have.
 fn are_same(cells: &[Cell], others: &[Cell], filled: usize) -> bool
     requires width { length cells.now ≡ length others.now }
     requires blank { AreSame (cell_at cells.now) (cell_at others.now) filled (length cells.now) }

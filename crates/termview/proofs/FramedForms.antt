@@ -132,7 +132,7 @@ unmarked-forms : (fs : List Form) → Unmarked (events_of_all fs)
 unmarked-forms [] = refl
 unmarked-forms (f ∷ fs) = unmarked-append (events_of f) (events_of_all fs) (unmarked-form f) (unmarked-forms fs)
 
--- ---- so no end mark stands in their bytes
+-- ---- so no end mark is in their bytes
 
 reported : (fs : List Form) → AllByRecursion IsSentForm fs → events 1024 (bytes_of fs) ≡ events_of_all fs
 reported fs k =

@@ -86,7 +86,7 @@ drops-control p c e =
           (ap (λ x. x || (nat_lt p.size.cols (columns_of c) || ((columns_of c == 0) && (p.col == 0)))) b);
     }
 
--- one that is wider than the screen
+-- a character that is wider than the screen
 pub drops-wide : (p : PictureView) (c n : ℕ) → drawn_columns c ≡ Some n → p.size.cols < n
     → Becomes p p (input p.size c (term_of_picture p))
 drops-wide p c n e h =
@@ -99,7 +99,7 @@ drops-wide p c n e h =
           ∙ or-true (is_undrawable c));
     }
 
--- a zero-width one at the first column
+-- a zero-width character at the first column
 pub drops-first : (p : PictureView) (c : ℕ) → drawn_columns c ≡ Some 0 → p.col ≤ 0
     → Becomes p p (input p.size c (term_of_picture p))
 drops-first p c e h =
@@ -124,7 +124,7 @@ stays w col c n e h o =
     ∙ ap (λ x. x || ((n == 0) && (col == 0))) (le-ltb w n h)
     ∙ o
 
--- a zero-width one joins
+-- a zero-width character joins a cell
 pub joins-left : (p q : PictureView) (c : ℕ) → drawn_columns c ≡ Some 0 → 0 < p.col
     → Becomes p q (join c (term_of_picture p))
     → Becomes p q (input p.size c (term_of_picture p))
@@ -143,7 +143,7 @@ made-attrs z n t =
     cond_both (nat_le (t.col + n) z.cols) t _ (λ (s : Term). s.attrs ≡ t.attrs) (λ _. refl)
     (λ _. cond_both (nat_lt (t.row + 1) z.rows) _ _ (λ (s : Term). s.attrs ≡ t.attrs) (λ _. refl) (λ _. refl))
 
--- one of one or two columns is put where it has room
+-- a character of one or two columns is put where it has room
 pub prints : (p q r : PictureView) (c n : ℕ) → drawn_columns c ≡ Some n → 0 < n → n ≤ p.size.cols
     → Becomes p q (made_to_fit p.size n (term_of_picture p))
     → Becomes q r (print q.size (cell_of c q.attrs) (term_of_picture q))

@@ -33,7 +33,7 @@ module _ {w : ℕ} (o : OneOrTwo w) where
   abbrev pub IsOne : ℕ → Type 0
   IsOne c = IsScalar c × (drawn_columns c ≡ Some w)
 
-  -- the characters at the cursor, and the cursor behind them
+  -- the characters at the cursor, and the cursor to the right of them
   abbrev pub run_at : PictureView → List ℕ → PictureView
   run_at p xs = record p {
     rows = set p.rows p.row (placed_each w (cursor_row p) p.col xs p.attrs);
@@ -104,7 +104,7 @@ module _ {w : ℕ} (o : OneOrTwo w) where
             (All-drop IsShown 1 (x ∷ xs) shown) enough (omega (arith, more, fits))),
       )
 
-  -- those that go into a row, the first of which has the cursor stand at q
+  -- those that go into a row, where q is the picture p with room made for the first of them
   pub shows-row : (xs : List ℕ) (p q : PictureView) → IsPicture q → 0 < length xs → All IsOne xs → All IsShown xs
       → w ≤ p.size.cols → Becomes p q (made_to_fit p.size w (term_of_picture p)) → q.col + w * length xs ≤ q.size.cols
       → Calls Does p (map input xs) (run_at q xs)
@@ -190,7 +190,7 @@ prefix-then text left p q r prefix more =
     (sym (map-append input prefix.0 (chars left)) ∙ ap (map input) (sym prefix.1))
     (Calls-append Does p q r (map input prefix.0) (map input (chars left)) prefix.2 more)
 
--- where nothing is left
+-- if nothing is left
 pub prefix-end : (left : List ℕ) (p : PictureView) → length left ≡ 0 → Calls Does p (map input (chars left)) p
 prefix-end left p e =
     subst (λ (xs : List ℕ). Calls Does p (map input xs) p) (sym (ap chars (nil_from_length left e) ∙ chars-nil)) refl

@@ -98,7 +98,7 @@ wraps-gone z t l q =
     ∙ sym (down-up z (record t { wrapped = update t.wrapped t.row (full z t); col = 0 }) h))
     (cases_lt (t.row + 1) z.rows)
 
--- the row that the cursor leaves is flagged when it stands above the cursor
+-- the row that the cursor leaves is flagged when it is above the cursor
 pub wraps-flagged : (z : Size) (t : Term) → t.row < z.rows → 0 < (down z (at_start t)).row
     → flag_above z (down z (at_start t)) ≡ wrap z t
 wraps-flagged z t l q =

@@ -6,7 +6,7 @@ use thiserror::Error;
 use vt100_forms::GridError;
 use vte::ansi::OutOfMemory;
 
-/// The reason why a view wasn't made.
+/// The reason why a view wasn't created.
 #[derive(Clone, Copy, Debug, Eq, Error, PartialEq)]
 pub enum ViewError {
     /// The allocation of its cells failed, or that of the buffer for a synchronized update.

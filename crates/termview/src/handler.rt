@@ -38,7 +38,7 @@ impl Handler for Picture {
         }
     }
 
-    // The calls of which frames have most don't go by `call`.
+    // The calls that occur most often in frames don't go through `call`.
     #[tactic(auto, unfolding(crate::specs::Step::view_step))]
     fn input(&mut self, c: char) {
         self.input(c);

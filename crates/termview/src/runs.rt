@@ -14,7 +14,7 @@ use vt100_cells::{Char3, Glyph, RUN_LEN, TextGlyph, take_run};
 
 impl Picture {
     /// Prints the characters at the start of a text that take one column each, or two each, as many as make a run.
-    /// Returns the rest, or `None` if there is none or no room for one in a row. The effect is that of
+    /// Returns the rest, or `None` if there is no such character or a row has no room for one. The effect is that of
     /// [`input`](Self::input) for each character.
     pub(crate) fn input_chars<'a>(&mut self, text: &'a str) -> Option<&'a str>
         ensures shorter { IfSome result (λ rest. length rest.now < length text.now) }
@@ -34,8 +34,8 @@ impl Picture {
         }
     }
 
-    /// Prints the run of characters of so many columns each at the start of a text, which it takes into `run`. Returns
-    /// the rest, or `None` if there is none or no room for one in a row.
+    /// Prints the run of characters of `COLUMNS` columns each at the start of a text, which it takes into `run`.
+    /// Returns the rest, or `None` if there is no such character or a row has no room for one.
     fn input_taken<'a, G: TextGlyph, const COLUMNS: usize>(
         &mut self,
         text: &'a str,
@@ -60,7 +60,7 @@ impl Picture {
 
     /// Prints the characters of a text, row by row. The effect is that of [`input`](Self::input) for each of them.
     ///
-    /// Where they take two columns each the picture has two or more.
+    /// If they take two columns each, the picture has at least two columns.
     pub(crate) fn input_run<G: Glyph, const COLUMNS: usize>(&mut self, text: &[G])
         requires columns { (COLUMNS ≡ 1) ⊎ (COLUMNS ≡ 2) }
         requires drawn { All (G.Takes COLUMNS) text.now }

@@ -136,7 +136,7 @@ modes-refl m = grind (arith, nat_tests)
 pub modes-same : (m n : Modes) → m ≡ n → same_modes m n ≡ true
 modes-same m n e = ap (same_modes m) (sym e) ∙ modes-refl m
 
--- what has been compared beside the sheets
+-- what has been compared besides the sheets
 pub record HaveSameExtras (s t : State) : Type 0 where
   pub hidden : s.hidden ≡ t.hidden
   pub style : s.style ≡ t.style

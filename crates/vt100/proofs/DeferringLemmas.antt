@@ -53,7 +53,7 @@ use Rattle.vt100.proofs.RunLemmas.{IsSpacing, drawn_as, typed_all-is, printable-
 
 -- ---- one row
 
--- a cell that is put where the erasing begins, and the erasing behind it
+-- a cell that is put where the erasing begins, and the erasing to the right of it
 late-put-at : (f : ℕ → CellView) (c n : ℕ) (x : CellView) (a b : Attrs) (g h : ℕ → CellView) (k : ℕ) → k < n
     → c + 1 < n → x.wide ≡ false → g k ≡ wiped f c n a k → g c ≡ wiped f c n a c → h k ≡ put f c x b k
     → put g c x b k ≡ wiped h (c + 1) n a k
@@ -376,7 +376,7 @@ module _ {C : Type 0} (step : C → ScreenView → Call → C → ScreenView →
       (q, (subst (λ (x : WrappedScreen C). Steps step scrolls (settled p) e x) (sym h) s, same), refl)
   some-late e (f ∷ es) p q same (m, s, h) = (mid p m, (s, refl), some-late f es (mid p m) q same h)
 
-  -- events that come about, whether or not something is put off before them and behind them
+  -- events that take effect, whether or not something is put off before them and after them
   performs_late : (es : List Event) (p q : Deferring C) → q.screen.ghost_name ≡ p.screen.ghost_name
       → 0 < length es → Performs (Steps step scrolls) (settled p) es (settled q) → Performs (Defers step scrolls) p es q
   performs_late [] p q same some h = absurd (omega arith)
@@ -429,7 +429,7 @@ module _ {C : Type 0} (step : C → ScreenView → Call → C → ScreenView →
   no_controls [] p none = refl
   no_controls (x ∷ xs) p none = absurd (omega arith)
 
-  -- controls that are executed, whether or not something is put off before them and behind them
+  -- controls that are executed, whether or not something is put off before them and after them
   pub performs_controls : (bs : List ℕ) (p q : Deferring C) → 0 < length bs
       → q.screen.ghost_name ≡ p.screen.ghost_name
       → Performs (Steps step scrolls) (settled p) (map Execute bs) (settled q)
@@ -437,7 +437,7 @@ module _ {C : Type 0} (step : C → ScreenView → Call → C → ScreenView →
   performs_controls [] p q some same h = absurd (omega arith)
   performs_controls (b ∷ bs) p q some same h = some-late (Execute b) (map Execute bs) p q same h
 
-  -- a text that is printed, whether or not something is put off before it and behind it
+  -- a text that is printed, whether or not something is put off before it and after it
   pub performs_text : (bs : List ℕ) (p q : Deferring C) → IsUtf8 bs → 0 < length bs
       → q.screen.ghost_name ≡ p.screen.ghost_name
       → Performs (Steps step scrolls) (settled p) (map Print (chars bs)) (settled q)

@@ -56,7 +56,7 @@ module _ {C : Type 0} {step : C → ScreenView → Call → C → ScreenView →
       → Does step scrolls f t c v c v
   does_none h = record { dead = λ e. (refl, refl); live = λ e. absurd (false≢true (sym e ∙ h)) }
 
-  -- what comes about on a screen that hasn't failed
+  -- what takes effect on a screen that hasn't failed
   pub does_live : {t : Bool} {c d : C} {v w : ScreenView} (f : State → Effect) → v.failed ≡ false
       → Acts step scrolls c (f v.state) d w ⊎ Fails scrolls t (f v.state).reports c v d w
       → Does step scrolls f t c v d w
@@ -137,7 +137,7 @@ module _ {C : Type 0} {step : C → ScreenView → Call → C → ScreenView →
   does_parts {t} {c} {b} {d} {v} {u} {w} {n} {f} k h x calls =
       does_unhandled f k _ _ _ h x.tries.receives x.tries.screen x.count calls
 
-  -- the same effect, in other words
+  -- the same effect, stated otherwise
   pub does_as : {t : Bool} {g : State → Effect} {c d : C} {v w : ScreenView} (f : State → Effect)
       → f v.state ≡ g v.state → Does step scrolls f t c v d w → Does step scrolls g t c v d w
   does_as {t} {g} {c} {d} {v} {w} f same x = record {

@@ -1,5 +1,5 @@
--- A parser in memory is its screen and its callbacks in memory and what is left of it, and it is made again of any
--- screen and any callbacks there.
+-- A parser in memory is its screen and its callbacks in memory and the rest of it. With any screen and any callbacks
+-- there, it is a parser again.
 use base.Fml.{Fml, fex, fsep, ftrue}
 use base.Fraction.{full_share}
 use base.Logic.{SProp, all_e, emp, id⊢, ent, sep, wand, apply∗}
@@ -113,7 +113,7 @@ module _ (C : RattleType) where
     abbrev wrapped_back : ℕ → ℕ → SProp 𝓤
     wrapped_back b o = PartsBack 𝓛 full_share (wrapped.struct callbacks_row).name wrapped_parts b (at_wrapped o)
 
-    -- what is left of a parser beside its screen and its callbacks
+    -- what is left of a parser besides its screen and its callbacks
     abbrev pub Left : ParserView C.Denot → ℕ → ℕ → SProp 𝓤
     Left x b o = sep 𝓤 (sem 𝓛 (part_at reader_row full_share (reader_field.into x.reader) b (at_reader o)))
         (sep 𝓤 (parser_back b o) (wrapped_back b o))

@@ -1,4 +1,4 @@
--- Callbacks behind a sink of rows, and calls of a screen that go through or find no memory.
+-- Callbacks to which a sink reports rows, and calls of a screen that succeed or in which an allocation fails.
 use Rattle.std.proofs.Common.{◌≡◌, ◌∙◌, ℕ, Bool, true, false, List, [], ◌∷◌, ◌++◌, refl, ap, sym, subst, append-nil}
 use Rattle.std.proofs.Common.{nat_lt}
 use Rattle.std.proofs.Common.{Ok, Err, Result, OnOk, OnErr, arith, inl, inr, not, nat_le, ◌-◌, ◌^◌, ◌<◌, ◌==◌, ◌&&◌}
@@ -100,7 +100,7 @@ module _ {C : Type 0} (scrolls : C → RowView → Bool → C → Type 0) where
     dead = λ e. absurd (false≢true (sym live ∙ e));
   }
 
-  -- the screen has failed, and the callbacks got only the first of the rows
+  -- the screen has failed, and the callbacks got only a prefix of the rows
   pub tries_prefix : {A : Type 0} (f : State → Stepped) (v : ScreenView) (c : C) (w : ScreenView) (d : C)
       → v.failed ≡ false → w.failed ≡ true → ReceivesPrefix scrolls c (f v.state).reports d
       → Tries {A = A} scrolls f v c (Err Memory) w d
@@ -129,7 +129,7 @@ module _ {C : Type 0} (scrolls : C → RowView → Bool → C → Type 0) where
     stays = λ _ none. not-ok answer refused (stays none);
   }
 
-  -- a call by which rows may leave, in other words
+  -- a call by which rows may leave, stated otherwise
   pub scroll_as : {f : State → Stepped} {p q : WrappedScreen C} {result : Result (Unit {0}) ScreenError}
       (g : State → Stepped) → f p.screen.state ≡ g p.screen.state → MayScroll scrolls f p result q
       → MayScroll scrolls g p result q
@@ -156,7 +156,7 @@ module _ {C : Type 0} (scrolls : C → RowView → Bool → C → Type 0) where
 some-kept : (n : ℕ) → (n ≡ 0 → ⊥) → nat_lt 0 n ≡ true
 some-kept n h = grind (arith, nat_tests)
 
--- a count goes from n to m where so many rows are kept
+-- a count goes from n to m where at most `capacity` rows are kept
 abbrev pub grows : ℕ → ℕ → ℕ → Bool
 grows capacity n m = nat_lt 0 capacity && (not (m == n) || nat_le (2 ^ 64 - 1) n)
 

@@ -1,4 +1,4 @@
--- A screen that is made anew in its own rows.
+-- A screen that is reset and reuses its own rows.
 use Rattle.std.proofs.Common.{◌≡◌, ◌∙◌, ℕ, true, false, [], length, replicate, refl, ap}
 use Rattle.std.proofs.Common.{if◌then◌else◌}
 use Rattle.vt100_rows.specs.Row.{blank_row}

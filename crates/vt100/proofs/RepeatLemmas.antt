@@ -16,7 +16,7 @@ use Rattle.vt100.specs.declared.screen.wrapped.WrappedScreen.{WrappedScreen}
 use Rattle.vt100.proofs.ReceiveLemmas.{scroll_as}
 use Rattle.vt100.proofs.RunLemmas.{drawn_as, reports-append}
 
--- a character on the shown sheet, so many times
+-- a character on the shown sheet, n times
 abbrev pub again_drawn : ℕ → ℕ → State → Stepped
 again_drawn n c s =
     let d = printed_all s.shown (replicate n c) s.attrs in

@@ -48,7 +48,7 @@ use Rattle.printable.proofs.PrintableLemmas.{printable-ascii, printable-chars}
 use Rattle.vt100.proofs.EventLemmas.{is_alive, does_as, does_live, does_none, does_where}
 use Rattle.vt100.proofs.LimitsLemmas.{bounds_typed, bounds_back, capacity_typed}
 
--- ---- a character that stands in a cell of its own
+-- ---- a character that has a cell of its own
 
 -- on a sheet of w columns
 pub record IsSpacing (w c : ℕ) : Type 0 where

@@ -41,7 +41,7 @@ where_changed old new f = cond (bool_eq new old) [] (f ∷ [])
 pub some-full : {Z : Type 0} (s : String Z) (bs : List ℕ) → string_capacity s < string_len s + length bs → bs ≡ [] → ⊥
 some-full s bs full none = let z = ap length none in let fits = s.bytes.ok.1 in omega (arith, full, z, fits)
 
--- where these are none, what a call says of a refusal shows that there is none
+-- if there are no such bytes, what a call says of a refusal shows that the call isn't refused
 pub fits-ok : {Z T E : Type 0} (r : Result T E) (s : String Z) (bs : List ℕ)
     → OnErr r (string_capacity s < string_len s + length bs) → bs ≡ [] → IsOk r
 fits-ok (Ok x) s bs full none = refl

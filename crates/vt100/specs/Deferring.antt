@@ -31,8 +31,8 @@ erased_late (Some a) v = erased_on a v
 abbrev pub settled : {C : Type 0} → Deferring C → WrappedScreen C
 settled d = record { screen = erased_late d.erasing d.screen.now.screen; callbacks = d.screen.now.callbacks }
 
--- what brings about the effect f does to a screen with its callbacks, whether or not something is put off; it may take
--- memory where `takes` says so
+-- what an action with the effect f does to a screen with its callbacks, whether or not something is put off; it may
+-- allocate where `takes` says so
 abbrev pub DefersEffect : {C : Type 0} → (C → ScreenView → Call → C → ScreenView → Type 0)
     → (C → RowView → Bool → C → Type 0) → (State → Effect) → (State → Bool) → Deferring C → Deferring C → Type 0
 DefersEffect step scrolls f takes p q =

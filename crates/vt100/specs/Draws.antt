@@ -1,4 +1,4 @@
--- What becomes of a sheet of which rows may leave.
+-- What a call makes of a sheet that rows may leave.
 use Rattle.std.specs.Prelude.{◌≡◌, Bool, Result, OnOk, OnErr, IsOk}
 use Rattle.vt100_rows.specs.Row.{RowView}
 use Rattle.vt100_core.specs.Grid.{GridView, IsAllocated, SameLimits}
@@ -14,8 +14,8 @@ abbrev pub scrolled_of : PrintedGrid → Scrolled
 scrolled_of d = record { grid = d.grid; sunk = d.sunk }
 
 -- A call that makes x of a sheet g, which is then h. It reports the rows that leave to the callbacks of a reporter s,
--- which is then t. It finds no memory only where rows that are kept scroll off. Then what h shows is open, but not its
--- bounds, and the callbacks got only the first of the rows.
+-- which is then t. An allocation fails only where rows that are kept scroll off. Then what h shows is unspecified,
+-- but its bounds are the same, and the callbacks got only a prefix of the rows.
 pub record Draws {C A E : Type 0} (scrolls : C → RowView → Bool → C → Type 0) (x : Scrolled) (g : GridView)
     (s : Reporter C) (result : Result A E) (h : GridView) (t : Reporter C) : Type 0 where
   pub grid : OnOk result (h ≡ x.grid)

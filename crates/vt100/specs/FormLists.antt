@@ -25,8 +25,8 @@ use Rattle.vt100.specs.WriterLaws.{IsUnscrolled, IsPlainlyShown}
 
 -- ---- modes and attributes
 
--- from any picture, where the mouse and the cursor's style are as they are at first, to the modes and the style of s,
--- and nothing else changes
+-- from any picture, where the mouse and the cursor's style have their initial values, to the modes and the style of
+-- s, and nothing else changes
 abbrev pub EachModeLeads : Type 0
 EachModeLeads = (s : State) (z : Size) (from : Shown) → from.modes.mouse ≡ mouse.None
     → from.modes.encoding ≡ encoding.Default → from.style ≡ style.Default
@@ -114,7 +114,7 @@ pub record AreShort (old new : State) : Type 0 where
 abbrev pub EachListIsShort : Type 0
 EachListIsShort = (old new : State) → HasByteColors old.attrs → IsState new → AreShort old new
 
--- a text of at most 1,024 bytes a cell, and so many more
+-- a text of at most 1,024 bytes a cell, and `more` bytes beyond these
 abbrev pub IsShortText : Size → ℕ → List ℕ → Type 0
 IsShortText z more text = length text ≤ 1024 * (z.rows * z.cols) + more
 

@@ -30,8 +30,8 @@ abbrev pub Acts : {C : Type 0} → (C → ScreenView → Call → C → ScreenVi
     → C → Effect → C → ScreenView → Type 0
 Acts {C} step scrolls c x d w = (b : C) × Receives scrolls c x.reports b × MakesCalls step b (alive x.state) x.calls d w
 
--- A change of a screen v and callbacks c that finds no memory, where it may take some: the screen is then w, which has
--- failed, with sheets of the same size, and the callbacks d got only the first of these rows.
+-- A change of a screen v and callbacks c in which an allocation fails, where it may allocate: the screen is then w,
+-- which has failed, with sheets of the same size, and the callbacks d got only a prefix of these rows.
 pub record Fails {C : Type 0} (scrolls : C → RowView → Bool → C → Type 0) (takes : Bool) (rows : List Report) (c : C)
     (v : ScreenView) (d : C) (w : ScreenView) : Type 0 where
   pub is_allocating : takes ≡ true
@@ -39,8 +39,8 @@ pub record Fails {C : Type 0} (scrolls : C → RowView → Bool → C → Type 0
   pub bounds : SameBounds v.state w.state
   pub reported : ReceivesPrefix scrolls c rows d
 
--- What brings about the effect f does to callbacks c and a screen v, which are then d and w; it may take memory where
--- `takes` says so. On a failed screen nothing is done. Else f comes about, or the change finds no memory.
+-- What an action with the effect f does to callbacks c and a screen v, which are then d and w; it may allocate where
+-- `takes` says so. On a failed screen nothing is done. Else f takes effect, or an allocation fails.
 pub record Does {C : Type 0} (step : C → ScreenView → Call → C → ScreenView → Type 0)
     (scrolls : C → RowView → Bool → C → Type 0) (f : State → Effect) (takes : Bool) (c : C) (v : ScreenView) (d : C)
     (w : ScreenView) : Type 0 where

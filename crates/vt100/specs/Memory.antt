@@ -9,8 +9,8 @@ use Rattle.screen_model.specs.Step.{typed, line_fed}
 use Rattle.screen_model.specs.Lookup.{lookup}
 use Rattle.screen_model.specs.Effect.{effect, is_unhandled, plain_effect, plain_rows}
 
--- a change of s into t keeps a row: the shown sheet keeps rows, and one scrolls off at its top. A count that has come
--- to its end doesn't say whether one does.
+-- a change of s into t keeps a row: the shown sheet keeps rows, and one scrolls off at its top. A count at its
+-- maximum doesn't say whether one does.
 abbrev pub keeps_row : State → State → Bool
 keeps_row s t =
     nat_lt 0 s.shown.kept.capacity && (not (t.shown.kept.scrolled_off == s.shown.kept.scrolled_off)

@@ -16,7 +16,7 @@ pub record ParserView (C : Type 0) : Type 0 where
 abbrev pub HasRead : {C : Type 0} → ParserView C → List ℕ → Type 0
 HasRead p past = IsAfter 1024 p.reader past
 
--- these acts have been done to a new parser of this size, which keeps so many rows
+-- these acts have been done to a new parser of this size, which keeps at most `capacity` rows
 pub record ParserIsAfter {C : Type 0} (p : ParserView C) (rows cols capacity : ℕ) (acts : List Act) : Type 0 where
   pub has_read : HasRead p (bytes_fed acts)
   pub screen : p.screen ≡ alive (made rows cols capacity acts)

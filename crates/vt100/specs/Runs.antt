@@ -17,7 +17,7 @@ typed_all (c ∷ cs) s =
     let others = typed_all cs first.state in
     record { state = others.state; reports = first.reports ++ others.reports }
 
--- the last of the characters, or where there are none this one
+-- the last of the characters, or this one if there are no characters
 abbrev pub last_of : List ℕ → Option ℕ → Option ℕ
 last_of [] last = last
 last_of (c ∷ cs) last = last_of cs (Some c)

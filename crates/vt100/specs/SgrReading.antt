@@ -36,17 +36,17 @@ abbrev pub unhandled_of : Option (Attrs → Attrs) → ℕ
 unhandled_of None = 1
 unhandled_of (Some f) = 0
 
--- so many more groups are unhandled
+-- n more groups are unhandled
 abbrev pub more_unhandled : ℕ → Read → Read
 more_unhandled n x = read_of x.attrs (x.unhandled + n)
 
--- a number is read, with these attributes afterwards, and so many groups are unhandled; so many of the numbers that
--- follow belong to it
+-- a number is read, with these attributes afterwards; n groups are unhandled, and k of the numbers that follow belong
+-- to it
 abbrev pub number_led : Result (ℕ × ℕ) End → Attrs → List ℕ → Read
 number_led (Ok (n, k)) a ns = more_unhandled n (read_groups (each_alone (drop k ns)) 0 a)
 number_led (Err e) a ns = ended e a
 
--- what the numbers at the start ask for, with the 38 or 48 before them: a colour, with so many of them
+-- what the numbers at the start ask for, with the 38 or 48 before them: a colour, which takes k of them
 abbrev pub color_asked : Bool → Result (Color × ℕ) End → Asks
 color_asked t (Ok (x, k)) = change (colored t x) k
 color_asked t (Err Value) = ends

@@ -36,7 +36,7 @@ rows_from g r s zero = []
 rows_from g r s (suc n) = rows_from g r s n ++ rest_of_row (visible_at g (r + n)) (if n == 0 then s else 0) g.width
 
 -- what is shown from column s of row r up to column e of row q: the rest of row r, the whole rows below it, and the
--- beginning of row q. Rows below the screen show nothing, and so does an end that isn't behind the start.
+-- beginning of row q. Rows below the screen show nothing. If the end doesn't come after the start, the text is empty.
 abbrev pub text_between : GridView → ℕ → ℕ → ℕ → ℕ → List ℕ
 text_between g r s q e =
     if nat_lt q r then []

@@ -25,25 +25,25 @@ pub record Changes {C : Type 0} (f : State → State) (old new : WrappedScreen C
   pub screen : new.screen ≡ unless_failed f old.screen
   pub callbacks : new.callbacks ≡ old.callbacks
 
--- two states of which each sheet has one size, and keeps as many rows at most
+-- two states in which each sheet has the same size and the same capacity
 pub record SameBounds (s t : State) : Type 0 where
   pub main : SameLimits (main_sheet s) (main_sheet t)
   pub alternate : SameLimits (alternate_sheet s) (alternate_sheet t)
 
--- callbacks c have got the first of these rows, all of them or fewer, and nothing else, and are d
+-- callbacks c have got a prefix of these rows, which can be all of them, and nothing else, and are d
 abbrev pub ReceivesPrefix : {C : Type 0} → (C → RowView → Bool → C → Type 0) → C → List Report → C → Type 0
 ReceivesPrefix scrolls c rows d =
     (prefix : List Report) × (rest : List Report) × (rows ≡ prefix ++ rest) × Receives scrolls c prefix d
 
--- A refused resize of a state s, which is then t, has stopped at the sheet that found no memory: the main one, and the
--- alternate one is as it was; or the alternate one, and the main one has the new size.
+-- A refused resize of a state s, which is then t, has stopped at the sheet whose allocation failed: the main one, and
+-- the alternate one is as it was; or the alternate one, and the main one has the new size.
 abbrev pub Stops : ℕ → ℕ → State → State → Type 0
 Stops rows cols s t =
     (alternate_sheet t ≡ alternate_sheet s) ⊎ (main_sheet t ≡ (resized (main_sheet s) rows cols).grid)
 
 -- A call that may be refused, of a screen v and callbacks c that are then w and d. It does f, and reports the rows
--- that leave to the callbacks. Without memory the screen has failed, and they got only the first of these rows. A
--- screen that has failed refuses, and nothing changes.
+-- that leave to the callbacks. If an allocation fails, the screen has failed, and they got only a prefix of these
+-- rows. A failed screen refuses the call, and nothing changes.
 pub record Tries {C A : Type 0} (scrolls : C → RowView → Bool → C → Type 0) (f : State → Stepped)
     (v : ScreenView) (c : C) (result : Result A ScreenError) (w : ScreenView) (d : C) : Type 0 where
   pub live : OnOk result (v.failed ≡ false)
@@ -72,12 +72,12 @@ pub record Resizes {C : Type 0} (scrolls : C → RowView → Bool → C → Type
   pub stops : result ≡ Err Memory → Stops rows cols v.state w.state
   pub same : v.failed ≡ false → rows ≡ v.state.shown.height → cols ≡ v.state.shown.width → IsOk result
 
--- a size that takes no memory: the screen gets no wider and no higher, and keeps no row more
+-- a size that takes no memory: the screen gets no wider and no higher, and keeps no further row
 abbrev pub TakesNone : ℕ → ℕ → State → Type 0
 TakesNone rows cols s = (rows ≤ s.shown.height) × (cols ≤ s.shown.width) × KeepsNoMore (main_sheet s) rows
 
--- A call that can't be refused, but of which parts can be unknown; the answer says how many were. A failed screen stays
--- as it is, and then none was.
+-- A call that can't be refused, but of which parts can be unknown; the result says how many were. A failed screen
+-- stays as it is, and the result is 0.
 pub record Counts {C : Type 0} (scrolls : C → RowView → Bool → C → Type 0) (f : State → Partly)
     (v : ScreenView) (c : C) (unhandled : ℕ) (w : ScreenView) (d : C) : Type 0 where
   pub screen : v.failed ≡ false → w ≡ alive (f v.state).state
@@ -85,7 +85,7 @@ pub record Counts {C : Type 0} (scrolls : C → RowView → Bool → C → Type 
   pub count : v.failed ≡ false → unhandled ≡ (f v.state).unhandled
   pub dead : v.failed ≡ true → (w ≡ v) × (d ≡ c) × (unhandled ≡ 0)
 
--- A call that may be refused, and of which parts can be unknown; at success the answer says how many were.
+-- A call that may be refused, and of which parts can be unknown; at success the result says how many were.
 pub record TriesParts {C : Type 0} (scrolls : C → RowView → Bool → C → Type 0) (f : State → Partly)
     (v : ScreenView) (c : C) (result : Result ℕ ScreenError) (w : ScreenView) (d : C) : Type 0 where
   pub tries : Tries scrolls (λ s. record { state = (f s).state; reports = (f s).reports }) v c result w d

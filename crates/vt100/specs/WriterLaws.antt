@@ -59,8 +59,8 @@ EachScreenIsDrawable = (s : State) → IsUnscrolled s → IsPlainlyShown (shown_
 
 -- ---- a terminal that reads the forms shows what the screen shows
 
--- from any picture; the modes with them where the mouse and the cursor's style are as they are at first; and the cursor
--- from the screen's own cells and flags
+-- from any picture; the modes with them where the mouse and the cursor's style have their initial values; and the
+-- cursor from the screen's own cells and flags
 pub record RedrawsLead (s : State) (from : Shown) : Type 0 where
   pub contents : Leads (grid_size s.shown) (contents_formatted s) from
       (with_modes from.modes from.style (shown_state s))
@@ -102,7 +102,7 @@ pub record DrawsRow (z : Size) (text : List ℕ) (cells : ℕ → CellView) (i :
   pub pen : Pen
   pub drawn : IsRowDrawn i cells pen t (run z forms t)
 
--- text i of those for rows, where there are so many
+-- text i of those for rows, or an empty text if there is no text i
 abbrev pub text_at : List (List ℕ) → ℕ → List ℕ
 text_at texts i = get_or texts i []
 
@@ -118,7 +118,7 @@ pub record RowTextsLead (s : State) (width : ℕ) : Type 0 where
 abbrev pub EachRowTextLeads : Type 0
 EachRowTextLeads = (s : State) (width : ℕ) → IsUnscrolled s → s.shown.width ≤ width → RowTextsLead s width
 
--- and of two screens of one size: from what the earlier one shows in the row, whatever stands above
+-- and of two screens of one size: from what the earlier one shows in the row, whatever the rows above are
 pub record RowDifferencesLead (old new : State) (width : ℕ) : Type 0 where
   pub count : length (rows_diff old.shown new.shown 0 width) ≡ new.shown.height
   pub each : (i : ℕ) (t : Term) → i < new.shown.height

@@ -1,4 +1,4 @@
--- What calls answer that write what a screen shows as forms.
+-- What calls return that write what a screen shows as forms.
 use Rattle.std.specs.Prelude.{◌≡◌, ◌≤◌, ◌++◌, ℕ, List, [], length, Result, IfOk, OnOk, OnErr, IsOk, Err}
 use Rattle.std.specs.Prelude.{String, string_bytes}
 use Rattle.vt100_forms.specs.Form.{Form, bytes_of}
@@ -35,14 +35,14 @@ module _ {Z : Type 0} where
   abbrev pub Writes : {A E : Type 0} → List Form → String Z → Result A E → String Z → Type 0
   Writes forms old result new = OnOk result (string_bytes new ≡ string_bytes old ++ bytes_of forms)
 
-  -- the text of forms, of at most so many bytes; an empty one takes no memory
+  -- the text of forms, of at most `most` bytes; an empty one takes no memory
   pub record GivesModes (forms : List Form) (most : ℕ) (result : Result (String Z) ScreenError) : Type 0 where
     pub text : IfOk result (λ string. string_bytes string ≡ bytes_of forms)
     pub short : IfOk result (λ string. length (string_bytes string) ≤ most)
     pub memory : OnErr result (result ≡ Err Memory)
     pub empty : bytes_of forms ≡ [] → IsOk result
 
-  -- the text of a screen's forms, with at most so many bytes more than 1,024 a cell: where no kept row is shown, the
+  -- the text of a screen's forms, with at most `more` bytes beyond 1,024 a cell: where no kept row is shown, the
   -- forms of its picture
   pub record GivesRedraw (forms : State → List Form) (pictured : Size → Shown → List Form) (more : ℕ) (s : State)
       (result : Result (String Z) ScreenError) : Type 0 where

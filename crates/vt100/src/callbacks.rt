@@ -15,7 +15,7 @@ pub enum Call<'a> {
     AudibleBell,
     /// The visual bell (`ESC g`).
     VisualBell,
-    /// A request for so many rows and columns (XTWINOPS 8).
+    /// A request for this many rows and columns (XTWINOPS 8).
     Resize(u16, u16),
     /// The name of the window's icon (OSC 0 and 1).
     SetWindowIconName(&'a [u8]),
@@ -39,9 +39,9 @@ pub enum Call<'a> {
 
 /// Receives what a program asks of its terminal beyond drawing, and the rows that leave the screen for good.
 ///
-/// An implementation writes [`call`](Callbacks::call) and [`on_scroll`](Callbacks::on_scroll). Every other method hands
-/// its call to `call`; an implementation may write it too, to save the detour. A call comes after the change that its
-/// event made, and may change the screen.
+/// An implementation provides [`call`](Callbacks::call) and [`on_scroll`](Callbacks::on_scroll). Every other method
+/// passes its call to `call`; an implementation may override it, to save that step. A call comes after the change
+/// that its event made, and may change the screen.
 pub trait Callbacks {
     /// What a call does: the callbacks and the screen before it, the call, and both after it.
     ghost step: { Self → ScreenView → said.Call → Self → ScreenView → Type 0 };
@@ -55,7 +55,7 @@ pub trait Callbacks {
         ensures { step self.old screen.old (call_of call.entry) self.new screen.new };
 
     /// A row left for good: it was kept and is pushed out, or it left the screen and isn't kept. `alternate_screen`
-    /// says that it was a row of the alternate screen.
+    /// is true if it was a row of the alternate screen.
     ///
     /// A screen that becomes lower reports rows too. One that becomes higher gets rows back, blank where they weren't
     /// kept; these are reported like others when they leave again.
@@ -76,7 +76,7 @@ pub trait Callbacks {
         self.call(screen, Call::VisualBell);
     }
 
-    /// A request for so many rows and columns (XTWINOPS 8).
+    /// A request for this many rows and columns (XTWINOPS 8).
     fn resize(&mut self, screen: &mut Screen, request: (u16, u16))
         ensures { step self.old screen.old (said.resize request.0 request.1) self.new screen.new }
     {

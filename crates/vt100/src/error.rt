@@ -11,7 +11,7 @@ pub enum ScreenError {
     /// There was no memory for what the call would have stored.
     #[error("out of memory")]
     Memory,
-    /// An earlier call found no memory, and left open what the screen shows.
+    /// An allocation failed in an earlier call, and what the screen shows is unspecified.
     #[error("the screen has failed")]
     Failed,
 }

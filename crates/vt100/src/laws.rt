@@ -17,16 +17,16 @@ pub fn events_are_played()
     ensures made { FeedsMake }
 {}
 
-/// Two feeds are one feed of the joined bytes, and feeding nothing changes nothing; acts after others go on where these
-/// end.
+/// Two feeds equal one feed of the joined bytes, and feeding nothing changes nothing. Acts that follow other acts
+/// continue where those end.
 pub fn feeds_are_joined()
     ensures joined { FeedsJoin }
     ensures nothing { FeedsNothing }
     ensures after { ActsFollow }
 {}
 
-/// The screen of a parser may be cloned, given another size, and put in again. The parser is then as
-/// [`Parser::set_size`](crate::Parser::set_size) would have left it, with what is unfinished.
+/// The screen of a parser may be cloned, resized, and put back into the parser. The parser is then as
+/// [`Parser::set_size`](crate::Parser::set_size) would have left it; an unfinished character or sequence goes on.
 pub fn screens_are_put_in()
     ensures { ResizedScreensArePutIn }
 {}
@@ -39,8 +39,8 @@ pub fn copies_show_the_same()
 
 /// The copy that [`clone_visible`](crate::Screen::clone_visible) makes of a live screen has its size, and shows what
 /// the screen shows, as a terminal can show it: without a wide character that the right edge cuts, with a wrapped row
-/// only where the last column shows something, and never wrapped in the last row. So it shows the same if none of
-/// these stands there. If no kept row is shown, [`clone_shown`](crate::Screen::clone_shown) makes the same copy.
+/// only where the last column shows something, and never wrapped in the last row. So it shows the same if the screen
+/// shows none of these. If no kept row is shown, [`clone_shown`](crate::Screen::clone_shown) makes the same copy.
 pub fn visible_copies_show_the_same()
     ensures { EachVisibleCopyShowsTheSame }
 {}
@@ -83,7 +83,7 @@ pub fn differences_lead()
 
 /// The texts of [`rows_formatted`](crate::Screen::rows_formatted) for whole rows, where such a row has no U+FE0F:
 /// each draws the screen's row on a row of default cells, with the cursor at its start and the default attributes.
-/// Every other row stays. This isn't said of a row that continues the one above.
+/// Every other row stays. This doesn't hold for a row that continues the one above.
 pub fn texts_of_rows_lead()
     ensures { EachRowTextLeads }
 {}

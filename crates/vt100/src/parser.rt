@@ -27,8 +27,8 @@ use vt100_core::Size;
 
 /// Reads what a program writes to its terminal, and makes the terminal's screen of it.
 ///
-/// The contracts speak of every past: the bytes that the parser has read, or the acts, feeds and resizes, since it was
-/// made. Bytes may be cut anywhere.
+/// The contracts cover all that came before: the bytes that the parser has read, or the acts (feeds and resizes),
+/// since it was created. Bytes may be split anywhere.
 #[derive(Drop)]
 pub struct Parser<CB> {
     parser: vte_core::Parser<1024>,
@@ -65,7 +65,7 @@ impl<CB> Parser<CB> {
 impl Parser<()> {
     ghost use Rattle.vt100.specs.Parsing.{ParserIsAfter};
 
-    /// A parser of this size that keeps so many rows, and has no callbacks.
+    /// A parser of this size that keeps at most `scrollback_capacity` rows, and has no callbacks.
     pub fn new(
         alloc: Global,
         rows: NonZeroU16,
@@ -94,7 +94,8 @@ impl<CB: Callbacks> Parser<CB> {
     ghost use Rattle.vt100.specs.Parsing.{HasRead, ParserIsAfter, KeepsScreens};
     ghost use Rattle.vt100.specs.ParserLends.{lends_screen, lends_callbacks, lends_both};
 
-    /// A parser of this size that keeps so many rows, and reports its events to these callbacks.
+    /// A parser of this size that keeps at most `scrollback_capacity` rows, and reports its events to these
+    /// callbacks.
     pub fn new_with_callbacks(
         alloc: Global,
         rows: NonZeroU16,
@@ -118,11 +119,11 @@ impl<CB: Callbacks> Parser<CB> {
     /// Reads the next bytes of the stream. A character or a sequence that they leave unfinished is kept for the next
     /// call.
     ///
-    /// Where memory is refused, and where a call of the callbacks left a screen that has failed, the later events do
-    /// nothing, and the answer is [`ScreenError::Memory`]; but for what the callbacks change, the screen keeps its size
-    /// and its capacity. If an allocation fails during an event, the callbacks have got only the first of the rows that
-    /// leave by it, and no other call. Only events that allocate can fail (`allocates`). On a screen that had failed
-    /// before nothing is done.
+    /// If an allocation fails, or a call of the callbacks leaves a failed screen, the later events do nothing, and
+    /// the call returns [`ScreenError::Memory`]. Except for what the callbacks change, the screen keeps its size and
+    /// its capacity. If an allocation fails during an event, the callbacks get only a prefix of the rows that leave
+    /// through it, and no other call. Only events that allocate can fail (`allocates`). On a screen that had failed
+    /// before, nothing is done.
     pub fn process(&mut self, bytes: &[u8]) -> Result<(), ScreenError>
         ensures alive { OnOk result (self.new.screen.failed ≡ false) }
         ensures memory { result ≡ Err Memory → (self.old.screen.failed ≡ false) × (self.new.screen.failed ≡ true) }
@@ -153,13 +154,13 @@ impl<CB: Callbacks> Parser<CB> {
     }
 
     /// Gives the screen another size, and reports the rows that leave it to the callbacks. A synchronized update of the
-    /// program's ends. The same size changes nothing else.
+    /// program ends. The same size changes nothing else.
     ///
     /// A screen that becomes lower first loses the rows under the cursor, and then lets its top rows scroll off. One
     /// that becomes higher gets as many rows back at its top as have scrolled off, blank where they weren't kept.
     ///
-    /// Refused is only what makes the screen wider or higher, or keeps a row more. Then the call has stopped at the
-    /// sheet that found no memory, whose size is open; the main one comes first.
+    /// Only a call that makes the screen wider or higher, or keeps one more row, can be refused. It has then stopped
+    /// at the sheet whose allocation failed, and the size of that sheet is unspecified. The main sheet comes first.
     pub fn set_size(&mut self, rows: NonZeroU16, cols: NonZeroU16) -> Result<(), ScreenError>
         ensures screen { Tries CB.scrolls (resized_to rows.value cols.value) self.old.screen self.old.callbacks
             result self.new.screen self.new.callbacks }
@@ -217,9 +218,9 @@ impl<CB: Callbacks> Parser<CB> {
     }
 }
 
-/// Writing is feeding. It answers the whole length; else an error of kind `OutOfMemory` where memory was refused, and
-/// of kind `Other` where the screen had failed. The screen has failed then; bytes without an event that may take memory
-/// aren't refused (`allocates`).
+/// A write feeds its bytes. It returns the whole length; or an error of kind `OutOfMemory` if an allocation failed,
+/// and of kind `Other` if the screen had failed before. After an error the screen has failed. Bytes without an event
+/// that may allocate aren't refused (`allocates`).
 impl Write for Parser<()> {
     ghost use Rattle.vt100.specs.Goes.{GoesThrough};
     ghost use Rattle.vt100.specs.Parsing.{HasRead, ParserIsAfter};

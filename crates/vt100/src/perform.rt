@@ -65,7 +65,7 @@ impl<CB: Callbacks> Perform for WrappedScreen<CB> {
         if self.screen.failed() {
             return;
         }
-        // The short way, which needs no stack, for most characters.
+        // The fast path, which needs no stack, for most characters.
         if is_printable(c) && self.screen.has_room() {
             // Nothing scrolls, so nothing is refused.
             let _ = self.text(c);
@@ -81,18 +81,18 @@ impl<CB: Callbacks> Perform for WrappedScreen<CB> {
         }
     }
 
-    // Text between sequences comes here. With a call here and one at SGR, coloured text takes 8 % more instructions.
+    // Text between sequences comes here. If this and SGR aren't inlined, coloured text takes 8 % more instructions.
     #[inline(always)]
     fn print_ascii(&mut self, text: &str) {
         if text.is_empty() {
             return;
         }
         prove!(self.screen.is_live() || self.screen.failed());
-        // A refusal is kept in the screen, which has failed then.
+        // A refusal is recorded in the screen, which has then failed.
         let _ = self.run::<u8, 1>(text.as_bytes());
     }
 
-    // Comparisons tell the frequent bytes apart: a jump by a table costs more where its target changes.
+    // Comparisons distinguish the frequent bytes: a jump through a table costs more where its target changes.
     #[inline(always)]
     fn execute(&mut self, byte: u8) {
         if self.screen.failed() {
@@ -106,7 +106,7 @@ impl<CB: Callbacks> Perform for WrappedScreen<CB> {
         match byte {
             8 => self.bs(),
             10 => {
-                // A refusal is kept in the screen, which has failed then.
+                // A refusal is recorded in the screen, which has then failed.
                 let _ = self.lf();
             }
             13 => self.cr(),
@@ -167,7 +167,7 @@ impl<CB: Callbacks> WrappedScreen<CB> {
         let len = printable_len(text.as_bytes());
         if len > 0 {
             prove!(self.screen.is_live() || self.screen.failed());
-            // A refusal is kept in the screen, which has failed then.
+            // A refusal is recorded in the screen, which has then failed.
             let _ = self.run::<u8, 1>(&text.as_bytes()[..len]);
             return &text[len..];
         }
@@ -178,7 +178,7 @@ impl<CB: Callbacks> WrappedScreen<CB> {
     }
 
     /// Prints a character, or reports it.
-    // Apart, so that `print` needs no stack.
+    // A function of its own, so that `print` needs no stack.
     #[inline(never)]
     fn print_any(&mut self, c: char)
         requires { self.old.screen.failed ≡ false }
@@ -188,7 +188,7 @@ impl<CB: Callbacks> WrappedScreen<CB> {
         if is_unhandled(c) {
             self.callbacks.unhandled_char(&mut self.screen, c);
         } else {
-            // A refusal is kept in the screen, which has failed then.
+            // A refusal is recorded in the screen, which has then failed.
             let _ = self.text(c);
         }
     }
@@ -207,7 +207,7 @@ impl<CB: Callbacks> WrappedScreen<CB> {
             8 => self.bs(),
             9 => self.tab(),
             10 => {
-                // A refusal is kept in the screen, which has failed then.
+                // A refusal is recorded in the screen, which has then failed.
                 let _ = self.lf();
             }
             11 => {
@@ -261,7 +261,7 @@ impl<CB: Callbacks> WrappedScreen<CB> {
         }
     }
 
-    /// SGR. `csi_dispatch` asks for it first, since most streams have more of it than of any other sequence.
+    /// SGR. `csi_dispatch` checks for it first, since most streams have more of it than of any other sequence.
     #[inline(always)]
     pub(crate) fn sgr_csi(&mut self, params: &Params)
         requires { self.old.screen.failed ≡ false }
@@ -283,8 +283,8 @@ impl<CB: Callbacks> WrappedScreen<CB> {
         self.unhandled_groups(unhandled, params, &[], 'K');
     }
 
-    /// A control sequence without intermediates: those that most streams have most of, and any other. They are told
-    /// apart by comparisons: a jump by a table costs more where its target changes.
+    /// A control sequence without intermediates: the most frequent ones, and any other. Comparisons distinguish them:
+    /// a jump through a table costs more where its target changes.
     // Each is a function of its own, so that none needs stack for the others.
     #[inline(always)]
     pub(crate) fn plain_csi(&mut self, params: &Params, action: char)
@@ -334,7 +334,7 @@ impl<CB: Callbacks> WrappedScreen<CB> {
     }
 
     /// A control sequence with a private byte or intermediates, of which `mark` is the first.
-    // The mark comes by itself, so that the bytes need no memory where no callback reads them.
+    // The mark is an argument of its own, so that the bytes need no memory where no callback reads them.
     #[inline(always)]
     pub(crate) fn marked_csi(
         &mut self,
@@ -356,7 +356,7 @@ impl<CB: Callbacks> WrappedScreen<CB> {
     }
 
     /// Any control sequence without intermediates: those that take counts or positions, and all others.
-    // It isn't inlined, so that no jump by a table stands before the frequent sequences.
+    // It isn't inlined, so that no jump through a table comes before the frequent sequences.
     #[inline(never)]
     fn any_csi(&mut self, params: &Params, action: char)
         requires { self.old.screen.failed ≡ false }
@@ -377,14 +377,14 @@ impl<CB: Callbacks> WrappedScreen<CB> {
             'M' => self.dl(canonicalize_params_1(params, 1)),
             'P' => self.dch(canonicalize_params_1(params, 1)),
             'S' => {
-                // A refusal is kept in the screen, which has failed then.
+                // A refusal is recorded in the screen, which has then failed.
                 let _ = self.su(canonicalize_params_1(params, 1));
             }
             'T' => self.sd(canonicalize_params_1(params, 1)),
             'X' => self.ech(canonicalize_params_1(params, 1)),
             '`' => self.hpa(canonicalize_params_1(params, 1)),
             'b' => {
-                // A refusal is kept in the screen, which has failed then.
+                // A refusal is recorded in the screen, which has then failed.
                 let _ = self.rep(canonicalize_params_1(params, 1));
             }
             'd' => self.vpa(canonicalize_params_1(params, 1)),
@@ -397,7 +397,7 @@ impl<CB: Callbacks> WrappedScreen<CB> {
         }
     }
 
-    /// Those that are unhandled at some numbers, and all others.
+    /// Control sequences that are unhandled at some numbers, and all others.
     fn other_csi(&mut self, params: &Params, action: char)
         requires { self.old.screen.failed ≡ false }
         ensures { Handles CB.step CB.scrolls (row_effect (lookup action other_rows) params.now
@@ -415,7 +415,7 @@ impl<CB: Callbacks> WrappedScreen<CB> {
         }
     }
 
-    /// XTWINOPS: 8 asks for a size, of which an absent number is the screen's.
+    /// XTWINOPS: 8 asks for a size. An absent number means the screen's.
     fn window(&mut self, params: &Params, action: char)
         requires { self.old.screen.failed ≡ false }
         ensures { Handles CB.step CB.scrolls (window_effect params.now (csi_call [] params.now action)) false
@@ -478,8 +478,8 @@ impl<CB: Callbacks> WrappedScreen<CB> {
         }
     }
 
-    /// Reports an unhandled sequence, once for each of its groups that are, while the screen hasn't failed. Mostly
-    /// there is none.
+    /// Reports an unhandled sequence, once for each of its unhandled groups, while the screen hasn't failed. Mostly
+    /// no group is unhandled.
     #[inline(always)]
     fn unhandled_groups(
         &mut self,
@@ -496,7 +496,7 @@ impl<CB: Callbacks> WrappedScreen<CB> {
         }
     }
 
-    /// Reports an unhandled sequence so many times, while the screen hasn't failed.
+    /// Reports an unhandled sequence `count` times, while the screen hasn't failed.
     // It isn't inlined, since mostly there is nothing to report.
     #[inline(never)]
     fn report_groups(&mut self, count: usize, params: &Params, intermediates: &[u8], action: char)
@@ -554,7 +554,7 @@ impl<CB: Callbacks> WrappedScreen<CB> {
         }
     }
 
-    /// One text for both.
+    /// Reports one text as the icon's name and as the window's title.
     fn icon_and_title(&mut self, text: &[u8])
         requires { self.old.screen.failed ≡ false }
         ensures { Handles CB.step CB.scrolls (calling (said.set_window_icon_name text.now
@@ -666,7 +666,7 @@ fn next_number(groups: &mut ParamsIter<'_>) -> Option<u16>
     groups.next()?.first().copied()
 }
 
-/// So many rows and columns as the next two groups name, or else as the screen has.
+/// The rows and columns that the next two groups name, or else those of the screen.
 fn requested_size(mut groups: ParamsIter<'_>, size: (NonZeroU16, NonZeroU16)) -> (u16, u16)
     ensures rows { result.0 ≡ unwrap_or (given groups.entry) size.0.value }
     ensures cols { result.1 ≡ unwrap_or (given (later groups.entry)) size.1.value }

@@ -51,9 +51,9 @@ pub struct Screen {
 
     last_char: Option<char>,
 
-    /// Where its texts and new sheets come from.
+    /// The allocator of its texts and new sheets.
     alloc: Global,
-    /// Whether a call found no memory, so that what is shown is open.
+    /// Whether an allocation failed in a call, so that what is shown is unspecified.
     failed: bool,
 }
 
@@ -114,7 +114,7 @@ impl Screen {
     }
 }
 
-/// Marks a screen as failed where a change of it has found no memory, and hands the answer on.
+/// Marks a screen as failed if an allocation failed in a change of it, and passes the result on.
 fn note_failure<T, E: Drop>(failed: &mut bool, answer: Result<T, E>) -> Result<T, ScreenError>
     ensures done { IfOk result (λ x. answer ≡ Ok x) }
     ensures same { OnOk result (failed.new ≡ failed.old) }

@@ -10,7 +10,7 @@ use Rattle.vt100_cells.specs.Cell.{columns_of}
 abbrev pub passes_width : ℕ → ℕ → ℕ → Bool
 passes_width n taken c = nat_lt 0 (columns_of c) && (nat_lt 0 taken && nat_lt n (taken + columns_of c))
 
--- The rows of some characters, after a row was begun that takes so many columns, and possibly within a control
+-- The rows of some characters, after a row was begun that takes this many columns, and possibly within a control
 -- sequence. A sequence goes from ESC to the next m, and takes no column. A newline ends a row, and isn't part of it.
 abbrev pub rows_from : ℕ → Bool → ℕ → List ℕ → List ℕ → List (List ℕ)
 rows_from n inside taken row [] = row ∷ []

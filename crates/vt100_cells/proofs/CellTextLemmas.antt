@@ -31,7 +31,7 @@ encodes-empty (c ∷ cs) =
     omega (arith, length-append (encode_utf8 c) (encode_utf8_all cs), length-encode c, (len_utf8_bounds c).0) in
     grind (arith, nat_tests)
 
--- what the fields are once n bytes stand after the text
+-- what the fields are once n bytes are put after the text
 IsText-pushed : (t : Inside) (k : ℕ) (ys : List ℕ) → IsText t → IsUtf8 ys → length ys ≡ k → t.len + k ≤ 21
     → IsText (record { bytes = put_mid t.len k t.bytes ys; len = t.len + k })
 IsText-pushed t k ys h u e f = record {

@@ -16,7 +16,7 @@ put_on : (y : ℕ) (ys : List ℕ) (w q : Bool) (a : Attrs) (d : ℕ) → has_ro
     ≡ record { text = y ∷ (ys ++ d ∷ []); wide = w; continuation = q; attrs = a }
 put_on y ys w q a d h = rw h refl
 
--- y ∷ ys stands, and ds come
+-- the characters ds are put on the text y ∷ ys
 all-put_on : (y : ℕ) (ys ds : List ℕ) (w q : Bool) (a : Attrs) → IsShort (y ∷ (ys ++ ds))
     → all_appended (record { text = y ∷ ys; wide = w; continuation = q; attrs = a }) ds
     ≡ record { text = y ∷ (ys ++ ds); wide = w; continuation = q; attrs = a }
@@ -64,7 +64,7 @@ last-is_short n cs e h =
     ∙ length-append (encode_utf8_all (take (n + 1) cs)) (encode_utf8_all (drop (n + 1) cs)) in
     omega arith
 
--- a text that is none, one character, or one put on a text with room
+-- an empty text, one character, or one put on a text with room
 text-is_short : (cs : List ℕ) → IsShort cs → length (encode_utf8_all cs) ≤ 21
 text-is_short [] h = omega arith
 text-is_short (c ∷ []) h = let one = one_char (c ∷ []) refl in omega arith

@@ -333,7 +333,7 @@ narrow-box c l h = (
       (omega arith)),
 )
 
--- what the first bytes tell of the character
+-- what the first bytes say of the character
 pub record Told (P : ℕ → Type 0) (low c : ℕ) : Type 0 where
   pub columns : P c
   pub above : low ≤ c

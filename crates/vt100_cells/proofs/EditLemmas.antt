@@ -37,7 +37,7 @@ pub clears-no_right : (xs : List CellView) (e : ℕ) → (cell_at xs e).continua
     → xs ≡ by_position (length xs) (right_cleared (cell_at xs) e)
 clears-no_right xs e c = same-by_position xs (right_cleared (cell_at xs) e) (λ k. grind (arith, nat_tests))
 
--- a second half stands within the row
+-- a second half is within the row
 pub continuation_within : (xs : List CellView) (e : ℕ) → (cell_at xs e).continuation ≡ true → e < length xs
 continuation_within xs e c =
     ⊎_elim (λ l. l) (λ l. let d = cell_at_past xs e l
@@ -108,7 +108,7 @@ module _ (xs ys : List CellView) (i : ℕ) (x : CellView) (a : Attrs) (cleared :
 
 -- ---- both halves of a wide cell
 
--- two cells that stand side by side are emptied, the left one first
+-- two adjacent cells are emptied, the left one first
 pair-of : (xs ys zs : List CellView) (j i : ℕ) → j + 1 < length xs → ys ≡ set xs j (empty_cell (cell_at xs j).attrs)
     → zs ≡ set ys (j + 1) (empty_cell (cell_at ys (j + 1)).attrs)
     → ((k : ℕ) → cond (k == (j + 1)) (empty_cell (cell_at xs (j + 1)).attrs)

@@ -19,7 +19,7 @@ whole_if_wide f i p w = (elim (f i).continuation as (λ b. (f i).continuation �
   | false ↦ λ e. refl
 ]) refl
 
--- it is no second half
+-- it isn't a second half
 pub base_col-whole : (f : ℕ → CellView) (col : ℕ) → IsPaired f → (f (base_col f col)).continuation ≡ false
 base_col-whole f col p =
     cond_both (f (col - 1)).continuation (col - 2) (col - 1) (λ i. (f i).continuation ≡ false)

@@ -8,7 +8,7 @@ use Rattle.vt100_cells.specs.Line.{IsPaired, Bounded, span_of, update, put, put_
 use Rattle.vt100_cells.specs.Line.{wipe_unflags}
 use Rattle.vt100_cells.proofs.WidthLemmas.{space_is_narrow}
 
--- a wide cell stands before the last column
+-- a wide cell is before the last column
 pub wide_within : (n : ℕ) (f : ℕ → CellView) (k : ℕ) → Bounded n f → IsPaired f → (f k).wide ≡ true → k + 1 < n
 wide_within n f k b p w =
     ⊎_elim (λ l. l) (λ l. absurd (false≢true (sym (ap (λ (c : CellView). c.continuation) (b (k + 1) l)) ∙ p.next k
@@ -64,7 +64,7 @@ Bounded-put n f i x a b p l =
       | false ↦ λ e h. Bounded-put_narrow n f i x a b p (omega arith) e
     ]) refl l
 
--- a cell of the same width where no second half stands
+-- a cell of the same width where there is no second half
 pub put-same : (f : ℕ → CellView) (i : ℕ) (x : CellView) (a : Attrs) (k : ℕ) → IsPaired f → (f i).continuation ≡ false
     → x.wide ≡ (f i).wide → put f i x a k ≡ update f i x k
 put-same f i x a k p c w = grind (arith, nat_tests, p.next k, p.next i, p.blank k, p.next (i + 1))

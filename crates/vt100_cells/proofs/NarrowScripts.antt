@@ -23,7 +23,7 @@ narrow_scripts =
     (0xA0, 0xAC) ∷ (0xAE, 0x2FF) ∷ (0x370, 0x482) ∷ (0x48A, 0x590) ∷ (0x1E00, 0x1FFF) ∷ (0x2010, 0x2027)
     ∷ (0x2190, 0x2319) ∷ (0x2500, 0x25FC) ∷ (0x2800, 0x28FF) ∷ (0xE000, 0xF8FF) ∷ []
 
--- where c stands in such a script, its kind is narrow
+-- where c is in such a script, its kind is narrow
 abbrev is_narrow_there : ℕ → Bool
 is_narrow_there c = not (in_ranges narrow_scripts c) || is_narrow_kind (kind c)
 

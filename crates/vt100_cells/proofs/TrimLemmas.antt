@@ -39,7 +39,7 @@ trimmed_len-stop xs m n e l d =
     ∙ trimmed_len-snoc (take m xs) (cell_at xs m) d
     ∙ ap suc (length-take-le m xs (omega arith)) ∙ sym e
 
--- ---- past the trimmed cells stand default ones
+-- ---- past the trimmed cells there are default ones
 
 all_default : (x : CellView) (xs : List CellView) (k : ℕ) → x ≡ default_cell → ((j : ℕ) → cell_at xs j ≡ default_cell)
     → cell_at (x ∷ xs) k ≡ default_cell

@@ -22,7 +22,7 @@ wide_scripts =
     (0x3000, 0x3029) ∷ (0x3030, 0x303E) ∷ (0x3041, 0x3096) ∷ (0x309B, 0x30FF) ∷ (0x3250, 0x9FFF) ∷ (0xAC00, 0xD7A3)
     ∷ (0xFF01, 0xFF60) ∷ []
 
--- where c stands in such a script, its kind is wide
+-- where c is in such a script, its kind is wide
 abbrev is_wide_there : ℕ → Bool
 is_wide_there c = not (in_ranges wide_scripts c) || is_wide_kind (kind c)
 

@@ -56,7 +56,7 @@ attrs_eq-true a b h =
 pub attrs_eq-refl : (a : Attrs) → attrs_eq a a ≡ true
 attrs_eq-refl a = rw (color_eq-refl a.fgcolor, color_eq-refl a.bgcolor) (eq-eqb a.mode a.mode refl)
 
--- a test on cells answers true exactly for one cell twice
+-- a test on cells returns true exactly for one cell twice
 pub cell_eq-true : (x y : CellView) → cell_eq x y ≡ true → x ≡ y
 cell_eq-true x y h =
     let p = and_parts (text_eq x.text y.text && (bool_eq x.wide y.wide && bool_eq x.continuation y.continuation))

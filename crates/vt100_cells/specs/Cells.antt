@@ -27,7 +27,7 @@ inserted_cells cells i count =
     let n = min count (length cells - i) in
     if nat_lt 0 n then by_position (length cells) (cut (length cells) (opened (cell_at cells) i n)) else cells
 
--- how many cells stand up to the last that is no default cell
+-- how many cells there are up to the last that isn't a default cell
 abbrev pub trimmed_len : List CellView → ℕ
 trimmed_len [] = 0
 trimmed_len (x ∷ xs) = if (trimmed_len xs == 0) && is_default x then 0 else suc (trimmed_len xs)

@@ -16,7 +16,7 @@ use std::mem::size_of;
 use vt100_forms::attrs::Attrs;
 use vt100_forms::{CHAR_BYTES, Color, TextRun};
 
-/// How a cell stands in its row.
+/// Which columns of its row a cell takes.
 #[derive(Clone, Copy, Debug, Eq, PartialEq)]
 pub(crate) enum Span {
     /// The cell has one column of its own.

@@ -15,7 +15,7 @@ use vt100_forms::CHAR_BYTES;
 /// How many bytes a text has at most: 17, and a character of 4.
 const CONTENT_BYTES: usize = 21;
 
-/// How many of them are compared first. Most texts have no more.
+/// How many of them are compared first. Most texts have at most this many.
 pub(crate) const START_BYTES: usize = 5;
 
 /// A text with this many bytes takes no further character.

@@ -95,7 +95,7 @@ pub(crate) fn split_common_narrow(text: &str) -> Option<(Char3, &str)>
 }
 
 /// Whether a text begins with a byte above those that characters of one byte or two begin with.
-// One comparison parts these, which the tests for a number of bytes then needn't.
+// One comparison separates these, so that the tests for a number of bytes needn't.
 #[inline(always)]
 fn begins_past_two_bytes(text: &str) -> bool {
     matches!(text.as_bytes(), [0xE0..=0xFF, ..])
@@ -126,7 +126,7 @@ fn begins_three_bytes(text: &str) -> bool
 }
 
 /// Whether a text begins with a wide character of three bytes, of a common script.
-// Nearly always its first byte tells, whether it does or not.
+// Nearly always its first byte decides whether it does.
 #[inline(always)]
 fn begins_common_wide(text: &str) -> bool
     ensures begins { IsTrue result → BeginsThreeBytes text.now }
@@ -168,7 +168,7 @@ fn is_common_wide(code: u32) -> bool
 }
 
 /// Whether the character of two bytes at the start of a text is of a common script of one column.
-// Nearly always the first byte tells. Of those that begin with 0xCC and 0xCD many combine.
+// Nearly always the first byte decides. Of those that begin with 0xCC and 0xCD many combine.
 #[inline(always)]
 fn is_common_of_two_bytes(text: &str) -> bool
     requires { BeginsTwoBytes text.now }
@@ -184,7 +184,7 @@ fn is_common_of_two_bytes(text: &str) -> bool
 }
 
 /// Whether the character of three bytes at the start of a text is of a common script of one column.
-// Boxes, blocks and what is drawn with them are told by the first two bytes, and most wide characters by the first.
+// The first two bytes identify boxes, blocks and what is drawn with them, and the first most wide characters.
 #[inline(always)]
 fn is_common_of_three_bytes(text: &str) -> bool
     requires { BeginsThreeBytes text.now }
@@ -211,7 +211,7 @@ fn is_common_two(code: u32) -> bool
 }
 
 /// Whether a character of three bytes is of a common script of one column.
-// Braille is told first, since whole rows of graphs are of it.
+// Braille is checked first, since whole rows of graphs consist of it.
 #[inline(always)]
 fn is_common_three(code: u32) -> bool
     ensures narrow { IsTrue result → IsNarrow code }

@@ -24,7 +24,7 @@ pub fn at(cells: &[Cell], i: usize) -> &Cell
     &cells[i]
 }
 
-/// Whether a wide character begins at column `i`; there is none past the end.
+/// Whether a wide character begins at column `i`; past the end none does.
 #[inline]
 pub fn is_wide_at(cells: &[Cell], i: usize) -> bool
     ensures { result ≡ (cell_at cells.now i).wide }
@@ -36,7 +36,7 @@ pub fn is_wide_at(cells: &[Cell], i: usize) -> bool
     }
 }
 
-/// Whether column `i` is the second one of a wide character; there is none past the end.
+/// Whether column `i` is the second one of a wide character; past the end no column is.
 #[inline]
 pub fn is_continuation_at(cells: &[Cell], i: usize) -> bool
     ensures { result ≡ (cell_at cells.now i).continuation }
@@ -48,7 +48,7 @@ pub fn is_continuation_at(cells: &[Cell], i: usize) -> bool
     }
 }
 
-/// Whether the same cell stands at column `i` of both lines.
+/// Whether the same cell is at column `i` of both lines.
 #[inline(always)]
 pub fn is_same_at(cells: &[Cell], others: &[Cell], i: usize) -> bool
     requires in_line { i < length cells.now }
@@ -77,7 +77,7 @@ fn have_same_eight(cells: &[Cell], others: &[Cell], i: usize) -> bool
     same & (longest < START_BYTES + 1)
 }
 
-/// The first column from `from` on at which the lines differ, or `to` if there is none before it.
+/// The first column from `from` on at which the lines differ, or `to` if there is no such column before it.
 pub fn same_to(cells: &[Cell], others: &[Cell], from: usize, to: usize) -> usize
     requires some { from ≤ to }
     requires in_line { to ≤ length cells.now }
@@ -98,7 +98,7 @@ pub fn same_to(cells: &[Cell], others: &[Cell], from: usize, to: usize) -> usize
 
 /// Whether the two cells from column `i` on are found to be like `cell`: the starts of the texts are compared, which is
 /// all of a short text.
-// Its length is asked for last: LLVM would else keep it apart, and put the 16 bytes together for each comparison.
+// Its length is checked last: otherwise LLVM would keep it apart, and put the 16 bytes together for each comparison.
 #[inline(always)]
 fn is_alike_pair(cells: &[Cell], cell: &Cell, i: usize) -> bool
     requires in_line { i + 2 ≤ length cells.now }
@@ -108,7 +108,8 @@ fn is_alike_pair(cells: &[Cell], cell: &Cell, i: usize) -> bool
     (cell.has_start_of(first) & cell.has_start_of(second)) && cell.text().fits_start()
 }
 
-/// The first column from `from` on at which another cell than `cell` stands, or `to` if there is none before it.
+/// The first column from `from` on at which a cell other than `cell` is, or `to` if there is no such column before
+/// it.
 pub fn alike_to(cells: &[Cell], cell: &Cell, from: usize, to: usize) -> usize
     requires some { from ≤ to }
     requires in_line { to ≤ length cells.now }
@@ -192,7 +193,7 @@ pub fn clear(cells: &mut [Cell], attrs: Attrs)
 }
 
 /// Puts `cell` at each column.
-// A copy of the whole cell is two stores; where LLVM sees the cell made of its parts it is seven and more.
+// A copy of the whole cell is two stores; where LLVM sees that the cell is built from its parts, it is seven or more.
 #[inline(never)]
 fn fill(cells: &mut [Cell], cell: Cell)
     ensures { cells.new ≡ replicate (length cells.old) cell }
@@ -221,7 +222,7 @@ pub fn wipes_end(cells: &[Cell], s: usize, e: usize) -> bool
     s < e && (e >= cells.len() || (e + 1 == cells.len() && at(cells, e).is_wide_continuation()))
 }
 
-/// Puts `cell` at column `i`, with the drawing attributes, over what stands there.
+/// Puts `cell` at column `i`, with the drawing attributes, over what is there.
 #[inline(always)]
 pub fn put(cells: &mut [Cell], i: usize, cell: Cell, attrs: Attrs)
     requires in_row { i + span_of cell ≤ length cells.old }
@@ -251,7 +252,7 @@ pub fn puts_end(cells: &[Cell], i: usize, cell: Cell) -> bool
     cell.is_wide() && is_wide_at(cells, i + 1) && i + 3 == cells.len()
 }
 
-/// The column of the cell that a zero-width character joins, where the cursor stands at `col`.
+/// The column of the cell that a zero-width character joins, where the cursor is at `col`.
 pub fn base_col(cells: &[Cell], col: usize) -> usize
     requires some { 0 < col }
     requires in_row { col ≤ length cells.now }
@@ -265,8 +266,8 @@ pub fn base_col(cells: &[Cell], col: usize) -> usize
     }
 }
 
-/// Empties both halves of the wide character at column `i`, if one is there. Whether the last cell shows something
-/// then.
+/// Empties both halves of the wide character at column `i`, if one is there. Returns whether the last cell shows
+/// something then.
 pub fn clear_pair(cells: &mut [Cell], i: usize) -> bool
     requires in_row { i < length cells.old }
     requires paired { IsPaired (cell_at cells.old) }
@@ -283,8 +284,8 @@ pub fn clear_pair(cells: &mut [Cell], i: usize) -> bool
     ends_filled(cells)
 }
 
-/// Puts `count` default cells in at column `i`. What stands there moves to the right, and what falls off the end is
-/// gone.
+/// Inserts `count` default cells at column `i`. The cells from there on move to the right, and those that fall off
+/// the end are gone.
 fn shift_right(cells: &mut [Cell], i: usize, count: usize)
     requires { i + count ≤ length cells.old }
     ensures { cells.new ≡ by_position (length cells.old) (shifted_right (cell_at cells.old) i count) }
@@ -314,7 +315,7 @@ fn mend_pair(cells: &mut [Cell], i: usize, j: usize)
     put_within(cells, i, Cell::continuation());
 }
 
-/// Puts `count` default cells in at column `i`, as many as fit, and keeps wide characters whole.
+/// Inserts `count` default cells at column `i`, as many as fit, and keeps wide characters whole.
 pub fn insert(cells: &mut [Cell], i: usize, count: usize)
     requires { i ≤ length cells.old }
     ensures { cells.new ≡ inserted_cells cells.old i count }
@@ -325,7 +326,7 @@ pub fn insert(cells: &mut [Cell], i: usize, count: usize)
     }
 }
 
-/// Puts `n` default cells in at column `i`, and keeps wide characters whole.
+/// Inserts `n` default cells at column `i`, and keeps wide characters whole.
 fn insert_some(cells: &mut [Cell], i: usize, n: usize)
     requires in_row { i + n ≤ length cells.old }
     requires some { 0 < n }
@@ -339,7 +340,7 @@ fn insert_some(cells: &mut [Cell], i: usize, n: usize)
     clear_cut_half(cells);
 }
 
-/// Takes `n` cells out at column `s`. What stands right of them moves to the left, and default cells follow.
+/// Removes `n` cells at column `s`. The cells right of them move to the left, and default cells follow.
 fn shift_left(cells: &mut [Cell], s: usize, n: usize)
     requires { s + n ≤ length cells.old }
     ensures { cells.new ≡ by_position (length cells.old) (shifted_left (length cells.old) (cell_at cells.old) s n) }
@@ -348,7 +349,7 @@ fn shift_left(cells: &mut [Cell], s: usize, n: usize)
     cells[s..].rotate_left(n);
 }
 
-/// Takes `n` cells out at column `s`, and empties the halves of wide characters that are left.
+/// Removes `n` cells at column `s`, and empties the halves of wide characters that are left.
 pub fn remove(cells: &mut [Cell], s: usize, n: usize)
     requires in_row { s + n ≤ length cells.old }
     requires some { 0 < n }
@@ -360,7 +361,7 @@ pub fn remove(cells: &mut [Cell], s: usize, n: usize)
     shift_left(cells, s, n);
 }
 
-/// How many cells stand up to the last that is no default cell.
+/// How many cells there are up to the last that isn't a default cell.
 pub fn trimmed_len(cells: &[Cell]) -> usize
     ensures value { result ≡ trimmed_len cells.now }
     ensures bound { result ≤ length cells.now }

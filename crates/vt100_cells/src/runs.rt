@@ -8,19 +8,19 @@ use crate::char3::{Char3, split_common_narrow, split_common_wide};
 use crate::width::columns;
 use arrayvec::ArrayVec;
 
-/// How many characters a run has at most: half of a row of 80 columns, or all its wide ones. Room for them is made anew
-/// for each run. `docs/SPEED.md` has what room for 32 and for 64 costs and gains, by `./speed --texts`.
+/// How many characters a run has at most: half of a row of 80 columns, or all its wide ones. Each run gets new room
+/// for them. `docs/SPEED.md` has what room for 32 and for 64 costs and gains, by `./speed --texts`.
 #[doc(hidden)]
 pub const RUN_LEN: usize = 40;
 
-/// So many characters of ASCII end a run, since they are printed faster in one of their own. Fewer would cut the lines
-/// of `Cyrillic` and `tree`, by which `./speed --texts` measures it, at a comma and at spaces.
+/// This many characters of ASCII end a run, since they are printed faster in a run of their own. Fewer would cut the
+/// lines of `Cyrillic` and `tree`, by which `./speed --texts` measures it, at a comma and at spaces.
 const ASCII_LEN: usize = 8;
 
 /// A form of characters that can be taken from a text. For screens alone.
 #[doc(hidden)]
 pub trait TextGlyph: Glyph + Default {
-    /// The character at the start of a text, where it is shown in so many columns, and what follows it.
+    /// The character at the start of a text, if it is shown in `count` columns, and what follows it.
     fn split(text: &str, count: u16) -> Option<(Self, &str)>
         ensures parts { IfSome result (λ p. chars text.now ≡ Self.code p.0 ∷ chars p.1.now) }
         ensures shorter { IfSome result (λ p. length p.1.now < length text.now) }
@@ -52,7 +52,7 @@ impl TextGlyph for char {
     }
 }
 
-/// Takes the characters of so many columns each at the start of a text into an empty run, as many as it holds, and
+/// Takes the characters of `COLUMNS` columns each at the start of a text into an empty run, as many as it holds, and
 /// returns what is left. `ASCII_LEN` characters of ASCII are left.
 #[doc(hidden)]
 #[inline(always)]
@@ -84,7 +84,7 @@ pub fn take_run<'a, G: TextGlyph, const COLUMNS: usize>(
 #[inline(always)]
 fn begins_ascii_run(text: &str) -> bool {
     let bytes = text.as_bytes();
-    // Nearly always the first byte tells.
+    // Nearly always the first byte decides.
     if bytes.len() < ASCII_LEN || !bytes[0].is_ascii() {
         return false;
     }
@@ -95,7 +95,7 @@ fn begins_ascii_run(text: &str) -> bool {
     are_ascii
 }
 
-/// Whether a character is no control of C1, and not U+FFFD.
+/// Whether a character is neither a control of C1 nor U+FFFD.
 #[inline(always)]
 fn is_shown(c: char) -> bool
     ensures { IsTrue result → IsShown c }

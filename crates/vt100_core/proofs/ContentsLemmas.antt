@@ -165,7 +165,7 @@ IsBegun-shown {g} {n} h =
       h.bytes,
     )
 
--- ---- newlines that are owed
+-- ---- pending newlines
 
 -- n rows are written but for k newlines, and these with a part of the next
 pub IsBegun-owed : {g : GridView} {n : ℕ} {from left : List RowView} {v : RowView} {wrapping : Bool}
@@ -184,7 +184,7 @@ IsBegun-owed {g = g} {v = v} {wrapping = wrapping} {old = old} {was = was} k now
     IsBegun-within old was grown.0 part next.1 (encode_utf8_all (text_lines g (length g.rows))) now grown.1
     (next.2 ∙ ap (λ bs. bs ++ next.1) prefix) begun
 
--- the row has a text that doesn't fit behind them: then the whole text without newlines at its end doesn't either
+-- the row has a text that doesn't fit after them: then the whole text without newlines at its end doesn't either
 pub full-owed : {Z : Type 0} {g : GridView} {n : ℕ} {from left : List RowView} {v : RowView} {wrapping : Bool}
     (s t : String Z) (k : ℕ) → IsShown g n from wrapping (string_bytes s) (string_bytes t ++ replicate k 10)
     → from ≡ v ∷ left → IsGrid g → 0 < length (row_text v 0 g.width) → string_capacity s ≤ string_capacity t

@@ -51,7 +51,7 @@ cursor_row-changed {g} {s} {r} {v} {w} f e i a er ev ew =
     let row = cursor_row-read g s r v e i a er ev in
     cursor_row-written g s r w (f (row_of_cursor s) s.col) e er (ew ∙ (λ j. f (row j) (e j).col))
 
--- so many columns of it, from the cursor's on
+-- `count` columns of it, from the cursor's on
 pub cursor_row-ranged : {g s : GridView} {r end : ℕ} {v w : RowView} (count : ℕ) (f : RowView → ℕ → ℕ → RowView) → g ≡ s
     → IsGrid g → IsAllocated s → r ≡ g.row → v ≡ get_or g.rows r v → end ≡ min (g.col + count) g.width
     → w ≡ f v g.col end

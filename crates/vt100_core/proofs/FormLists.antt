@@ -27,7 +27,7 @@ use Rattle.vt100_core.proofs.PictureWriters.{differing-of_pictures, grid-drawabl
 known-grid : (g : GridView) → IsUnscrolledGrid g → HasNo 0xFFFD g → IsKnown (drawn_on g)
 known-grid g h clean = record { cells = λ r k. lines-cells g r k h.grid; known = clean }
 
--- beside the earlier grid: what the terminal draws with
+-- besides the earlier grid: what the terminal draws with
 with_attrs : Attrs → Extras
 with_attrs a = record plain_extras { attrs = a }
 

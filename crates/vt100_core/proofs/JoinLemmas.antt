@@ -1,4 +1,4 @@
--- What each answer to a zero-width character says of the grid.
+-- What each result of joining a zero-width character says of the grid.
 use Rattle.std.proofs.Common.{◌≡◌, ℕ, ◌+◌, ◌<◌, ◌≤◌, true, [], length, sym, ap, ◌∙◌, arith, subst}
 use Rattle.std.proofs.Common.{refl, length-set}
 use Rattle.std.specs.Prelude.{Some, Ok}

@@ -50,7 +50,7 @@ cut-newlines xs (suc k) =
 
 -- ---- texts that end in something else
 
--- bytes, or characters, of which the last is no newline
+-- bytes, or characters, of which the last isn't a newline
 abbrev pub EndsOtherwise : List ℕ → Type 0
 EndsOtherwise cs = (prefix : List ℕ) × (c : ℕ) × (cs ≡ prefix ++ c ∷ []) × ((c == 10) ≡ false)
 
@@ -83,7 +83,7 @@ ends-encoded cs h =
     (ends-after (encode_utf8_all h.0) (encode_utf8 h.1 ++ []) (subst EndsOtherwise (sym (append-nil (encode_utf8 h.1)))
     (ends-encode h.1 h.3)))
 
--- what stands behind such a text is cut, and nothing of it
+-- what comes after such a text may be cut, but nothing of the text itself
 prefix-stops : (xs bs : List ℕ) (c : ℕ) → (c == 10) ≡ false → prefix_len is_newline (xs ++ c ∷ bs) ≤ length xs
 prefix-stops [] bs c e = let none : prefix_len is_newline (c ∷ bs) ≡ 0 = ap (λ b. cond b (1 + prefix_len is_newline bs)
     0) e in
@@ -227,7 +227,7 @@ encodes-newlines zero = refl
 encodes-newlines (suc n) = ap (λ bs. bs ++ encode_utf8_all (replicate n 10)) (encode_ascii 10 (omega arith))
     ∙ ap (λ (bs : List ℕ). 10 ∷ bs) (encodes-newlines n)
 
--- newlines are owed
+-- newlines are pending
 pub more-owed : (old : List ℕ) (n k m : ℕ) → n + k ≡ m
     → old ++ replicate m 10 ≡ (old ++ replicate n 10) ++ encode_utf8_all (replicate k 10)
 more-owed old n k m e =
@@ -242,7 +242,7 @@ owed-blank old v w n m wrapping em e =
     more-owed old n (cond wrapping 1 0) m (sym em)
     ∙ ap (λ cs. (old ++ replicate n 10) ++ encode_utf8_all cs) (sym (written-none v w wrapping e))
 
--- the row's text is appended behind them
+-- the row's text is appended after them
 pub owed-text : (old was now : List ℕ) (v : RowView) (w n : ℕ) (wrapping : Bool) → 0 < length (row_text v 0 w)
     → was ≡ old ++ replicate n 10 → now ≡ was ++ encode_utf8_all (written_text v 0 w false)
     → now ≡ (old ++ replicate n 10) ++ encode_utf8_all (written_text v 0 w wrapping)

@@ -138,7 +138,7 @@ grid-drawable g x h = record {
   proper = h.proper;
 }
 
--- nothing beside the grid
+-- nothing besides the grid
 abbrev pub plain_extras : Extras
 plain_extras = record {
   hidden = false;

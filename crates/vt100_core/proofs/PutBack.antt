@@ -1,4 +1,4 @@
--- Rows that a call has changed in place, where they stand in their vector again.
+-- Rows that a call has changed in place, once they are in their vector again.
 use Rattle.std.proofs.Common.{◌≡◌, ℕ, ◌<◌, List, ◌++◌, length, take, drop, ap, ◌∙◌, arith}
 use Rattle.vt100_rows.specs.Row.{RowView}
 use Rattle.vt100_rows.proofs.SheetLemmas.{refilled}

@@ -106,7 +106,7 @@ module _ (g : GridView) (h : IsGrid g) (colors : HasByteCells g) (shown : HasByt
       (placed IsSmallList small-measure HasByteColors IsSmallPen (grid_size g) (drawn_on g) rules)
       (omega (arith, mul-le n g.width g.height g.width l (omega arith)))
 
-  -- what is drawn so is short, also behind two forms more
+  -- what is drawn so is short, also after two more forms
   few : (n : ℕ) → n ≤ 428 * (g.height * g.width) + (131 + g.row) + 9 → n ≤ 1024 * (g.height * g.width) + 256
   few n l = omega (arith, l, le-times g.height g.width h.some_cols, h.cursor_row)
 

@@ -148,12 +148,12 @@ IsGrid-join g c a i l s z h =
     })
     (unwrapped-by v g.col c a (is_widening v g.col c) (length v.cells == 1) (nat_lt g.col (length v.cells)))
 
--- what each answer says
+-- what each result says
 
 abbrev answer_by : Bool → Bool → Bool → CellView → Join
 answer_by wide one room x = cond (not wide) InPlace (cond one Ignored (cond room Widened (Carried x)))
 
--- what the three tests say where this is the answer
+-- what the three tests say where this is the result
 abbrev TestsOf : Join → Bool → Bool → Bool → CellView → Type 0
 TestsOf InPlace wide one room x = wide ≡ false
 TestsOf Ignored wide one room x = (wide ≡ true) × (one ≡ true)

@@ -146,7 +146,7 @@ module _ {Z : Type 0} where
       → Appends gs s b t
   appends_as fs gs s b t e h = subst (λ hs. Appends hs s b t) (sym e) h
 
-  -- none are to be appended
+  -- no form is to be appended
   pub appends_nothing : (fs : List Form) (s : String Z) → string_bytes s ≡ string_bytes s ++ bytes_of fs
       → AppendedForms fs s s
   appends_nothing fs s e = record { bytes = e; capacity = omega arith }
@@ -237,7 +237,7 @@ module _ (g : GridView) (p : Option Pos) (a : Option Attrs) (b : Attrs) (eb : b 
   cursor-waits o e =
       rw (le-ltb g.col g.width h, off) (λ i. wait (grid_size g) (lines_of g.rows) p (sym eb i) g.row (sym e i))
 
-  -- behind the text of row r
+  -- after the text of row r
   pub cursor-behind : (r : ℕ) → Some r ≡ row_with_end (grid_size g) (lines_of g.rows) g.row
       → cursor_position_formatted g p a
       ≡ wait_behind (grid_size g) (lines_of g.rows) p b r ++ replicate (g.row - r) Lf

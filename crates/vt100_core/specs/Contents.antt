@@ -5,7 +5,7 @@ use Rattle.std.specs.List.{suffix_len}
 use Rattle.vt100_rows.specs.Text.{written_text}
 use Rattle.vt100_core.specs.Grid.{GridView, visible_at}
 
--- whether the row that is shown at r stands below one that goes on in it
+-- whether the row that is shown at r is below one that goes on in it
 abbrev pub is_below_wrapped : GridView → ℕ → Bool
 is_below_wrapped g r = nat_lt 0 r && (visible_at g (r - 1)).wrapped
 

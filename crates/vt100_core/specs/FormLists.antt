@@ -22,7 +22,7 @@ HasByteCells g = (r k : ℕ) → HasByteColors (lines_of g.rows r k).attrs
 abbrev pub HasByteVisibleCells : GridView → Type 0
 HasByteVisibleCells g = (r k : ℕ) → HasByteColors (cell_at (visible_at g r).cells k).attrs
 
--- the character c stands in no cell
+-- no cell has the character c
 abbrev pub HasNo : ℕ → GridView → Type 0
 HasNo c g = (r k : ℕ) → Contains (lines_of g.rows r k).text c → ⊥
 

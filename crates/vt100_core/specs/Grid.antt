@@ -37,7 +37,7 @@ pub record GridView : Type 0 where
   pub bottom : ℕ
   pub kept : KeptPart
 
--- ---- making one
+-- ---- creating one
 
 abbrev pub keeps_of : Scrollback → Bool
 keeps_of Disabled = false
@@ -47,7 +47,7 @@ abbrev pub capacity_of : Scrollback → ℕ
 capacity_of Disabled = 0
 capacity_of (Enabled capacity) = capacity
 
--- the scrollback that a grid with this part was made with
+-- the scrollback that a grid with this part was created with
 abbrev pub scrollback_of : KeptPart → Scrollback
 scrollback_of k = if k.keeps then Enabled k.capacity else Disabled
 
@@ -115,12 +115,12 @@ IsAllocated g = 0 < length g.rows
 
 -- ---- what a refusal leaves
 
--- as many rows are kept at most, if any
+-- whether rows are kept, and the capacity, are the same
 pub record SameKeeping (k m : KeptPart) : Type 0 where
   pub keeps : m.keeps ≡ k.keeps
   pub capacity : m.capacity ≡ k.capacity
 
--- two grids of one size that keep as many rows at most
+-- two grids of one size and with the same capacity
 pub record SameLimits (g h : GridView) : Type 0 where
   pub height : h.height ≡ g.height
   pub width : h.width ≡ g.width
@@ -140,7 +140,7 @@ cleared g = record (new_grid g.height g.width Disabled) {
 
 -- ---- what is shown
 
--- the row shown at r: the newest `offset` kept rows stand above the others
+-- the row shown at r: the newest `offset` kept rows are above the others
 abbrev pub visible_at : GridView → ℕ → RowView
 visible_at g r =
     if nat_lt r g.kept.offset then row_at g.kept.rows (length g.kept.rows - g.kept.offset + r)

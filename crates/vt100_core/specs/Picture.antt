@@ -23,7 +23,7 @@ visible_lines g r k = if nat_lt r g.height && nat_lt k g.width then cell_at (vis
 abbrev pub visible_wraps : GridView → ℕ → Bool
 visible_wraps g r = nat_lt r g.height && (visible_at g r).wrapped
 
--- what a terminal has beside its grid
+-- what a terminal has besides its grid
 pub record Extras : Type 0 where
   pub hidden : Bool
   pub attrs : Attrs

@@ -11,8 +11,8 @@ use Rattle.vt100_core.specs.Copy.{without_kept}
 abbrev pub fed_alike : GridView → Scrolled
 fed_alike g = record { grid = record g { kept = (fed g 1).grid.kept }; sunk = (fed g 1).sunk }
 
--- The cursor's row has no room for a character c of n columns. So many of it go into a row, and printing these makes
--- the same rows and the same cursor again.
+-- The cursor's row has no room for a character c of n columns. `times` of them fit into a row, and printing these
+-- makes the same rows and the same cursor again.
 pub record IsSettled (g : GridView) (c n times : ℕ) (a : Attrs) : Type 0 where
   pub drawn : drawn_columns c ≡ Some n
   pub columns : (n ≡ 1) ⊎ (n ≡ 2)

@@ -39,7 +39,8 @@ with_width g width = record g {
   saved_col = min g.saved_col (width - 1);
 }
 
--- how many rows come back at the top where the screen gets this height: as many as come, but no more than scrolled off
+-- how many rows come back at the top where the screen gets this height: as many as are added, but at most as many as
+-- scrolled off
 abbrev pub down_rows : GridView → ℕ → ℕ
 down_rows g height = min g.kept.scrolled_off (height - g.height)
 
@@ -76,10 +77,10 @@ resized g height width =
     else if nat_lt height g.height then record { grid = with_width (shortened s.grid up height) width; sunk = s.sunk }
     else record { grid = lengthened (with_width (whole_screen g) width) height; sunk = [] }
 
--- ---- where each row stands then
+-- ---- where each row is then
 
--- the row that comes to stand at r on a screen of this height: one that comes back, where it was kept, one that stood
--- on the screen, or a blank one
+-- the row that comes to be at r on a screen of this height: one that comes back, if it was kept, one that was on the
+-- screen, or a blank one
 abbrev pub row_coming_to : GridView → ℕ → ℕ → ℕ → RowView
 row_coming_to g height width r =
     let kept = length g.kept.rows in

@@ -15,8 +15,7 @@ pub record Scrolled : Type 0 where
   pub grid : GridView
   pub sunk : List RowView
 
--- no row scrolls off at the top on the way from g to h, as the counts say; a count that has come to its end says
--- nothing
+-- no row scrolls off at the top on the way from g to h, as the counts say; a count at its maximum says nothing
 abbrev pub ScrollsNoneOff : GridView → GridView → Type 0
 ScrollsNoneOff g h = (g.kept.scrolled_off < 2 ^ 64 - 1) × (h.kept.scrolled_off ≡ g.kept.scrolled_off)
 
@@ -99,13 +98,13 @@ unfoldable pub fed : GridView → ℕ → Scrolled
 fed g n = if is_in_region g then scrolled_up (moved_rows_down g n) (rows_past_bottom g n)
     else record { grid = moved_rows_down g n; sunk = [] }
 
--- where the row that the cursor leaves stands after a line feed
+-- where the row that the cursor leaves is after a line feed
 abbrev pub left_row : GridView → ℕ
 left_row g = if g.row == g.bottom then g.row - 1 else g.row
 
 -- the cursor goes to the first column of the next row. The row that it left is wrapped if `wrap` is set, it shows
--- something in its last column, and it now stands directly above; else it isn't wrapped any more. On a screen of one
--- row that row is gone.
+-- something in its last column, and it is now directly above; else it isn't wrapped any more. On a screen of one row
+-- that row is gone.
 unfoldable pub wrapped_on : GridView → Bool → Scrolled
 wrapped_on g wrap =
     let h = (fed (record g { col = 0 }) 1).grid in

@@ -47,7 +47,7 @@ carried_on g x a =
     let s = made_to_fit g 2 false in
     record { grid = put_at s.grid x a 2; sunk = s.sunk; printed = Joined }
 
--- a cell that has become wide in the last column stands at the start of the next row, with the drawing attributes
+-- a cell that has become wide in the last column goes to the start of the next row, with the drawing attributes
 abbrev pub carried : GridView → ℕ → Attrs → PrintedGrid
 carried g c a =
     let s = wrapped_on (with_cursor_row g (wiped_row (row_of_cursor g) (g.col - 1) g.col a)) false in

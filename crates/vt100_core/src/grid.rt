@@ -56,7 +56,7 @@ impl Grid {
     ghost use Rattle.vt100_core.specs.Cursor.{cursor_at, with_origin, cursor_saved, cursor_restored, with_region};
     ghost use Rattle.vt100_core.specs.Cursor.{moved_rows_down, moved_rows_up, tab_stop};
 
-    /// A grid with no rows yet: `allocate_rows` makes them.
+    /// A grid with no rows yet: `allocate_rows` creates them.
     pub fn new(alloc: Global, size: Size, scrollback: Scrollback) -> Self
         ensures { result ≡ new_grid size.rows.value size.cols.value scrollback }
     {
@@ -91,7 +91,7 @@ impl Grid {
         self.size
     }
 
-    /// Whether the grid has its rows, as most calls ask. What is true of every grid holds either way.
+    /// Whether the grid has its rows, as most calls require. What is true of every grid holds either way.
     pub fn is_allocated(&self) -> bool
         ensures yes { result ≡ true → IsAllocated self.now }
         ensures no { result ≡ false → self.now.rows ≡ [] }
@@ -100,7 +100,7 @@ impl Grid {
         !self.rows.is_empty()
     }
 
-    /// Makes the rows, if the grid has none yet. Where there isn't memory for them nothing is changed.
+    /// Creates the rows, if the grid has none yet. If there isn't memory for them, nothing changes.
     pub fn allocate_rows(&mut self) -> Result<(), GridError>
         ensures allocated { OnOk result (self.new ≡ allocated self.old) }
         ensures some { OnOk result (IsAllocated self.new) }
@@ -114,7 +114,7 @@ impl Grid {
         Ok(())
     }
 
-    /// Makes every row blank, and puts cursor, scroll region and modes back as in a new grid. What is kept stays.
+    /// Makes every row blank, and resets cursor, scroll region and modes to those of a new grid. The kept rows stay.
     pub fn clear(&mut self)
         ensures { self.new ≡ cleared self.old }
     {

@@ -6,7 +6,7 @@ ghost use Rattle.vt100_core.specs.WriterLaws.{EachGridIsDrawable, EachRedrawIsDr
 ghost use Rattle.vt100_core.specs.WriterLaws.{EachCursorIsDrawn};
 ghost use Rattle.vt100_core.specs.FormLists.{EachListIsSent, EachListIsOfForms, EachListIsShort};
 
-/// Which row stands where after [`Grid::set_size`](crate::Grid::set_size), counted from the top: rows that come back,
+/// Which row is where after [`Grid::set_size`](crate::Grid::set_size), counted from the top: rows that come back,
 /// blank ones above them where they weren't kept, then the rows that were on the screen and stay, and blank ones
 /// below.
 pub fn resizes_place_rows()

@@ -5,7 +5,7 @@
 pub enum Printed {
     /// The character was dropped.
     Nothing,
-    /// The character stands in a cell of its own.
+    /// The character has a cell of its own.
     Spacing,
     /// The character joined the cell before it. A cell that was full is as it was.
     Joined,

@@ -173,7 +173,7 @@ not-question d h = grind (arith, nat_tests)
 not-question-high : (d : ℕ) → 63 < d → nat_eq 63 d ≡ false
 not-question-high d h = grind (arith, nat_tests)
 
--- a control sequence that begins with a number is no mark
+-- a control sequence that begins with a number isn't a mark
 clear-csi : (ds : List ℕ) → StartsLow ds → Plain ds → clear (csi ds) ≡ true
 unfolding clear agrees StartsLow
 clear-csi [] h k = elim h [ ]

@@ -8,7 +8,7 @@ use Rattle.vt100_forms.specs.declared.attrs.Attrs.{Attrs}
 abbrev pub default_attrs : Attrs
 default_attrs = record { fgcolor = Default; bgcolor = Default; mode = 0 }
 
--- whether two colours, or two attributes, are equal: what `==` answers
+-- whether two colours, or two attributes, are equal: what `==` returns
 abbrev pub color_eq : Color → Color → Bool
 color_eq Default Default = true
 color_eq (Idx i) (Idx j) = i == j

@@ -151,7 +151,7 @@ sgr_numbers c =
     color_part 30 c.fgcolor ++ color_part 40 c.bgcolor ++ intensity_part c.intensity
     ++ flag_part 3 23 c.italic ++ flag_part 4 24 c.underline ++ flag_part 7 27 c.inverse
 
--- the parameters after the first, each behind a ;
+-- the parameters after the first, each after a ;
 abbrev pub further_numbers : List ℕ → List ℕ
 further_numbers ns = flat_map (λ n. 59 ∷ decimal n) ns
 

@@ -61,7 +61,7 @@ rows-compared v w xs ys n end ex ey l b d flags le same differs =
 
 -- ---- lists of rows
 
--- a row more is that of the other list
+-- one more row is that of the other list
 pub copied-more : (rows others : List RowView) (r : ℕ) (v : RowView) → r < length rows
     → ((k : ℕ) → k < r → row_at rows k ≡ row_at others k) → v ≡ row_at others r
     → (k : ℕ) → k < r + 1 → row_at (set rows r v) k ≡ row_at others k
@@ -70,7 +70,7 @@ copied-more rows others r v h same is k lt = elim (cases_eq k r) [
   | inr ne ↦ get_or-set_other rows r k v (blank_row 0) ne ∙ same k (omega (arith, ne))
 ]
 
--- and the rows behind it stay
+-- and the rows after it stay
 pub others-stay : (rows old : List RowView) (r : ℕ) (v : RowView)
     → ((k : ℕ) → r ≤ k → row_at rows k ≡ row_at old k) → (k : ℕ) → r + 1 ≤ k → row_at (set rows r v) k ≡ row_at old k
 others-stay rows old r v same k h =

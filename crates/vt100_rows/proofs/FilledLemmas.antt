@@ -70,7 +70,7 @@ line-of-prefix xs t b =
     fun_ext (λ k. ⊎_elim (λ lt. get_or-take t xs k default_cell lt)
     (λ ge. cell_at_past (take t xs) k (omega (arith, length-take t xs)) ∙ sym (b k ge)) (cases_lt k t))
 
--- where ws is what an edit makes of the start, and g what stands where then
+-- where ws is what an edit makes of the start, and g gives the cell at each column after it
 prefixes : (xs ws : List CellView) (t : ℕ) (f g : ℕ → CellView) → t ≤ length xs → ws ≡ by_position t f
     → ((k : ℕ) → k < t → f k ≡ g k) → ((k : ℕ) → t ≤ k → k < length xs → cell_at xs k ≡ g k)
     → ws ++ drop t xs ≡ by_position (length xs) g

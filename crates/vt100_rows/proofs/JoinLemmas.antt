@@ -124,7 +124,7 @@ joins-in_place v xs ys col n i c x y a exs eys en ei ey ex narrow h l =
     (cond (length v.cells == 1) v (cond (nat_lt col (length v.cells)) (placed v (col - 1) (joined_cell v col c) a)
     (wiped_row v (col - 1) col a)))) (sym same)
 
--- ---- a cell that takes no more
+-- ---- a cell that has no room for another character
 
 same-width-twice : (b : Bool) → (b && not b) ≡ false
 same-width-twice true = refl

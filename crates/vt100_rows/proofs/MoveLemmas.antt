@@ -32,7 +32,7 @@ moves_up-read : (rows zs : List RowView) (first end n width r : ℕ) → first +
     → changed_between (λ v. blank_row (length v.cells)) zs (end - n) end r ≡ moved_up rows first end n width r
 moves_up-read rows zs first end n width r h l k w e = grind (arith, nat_tests, w (r + n - (end - first)))
 
--- the rows that come in are made blank after
+-- the rows that come in are made blank afterwards
 pub moves_up : (rows zs ws : List RowView) (first end n width : ℕ) → first + n ≤ end → end ≤ length rows
     → ((k : ℕ) → k < length rows → IsRowOf width (row_at rows k))
     → zs ≡ rows_by_position (length rows) (turned_up rows first end n)
@@ -44,7 +44,7 @@ moves_up rows zs ws first end n width h l w ez ew =
     (λ r k. moves_up-read rows zs first end n width r h l k (λ j m. (w j m).wide)
     (row_at-read (length rows) (turned_up rows first end n) zs r ez k))
 
--- what stands in the rows that go doesn't matter
+-- what is in the rows that go doesn't matter
 pub moves_up_alike : (rows zs ws : List RowView) (m end n width : ℕ) → n ≤ end → end ≤ length rows
     → zs ≡ rows_by_position (length rows) (changed_between (λ v. blank_row width) rows m n)
     → ws ≡ rows_by_position (length zs) (moved_up zs 0 end n width)

@@ -21,7 +21,7 @@ line-blank n =
     fun_ext (λ k. ⊎_elim (λ l. cell_at-replicate n default_cell k l)
     (λ l. cell_at_past (blank_row n).cells k (omega (arith, length-replicate n default_cell))) (cases_lt k n))
 
--- past the last row nothing stands
+-- past the last row there is nothing
 pub lines-past : (rows : List RowView) (r : ℕ) → length rows ≤ r → lines_of rows r ≡ (λ k. default_cell)
 lines-past rows r h = ap (λ (v : RowView). cell_at v.cells) (row_at_past rows r h) ∙ line-blank 0
 
@@ -47,7 +47,7 @@ wraps-set rows r v h = seen-set (λ w. w.wrapped) rows r v h
 
 -- ---- all rows a line up
 
--- each row stands a line further up, and a blank one comes, which g sees as it sees one past the last
+-- each row is a line further up, and a blank one comes, which g sees as it sees one past the last
 seen-up : {A : Type 0} (g : RowView → A) (rows : List RowView) (width r : ℕ) → g (blank_row width) ≡ g (blank_row 0)
     → g (row_at (rows_by_position (length rows) (moved_up rows 0 (length rows) 1 width)) r)
     ≡ cond (nat_lt (r + 1) (length rows)) (g (row_at rows (r + 1))) (g (blank_row 0))

@@ -56,7 +56,7 @@ pub refilled : {X : Type 0} (n : ℕ) (ys xs : List X) → n ≡ length xs → l
     → take n (ys ++ drop (length ys) xs) ≡ ys
 refilled n ys xs e l = take-append-le n ys (drop (length ys) xs) (omega arith) ∙ take_all n ys (omega arith)
 
--- ---- a row more has changed
+-- ---- one more row has changed
 
 pub changes-more : (f : RowView → RowView) (old rows : List RowView) (first r : ℕ) (v : RowView) → first ≤ r
     → r < length rows → ((k : ℕ) → row_at rows k ≡ changed_between f old first r k) → v ≡ f (row_at rows r)

@@ -25,7 +25,7 @@ encodes-spaces (suc n) = ap (λ bs. bs ++ encode_utf8_all (replicate n 32)) (enc
 column_text-has : (f : ℕ → CellView) (s k : ℕ) → has_text (f k) ≡ true → column_text f s k ≡ (f k).text
 column_text-has f s k h = rw h refl
 
--- where a text stands
+-- where there is a text
 line_text-has : (f : ℕ → CellView) (s n b : ℕ) → columns_text f s n ≡ line_text f s n ++ replicate b 32
     → has_text (f (s + n)) ≡ true
     → line_text f s (suc n) ≡ line_text f s n ++ replicate b 32 ++ (f (s + n)).text
@@ -64,7 +64,7 @@ shows-text : (f : ℕ → CellView) (s n b : ℕ) → columns_text f s n ≡ lin
 shows-text f s n b g h = sym (ap (λ (cs : List ℕ). not (length cs == 0)) (line_text-has f s n b g h)
     ∙ some-text (line_text f s n ++ replicate b 32) (f (s + n)).text h)
 
--- where none stands
+-- where there is no text
 line_text-none : (f : ℕ → CellView) (s n : ℕ) → has_text (f (s + n)) ≡ false
     → line_text f s (suc n) ≡ line_text f s n
 line_text-none f s n h = ap (λ t. cond t (columns_text f s (suc n)) (line_text f s n)) h
@@ -136,7 +136,7 @@ module _ (f : ℕ → CellView) (s col b : ℕ) (old was : List ℕ) (shown : Bo
 
 -- ---- where memory ran out
 
--- a part of a text has been begun, after what stands before it
+-- a part of a text has been begun, after what comes before it
 pub IsBegun-within : (old was before part after text now : List ℕ) → was ≡ old ++ before
     → text ≡ before ++ part ++ after → IsBegun was part now → IsBegun old text now
 IsBegun-within old was before part after text now ew et h = (
@@ -158,7 +158,7 @@ IsBegun-spaces n k old now h e =
       e,
     )
 
--- the text up to a column where one stands is a prefix of the text of more columns
+-- the text up to a column that has one is a prefix of the text of more columns
 module _ (f : ℕ → CellView) (s n : ℕ) (state_after : has_text (f (s + n)) ≡ true) where
   abbrev first : List ℕ
   first = columns_text f s (suc n)
@@ -196,7 +196,7 @@ pub on-err : {T E P : Type 0} (r : Result T E) → P → OnErr r P
 on-err (Ok x) p = tt
 on-err (Err e) p = p
 
--- memory ran out at a column where a text stands
+-- memory ran out at a column that has a text
 pub IsBegun-text : (v : RowView) (s start n col b : ℕ) (wrapping shown : Bool) (old was now : List ℕ) (x : CellView)
     → s ≡ start → s ≤ col → col < min (s + n) (length v.cells)
     → IsWritten (cell_at v.cells) s (col - s) old was b shown → x ≡ cell_at v.cells col → has_text x ≡ true

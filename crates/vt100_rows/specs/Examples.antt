@@ -34,10 +34,10 @@ indented = record { cells = default_cell ∷ letter 98 default_attrs ∷ []; wra
 pub record EachExampleIsWritten : Type 0 where
   -- the whole row, from its start on
   pub whole : (formatted abc 0 3 0 false None None).forms ≡ text (codes "abc")
-  -- a part of it: the cursor stands there already, and then behind that part
+  -- a part of it: the cursor is there already, and afterwards it is just past that part
   pub part : (formatted abc 1 1 5 false None None).forms ≡ text (codes "b")
   pub part_pos : (formatted abc 1 1 5 false None None).pen.pos ≡ place 5 2
-  -- the same where the cursor stands at the origin
+  -- the same where the cursor is at the origin
   pub part_from : (formatted abc 1 1 5 false (Some (place 0 0)) None).forms ≡ MoveTo 5 1 ∷ text (codes "b")
   -- the row is shorter than the width, and than the start
   pub narrow : (formatted abc 2 80 0 false None None).forms ≡ text (codes "c")

@@ -32,8 +32,8 @@ redraw v start width row above =
     then row_redraw (redraw_job v start row above) (min width (length v.cells - start))
     else skip
 
--- Before that the cursor stands at `pos` and the terminal draws with `attrs`. Where these aren't given, the attributes
--- are the default ones, and the cursor stands at column `start`, or at the end of the row above if that one goes on.
+-- Before that the cursor is at `pos` and the terminal draws with `attrs`. Where these aren't given, the attributes
+-- are the default ones, and the cursor is at column `start`, or at the end of the row above if that one goes on.
 abbrev pub pen_before : RowView → ℕ → ℕ → Bool → Option Pos → Option Attrs → Pen
 pen_before v start row above pos attrs = record {
   pos = unwrap_or pos (if above then record { row = row - 1; col = length v.cells }

@@ -16,7 +16,7 @@ use Rattle.row_drawing.specs.Texts.{AllDrawing}
 use Rattle.vt100_rows.specs.Row.{RowView, IsRow}
 use Rattle.vt100_rows.specs.Forms.{redraw, formatted, difference, differing}
 
--- a terminal of so many rows, as wide as the row
+-- a terminal of this many rows, as wide as the row
 abbrev pub row_screen : ℕ → RowView → Size
 row_screen rows v = record { rows = rows; cols = length v.cells }
 
@@ -25,7 +25,7 @@ pub record IsPlainRow (v : RowView) : Type 0 where
   pub plain : (k : ℕ) → Contains (cell_at v.cells k).text 0xFE0F → ⊥
   pub proper : (k : ℕ) → IsProper (cell_at v.cells k).attrs
 
--- The terminal shows these cells in this row, which has the flag or hasn't; its cursor stands at the start of the row,
+-- The terminal shows these cells in this row, which has the flag or hasn't; its cursor is at the start of the row,
 -- and it draws with the default attributes. What a writer is given as cursor and attributes, if it is given, is right.
 pub record IsAtRow (row : ℕ) (f : ℕ → CellView) (flag : Bool) (pos : Option Pos) (attrs : Option Attrs) (t : Term)
     : Type 0 where

@@ -34,7 +34,7 @@ pub record HaveSameWidths (rows others : List RowView) : Type 0 where
   pub count : length rows ≡ length others
   pub widths : (r : ℕ) → r < length rows → length (row_at rows r).cells ≡ length (row_at others r).cells
 
--- from row `first` up to row `end` the rows stand n further up, and n blank rows follow them; no other row changes
+-- from row `first` up to row `end` the rows are n further up, and n blank rows follow them; no other row changes
 abbrev pub moved_up : List RowView → ℕ → ℕ → ℕ → ℕ → ℕ → RowView
 moved_up rows first end n width r =
     if nat_lt r first || nat_le end r then row_at rows r
@@ -48,7 +48,7 @@ turned_up rows first end n r =
     else if nat_lt (r + n) end then row_at rows (r + n)
     else row_at rows (r + n - (end - first))
 
--- from row `first` up to row `end` n blank rows come in at the top, and the others stand n further down; no other row
+-- from row `first` up to row `end` n blank rows come in at the top, and the others are n further down; no other row
 -- changes
 abbrev pub moved_down : List RowView → ℕ → ℕ → ℕ → ℕ → ℕ → RowView
 moved_down rows first end n width r =

@@ -28,6 +28,6 @@ line_text f s (suc n) = if has_text (f (s + n)) then columns_text f s (suc n) el
 abbrev pub row_text : RowView → ℕ → ℕ → List ℕ
 row_text v s e = line_text (cell_at v.cells) s (min e (length v.cells) - s)
 
--- what is written of n columns from s on; where they show no text below a wrapped row, a newline stands for it
+-- what is written of n columns from s on; where they show no text below a wrapped row, a newline takes its place
 abbrev pub written_text : RowView → ℕ → ℕ → Bool → List ℕ
 written_text v s n wrapping = if wrapping && (length (row_text v s (s + n)) == 0) then 10 ∷ [] else row_text v s (s + n)

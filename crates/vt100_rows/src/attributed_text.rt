@@ -14,8 +14,8 @@ impl Row {
     /// sequences but SGR, and none at its end. Default cells before it are spaces in the attributes that are set then,
     /// other empty cells spaces in their own.
     ///
-    /// `current_attrs` are the attributes that are set before the text; then they are those that are set after it. The
-    /// only error is the writer's, after which they are open; there is none where there is no text.
+    /// `current_attrs` are the attributes that are set before the text, and afterwards those that are set after it.
+    /// The only error is the writer's, after which they are unspecified. There is no error if there is no text.
     pub fn write_contents_formatted_basic<W: fmt::Write>(
         &self,
         writer: &mut W,

@@ -22,7 +22,7 @@ pub fn kept_at(rows: &VecDeque<Row>, j: usize) -> &Row
     &rows[j]
 }
 
-/// Takes out the oldest `n` rows, and gives them to the sink.
+/// Removes the oldest `n` rows, and gives them to the sink.
 pub fn drop_oldest<S: RowSink>(rows: &mut VecDeque<Row>, n: usize, sink: &mut S)
     requires { n ≤ length rows.old.items }
     ensures kept { rows.new.items ≡ drop n rows.old.items }

@@ -3,7 +3,7 @@ ghost use Rattle.vt100_rows.specs.Examples.{EachExampleIsWritten};
 ghost use Rattle.vt100_rows.specs.Laws.{EachRowIsDrawn, EachDifferenceIsDrawn, EachTextIsSent};
 ghost use Rattle.vt100_rows.specs.Laws.{EachTextIsAForm, EachHasNoMark, EachListIsSent, EachListIsOfForms};
 
-/// A terminal whose cursor stands at the start of a blank row, and that reads what
+/// A terminal whose cursor is at the start of a blank row, and that reads what
 /// [`write_contents_formatted`](crate::Row::write_contents_formatted) appends for a whole row, shows this row there;
 /// its other rows stay.
 pub fn rows_are_drawn()

@@ -1,7 +1,7 @@
 //! Rows of a terminal screen, one by one and as lists, and their edits.
 //!
 //! A [`Cell`] is what one column of a row has, and a [`Row`] is the cells of one line. The two columns of a wide
-//! character stand together after every call: the cell with its text, and directly after it a blank continuation.
+//! character are adjacent after every call: the cell with its text, and directly after it a blank continuation.
 //!
 //! A sheet's rows are lists: those that are drawn on, from the top, and those that are kept, the oldest first. The
 //! functions on such lists are a part of `vt100_core`, which re-exports [`RowSink`] and [`Size`] and calls the others

@@ -58,7 +58,7 @@ impl Model for Row {
 }
 
 impl Row {
-    /// A row of `cols` default cells. It takes memory for these and no more; a row without cells takes none.
+    /// A row of `cols` default cells. It takes memory for exactly these; a row without cells takes none.
     pub fn new(alloc: Global, cols: u16) -> Result<Self, GridError>
         ensures row { IfOk result (λ row. row ≡ blank_row cols) }
         ensures none { cols ≡ 0 → IsOk result }
@@ -141,7 +141,7 @@ impl Row {
         self.filled = filled_between(self.filled, i, count);
     }
 
-    /// Takes out the cells of the range. What stands right of them moves to the left, and default cells follow.
+    /// Removes the cells of the range. The cells right of them move to the left, and default cells follow.
     pub fn remove(&mut self, range: Range<u16>)
         requires { range.end ≤ length self.old.cells }
         ensures { self.new ≡ removed self.old range.start range.end }
@@ -228,7 +228,7 @@ impl Row {
         }
     }
 
-    /// A copy without the default cells at its end. It takes memory for its cells and no more.
+    /// A copy without the default cells at its end. It takes memory for exactly its cells.
     pub fn trimmed(&self) -> Result<Self, GridError>
         ensures { IfOk result (λ row. row ≡ trimmed self.now) }
     {
@@ -242,7 +242,7 @@ impl Row {
         })
     }
 
-    /// Takes away the default cells at the end.
+    /// Removes the default cells at the end.
     pub fn trim(&mut self)
         ensures { self.new ≡ trimmed self.old }
     {
@@ -278,7 +278,7 @@ impl Row {
     }
 }
 
-/// Calls that print. They stand in for access to a single cell, which could break a wide character in two. They are for
+/// Calls that print. They replace access to a single cell, which could break a wide character in two. They are for
 /// the grid of `vt100_core` alone, which meets their conditions.
 impl Row {
     /// Puts the character `c`, which takes `columns` columns, at column `col`, with the drawing attributes.
@@ -318,7 +318,7 @@ impl Row {
     ///
     /// A cell takes it while it has fewer than 18 bytes; an empty cell gets a space first. U+FE0F, which asks for an
     /// emoji, can make a narrow cell wide: then it covers the next column as [`put`](Self::put) says, with the drawing
-    /// attributes `attrs`. In the last column there is no room for it, and the cell's text is handed out.
+    /// attributes `attrs`. In the last column there is no room for it, and the cell's text is returned.
     #[doc(hidden)]
     pub fn join(&mut self, col: u16, c: char, attrs: Attrs) -> Join
         requires zero_width { drawn_columns c ≡ Some 0 }
@@ -368,8 +368,8 @@ impl Row {
 
 /// The row's text.
 impl Row {
-    /// Appends the text of `width` columns from column `start` on, without the empty columns at its end. Where no text
-    /// stands there and `wrapping` is set, a newline stands for it.
+    /// Appends the text of `width` columns from column `start` on, without the empty columns at its end. If these
+    /// columns have no text and `wrapping` is set, a newline is appended in place of the text.
     ///
     /// It is refused only where the text doesn't fit in the capacity of `contents` and there is no memory for more
     /// (`full`). Then a part of it may have been appended.
@@ -438,7 +438,7 @@ fn filled_between(filled: u16, i: u16, count: u16) -> u16
     }
 }
 
-/// Makes the first `end` cells default cells, which those behind are.
+/// Makes the first `end` cells default cells, which the cells after them are already.
 // LLVM knows that all bytes of a default cell are 0.
 #[inline]
 fn reset_prefix(cells: &mut [Cell], end: usize)
@@ -449,7 +449,7 @@ fn reset_prefix(cells: &mut [Cell], end: usize)
     cells[..end].fill(Cell::new());
 }
 
-/// Whether a cell that was `cell`, and is `joined` now, takes a column more.
+/// Whether a cell that was `cell`, and is `joined` now, takes one more column.
 fn is_widened(cell: &Cell, joined: &Cell) -> bool
     ensures { result ≡ (joined.now.wide && not cell.now.wide) }
 {

@@ -22,7 +22,7 @@ impl RowSink for () {
     fn row(&mut self, _row: &Row) {}
 }
 
-/// Gives each row, from the first on.
+/// Gives each row to the sink, from the first on.
 pub fn give_rows<S: RowSink>(rows: &[Row], sink: &mut S)
     ensures { TakesAll S.takes sink.old rows.now sink.new }
 {

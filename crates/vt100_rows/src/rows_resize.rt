@@ -38,8 +38,8 @@ pub fn resize_rows(rows: &mut [Row], from: u16, to: u16) -> Result<(), GridError
     }
 }
 
-/// Gives every row `to` columns, where they have `from`, which are no more. If there isn't memory for that each has
-/// `from` columns again.
+/// Gives every row `to` columns, where they have `from`, which isn't more than `to`. If there isn't memory for that
+/// each has `from` columns again.
 fn widen_rows(rows: &mut [Row], from: u16, to: u16) -> Result<(), GridError>
     requires sheet { IsSheet (length rows.old) from rows.old }
     requires wider { from ≤ to }

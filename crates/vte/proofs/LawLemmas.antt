@@ -9,7 +9,7 @@ use Rattle.vte.specs.Advances as any
 use Rattle.vte.specs.Advances.{Advances}
 use Rattle.vte.specs.Hold.{Settles, keeps, replays, closes, Takes, parses, begins, settles, overflows, held_of, limit}
 
--- what is parsed of a piece stands before the rest
+-- what is parsed of a piece comes before the rest
 cut : (parsed piece : List ℕ) (n : ℕ) → parsed ++ piece ≡ (parsed ++ take n piece) ++ drop n piece
 cut parsed piece n = ap (λ xs. parsed ++ xs) (sym (take-append-drop n piece))
     ∙ sym (append_assoc parsed (take n piece) (drop n piece))

@@ -56,7 +56,7 @@ not_sought mark text k some other =
     (λ h e. other (omega (arith, length-drop k text, h))
     (eq-eqb (slice_index text (k + 2)) (slice_index mark 2) (sym (get_or-drop k text 2 0) ∙ e)))
 
--- no mark stands in a stretch of a part of the text, `n` bytes from `from` on
+-- no mark is in a stretch of a part of the text, `n` bytes from `from` on
 pub none_in_part : (mark text : List ℕ) (from n i j : ℕ) → 2 < length mark → from + n ≤ length text → j ≤ n
     → Nowhere (Passes (is_byte (slice_index mark 2)) (take n (drop from text))) i j → (k : ℕ) → from + i ≤ k + 2
     → k + 2 < from + j → is_found_at mark text k ≡ false
@@ -67,7 +67,7 @@ none_in_part mark text from n i j some fits inside nowhere k low high =
     ∙ (get_or-drop from text (k + 2 - from) 0 ∙ ap (slice_index text) place) in
     not_sought mark text k some (λ _ is. nowhere (k + 2 - from) (omega arith) (omega arith) (rw reads is))
 
--- no mark begins so late that its third byte lies behind the text
+-- no mark begins so late that its third byte lies after the end of the text
 pub none_at_end : (mark text : List ℕ) (k : ℕ) → 2 < length mark → length text ≤ k + 2 → is_found_at mark text k ≡ false
 none_at_end mark text k some late = not_sought mark text k some (λ inside. absurd (omega arith))
 

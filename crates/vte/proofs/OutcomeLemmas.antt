@@ -37,7 +37,7 @@ renews-one_way : {text : List ℕ} {from : ℕ} {a b : List Tick} → Renews tex
 renews-one_way (again k low at) y = again-only y k low at
 renews-one_way (quiet none) y = quiet-only y none
 
--- marks stand at one place
+-- the last mark is at one place only, and so are the first mark and the cut
 
 last-one : (mark text : List ℕ) (e f : ℕ) → IsLast mark text e → IsLast mark text f → e ≡ f
 last-one mark text e f x y = elim (cases_lt e f) [
@@ -131,7 +131,7 @@ parses-only (begins parsed piece n q k d t at y) e closed =
 parses-only (settles parsed held piece q k d t fits y) e closed = absurd (cc)
 parses-only (overflows parsed held piece q k d t full y) e closed = absurd (cc)
 
--- the outcome of the rest of a piece, after so many bytes
+-- the outcome of the rest of a piece, after a number of bytes
 begins-only : {parsed : List ℕ} {hold : Option (List ℕ)} {piece q : List ℕ} {k : Option (List ℕ)} {d : List Call}
     {t : List Tick}
     → Takes parsed hold piece q k d t → hold ≡ None → (n : ℕ) → OpensAt parsed piece n → (p : List ℕ)

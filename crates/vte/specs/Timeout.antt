@@ -11,8 +11,8 @@ pub data Tick : Type 0 where
 abbrev pub update_nanos : ℕ
 update_nanos = 150_000_000
 
--- What a timeout may do when it is set for so many nanoseconds, when it is cleared, and when it is asked whether it is
--- pending.
+-- What a timeout may do when it is set for a number of nanoseconds, when it is cleared, and when it is asked whether
+-- it is pending.
 pub record Ticking (T : Type 0) : Type 1 where
   pub sets : T → ℕ → T → Type 0
   pub clears : T → T → Type 0
@@ -29,7 +29,7 @@ abbrev pub sets_of : List (List ℕ) → List Tick
 sets_of [] = []
 sets_of (g ∷ gs) = if opens_group g then Sets ∷ sets_of gs else sets_of gs
 
--- whenever the timeout is asked, it answers this
+-- whenever the timeout is asked, it returns this
 abbrev pub Awaits : {T : Type 0} → Ticking T → T → Bool → Type 0
 Awaits ticking t want = (b : Bool) → ticking.answers t b → b ≡ want
 

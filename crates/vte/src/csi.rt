@@ -143,8 +143,8 @@ fn identify_terminal<H: Handler>(handler: &mut H, params: &Params, intermediates
     }
 }
 
-/// Sequences without intermediates: those that most streams have most of, and any other. They are told apart by
-/// comparisons, since a jump by a table is often mispredicted.
+/// Sequences without intermediates: the ones that are frequent in most streams, and any other. They are distinguished
+/// by comparisons, since a jump by a table is often mispredicted.
 #[inline(always)]
 fn unmarked<H: Handler>(handler: &mut H, last: Option<char>, params: &Params, action: char)
     ensures { Calls H.step handler.old (csi_calls last params.now [] action) handler.new }

@@ -53,8 +53,8 @@ fn bright(number: u16) -> NamedColor
     }
 }
 
-/// Makes the call of a group of one number, if that sets an attribute by itself. The numbers that most streams have
-/// most of are compared first, since a jump by a table is often mispredicted.
+/// Makes the call of a group of one number, if that sets an attribute by itself. The numbers that are frequent in most
+/// streams are compared first, since a jump by a table is often mispredicted.
 #[inline(always)]
 fn set_single<H: Handler>(handler: &mut H, code: u16)
     ensures { Calls H.step handler.old (map terminal_attribute (option_to_list (lookup code singles))) handler.new }
@@ -285,7 +285,7 @@ fn attribute(group: &[u16]) -> Option<Attr>
 }
 
 /// Makes the calls of groups.
-// It isn't inlined, since it would stand at each call of `sgr`.
+// It isn't inlined, since each call of `sgr` would get a copy of it.
 #[inline(never)]
 fn set_groups<H: Handler>(handler: &mut H, params: &Params)
     ensures { Calls H.step handler.old (map terminal_attribute (attributes nothing params.now)) handler.new }
@@ -322,7 +322,7 @@ fn color_in_numbers(numbers: &[u16]) -> (Option<Color>, usize)
 }
 
 /// Makes the call of a number in a group of its own. A colour also takes the numbers after it. Returns how many of
-/// those it takes. The numbers that most streams have most of are told apart here, and any other by the table.
+/// those it takes. The numbers that are frequent in most streams are compared here, and any other by the table.
 #[inline(always)]
 fn set_number<H: Handler>(handler: &mut H, code: u16, others: &[u16]) -> usize
     ensures calls { SetsFirst H.step (code ∷ []) handler.old (each_alone others.now) handler.new
@@ -359,7 +359,7 @@ fn set_number<H: Handler>(handler: &mut H, code: u16, others: &[u16]) -> usize
 }
 
 /// Makes the calls of groups of one number each.
-// It isn't inlined, since it would stand at each call of `sgr`.
+// It isn't inlined, since each call of `sgr` would get a copy of it.
 #[inline(never)]
 fn set_numbers<H: Handler>(handler: &mut H, numbers: &[u16])
     ensures { Calls H.step handler.old (map terminal_attribute (attributes nothing (each_alone numbers.now)))

@@ -31,7 +31,7 @@ pub bool_cases : (v : Bool) → (v ≡ true) ⊎ (v ≡ false)
 bool_cases true = inl refl
 bool_cases false = inr refl
 
--- b goes on the tail t, whose first byte is from lo to hi
+-- b continues the tail t, whose first byte is from lo to hi
 abbrev pub tail_goes_on : ℕ → ℕ → List ℕ → ℕ → Bool
 tail_goes_on lo hi [] b = is_in_range lo hi b
 tail_goes_on lo hi (c ∷ t) b = is_in_range 0x80 0xBF b
@@ -44,7 +44,7 @@ goes_on-tail : (a : ℕ) (t : List ℕ) (b : ℕ) → goes_on a t b ≡ tail_goe
 goes_on-tail a [] b = refl
 goes_on-tail a (c ∷ t) b = refl
 
--- a tail that goes on at its first byte goes on at the others
+-- a tail that continues a character at its first byte does so at the others
 pub tail_first : (k lo hi c : ℕ) (t : List ℕ) → tail_len (suc k) lo hi (c ∷ t) ≡ length (c ∷ t)
     → (is_in_range lo hi c ≡ true) × (tail_len k 0x80 0xBF t ≡ length t)
 tail_first k lo hi c t h =

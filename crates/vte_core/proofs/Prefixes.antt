@@ -70,7 +70,7 @@ reads_byte {S} {step} {u} (b ∷ s) some e p r =
     let f : is_esc b ≡ false = e in
     reads_prefix (b ∷ s) 1 (omega arith) (omega arith) (rw f refl) (rw (append-nil (text_reported u b)) p) r
 
--- a byte that doesn't go on the character that was begun: what is read after that character's U+FFFD
+-- a byte that doesn't continue the character that was begun: what is read after that character's U+FFFD
 cut-anew : (a : ℕ) (t : List ℕ) (b : ℕ) (s : List ℕ) → goes_on a t b ≡ false
     → (run_reported (a ∷ t) (b ∷ s) ≡ Print 0xFFFD ∷ run_reported [] (b ∷ s))
     × (run_rest (a ∷ t) (b ∷ s) ≡ run_rest [] (b ∷ s))

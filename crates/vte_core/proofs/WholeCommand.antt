@@ -35,7 +35,7 @@ first_piece s k less none is =
 pub only_piece : (s : List ℕ) → ((j : ℕ) → j < length s → (get_or s j 0 == 0x3B) ≡ false) → pieces_of s ≡ s ∷ []
 only_piece s none = split_nowhere (λ b. b == 0x3B) s none
 
--- those that are told are the first sixteen
+-- the pieces that are reported are the first sixteen
 pub first_sixteen : (told more all : List (List ℕ)) → told ++ more ≡ all → length told ≤ 16
     → (more ≡ []) ⊎ (length told ≡ 16) → take 16 all ≡ told
 first_sixteen told more all e few either = elim either [

@@ -1,4 +1,4 @@
--- A lent event as what it says.
+-- A borrowed event as the event of the definitions.
 use Rattle.std.specs.Prelude.{map}
 use Rattle.vte_core.specs.Event as e
 use Rattle.vte_core.specs.declared.event.Event.{Event}

@@ -35,7 +35,7 @@ EscLeavesGround = (n : ℕ) (past bytes : List ℕ) → AtGround n (0x1B ∷ byt
 abbrev pub LeadsToGround : ℕ → Type 0
 LeadsToGround b = (n : ℕ) (past : List ℕ) → AtGround n (past ++ b ∷ [])
 
--- `[`, `]`, `P`, `X`, `^` or `_`: directly behind ESC it begins a longer sequence
+-- `[`, `]`, `P`, `X`, `^` or `_`: directly after ESC it begins a longer sequence
 abbrev pub is_introducer : ℕ → Bool
 is_introducer b = b == 0x5B || (b == 0x5D || (b == 0x50 || (b == 0x58 || (b == 0x5E || b == 0x5F))))
 

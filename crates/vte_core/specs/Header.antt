@@ -4,7 +4,7 @@ use Rattle.std.specs.Prelude.{take, nat_lt, ◌==◌, if◌then◌else◌}
 use Rattle.std.specs.List.{filter, slice_split, concat, fold}
 use Rattle.vte_core.specs.Bytes.{is_intermediate, is_numeric, is_private}
 
--- the header without the private byte that may stand first
+-- the header without the private byte that may come first
 abbrev pub unmarked : List ℕ → List ℕ
 unmarked [] = []
 unmarked (b ∷ bs) = if is_private b then bs else b ∷ bs
@@ -13,7 +13,7 @@ abbrev pub only_intermediates : List ℕ → Bool
 only_intermediates [] = true
 only_intermediates (b ∷ bs) = is_intermediate b && only_intermediates bs
 
--- no number stands after an intermediate, and no private byte anywhere but first
+-- no number comes after an intermediate, and a private byte comes only first
 abbrev pub in_order : List ℕ → Bool
 in_order [] = true
 in_order (b ∷ bs) = if is_numeric b then in_order bs else only_intermediates (b ∷ bs)

@@ -7,7 +7,7 @@ use Rattle.vte_core.specs.Added.{added}
 use Rattle.vte_core.specs.GroundText.{ends_in_text}
 use Rattle.vte_core.specs.Stopping.{asks_after}
 
--- the events of a beginning of a stream are a beginning of its events
+-- the events of a prefix of a stream are a prefix of its events
 abbrev pub KeepsBeginnings : Type 0
 KeepsBeginnings = (n : ℕ) (past bytes : List ℕ) → events n (past ++ bytes) ≡ events n past ++ added n past bytes
 
@@ -74,7 +74,7 @@ AsksAfterSequences = (n : ℕ) (past bytes : List ℕ) (b : ℕ) (rest : List �
     → ¬ All IsCharacter (added n (past ++ bytes) (b ∷ [])) → asks_after past (bytes ++ b ∷ rest) (length bytes + 1)
     ≡ true
 
--- but not behind ground text that goes on in the piece
+-- but not after ground text that goes on in the piece
 abbrev pub AsksOutsideRuns : Type 0
 AsksOutsideRuns = (past bytes : List ℕ) (b : ℕ) (rest : List ℕ) → 0 < length bytes
     → ends_in_text (past ++ bytes) ≡ true → b ≢ 0x1B → asks_after past (bytes ++ b ∷ rest) (length bytes) ≡ false

@@ -1,4 +1,4 @@
--- The text of parameters, as they stand in a control sequence.
+-- The text of parameters, as they are written in a control sequence.
 use Rattle.std.specs.Prelude.{ℕ, List, ◌++◌, codes}
 use Rattle.std.specs.List.{join_by}
 use Rattle.std.specs.Fmt.{decimal}

@@ -32,7 +32,7 @@ kept p b = if p b then b ∷ [] else []
 abbrev pub reported : (ℕ → Bool) → (ℕ → Event) → ℕ → List Event
 reported p f b = if p b then f b ∷ [] else []
 
--- b goes on the character that a ∷ t begins
+-- b continues the character that a ∷ t begins
 abbrev pub goes_on : ℕ → List ℕ → ℕ → Bool
 goes_on a [] b = is_in_range (second_min a) (second_max a) b
 goes_on a (c ∷ t) b = is_in_range 0x80 0xBF b

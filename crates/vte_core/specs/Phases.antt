@@ -22,7 +22,7 @@ next_by numeric inter InNumbers = if numeric then InNumbers else (if inter then 
 next_by numeric inter InIntermediates = if inter then InIntermediates else Ignored
 next_by numeric inter Ignored = Ignored
 
--- what is kept stands for the header
+-- what is kept represents the header
 pub record ReadsHeader (x : Header) (h : List ℕ) : Type 0 where
   pub phase : x.phase ≡ phase_of h
   pub numbers : ReadsNumbers x.numbers (filter is_numeric h)

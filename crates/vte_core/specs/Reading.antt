@@ -29,7 +29,7 @@ pub record AreNumbers (m : List ℕ) (gs : List (List ℕ)) (g : List ℕ) (n : 
   pub are_group : g ≡ map number last_parts
   pub is_number : n ≡ number digits
 
--- what is kept, and the last number n, stand for the digits, `:` and `;` so far
+-- what is kept, and the last number n, represent the digits, `:` and `;` so far
 abbrev pub ReadsUpTo : Numbers → ℕ → List ℕ → Type 0
 ReadsUpTo x n m = (gs : List (List ℕ)) × (g : List ℕ) × AreNumbers m gs g n × Holds x gs g
 

@@ -73,7 +73,7 @@ begins_c1 (b ∷ bs) = is_in_range 0x80 0x9F b
 abbrev pub is_printed : ℕ → List ℕ → Bool
 is_printed b bs = not (nat_lt b 0x20 || (b == 0xC2 && begins_c1 bs))
 
--- how many bytes stand before the next control that is executed
+-- how many bytes come before the next control that is executed
 abbrev pub printed_len : List ℕ → ℕ
 printed_len [] = 0
 printed_len (b ∷ bs) = if is_printed b bs then suc (printed_len bs) else 0

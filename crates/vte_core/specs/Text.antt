@@ -4,7 +4,7 @@ use Rattle.std.specs.Prelude.{◌==◌, if◌then◌else◌}
 use Rattle.std.specs.Int.{is_in_range}
 use Rattle.vte_core.specs.Event.{Event, Print, Execute}
 
--- how many bytes a character with this first byte has, 0 where none has it (Unicode, table 3-7)
+-- how many bytes a character with this first byte has, 0 if no character begins with it (Unicode, table 3-7)
 abbrev pub char_len : ℕ → ℕ
 char_len a =
     if nat_lt a 0x80 then 1
@@ -19,7 +19,7 @@ second_min a = if a == 0xE0 then 0xA0 else (if a == 0xF0 then 0x90 else 0x80)
 abbrev pub second_max : ℕ → ℕ
 second_max a = if a == 0xED then 0x9F else (if a == 0xF4 then 0x8F else 0xBF)
 
--- how many of the next k bytes, one after another, can go on a character whose next byte is from lo to hi
+-- how many of the next k bytes, one after another, can continue a character whose next byte is from lo to hi
 abbrev pub tail_len : ℕ → ℕ → ℕ → List ℕ → ℕ
 tail_len zero lo hi bs = 0
 tail_len (suc k) lo hi [] = 0

@@ -19,7 +19,7 @@ pub enum Phase {
     Start,
     InNumbers,
     InIntermediates,
-    /// A byte stood where it must not, so the sequence is ignored.
+    /// A byte came where it must not, so the sequence is ignored.
     Ignored,
 }
 

@@ -8,15 +8,15 @@ ghost use Rattle.vte_core.specs.Ground.{EscapesEndAtGround, ControlSequencesEndA
 ghost use Rattle.vte_core.specs.Ground.{NothingPendingIsGround, EscapesAreEvents, ControlSequencesAreEvents};
 ghost use Rattle.vte_core.specs.Ground.{TextsAreEvents};
 
-/// The events of a beginning of a stream are a beginning of the stream's events; pieces that follow one another add
-/// their events one after the other.
+/// The events of a prefix of a stream are a prefix of the stream's events. Pieces that follow one another add their
+/// events one after the other.
 pub fn beginnings()
     ensures kept { KeepsBeginnings }
     ensures in_order { AddsInOrder }
 {}
 
 /// A stream may be cut before each ESC: `s ESC t` has the events of `s ESC`, then those of `ESC t`. The ESC itself
-/// tells only what it cuts off: an unfinished character as U+FFFD, an operating system command, or a device string's
+/// reports only what it cuts off: an unfinished character as U+FFFD, an operating system command, or a device string's
 /// end.
 pub fn cut_before_esc()
     ensures cut { CutsBeforeEsc }
@@ -36,7 +36,7 @@ pub fn osc_fits()
 {}
 
 /// A byte of ground text prints characters or executes controls, and does nothing else. A byte that isn't ground text
-/// prints nothing, but an ESC that cuts off an unfinished character prints U+FFFD for it. Ground text stands before the
+/// prints nothing, but an ESC that cuts off an unfinished character prints U+FFFD for it. Ground text comes before the
 /// first ESC, and after the shape that each ESC begins.
 pub fn ground_text()
     ensures characters { TellsCharacters }
@@ -44,7 +44,7 @@ pub fn ground_text()
 {}
 
 /// Where `Parser::advance_until_terminated` asks its performer: before the first byte of a piece and after its last,
-/// and after each byte that adds an event other than a printed character or an executed control; but never behind
+/// and after each byte that adds an event other than a printed character or an executed control; but never after
 /// ground text that goes on in the piece.
 pub fn asking_points()
     ensures ends { AsksAtEnds }
@@ -52,8 +52,8 @@ pub fn asking_points()
     ensures runs { AsksOutsideRuns }
 {}
 
-/// A parser is at ground where what follows is read as if it stood alone: before the first byte, after bytes that end
-/// at ground behind others that do, after each CAN and each SUB, and where nothing is pending.
+/// A parser is at ground where what follows is read as if it were alone: before the first byte, after bytes that end
+/// at ground after others that do, after each CAN and each SUB, and where nothing is pending.
 pub fn at_ground()
     ensures alone { AddsAsAlone }
     ensures nothing { NothingIsAtGround }

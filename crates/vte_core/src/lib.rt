@@ -1,8 +1,8 @@
 //! The bytes that a program writes to its terminal, as events.
 //!
-//! A [`Parser`] reads bytes in pieces of any lengths and tells a [`Perform`]er what they say: the characters of ground
-//! text, controls, escape sequences, control sequences, operating system commands and device control strings. The
-//! events depend on the joined bytes alone, never on where they were cut.
+//! A [`Parser`] reads bytes in pieces of any lengths and reports their events to a [`Perform`]er: the characters of
+//! ground text, controls, escape sequences, control sequences, operating system commands and device control strings.
+//! The events depend on the joined bytes alone, never on where they were cut.
 //!
 //! The sequences are those of ECMA-48 (fifth edition, sections 5.3 to 5.6) with the rules that DEC's terminals and
 //! xterm add: CAN and SUB end any sequence and are executed, ESC ends any sequence and begins a new one, controls

@@ -130,8 +130,8 @@ impl Numbers {
         read
     }
 
-    /// Reads lone numbers, those that `;` alone separates, up to the first other byte. Returns how many bytes they are;
-    /// nothing where they are more than are kept, or one has more than four digits, or where few bytes are left.
+    /// Reads lone numbers, those that `;` alone separates, up to the first other byte. Returns how many bytes they are.
+    /// Returns `None` if they are more than are kept, one has more than four digits, or few bytes are left.
     #[inline(always)]
     pub fn read_lone_numbers(&mut self, bytes: &[u8]) -> Option<usize>
         ensures { IfSome result (λ k. AreLoneNumbers bytes.now k self.new.params) }

@@ -60,7 +60,7 @@ pub fn data_len(bytes: &[u8]) -> usize
     len
 }
 
-/// How many bytes at the start stand before the first `;`.
+/// How many bytes come before the first `;`.
 #[inline(always)]
 fn piece_len(bytes: &[u8]) -> usize
     ensures within { result ≤ length bytes.now }
@@ -123,7 +123,7 @@ impl<const N: usize> OscData<N> {
         }
     }
 
-    /// A byte of data, or `;`, which isn't data: it begins a piece even where no more data is kept.
+    /// A byte of data, or `;`, which isn't data: it begins a piece even where no further data is kept.
     pub fn push(&mut self, byte: u8)
         ensures { (s : List ℕ) → ReadsOsc N self.old s → ReadsOsc N self.new (s ++ byte ∷ []) }
     {

@@ -18,7 +18,7 @@ pub(crate) const MAX_PARAMS: usize = 32;
 /// How many bytes are looked at for a number: four digits and another byte.
 const NUMBER_LEN: usize = 5;
 
-/// Groups of numbers, up to 32 numbers in all, each at most 65,535. A group is what stands between two `;`; the
+/// Groups of numbers, up to 32 numbers in all, each at most 65,535. A group is what lies between two `;`; the
 /// subparameters that `:` separates are its numbers (ITU-T T.416, section 13.1.8). A number without digits is 0.
 #[derive(Drop)]
 pub struct Params {
@@ -27,7 +27,7 @@ pub struct Params {
     len: usize,
     /// Where each group ends.
     ends: [usize; MAX_PARAMS],
-    /// How many of the numbers are subparameters: not the first of their group. Where there are none each number is a
+    /// How many of the numbers are subparameters: not the first of their group. Without subparameters each number is a
     /// group, and the ends are those of such groups.
     subparameters: usize,
 }
@@ -86,7 +86,7 @@ impl Params {
         self.len == 0
     }
 
-    /// The number of each group, where every group is one number; nothing where a group has subparameters.
+    /// The number of each group, if every group is one number; `None` if a group has subparameters.
     #[inline]
     pub fn numbers(&self) -> Option<&[u16]>
         ensures alone { IfSome result (λ numbers. self.now ≡ map (λ n. n ∷ []) numbers.now) }
@@ -100,7 +100,7 @@ impl Params {
         }
     }
 
-    /// Whether no more numbers are kept.
+    /// Whether no further numbers are kept.
     pub(crate) fn is_full(&self) -> bool
         ensures value { result ≡ (total self.now == 32) }
         ensures fits { total self.now ≤ 32 }
@@ -143,9 +143,9 @@ impl Params {
         self.subparameters += 1;
     }
 
-    /// Reads lone numbers, those that `;` alone separates, up to the first other byte. Returns how many bytes they are;
-    /// nothing where they are more than are kept, or one has more than four digits, or where few bytes are left, or
-    /// many are read.
+    /// Reads lone numbers, those that `;` alone separates, up to the first other byte. Returns how many bytes they are.
+    /// Returns `None` if they are more than are kept, one has more than four digits, few bytes are left, or many are
+    /// read.
     #[inline(always)]
     pub(crate) fn read_lone_numbers(&mut self, bytes: &[u8]) -> Option<usize>
         ensures { IfSome result (λ k. AreLoneNumbers bytes.now k self.new) }
@@ -175,7 +175,7 @@ impl Params {
     }
 }
 
-/// The digit that the byte is, or a larger number where it is none.
+/// The digit that the byte is, or a larger number if it isn't a digit.
 #[inline(always)]
 fn digit(byte: u8) -> u32
     ensures digit { is_in_range 0x30 0x39 byte ≡ true → result ≡ byte - 0x30 }
@@ -185,7 +185,7 @@ fn digit(byte: u8) -> u32
     (byte as u32).wrapping_sub(0x30)
 }
 
-/// The number of at most four digits at the start, and how many they are; nothing where a fifth follows.
+/// The number of at most four digits at the start, and how many they are; `None` if a fifth follows.
 #[inline(always)]
 fn bounded_number(bytes: &[u8]) -> Option<(u16, usize)>
     requires { 5 ≤ length bytes.now }
@@ -279,7 +279,7 @@ impl<'a> IntoIterator for &'a Params {
     }
 }
 
-/// The numbers as they stand in a control sequence, in brackets: groups joined by `;`, the numbers of a group by `:`.
+/// The numbers as a control sequence has them, in brackets: groups joined by `;`, the numbers of a group by `:`.
 impl fmt::Debug for Params {
     ghost use Rattle.std.specs.Prelude.{Some};
     ghost use Rattle.vte_core.specs.ParamsText.{params_text};

@@ -38,8 +38,8 @@ pub enum State {
 
 /// Reads bytes and reports their events to a performer. It keeps the first N data bytes of an operating system command.
 ///
-/// Each call's contract speaks of every past at which the parser stands: the bytes that it has read since it was made.
-/// A new parser stands at the empty past.
+/// Each call's contract speaks of every past of the parser: the bytes that it has read since it was created. A new
+/// parser has the empty past.
 #[derive(Drop)]
 pub struct Parser<const N: usize> {
     state: State,
@@ -319,7 +319,7 @@ impl<const N: usize> Parser<N> {
         }
     }
 
-    /// Reads what has no event after ESC: more of ESC, or `[` and a header, or `]` and a command's data. Returns how
+    /// Reads what has no event after ESC: more ESCs, or `[` and a header, or `]` and a command's data. Returns how
     /// many bytes they are.
     #[inline(always)]
     fn open_sequence(&mut self, bytes: &[u8]) -> usize
@@ -346,7 +346,7 @@ impl<const N: usize> Parser<N> {
         }
     }
 
-    /// Reads what follows ESC up to the first byte that has an event, and with it. Returns how many bytes it read.
+    /// Reads what follows ESC, up to and including the first byte that has an event. Returns how many bytes it read.
     #[inline(always)]
     fn read_escape<P: Perform>(&mut self, performer: &mut P, bytes: &[u8]) -> usize
         requires some { 0 < length bytes.now }
@@ -377,9 +377,9 @@ impl<const N: usize> Parser<N> {
     }
 
     /// Reads what has no event, and the byte after it, if there is one. Returns how many bytes it read. It is called
-    /// where a sequence goes on behind ESC and the byte after it. Where the performer isn't asked, a device control
+    /// where a sequence goes on after ESC and the next byte. Where the performer isn't asked, a device control
     /// string's data is read at once.
-    // Never inlined, since it is rare beside `read_escape`, which one comparison then tells from it.
+    // Never inlined, since it is rare beside `read_escape`. One comparison then decides which of the two is called.
     #[inline(never)]
     fn read_inside<P: Perform, const ASKED: bool>(
         &mut self,
@@ -403,8 +403,8 @@ impl<const N: usize> Parser<N> {
         quiet + 1
     }
 
-    /// Reads a control sequence of a private byte and lone numbers, if it stands whole at the start. Returns how many
-    /// bytes it is, or else 0.
+    /// Reads a control sequence of a private byte and lone numbers, if it is whole at the start. Returns how many bytes
+    /// it is, or else 0.
     // Never inlined, so that the more frequent sequences without a private byte keep the registers.
     #[inline(never)]
     fn read_private<P: Perform>(&mut self, performer: &mut P, bytes: &[u8]) -> usize
@@ -434,7 +434,7 @@ impl<const N: usize> Parser<N> {
         len + 4
     }
 
-    /// Reads a control sequence of lone numbers, if it stands whole at the start. It may have one intermediate after
+    /// Reads a control sequence of lone numbers, if it is whole at the start. It may have one intermediate after
     /// them, or a private byte before them. Returns how many bytes it is, or else 0.
     #[inline(always)]
     fn read_csi<P: Perform>(&mut self, performer: &mut P, bytes: &[u8]) -> usize
@@ -467,7 +467,7 @@ impl<const N: usize> Parser<N> {
         self.read_private(performer, bytes)
     }
 
-    /// Reads an escape sequence with one intermediate or none, or an operating system command that BEL ends, if it stands
+    /// Reads an escape sequence with one intermediate or none, or an operating system command that BEL ends, if it is
     /// whole at the start. Returns how many bytes it is, or else 0.
     #[inline(always)]
     fn read_whole_escape<P: Perform>(&self, performer: &mut P, bytes: &[u8]) -> usize
@@ -488,7 +488,7 @@ impl<const N: usize> Parser<N> {
         self.read_command(performer, bytes)
     }
 
-    /// Reads an operating system command that BEL ends, if it stands whole at the start and all its data is kept.
+    /// Reads an operating system command that BEL ends, if it is whole at the start and all its data is kept.
     /// Returns how many bytes it is, or else 0.
     // Never inlined: a command is rare beside other sequences, and its pieces need stack.
     #[inline(never)]
@@ -507,8 +507,8 @@ impl<const N: usize> Parser<N> {
         len + 3
     }
 
-    /// Reads ESC after whole ground text, and what follows up to the first byte that has an event, and with it. Returns
-    /// how many bytes it read. It is called for a sequence that isn't read at once.
+    /// Reads ESC after whole ground text, and what follows, up to and including the first byte that has an event.
+    /// Returns how many bytes it read. It is called for a sequence that isn't read at once.
     // Never inlined, since it is rare beside the sequences that are read at once.
     #[inline(never)]
     fn read_begun<P: Perform>(&mut self, performer: &mut P, bytes: &[u8]) -> usize
@@ -523,7 +523,7 @@ impl<const N: usize> Parser<N> {
         1 + self.read_escape(performer, &bytes[1..])
     }
 
-    /// Reads a sequence of a frequent form, if it stands whole at the start. Returns how many bytes it is, or else 0.
+    /// Reads a sequence of a frequent form, if it is whole at the start. Returns how many bytes it is, or else 0.
     #[inline(always)]
     fn read_whole<P: Perform>(&mut self, performer: &mut P, bytes: &[u8]) -> usize
         requires { IsAtEsc N self.old bytes.now }
@@ -537,8 +537,8 @@ impl<const N: usize> Parser<N> {
         }
     }
 
-    /// Reads what ESC begins after whole ground text. A sequence of a frequent form that stands whole in the bytes is
-    /// read at once. Any other is read by `read_begun`, which comes to the same. Returns how many bytes it read.
+    /// Reads what ESC begins after whole ground text. A sequence of a frequent form that is whole in the bytes is
+    /// read at once. Any other is read by `read_begun`, with the same effect. Returns how many bytes it read.
     #[inline(always)]
     fn read_sequence<P: Perform>(&mut self, performer: &mut P, bytes: &[u8]) -> usize
         requires { IsAtEsc N self.old bytes.now }
@@ -566,7 +566,7 @@ impl<const N: usize> Parser<N> {
         1
     }
 
-    /// Reads inline text, if it stands at the start: one to eight printable characters of ASCII up to the next ESC.
+    /// Reads inline text, if it is at the start: one to eight printable characters of ASCII up to the next ESC.
     /// Returns how many bytes it read.
     #[inline(always)]
     fn read_inline_text<P: Perform>(&mut self, performer: &mut P, bytes: &[u8]) -> usize
@@ -625,7 +625,7 @@ impl<const N: usize> Parser<N> {
         text + self.read_esc(performer, &bytes[text..])
     }
 
-    /// Reads as `read_through` does, but inline text and a sequence after it without a call. It is called where no
+    /// Reads as `read_through` does, but without a call for inline text and the sequence after it. It is called if no
     /// character is unfinished and many bytes are left.
     #[inline(always)]
     fn read_turn<P: Perform, const ASKED: bool>(&mut self, performer: &mut P, bytes: &[u8]) -> usize
@@ -661,7 +661,7 @@ impl<const N: usize> Parser<N> {
         data + 1
     }
 
-    /// Reads some bytes of a sequence, up to the first that has an event, and with it, or a device control string's
+    /// Reads some bytes of a sequence, up to and including the first that has an event, or a device control string's
     /// data. Returns how many bytes it read.
     #[inline(always)]
     fn read_apart<P: Perform, const ASKED: bool>(
@@ -741,10 +741,10 @@ impl<const N: usize> Parser<N> {
         }
     }
 
-    /// Reads bytes until the performer is terminated, and returns how many it read; the caller gives the others again.
+    /// Reads bytes until the performer is terminated, and returns how many it read; the caller passes the others again.
     /// The performer is asked before the first byte, after each byte of a sequence, and after each run of ground text,
-    /// up to the next ESC or to the end of the bytes; never inside a run. Its answer stands for as long as it is told
-    /// nothing.
+    /// up to the next ESC or to the end of the bytes; never inside a run. The performer's answer holds until the next
+    /// event is reported to it.
     pub fn advance_until_terminated<P: Perform>(&mut self, performer: &mut P, bytes: &[u8]) -> usize
         ensures within { result ≤ length bytes.now }
         ensures state_after { (past : List ℕ) → IsAfter N self.old past
@@ -769,7 +769,7 @@ impl<const N: usize> Parser<N> {
 
 /// A control sequence with these numbers and this final byte, of which one other byte is kept: a private byte or an
 /// intermediate.
-// Never inlined: the performer's `csi_dispatch` would stand in each of its two rare callers.
+// Never inlined: the performer's `csi_dispatch` would be copied into each of its two rare callers.
 #[inline(never)]
 fn dispatch_marked<P: Perform>(params: &Params, performer: &mut P, mark: u8, action: char)
     ensures { P.step performer.old (e.Csi params.now (mark ∷ []) false action) performer.new }
@@ -777,7 +777,7 @@ fn dispatch_marked<P: Perform>(params: &Params, performer: &mut P, mark: u8, act
     performer.csi_dispatch(params, &[mark], false, action);
 }
 
-/// How many bytes at the start are ESC, of which the first one is.
+/// How many bytes at the start are ESC. The first byte is one.
 // Never inlined: in `read_begun` the loop would take more instructions.
 #[inline(never)]
 fn esc_len(bytes: &[u8]) -> usize
@@ -806,11 +806,11 @@ fn is_escape_final(byte: u8) -> bool
 fn opens_sequence(byte: u8) -> bool
     ensures { result ≡ opens_sequence byte }
 {
-    // Most bytes that open none are less than all that do.
+    // Most bytes that begin no longer sequence are smaller than all that begin one.
     byte >= b'P' && matches!(byte, b'P' | b'X' | b'[' | b']' | b'^' | b'_')
 }
 
-/// Whether the byte is a private one, which stands first in a header.
+/// Whether the byte is a private one, which comes first in a header.
 #[inline(always)]
 fn is_private(byte: u8) -> bool
     ensures { result ≡ is_private byte }

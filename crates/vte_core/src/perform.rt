@@ -14,7 +14,7 @@ use crate::thresholds::LONG_TEXT;
 /// Receives the events of a byte stream, in order, each once.
 ///
 /// An implementation writes [`event`](Perform::event) and [`terminated`](Perform::terminated). Every other method
-/// hands its event to `event`; an implementation may write it too, to save the detour.
+/// passes its event to `event`; an implementation may override it, to save the detour.
 pub trait Perform {
     /// What an event does: the performer before it, the event, the performer after it.
     ghost step: { Self → e.Event → Self → Type 0 };
@@ -38,7 +38,7 @@ pub trait Perform {
     }
 
     /// A run of ground text without controls: its characters, one after another. The parser hands over what lies
-    /// between two controls or malformed sequences as one text. Only a character that stands alone, that the end of a
+    /// between two controls or malformed sequences as one text. Only a character that is alone, that the end of a
     /// piece cut, or that ends a malformed sequence comes by `print`, and the text goes on after it.
     fn print_str(&mut self, text: &str)
         ensures { Performs step self.old (map e.Print (chars text.now)) self.new }

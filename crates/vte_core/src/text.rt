@@ -29,7 +29,7 @@ use simdutf8::compat::from_utf8;
 use std::marker::Model;
 use std::str;
 
-/// How many bytes a character with this first byte has, 0 where none has it.
+/// How many bytes a character with this first byte has, 0 if no character begins with it.
 fn char_len(first: u8) -> usize
     ensures { result ≡ char_len first }
 {
@@ -42,7 +42,7 @@ fn char_len(first: u8) -> usize
     }
 }
 
-/// Whether the byte may stand in a character after its first byte.
+/// Whether the byte may come in a character after its first byte.
 #[inline(always)]
 fn is_tail(byte: u8) -> bool
     ensures { result ≡ is_in_range 0x80 0xBF byte }
@@ -50,7 +50,7 @@ fn is_tail(byte: u8) -> bool
     (0x80..=0xBF).contains(&byte)
 }
 
-/// Whether the byte goes on the character that the bytes begin.
+/// Whether the byte continues the character that the bytes begin.
 fn goes_on(bytes: &[u8], byte: u8) -> bool
     requires { 0 < length bytes.now }
     ensures { result ≡ whole_goes_on bytes.now byte }
@@ -235,7 +235,7 @@ fn begins_printed(bytes: &[u8]) -> bool
     are_printed
 }
 
-/// How many bytes stand in whole blocks that are printed.
+/// How many bytes lie in whole blocks that are printed.
 fn block_len(bytes: &[u8]) -> usize
     ensures within { result ≤ length bytes.now }
     ensures printed { result + printed_len (drop result bytes.now) ≡ printed_len bytes.now }
@@ -250,7 +250,7 @@ fn block_len(bytes: &[u8]) -> usize
     len
 }
 
-/// How many bytes stand before the next control that is executed.
+/// How many bytes come before the next control that is executed.
 fn printed_len(bytes: &[u8]) -> usize
     ensures { result ≡ printed_len bytes.now }
 {
@@ -309,7 +309,7 @@ fn begins_whole(bytes: &[u8]) -> bool
     bytes[0] < 0x80 || begins_long(bytes)
 }
 
-/// How many bytes stand before the next control that is executed, where a character may begin; else 0.
+/// How many bytes come before the next control that is executed, where a character may begin; else 0.
 #[inline(always)]
 fn text_len(bytes: &[u8]) -> usize
     requires { 0 < length bytes.now }
@@ -385,7 +385,7 @@ fn are_controls(bytes: &[u8]) -> bool
     are_controls
 }
 
-/// How many bytes stand in whole blocks of controls of ASCII.
+/// How many bytes lie in whole blocks of controls of ASCII.
 #[inline(always)]
 fn control_block_len(bytes: &[u8]) -> usize
     ensures within { result ≤ length bytes.now }
@@ -608,7 +608,7 @@ impl Unfinished {
         }
     }
 
-    /// Reads a byte that goes on the character that was begun, or else some ground text after the U+FFFD of that
+    /// Reads a byte that continues the character that was begun, or else some ground text after the U+FFFD of that
     /// character, and returns how many bytes it read.
     fn resume<P: Perform>(&mut self, performer: &mut P, bytes: &[u8]) -> usize
         requires some { 0 < length bytes.now }
@@ -640,7 +640,7 @@ impl Unfinished {
     }
 
     /// Reads inline text: one to eight printable characters of ASCII up to the next ESC. Returns how many bytes it
-    /// read: none where other text stands at the start.
+    /// read: 0 if other text is at the start.
     #[inline(always)]
     pub fn read_inline<P: Perform>(&mut self, performer: &mut P, bytes: &[u8]) -> usize
         requires room { 8 < length bytes.now }
@@ -666,7 +666,7 @@ impl Unfinished {
     }
 
     /// Reads as [`read_some`](Self::read_some) does.
-    // Never inlined, so that `read_some` stands once in `read`, for the first piece, which mostly is the only one.
+    // Never inlined, so that `read` has one copy of `read_some`, for the first piece, which mostly is the only one.
     #[inline(never)]
     fn read_more<P: Perform>(&mut self, performer: &mut P, bytes: &[u8]) -> usize
         requires some { 0 < length bytes.now }

@@ -1,6 +1,6 @@
 //! From how many bytes on another way is taken. Each comment names the lines of `./speed` that show the number's worth.
 
-/// Where so many bytes are left, inline text and the sequence after it are read without a call. The lines are coloured
+/// If this many bytes are left, inline text and the sequence after it are read without a call. The lines are coloured
 /// and motion, at `events`.
 pub(crate) const TURN_LEN: usize = 64;
 

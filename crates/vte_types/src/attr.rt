@@ -32,7 +32,7 @@ pub enum Attr {
     Hidden,
     /// SGR 9: crossed out.
     Strike,
-    /// SGR 21: no longer bold, as on the Linux console. ECMA-48 has it for underlined twice.
+    /// SGR 21: no longer bold, as on the Linux console. In ECMA-48 it means underlined twice.
     CancelBold,
     /// SGR 22: neither bold nor dim.
     CancelBoldDim,

@@ -3,8 +3,8 @@ ghost use Rattle.std.specs.Prelude.{⊤, ◌≡◌, ◌%◌, [], ◌∷◌, code
 
 use bitflags::{Flag, Flags, bitflag_items};
 
-/// The flags of the kitty keyboard protocol. 1 tells keys from escape sequences. 2 tells presses, repeats and releases
-/// apart. 4 adds the keys of other layouts. 8 sends all keys as sequences. 16 adds their text.
+/// The flags of the kitty keyboard protocol. 1 distinguishes keys from escape sequences. 2 distinguishes presses,
+/// repeats and releases. 4 adds the keys of other layouts. 8 sends all keys as sequences. 16 adds their text.
 #[derive(Clone, Copy, PartialEq, Eq, Debug)]
 pub struct KeyboardModes(u8);
 

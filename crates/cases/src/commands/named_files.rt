@@ -1,4 +1,4 @@
-//! The files that a program's words name.
+//! The files that a program's arguments name.
 
 use screentext_command::{Files, TextError};
 use std::alloc::Global;

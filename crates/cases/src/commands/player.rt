@@ -23,16 +23,16 @@ pub struct CommandPlayer {
     refused: Vec<u8>,
     // How many lines of output are answered.
     lines: usize,
-    // The files that words may name.
+    // The files that arguments may name.
     files: NamedFiles,
-    // A file whose name stands for its bytes in answers.
+    // A file whose name replaces its bytes in answers.
     known: Option<NamedFile>,
     // How often the last program read.
     reads: u64,
 }
 
 impl CommandPlayer {
-    /// A player with nothing on its stage. Its writers take all that the programs write here.
+    /// A player with an empty input and no files. Its writers take all that the programs write here.
     pub fn new(alloc: Global) -> CommandPlayer {
         CommandPlayer {
             alloc,
@@ -47,7 +47,7 @@ impl CommandPlayer {
         }
     }
 
-    // The bytes of a word, so many times where there may be more of them.
+    // The bytes of a word, a number of times if the step is `more`.
     fn bytes_of(&self, name: &str, words: &Words) -> Result<Vec<u8>, AllocError> {
         let times = if name == "more" { words.count() } else { 1 };
         let bytes = words.bytes();
@@ -58,7 +58,7 @@ impl CommandPlayer {
         Ok(all)
     }
 
-    // Puts bytes behind the input, or makes them the whole of it.
+    // Appends bytes to the input, or makes them the whole of it.
     fn put(&mut self, name: &str, words: &Words) -> Result<(), StepError> {
         let bytes = self.bytes_of(name, words)?;
         let outcome = match name {
@@ -84,8 +84,8 @@ impl CommandPlayer {
         Ok(())
     }
 
-    // Runs a program on the rest of the words, and answers its status. It reads the input from its start, so that it
-    // may be run again if it found no memory.
+    // Runs a program with the rest of the words as arguments, and returns its status. The program reads the input from
+    // its start, so that it may be run again if it found no memory.
     fn run(&mut self, name: &str, words: &Words) -> Result<u8, StepError> {
         self.clear_writers()?;
         let texts = texts(self.alloc, words)?;
@@ -107,7 +107,7 @@ impl CommandPlayer {
         self.errors.clear()
     }
 
-    // What was written where memory was refused is a beginning of what is written then.
+    // Checks that what was written when memory was refused is a beginning of what is written now.
     fn check_run(&mut self) -> Result<(), StepError> {
         if self.errors.kept.ends_with(b": memory\n") {
             mem::swap(&mut self.refused, &mut self.output.kept);
@@ -123,7 +123,7 @@ impl CommandPlayer {
         Ok(())
     }
 
-    // Runs a program, and answers all that it wrote. The output of a pipe is the input from here on instead.
+    // Runs a program, and appends all that it wrote. The output of a pipe becomes the input instead.
     fn show(
         &mut self,
         name: &str,
@@ -143,13 +143,13 @@ impl CommandPlayer {
         Ok(())
     }
 
-    // The output is the input from here on.
+    // Makes the output the input.
     fn pipe(&mut self) -> Result<(), AllocError> {
         let output = mem::replace(&mut self.output.kept, Vec::new(self.alloc));
         self.input.set(output)
     }
 
-    // Answers what a program tells of an input that didn't end after very many reads, which a test can't wait for.
+    // Appends what a program reports of an input that didn't end after very many reads, which a test can't wait for.
     fn too_many_reads(&mut self, words: &Words, answer: &mut Answer) -> Result<(), StepError> {
         let Some(program) = relayer(words.word()) else {
             return Err(StepError::Word("the name of a program that relays"));
@@ -172,7 +172,7 @@ impl CommandPlayer {
         });
     }
 
-    // Appends the output: a line for each of its first lines, and dots if there are more. Of a known file it is the name.
+    // Appends the output: a line for each of its first lines, and dots if there are more; or the name of a known file.
     fn push_output(&self, answer: &mut Answer) {
         if self.push_known("output", &self.output.kept, answer) {
             return;
@@ -196,7 +196,7 @@ impl CommandPlayer {
         }
     }
 
-    // Appends the name of the known file in place of these bytes. Answers whether they are the file's.
+    // Appends the name of the known file in place of these bytes. Returns whether they are the file's.
     fn push_known(&self, stream: &str, bytes: &[u8], answer: &mut Answer) -> bool {
         match &self.known {
             Some(file) if file.bytes.as_slice() == bytes => {

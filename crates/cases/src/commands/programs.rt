@@ -20,7 +20,7 @@ pub fn relayer(name: &str) -> Option<Program> {
     value_of(RELAYERS, name)
 }
 
-/// Runs the program of this name on the words after it, and answers its status. There may be no such program.
+/// Runs the program of this name with the arguments after it, and returns its status, or `None` without such a program.
 pub fn run(
     alloc: Global,
     (name, words): (&str, &[&str]),
@@ -39,8 +39,8 @@ pub fn run(
     }
 }
 
-// Runs the library's function of this name as if it were a program: its words are rows and columns. It reports faults as
-// `screenlive` does.
+// Runs the library's function of this name as if it were a program: its arguments are rows and columns. It reports
+// faults as `screenlive` does.
 fn run_relay_live(
     alloc: Global,
     words: &[&str],

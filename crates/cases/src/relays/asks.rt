@@ -1,4 +1,4 @@
-//! Steps that tell of hubs and change nothing.
+//! Steps that report on hubs and change nothing.
 
 use crate::relays::calls::{is_no_memory, push_reply};
 use crate::relays::hubs::Hubs;
@@ -58,7 +58,7 @@ impl Hubs {
         }
     }
 
-    // More bytes than these were pumped to a client.
+    // Checks that more bytes than this were pumped to a client.
     fn check_longer(&self, index: usize, count: usize, answer: &mut Answer) {
         let pumped = self.seat(index).pumped;
         answer.check(pumped.length > count, "no more bytes were pumped");
@@ -75,7 +75,7 @@ impl Hubs {
         Ok(())
     }
 
-    // What the log replied, but for calls that were refused memory.
+    // What the log replied, except to calls that were refused memory.
     fn push_replies(&self, answer: &mut Answer) {
         for reply in self.log.replies() {
             if !is_no_memory(reply) {

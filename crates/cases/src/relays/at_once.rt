@@ -1,4 +1,4 @@
-//! Calls that are all made by one run.
+//! Steps that make all calls by one run.
 
 use crate::relays::calls::{is_like, is_no_memory, is_run};
 use crate::relays::hubs::{Hubs, new_hub};
@@ -9,8 +9,8 @@ use termrelay::runs::{Call, Log, Reply};
 const OTHERWISE: StepError = StepError::Wrong("one run is replied otherwise");
 
 impl Hubs {
-    /// All calls so far are made anew by one run, on a fresh hub. It has to do what the hub does whose runs make one
-    /// call each. Where its log finds no room, the run ends before that call, and the rest can be made then.
+    /// Makes all calls so far anew by one run, on a fresh hub. It has to do what the hub does whose runs make one call
+    /// each. If its log finds no room for a call, the run ends before that call, and another run can make the rest.
     pub fn run_at_once(&self) -> Result<(), StepError> {
         let mut hub = new_hub(self.alloc, self.size)?;
         let mut log = Log::new(self.alloc);
@@ -35,7 +35,7 @@ impl Hubs {
         }
     }
 
-    // These are the replies to the calls so far.
+    // Checks that these are the replies to the calls so far.
     fn check_replies(&self, replies: &[Reply]) -> Result<(), StepError> {
         let mut left = replies;
         for wanted in self.log.replies() {
@@ -55,7 +55,7 @@ impl Hubs {
         }
     }
 
-    // A hub owes its clients what it has to, and its log has what was pumped.
+    // Whether the hub's clients have the right pending bytes, and its log has what was pumped.
     fn is_alike(&self, hub: &Hub, log: &Log) -> bool {
         let mut is_same = log.sessions().len() == self.log.sessions().len();
         for (session, wanted) in log.sessions().iter().zip(self.log.sessions()) {
@@ -68,7 +68,7 @@ impl Hubs {
     }
 }
 
-// Makes calls by one run, and the rest by another one where the log found no room for a call.
+// Makes calls by one run, and the rest by another one if the log found no room for a call.
 fn run_all(hub: &mut Hub, calls: &[Call<'_>], log: &mut Log) -> Result<(), StepError> {
     if is_run(hub, calls, log) {
         return Ok(());

@@ -1,4 +1,4 @@
-//! Calls on hubs, and what they are replied to.
+//! Calls on hubs, and the replies to them.
 
 use crate::relays::wordings::push_text;
 use crate::relays::writers::Writer;
@@ -32,7 +32,7 @@ pub struct Kept {
     pub takes: Vec<Take>,
     /// What a later write of a pump takes at most.
     pub most: usize,
-    /// What a write of a pump is answered that fails.
+    /// The error of a pump's write that fails.
     pub fault: ErrorKind,
 }
 
@@ -82,12 +82,12 @@ fn done(_nothing: ()) -> Reply {
     Reply::Done
 }
 
-/// Makes calls on a hub by a run. Answers whether the log found room for each of them.
+/// Makes calls on a hub by a run. Returns whether the log found room for each of them.
 pub fn is_run(hub: &mut Hub, calls: &[Call<'_>], log: &mut Log) -> bool {
     run(hub, calls, log).is_ok()
 }
 
-/// Whether a call was made, and has no answer.
+/// Whether a call was made that returns nothing.
 pub fn is_done(reply: &Reply) -> bool {
     matches!(reply, Reply::Done)
 }
@@ -97,7 +97,7 @@ pub fn is_no_memory(reply: &Reply) -> bool {
     matches!(reply, Reply::Refused(HubError::Memory))
 }
 
-/// Whether a logged run replies what a call on another hub is answered. The fault of a run's writer is of kind `Other`.
+/// Whether a logged run has the reply that a call on another hub has. The fault of a run's writer is of kind `Other`.
 pub fn is_like(reply: &Reply, logged: &Reply) -> bool {
     match (reply, logged) {
         (Reply::Done, Reply::Done) => true,

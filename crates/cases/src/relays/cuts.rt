@@ -28,7 +28,7 @@ pub fn advance(view: &mut View<UntilCleared>, piece: &[u8]) {
     view.advance(piece);
 }
 
-/// Ends a cut: appends what is told there, unless the cut before told the same. The line says the cut.
+/// Ends a cut: appends its text, unless that of the cut before is the same. The line begins with the cut.
 pub fn end_cut(cut: usize, told: &mut Answer, answer: &mut Answer) {
     told.end_line();
     if !answer.has_told(told.as_str()) {
@@ -39,7 +39,7 @@ pub fn end_cut(cut: usize, told: &mut Answer, answer: &mut Answer) {
     told.clear();
 }
 
-/// What is shown before each cut, and after all bytes. Where updates are stopped, it is what is shown in the end when they
+/// What is shown before each cut, and after all bytes. If updates are stopped, it is what is shown in the end when they
 /// are stopped after each byte. The words are the size and the bytes.
 pub fn each_cut(
     alloc: Global,
@@ -77,10 +77,10 @@ fn tell_cut(
     Ok(())
 }
 
-/// How many bytes the mark has that begins an update.
+/// The length of the mark that begins an update, in bytes.
 const START_LEN: usize = 8;
 
-// Appends what is shown while so many bytes are held.
+// Appends what is shown, and how many bytes are held if that isn't `held`.
 fn push_held(told: &mut Answer, view: &View<UntilCleared>, held: usize) {
     push_shown(told, view);
     if view.sync_bytes_count() != held {

@@ -56,7 +56,7 @@ fn push_colors(answer: &mut Answer, fgcolor: Color, bgcolor: Color) {
     answer.debug(&bgcolor);
 }
 
-// Appends the letters that are set, or `-` where none is.
+// Appends the letters that are set, or `-` if none is.
 fn push_set(answer: &mut Answer, letters: &[(bool, &str)]) {
     let mut is_empty = true;
     for (is_set, letter) in letters {
@@ -104,7 +104,7 @@ fn push_choices(answer: &mut Answer, view: &View<UntilCleared>) {
     answer.push(" ");
 }
 
-/// Appends a line for each row: how often each of its bytes stands there, as in `80 "a"`.
+/// Appends a line for each row: its runs of equal bytes, each with its length, as in `80 "a"`.
 pub fn push_runs(
     alloc: Global,
     answer: &mut Answer,

@@ -8,7 +8,7 @@ use std::num::NonZeroU16;
 use termrelay::runs::{Call, Reply};
 use termrelay::{Client, Hub, HubError};
 
-/// What a step is whose call was refused memory. A feed may have failed its hub, and must have if that is said; any
+/// The error of a step whose call was refused memory. A feed may have failed its hub, and must have if `must_fail`; any
 /// other call changed nothing.
 pub fn refusal(hub: &mut Hub, seats: &[Seat], must_fail: bool) -> StepError {
     if hub.screen().failed() {
@@ -33,7 +33,7 @@ fn failed(hub: &mut Hub, seats: &[Seat]) -> StepError {
     StepError::Ended
 }
 
-// A failed hub refuses everything, and knows nobody whom it didn't attach.
+// Whether a failed hub refuses everything, and knows no client that it didn't attach.
 fn refuses(hub: &mut Hub) -> bool {
     let (one, nobody) = (NonZeroU16::MIN, Client::from_key(usize::MAX));
     is_failed(hub, &Call::Feed(b"x"))
@@ -43,7 +43,7 @@ fn refuses(hub: &mut Hub) -> bool {
         && is_unknown(hub, &Call::Pump(nobody, &[]))
 }
 
-// A client gets no frame, is sent what it was owed, and ends.
+// Whether a client gets no frame, is sent its pending bytes, and ends.
 fn serves(hub: &mut Hub, seat: &Seat) -> bool {
     let mut writer = Writer::new();
     is_failed(hub, &Call::Frame(seat.client))
@@ -62,7 +62,7 @@ fn is_unknown(hub: &mut Hub, call: &Call<'_>) -> bool {
     matches!(reply, Reply::Refused(HubError::UnknownClient))
 }
 
-/// No call of the hub knows the client.
+/// Whether no call of the hub knows the client.
 pub fn is_unknown_to(hub: &mut Hub, client: Client) -> bool {
     matches!(hub.owed(client), Err(HubError::UnknownClient))
         && is_unknown(hub, &Call::Frame(client))

@@ -1,4 +1,4 @@
-//! Far views: what the bytes show that a client was sent, wherever they are cut.
+//! Far views: what the bytes show that were sent to a client, wherever they are cut.
 
 use crate::relays::cuts::{end_cut, push_drawn};
 use crate::relays::hubs::Hubs;
@@ -12,7 +12,7 @@ use termview::{UntilCleared, View};
 pub const MOST_CALLS: usize = 64;
 
 impl Hubs {
-    // The call with this number. Behind the last one there are attaches.
+    // The call with this number. After the last one there are attaches.
     fn call(&self, index: usize) -> Call<'_> {
         match self.calls.get(index) {
             Some(kept) => kept.call(),
@@ -20,7 +20,7 @@ impl Hubs {
         }
     }
 
-    /// The calls so far, with attaches behind the last one.
+    /// The calls so far, with attaches after the last one.
     pub fn all_calls(&self) -> [Call<'_>; MOST_CALLS] {
         array::from_fn(|index| self.call(index))
     }

@@ -13,7 +13,7 @@ use std::ops::Range;
 use termrelay::Answer as Found;
 use termrelay::runs::{Reply, Take};
 
-/// How many bytes a writer takes a write where a step doesn't say it.
+/// How many bytes a writer takes a write, unless the step has a number.
 const MOST: usize = 7;
 
 impl Hubs {
@@ -52,7 +52,7 @@ impl Hubs {
         }
     }
 
-    // So many clients come, one after another.
+    // Attaches a number of clients, one after another.
     fn attach(&mut self, times: usize) -> Result<(), StepError> {
         for _ in self.made..times {
             self.seat_next(Kind::Attach, Sum::NONE)?;
@@ -62,14 +62,14 @@ impl Hubs {
         Ok(())
     }
 
-    // A client is forked. The fork has been sent all that this one was sent and is owed.
+    // Forks a client. The fork counts as having been sent all that this one was sent, and its pending bytes.
     fn fork(&mut self, index: usize) -> Result<(), StepError> {
         let seat = self.seat(index);
         let pumped = seat.pumped.after(self.owed(index));
         self.seat_next(Kind::Fork(seat.client), pumped)
     }
 
-    // The client of a call comes, to which all this was pumped.
+    // Adds the client of a call, to which all this was pumped.
     fn seat_next(&mut self, kind: Kind, pumped: Sum) -> Result<(), StepError> {
         self.seats.reserve(1)?;
         let Reply::Attached(client) = self.make(Kept::new(self.alloc, kind))? else {
@@ -84,7 +84,7 @@ impl Hubs {
         Ok(())
     }
 
-    /// Feeds bytes, so many times.
+    /// Feeds bytes a number of times.
     pub fn feed(&mut self, bytes: &[u8], times: usize) -> Result<(), StepError> {
         for _ in self.made..times {
             let mut kept = Kept::new(self.alloc, Kind::Feed);
@@ -115,7 +115,7 @@ impl Hubs {
         }
     }
 
-    // A client's redraw is asked for.
+    // Asks for a client's redraw.
     fn redraw(&mut self, index: usize, answer: &mut Answer) -> Result<(), StepError> {
         let kind = Kind::Redraw(self.seat(index).client);
         let reply = self.make(Kept::new(self.alloc, kind))?;
@@ -123,7 +123,7 @@ impl Hubs {
         Ok(())
     }
 
-    // Neither hub knows the client.
+    // Checks that neither hub knows the client.
     fn check_unknown(&mut self, index: usize, answer: &mut Answer) {
         let client = self.seat(index).client;
         let is_unknown = is_unknown_to(&mut self.hub, client);
@@ -132,7 +132,7 @@ impl Hubs {
         answer.check(is_unknown, "a call of the logged hub knows the client");
     }
 
-    /// A client asks for a frame.
+    /// Asks for a client's frame.
     pub fn ask_frame(&mut self, index: usize) -> Result<Found, StepError> {
         let kind = Kind::Frame(self.seat(index).client);
         let Reply::Answered(found) = self.make(Kept::new(self.alloc, kind))? else {
@@ -147,7 +147,7 @@ impl Hubs {
         Ok(found)
     }
 
-    /// Appends what a client that asks for a frame is answered, and what it is owed then if that is a frame.
+    /// Appends the answer to a client that asks for a frame, and its pending bytes if that is a frame.
     pub fn push_frame(&self, index: usize, found: Found, answer: &mut Answer) {
         answer.debug(&found);
         if found.is_frame() {
@@ -162,7 +162,7 @@ impl Hubs {
         Ok(())
     }
 
-    /// Pumps a client. What was taken and what it is owed then are what it was owed before.
+    /// Pumps a client. Checks that what was taken and what is pending then are what was pending before.
     pub fn make_pump(&mut self, index: usize, kept: Kept) -> Result<Reply, StepError> {
         let before = self.seat(index);
         if !self.is_pending() {
@@ -196,8 +196,8 @@ impl Hubs {
     }
 }
 
-// What the writes of a pump take: `by N` for each later one, a number for each of the first, the name of a fault for one
-// that fails.
+// What the writes of a pump take: `by N` for each later write, a number for each of the first, the name of a fault for
+// a write that fails.
 fn read_takes(kept: &mut Kept, words: &Words) -> Result<(), AllocError> {
     kept.most = MOST;
     for _ in 0..MOST_WORDS {

@@ -1,4 +1,4 @@
-//! Two hubs, on which the same calls are made: one by one, and by runs that are logged. They tell the same.
+//! Two hubs, on which the same calls are made: one by one, and by runs that are logged. They return the same.
 
 use crate::relays::calls::{Kept, called, is_like, is_no_memory, is_run};
 use crate::relays::cuts::Size;
@@ -16,16 +16,16 @@ use termrelay::{Client, Hub};
 pub struct Seat {
     /// Its key, which is the same on both hubs.
     pub client: Client,
-    /// What it is owed.
+    /// The bytes that are pending for it.
     pub owed: Sum,
     /// What was pumped to it.
     pub pumped: Sum,
-    /// Neither hub knows it any more.
+    /// Whether it has ended: neither hub knows it any longer.
     pub has_ended: bool,
 }
 
 impl Seat {
-    /// Whether the hub owes the client what it has to. One that has ended is owed nothing.
+    /// Whether the client's pending bytes at the hub are the right ones. A client that has ended has none.
     pub fn is_owed(&self, hub: &Hub) -> bool {
         match hub.owed(self.client) {
             Ok(bytes) => self.has_ended || Sum::NONE.after(bytes) == self.owed,
@@ -47,7 +47,7 @@ pub struct Hubs {
     pub log: Log,
     /// The size that the hubs began with.
     pub size: Size,
-    /// The clients that came, in the order of their coming.
+    /// The clients that came, in this order.
     pub seats: Vec<Seat>,
     /// The calls so far.
     pub calls: Vec<Kept>,
@@ -55,7 +55,7 @@ pub struct Hubs {
     pub pumped: Pumped,
     /// How many calls a step has made whose next one was refused memory.
     pub made: usize,
-    // What the first hub replied, where the second one was refused memory.
+    // What the first hub replied, if the second one was refused memory.
     reply: Option<Reply>,
 }
 
@@ -97,7 +97,7 @@ impl Hubs {
         }
     }
 
-    /// What a client is owed.
+    /// The bytes that are pending for a client.
     pub fn owed(&self, index: usize) -> &[u8] {
         self.hub.owed(self.seat(index).client).unwrap_or(b"")
     }
@@ -147,7 +147,7 @@ impl Hubs {
         Ok(reply)
     }
 
-    // Makes a call by a run, which logs it. Answers whether there was memory for the call and for the log.
+    // Makes a call by a run, which logs it. Returns whether there was memory for the call and for the log.
     fn is_logged(&mut self, kept: &Kept) -> bool {
         let call = kept.call();
         if !is_run(&mut self.logged, slice::from_ref(&call), &mut self.log) {
@@ -159,7 +159,7 @@ impl Hubs {
         }
     }
 
-    /// A step has this outcome. Unless the case has ended, the hubs owe and have sent what they have to.
+    /// The outcome of a step. Unless the case has ended, this checks that the right bytes are pending and were sent.
     pub fn checked(&self, outcome: Result<(), StepError>) -> Result<(), StepError> {
         match outcome {
             Err(StepError::Ended) => outcome,
@@ -167,7 +167,7 @@ impl Hubs {
         }
     }
 
-    // Each client is owed what it has to be, and the log has what was pumped to it.
+    // Checks that each client has the right pending bytes, and that the log has what was pumped to it.
     fn check(&self) -> Result<(), StepError> {
         if self.log.sessions().len() != self.seats.len() {
             return Err(StepError::Wrong("the log has other sessions than clients came"));

@@ -7,7 +7,7 @@ use crate::relays::writers::Writer;
 use case_player::{Answer, StepError, Words};
 use termrelay::runs::{Call, Reply};
 
-/// What a step is that can't be taken again.
+/// The error of a step that can't be taken again.
 fn ended(error: StepError) -> StepError {
     match error {
         StepError::Memory => StepError::Ended,
@@ -16,7 +16,7 @@ fn ended(error: StepError) -> StepError {
 }
 
 impl Hubs {
-    /// Each client asks for a frame and is sent it. They are told the same.
+    /// Each client asks for a frame and is sent it. All get the same answer.
     pub fn frame_all(&mut self, answer: &mut Answer) -> Result<(), StepError> {
         let mut first = None;
         for index in 0..self.seats.len() {
@@ -34,14 +34,14 @@ impl Hubs {
         Ok(())
     }
 
-    /// A client asks for a frame and is sent it. Its answer is told.
+    /// A client asks for a frame and is sent it. Appends the hub's answer.
     pub fn take_frame(&mut self, index: usize, answer: &mut Answer) -> Result<(), StepError> {
         let found = self.ask_frame(index)?;
         answer.debug(&found);
         self.send(index).map_err(ended)
     }
 
-    // A client is sent all that it is owed.
+    // Sends a client all its pending bytes.
     fn send(&mut self, index: usize) -> Result<(), StepError> {
         let kind = Kind::Pump(self.seat(index).client);
         match self.make_pump(index, Kept::new(self.alloc, kind))? {
@@ -50,8 +50,8 @@ impl Hubs {
         }
     }
 
-    /// A client is sent all that it is owed, which is added to the bytes. It stays there where the run alone is refused
-    /// memory, after which nothing more is owed.
+    /// Sends a client all its pending bytes, and adds them to `sent`. They stay there if the run alone is refused
+    /// memory, since nothing is pending after that.
     pub fn send_to(&mut self, index: usize, sent: &mut Vec<u8>) -> Result<(), StepError> {
         let length = sent.len();
         sent.extend_from_slice(self.owed(index))?;
@@ -62,8 +62,8 @@ impl Hubs {
         outcome
     }
 
-    /// The program writes so many lines of 80 letters, of `a` to `z` again and again. A client is sent a frame after
-    /// each, which is added to the bytes.
+    /// Feeds a number of lines of 80 letters, of `a` to `z` again and again. A client is sent a frame after each line,
+    /// and the frame is added to `sent`.
     pub fn letters(&mut self, words: &Words, sent: &mut Vec<u8>) -> Result<(), StepError> {
         let index = words.count();
         for line in 0..words.count() {
@@ -75,7 +75,7 @@ impl Hubs {
         Ok(())
     }
 
-    /// One hub is fed the bytes at once, and the logged one in pieces of these lengths, again and again.
+    /// Feeds one hub the bytes at once, and the logged one in pieces of these lengths, again and again.
     pub fn feed_pieces(&mut self, words: &Words, bytes: &[u8]) -> Result<(), StepError> {
         let lengths = counts(self.alloc, words)?;
         let mut writer = Writer::new();

@@ -5,7 +5,7 @@ use std::alloc::Global;
 use std::io::{ErrorKind, Write};
 use vt100::{Parser, Screen};
 
-/// A parser of this size that keeps so many rows, or of the default size where no word is left.
+/// A parser of this size that keeps up to this many rows, or of the default size if no word is left.
 pub fn new_parser(alloc: Global, words: &Words) -> Result<Parser<()>, StepError> {
     let made = if words.is_empty() {
         Parser::new_default(alloc)
@@ -18,8 +18,8 @@ pub fn new_parser(alloc: Global, words: &Words) -> Result<Parser<()>, StepError>
     }
 }
 
-/// Writes bytes to a parser, and answers how many were taken. Where memory is refused, the screen has failed and takes
-/// no more bytes.
+/// Writes bytes to a parser, and appends how many were taken. If memory is refused, the screen has failed and takes no
+/// further bytes.
 pub fn write(parser: &mut Parser<()>, bytes: &[u8], answer: &mut Answer) -> Result<(), StepError> {
     match parser.write(bytes) {
         Ok(count) => {
@@ -34,7 +34,7 @@ pub fn write(parser: &mut Parser<()>, bytes: &[u8], answer: &mut Answer) -> Resu
     }
 }
 
-// The screen has failed, and a write fails for that.
+// Whether the screen has failed, and a write fails for that.
 fn refuses(parser: &mut Parser<()>) -> bool {
     let kind = match parser.write(b"x") {
         Ok(_) => None,
@@ -43,8 +43,8 @@ fn refuses(parser: &mut Parser<()>) -> bool {
     parser.screen().failed() && kind == Some(ErrorKind::Other)
 }
 
-/// Appends the screen's size, its cursor's row and column, how many rows are kept and may be, and its text. A copy has
-/// the same.
+/// Appends the screen's size, its cursor's row and column, how many rows are kept and how many can be, and its text. A
+/// copy has the same.
 pub fn push_screen(parser: &Parser<()>, answer: &mut Answer) -> Result<(), StepError> {
     let screen = parser.screen();
     match screen.clone() {
@@ -65,7 +65,7 @@ fn push_alike(screen: &Screen, copy: &Screen, answer: &mut Answer) -> Result<(),
     Ok(())
 }
 
-// The screen's size, its cursor's row and column, and how many rows are kept and may be.
+// The screen's size, its cursor's row and column, how many rows are kept, and how many can be.
 fn push_places(screen: &Screen, answer: &mut Answer) {
     let ((rows, cols), (row, col)) = (screen.size(), screen.cursor_position());
     answer.numbers(&[

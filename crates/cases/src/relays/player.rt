@@ -21,11 +21,11 @@ pub struct RelayPlayer {
     parser: Option<Parser<()>>,
     // What hubs are fed in pieces, and what was sent to clients.
     input: Vec<u8>,
-    // How many bytes of it a view has got.
+    // How many bytes of the input a view has got.
     read: usize,
 }
 
-/// What a step lacks.
+/// The error of a step on a hub that isn't there.
 const NO_HUB: StepError = StepError::Wrong("there is no hub yet");
 
 const NO_VIEW: StepError = StepError::Wrong("there is no view yet");
@@ -33,7 +33,7 @@ const NO_VIEW: StepError = StepError::Wrong("there is no view yet");
 const NO_PARSER: StepError = StepError::Wrong("there is no parser yet");
 
 impl RelayPlayer {
-    /// A player with nothing on its stage.
+    /// A player without hubs, view or parser.
     pub fn new(alloc: Global) -> RelayPlayer {
         RelayPlayer {
             alloc,
@@ -56,7 +56,7 @@ impl RelayPlayer {
         }
     }
 
-    // The view from now on is one of this size, of bytes that come in pieces of these lengths.
+    // Makes a view of this size the current one. Its bytes come in pieces of these lengths.
     fn make_view(&mut self, words: &Words) -> Result<(), StepError> {
         let size = (words.size(), words.size());
         let bytes = if words.is_empty() { b"" } else { words.bytes() };
@@ -66,7 +66,7 @@ impl RelayPlayer {
         Ok(())
     }
 
-    // The view from now on is a far view of all calls so far.
+    // Makes a far view of all calls so far the current one.
     fn find_far(&mut self, words: &Words, answer: &mut Answer) -> Result<(), StepError> {
         let Some(hubs) = &self.hubs else {
             return Err(NO_HUB);
@@ -81,7 +81,7 @@ impl RelayPlayer {
         Ok(())
     }
 
-    // A step on hubs. Then each client is owed what it has to be.
+    // A step on hubs. Checks that each client has the right pending bytes afterwards.
     fn take_hubs(
         &mut self,
         name: &str,
@@ -223,7 +223,7 @@ fn tell_cuts(
     }
 }
 
-// A step that tells of values alone.
+// A step on values alone.
 fn tell_values(name: &str, words: &Words, answer: &mut Answer) {
     match name {
         "fill" => fill_piece(words.number(), answer),

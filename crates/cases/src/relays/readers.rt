@@ -5,7 +5,7 @@ use relay_streams::fill;
 use std::io;
 use std::io::{ErrorKind, Read};
 
-/// A reader that is interrupted first, and then gives a byte a read, which tells how much room there was.
+/// A reader that is interrupted first, and then gives a byte a read, which says how much room there was.
 #[derive(Drop)]
 struct Rooms {
     reads: u64,
@@ -26,8 +26,8 @@ impl Read for Rooms {
     }
 }
 
-/// A piece of four bytes is filled, where so many reads were made before. Appends how many bytes were read or why none
-/// were, how many reads were made, how many are counted then, and the piece.
+/// Fills a piece of four bytes, where `reads` reads were made before. Appends how many bytes were read or the error,
+/// how many reads were made, how many are counted then, and the piece.
 pub fn fill_piece(mut reads: u64, answer: &mut Answer) {
     let mut input = Rooms { reads: 0 };
     let mut piece = [0; 4];

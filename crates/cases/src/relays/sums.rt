@@ -1,6 +1,6 @@
-//! Sums of bytes, by which texts are known again that nobody keeps.
+//! Sums of bytes, by which texts are compared that aren't kept.
 
-/// How many bytes there were, and a number that other bytes hardly give (the hash of Fowler, Noll and Vo).
+/// How many bytes there were, and their hash (that of Fowler, Noll and Vo), which other bytes hardly have.
 #[derive(Clone, Copy, PartialEq)]
 pub struct Sum {
     /// How many bytes were summed.
@@ -15,7 +15,7 @@ impl Sum {
         hash: 0xcbf2_9ce4_8422_2325,
     };
 
-    /// The sum of what was summed and these bytes behind it.
+    /// The sum of the bytes so far and then these.
     pub fn after(self, bytes: &[u8]) -> Sum {
         let mut hash = self.hash;
         for byte in bytes {

@@ -86,7 +86,7 @@ pub fn push_attributes(answer: &mut Answer) {
     );
 }
 
-// Appends the bits of the mode, and what the getters make of them: whether it is bold, dim, italic, underlined, inverse.
+// Appends the bits of the mode, and what the getters return: whether it is bold, dim, italic, underlined, inverse.
 fn push_flags(answer: &mut Answer, attrs: &Attrs) {
     answer.number(u64::from(attrs.mode));
     push_flag(attrs.bold(), answer);

@@ -63,10 +63,10 @@ fn push_text(
     Ok(())
 }
 
-/// How many bytes a row's writer takes where a step doesn't say it.
+/// How many bytes a row's writer takes, unless the step has a number.
 const ROOM: usize = 4096;
 
-// A row's text to a writer that takes a byte a write, has this room, and is at fault then or takes nothing.
+// Appends a row's text, from a writer that takes a byte a write, has this room, and then fails or takes nothing.
 fn push_row(
     alloc: Global,
     answer: &mut Answer,

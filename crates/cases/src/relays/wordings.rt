@@ -6,7 +6,7 @@ use std::alloc::{AllocError, Global};
 /// How many words of one kind a step has at most.
 pub const MOST_WORDS: usize = 64;
 
-/// A count, or this one where no word is left.
+/// A count, or this one if no word is left.
 pub fn count_or(words: &Words, count: usize) -> usize {
     if words.is_empty() {
         count
@@ -26,10 +26,10 @@ pub fn counts(alloc: Global, words: &Words) -> Result<Vec<usize>, AllocError> {
     Ok(counts)
 }
 
-/// How many bytes of a text are told at most.
+/// The length of the longest text that is appended as it is, in bytes.
 const TOLD_LEN: usize = 400;
 
-/// Appends a text, or of a longer one how many bytes it has.
+/// Appends a text, or only the length of a longer one.
 pub fn push_text(answer: &mut Answer, text: &[u8]) {
     if text.len() <= TOLD_LEN {
         answer.quoted(text);

@@ -27,14 +27,15 @@ impl Pumped {
     }
 }
 
-/// A writer whose first writes are given, and whose later ones take some bytes each. It keeps the sum of what it takes.
+/// A writer whose first writes take what is given here, and whose later ones take some bytes each. It keeps the sum of
+/// what it takes.
 #[derive(Drop)]
 pub struct Writer<'a> {
     /// What the next writes take.
     pub takes: &'a [Take],
     /// What a later write takes at most.
     pub most: usize,
-    /// What a write is answered that fails.
+    /// The error of a write that fails.
     pub fault: ErrorKind,
     /// What was given.
     pub pumped: Pumped,

@@ -60,7 +60,7 @@ fn push_modes(answer: &mut Answer, cell: &Cell) {
     push_word(answer, cell.inverse(), " inverse");
 }
 
-/// The attributes that the single calls tell.
+/// The attributes that the single calls return.
 fn told_attrs(cell: &Cell) -> Attrs {
     let mut attrs = Attrs {
         fgcolor: cell.fgcolor(),

@@ -47,7 +47,7 @@ impl GridStage {
         }
     }
 
-    /// Makes a grid. The grid before it is the earlier one then.
+    /// Creates a grid. The grid before it becomes the earlier one.
     pub fn renew(&mut self, alloc: Global, words: &Words) -> Result<(), StepError> {
         let size = Size {
             rows: words.size(),

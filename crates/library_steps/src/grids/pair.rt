@@ -11,7 +11,7 @@ pub struct Pair<T> {
 }
 
 impl<T: Drop> Pair<T> {
-    /// Neither.
+    /// No row or grid yet.
     pub fn none() -> Pair<T> {
         Pair {
             now: None,
@@ -19,12 +19,12 @@ impl<T: Drop> Pair<T> {
         }
     }
 
-    /// The case works on this one from now on. The one before it is the earlier one then.
+    /// The case works on this one from now on. The one before it becomes the earlier one.
     pub fn put(&mut self, new: T) {
         self.earlier = self.now.replace(new);
     }
 
-    /// Both change places.
+    /// Exchanges both.
     pub fn exchange(&mut self) {
         mem::swap(&mut self.now, &mut self.earlier);
     }

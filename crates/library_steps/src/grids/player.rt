@@ -4,7 +4,7 @@ use crate::grids::row::RowStage;
 use case_player::{Answer, StepError, Words};
 use std::alloc::Global;
 
-/// Rows and grids, and whether a row was made last, or a grid.
+/// Rows and grids, and whether a row was created last, or a grid.
 #[derive(Drop)]
 pub struct GridPlayer {
     alloc: Global,
@@ -14,7 +14,7 @@ pub struct GridPlayer {
 }
 
 impl GridPlayer {
-    /// A player with nothing on its stage.
+    /// A player without a row or a grid.
     pub fn new(alloc: Global) -> Self {
         GridPlayer {
             alloc,

@@ -30,7 +30,7 @@ impl RowStage {
         }
     }
 
-    /// Makes a row, and prints a text on it. The row before it is the earlier one then.
+    /// Creates a row, and prints a text on it. The row before it becomes the earlier one.
     pub fn renew(&mut self, alloc: Global, words: &Words) -> Result<(), StepError> {
         let mut row = Row::new(alloc, words.place()).map_err(refused)?;
         print(&mut row, 0, words.text(), Attrs::new());

@@ -4,11 +4,11 @@ use case_player::{Answer, StepError};
 use vt100_core::attrs::Attrs;
 use vt100_core::{GridError, Pos};
 
-/// What stands in a text before a call appends to it.
+/// What a text holds before a call appends to it.
 pub const BEGUN: &str = "begun:";
 
-/// What a call tells beside its text, if it does: where the terminal's cursor stands then, and the attributes that it
-/// draws with.
+/// What a call reports beside its text, if it does: where the terminal's cursor is then, and the attributes that the
+/// terminal draws with.
 pub type Left = (Option<Pos>, Option<Attrs>);
 
 /// The step's error for a call's.
@@ -18,7 +18,7 @@ pub fn refused(error: GridError) -> StepError {
     }
 }
 
-/// Tells what a call has appended to a text, and what else it tells.
+/// Appends what a call has appended to a text, and what else it reports.
 pub fn tell_appended(text: &str, left: Left, answer: &mut Answer) -> Result<(), StepError> {
     match text.strip_prefix(BEGUN) {
         Some(appended) => {
@@ -30,7 +30,7 @@ pub fn tell_appended(text: &str, left: Left, answer: &mut Answer) -> Result<(), 
     }
 }
 
-/// The error of a call that was refused when it had appended a part of a text. It appends the whole the next time.
+/// The error of a call that was refused after it had appended a part of a text. The next time it appends the whole.
 pub fn refused_append(part: &str, whole: &str) -> StepError {
     if part.starts_with(BEGUN) && whole.starts_with(part) {
         StepError::Memory

@@ -20,7 +20,7 @@ fn write_change((old, new): &Change, writer: &mut Limited) -> fmt::Result {
     new.write_escape_code_diff_fmt(writer, old)
 }
 
-/// Tells a change.
+/// Appends a change.
 pub fn tell_change(alloc: Global, change: &Change, answer: &mut Answer) -> Result<(), StepError> {
     let (old, new) = change;
     let mut text = String::from_str(alloc, BEGUN)?;

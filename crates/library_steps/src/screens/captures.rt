@@ -9,7 +9,7 @@ use vt100::capture::{
 };
 use vt100::{Parser, Screen};
 
-/// Tells the calls that the callbacks got since they were last told. From now on they are told.
+/// Appends the calls that the callbacks got since the last such step, and clears them.
 pub fn tell_calls(parser: &mut Parser<Log>, answer: &mut Answer) -> Result<(), StepError> {
     let log = parser.callbacks_mut();
     if log.is_cut {
@@ -20,7 +20,7 @@ pub fn tell_calls(parser: &mut Parser<Log>, answer: &mut Answer) -> Result<(), S
     Ok(())
 }
 
-/// Tells the capture of the rows that left, and of all that are left, where `whole` says so.
+/// Appends the capture of the rows that left. With `whole`, it goes on with all rows that are still there.
 pub fn tell_capture(
     alloc: Global,
     parser: &Parser<Log>,

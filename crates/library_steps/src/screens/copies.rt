@@ -7,7 +7,7 @@ use case_player::StepError;
 use std::alloc::Global;
 use vt100::Screen;
 
-/// What is said where a text of a copy differs: a line for each. Its first word is the call that makes the text.
+/// The fault if a text of a copy differs: a line for each. Its first word is the call that makes the text.
 const FAULTS: &str = "\
 contents of a copy differ
 contents_between of a copy differ

@@ -3,7 +3,7 @@ use crate::words::character;
 use case_player::Words;
 use vt100::{ScreenError, WrappedScreen};
 
-/// Makes the call that the words say, and tells its answer. A call that answers nothing is never refused.
+/// Makes the call that the words name, and returns its result. A call that returns nothing is never refused.
 pub fn call(wrapped: &mut WrappedScreen<()>, words: &Words) -> Result<(), ScreenError> {
     match words.word() {
         "text" => return wrapped.text(character(words)),

@@ -8,7 +8,7 @@ use case_player::{Answer, StepError, Words};
 use std::alloc::Global;
 use vt100_forms::term::{self, BufWrite};
 
-/// Tells a form.
+/// Appends a form.
 fn tell<B: BufWrite>(alloc: Global, form: &B, answer: &mut Answer) -> Result<(), StepError> {
     let mut text = String::from_str(alloc, BEGUN)?;
     let written = form.write_buf(&mut text);
@@ -20,7 +20,7 @@ fn tell<B: BufWrite>(alloc: Global, form: &B, answer: &mut Answer) -> Result<(),
     )
 }
 
-/// Tells the form that the words say. One without the words that it may have is the default one.
+/// Appends the form that the words name. A form without the words that it may have is the default one.
 pub fn tell_form(alloc: Global, words: &Words, answer: &mut Answer) -> Result<(), StepError> {
     match words.word() {
         "clear_screen" => tell(alloc, &term::ClearScreen, answer),
@@ -99,7 +99,7 @@ fn tell_mode(
     }
 }
 
-/// The change of a choice: the words are the new one, and the one before it.
+/// The change of a choice: the words are the new choice, and the one before it.
 fn tell_choice(
     alloc: Global,
     name: &str,

@@ -16,7 +16,7 @@ const ROOM: usize = 1024;
 /// for a size gets it.
 #[derive(Drop)]
 pub struct Log {
-    /// The calls that aren't told yet.
+    /// The calls that aren't reported yet.
     pub calls: String,
     /// The capture of the rows that left.
     pub capture: String,

@@ -7,16 +7,16 @@ use crate::screens::stage::Stage;
 use case_player::{Answer, StepError, Words, value_of};
 use std::alloc::Global;
 
-/// Plays steps on a parser and its screen, and tells forms and what captures are.
+/// Plays steps on a parser and its screen, on forms and on captures.
 #[derive(Drop)]
 pub struct ScreenPlayer {
     alloc: Global,
-    /// What the step `new` made.
+    /// What the step `new` has created.
     stage: Option<Stage>,
 }
 
 impl ScreenPlayer {
-    /// A player with nothing on its stage.
+    /// A player without a parser or a screen.
     pub fn new(alloc: Global) -> ScreenPlayer {
         ScreenPlayer { alloc, stage: None }
     }

@@ -41,7 +41,7 @@ fn answer_of(
     Ok(())
 }
 
-/// Tells the text that is asked for, how long it is, or its ends.
+/// Appends the text that is asked for, its length, or its ends.
 fn tell_asked(
     alloc: Global,
     screen: &Screen,
@@ -71,7 +71,7 @@ fn tell_ends(answer: &mut Answer, text: &str) {
     answer.quoted_line(text.get(last..).unwrap_or("").as_bytes());
 }
 
-/// Tells what a text that holds something before holds after a call that appends to it.
+/// Appends what a text, which isn't empty before, holds after a call that appends to it.
 fn tell_appended(
     alloc: Global,
     screen: &Screen,

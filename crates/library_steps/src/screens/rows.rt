@@ -41,8 +41,8 @@ fn push_line(joined: &mut String, text: &str) -> Result<(), StepError> {
     Ok(joined.push_str("\n")?)
 }
 
-/// The texts of so many rows, each with its line's end. The rows are read twice, in turn: a row that is refused memory
-/// is refused alone.
+/// The texts of this many rows, each with its line's end. The rows are read twice, in turn: a row that is refused
+/// memory is refused alone.
 pub fn joined<I: Iterator<Item = Result<String, ScreenError>> + Drop>(
     alloc: Global,
     mut texts: I,

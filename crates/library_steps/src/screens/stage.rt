@@ -85,7 +85,7 @@ impl Stage {
         check(answer.is_ok(), "memory was asked for")
     }
 
-    /// So many cells get the longest text.
+    /// Fills a number of cells with the longest text.
     fn fill(&mut self, alloc: Global, cells: u16) -> Result<(), StepError> {
         for _ in 0..cells {
             self.feed(alloc, CELL.as_bytes())?;

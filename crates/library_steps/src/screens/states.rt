@@ -56,7 +56,7 @@ pub fn choices(screen: &Screen) -> Choices {
     )
 }
 
-/// Tells what a screen is like.
+/// Appends a screen's state.
 pub fn tell_state(answer: &mut Answer, screen: &Screen, words: &Words) {
     let (size, cursor, kept) = places(screen);
     match words.word() {

@@ -6,7 +6,8 @@ use std::alloc::Global;
 use vt100::Screen;
 use vt100::capture::{BasicFormattedCaptureRange, BasicFormattedCaptureState};
 
-/// What is told of a screen: a row and a column to a row and a column, or so many columns from a column on.
+/// The part of a screen that is asked for: from a row and a column to a row and a column, or from a column on a number
+/// of columns.
 pub type Place = [u16; 4];
 
 /// The place of a text of this name. If it has one, its numbers are the next words.

@@ -5,8 +5,8 @@ use super::reading::{Reader, tell_cut, tell_pieces};
 use case_player::{Answer, StepError, Words};
 use std::alloc::Global;
 
-/// Answers the events of the 256 streams that have a byte between a prefix and an end. A line holds from the byte that
-/// it names up to the next line's. There `#` is the byte's own number where it's told first.
+/// Appends the events of the 256 streams that have a byte between a prefix and an end. A line holds from the byte that
+/// it names up to the next line's. There `#` is the byte's own number at its first occurrence.
 pub fn tell_each_byte(
     alloc: Global,
     log: &mut Log,
@@ -31,7 +31,7 @@ fn set_byte(stream: &mut [u8], place: usize, byte: u8) {
     }
 }
 
-// Tells a stream whole and cut, and in three pieces: the byte at this place is the second one.
+// Reads a stream whole and cut, and in three pieces: the byte at this place is the second one.
 fn tell_around(log: &mut Log, stream: &[u8], place: usize, told: &mut Answer) {
     told.clear();
     tell_cut(Reader::Events, log, stream, told);
@@ -40,7 +40,7 @@ fn tell_around(log: &mut Log, stream: &[u8], place: usize, told: &mut Answer) {
     tell_pieces(Reader::Events, log, &[prefix, byte, end], told);
 }
 
-// Appends what is told from this byte on, unless it's told already.
+// Appends the lines that hold from this byte on, unless the last ones are the same.
 fn push_from(byte: u8, told: &str, answer: &mut Answer) {
     if answer.has_told(told) {
         return;
@@ -51,7 +51,7 @@ fn push_from(byte: u8, told: &str, answer: &mut Answer) {
     answer.push(told);
 }
 
-/// Answers the text of streams of four bytes: each of the first ones, of the others twice, and of the last ones. There
+/// Appends the text of streams of four bytes: each of the first ones, of the others twice, and of the last ones. There
 /// is a line for each first and second byte.
 pub fn tell_fours(
     alloc: Global,
@@ -78,7 +78,7 @@ pub fn tell_fours(
     Ok(())
 }
 
-// Appends the text of the streams with these three bytes, and each of the last ones behind them.
+// Appends the text of the streams with these three bytes, and each of the last ones after them.
 fn push_fours(
     log: &mut Log,
     [first, second, third]: [u8; 3],

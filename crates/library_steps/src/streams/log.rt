@@ -13,7 +13,7 @@ use std::rc::Rc;
 use vte::ansi::{Call, Handler};
 use vte_core::{Event, Params, Perform};
 
-/// What is told, without the space or the line's end behind it.
+/// What was written down, without the space or the line's end after it.
 pub fn trimmed(told: &Answer) -> &str {
     told.as_str().trim_end()
 }
@@ -26,18 +26,18 @@ pub struct Log {
     /// After how many more events the parser is asked to stop.
     pub left: usize,
     terminated: bool,
-    /// The byte whose number is written as `#` where a stream tells it first.
+    /// The byte whose number is written as `#` at its first occurrence in a stream.
     pub own: Option<u8>,
-    // The same, until the stream has told it.
+    // The same byte, until its number was written.
     awaited: Option<u8>,
     /// Whether text is written in short: a character as itself or as its number between `<` and `>`, and a control as
-    /// its number behind `^`.
+    /// its number after `^`.
     pub is_brief: bool,
     /// Whether a run of text is written down as one: `text` or `ascii`, and its characters' numbers.
     pub tells_runs: bool,
     /// How many inputs there were, if they are counted. Then they aren't written down.
     pub inputs: Option<usize>,
-    /// Whether the flag is watched. Then each call has `true` or `false` behind it: whether the flag is up.
+    /// Whether the flag is watched. Then each call is followed by `true` or `false`: whether the flag is up.
     pub watches: bool,
     /// The flag.
     pub flag: Option<Rc<Cell<bool>>>,
@@ -75,7 +75,7 @@ impl Log {
         trimmed(&self.text)
     }
 
-    /// No memory was refused since the log was made.
+    /// Fails if memory was refused since the log was created.
     pub fn check(&self) -> Result<(), StepError> {
         if self.refused || self.text.is_refused() {
             Err(StepError::Memory)
@@ -122,7 +122,7 @@ impl Log {
         self.word("|");
     }
 
-    // A final byte, behind the intermediates.
+    // A final byte, after the intermediates.
     fn ending(&mut self, intermediates: &[u8], ignore: bool, number: u32) {
         self.bytes(intermediates);
         self.tell(if ignore { "ignored" } else { "kept" }, number);

@@ -9,7 +9,7 @@ use case_player::{Answer, StepError, Words, value_of};
 use std::alloc::Global;
 use vte_core::Parser;
 
-/// Tells what streams say. It keeps nothing from a step to the next one.
+/// Plays steps on byte streams. It keeps nothing from one step to the next.
 #[derive(Clone, Copy)]
 pub struct StreamPlayer {
     alloc: Global,
@@ -35,7 +35,7 @@ impl StreamPlayer {
     }
 }
 
-// What a step tells.
+// What a step answers.
 #[derive(Clone, Copy)]
 enum Kind {
     Calls,
@@ -51,7 +51,7 @@ enum Kind {
     Value,
 }
 
-// What the steps tell by their names. Any other one tells a value.
+// What the steps answer, by their names. Any other step answers a value.
 const KINDS: &[(&str, Kind)] = &[
     ("calls", Kind::Calls),
     ("each_byte", Kind::EachByte),
@@ -101,7 +101,7 @@ fn tell_logged(
     Ok(())
 }
 
-// Answers the calls of a stream, and those byte by byte where they are other ones.
+// Appends the calls of a stream, and those of the stream byte by byte if they differ.
 fn tell_calls(
     alloc: Global,
     log: &mut Log,
@@ -114,13 +114,13 @@ fn tell_calls(
     Ok(())
 }
 
-// Answers the events of a stream, and where runs of text begin. It is read whole.
+// Appends the events of a stream, and where runs of text begin. The stream is read whole.
 fn tell_runs(log: &mut Log, bytes: &[u8], answer: &mut Answer) {
     Reader::Runs.read(log, &[bytes]);
     answer.line(log.told());
 }
 
-// Answers the events until the parser is asked to stop, and how many bytes are read. From then on none is read.
+// Appends the events until the parser is asked to stop, how many bytes that takes, and how many a second call takes.
 fn tell_until(log: &mut Log, words: &Words, answer: &mut Answer) {
     log.left = words.count();
     let bytes = words.bytes();
@@ -134,7 +134,7 @@ fn tell_until(log: &mut Log, words: &Words, answer: &mut Answer) {
     answer.end_line();
 }
 
-// Reads until the parser is asked to stop. Answers how many bytes were read.
+// Reads until the parser is asked to stop. Returns how many bytes were read.
 fn read_until(parser: &mut Parser<1024>, log: &mut Log, bytes: &[u8]) -> usize {
     parser.advance_until_terminated(log, bytes)
 }

@@ -13,15 +13,15 @@ use vte_core::{Parser, Perform};
 /// What reads a stream.
 #[derive(Clone, Copy)]
 pub enum Reader {
-    /// A parser, whose events are told.
+    /// A parser, whose events are written down.
     Events,
-    /// One that keeps 4 bytes of an operating system command.
+    /// A parser that keeps 4 bytes of an operating system command.
     EventsKeepingFour,
-    /// One whose performer takes text in runs.
+    /// A parser whose performer takes text in runs.
     Runs,
-    /// A processor, whose calls are told. Where bytes are held at the end, that is told too.
+    /// A processor, whose calls are written down. If bytes are held at the end, that is written down too.
     Calls(Global),
-    /// The filter of character sets. What it gives is told as a quoted word.
+    /// The filter of character sets. What it gives is written down as a quoted word.
     Draws(Global),
 }
 
@@ -96,8 +96,8 @@ fn filter_piece(
     Ok(())
 }
 
-/// Answers what the stream says as a whole, and where it's told otherwise: that of the first such cut. Nothing is
-/// answered before.
+/// Appends the log of a stream that is read whole. If a cut gives another log, appends that of the first such cut. The
+/// answer is empty before.
 pub fn tell_cut(reader: Reader, log: &mut Log, bytes: &[u8], answer: &mut Answer) {
     reader.read(log, &[bytes]);
     answer.push(log.told());
@@ -115,7 +115,7 @@ pub fn tell_cut(reader: Reader, log: &mut Log, bytes: &[u8], answer: &mut Answer
     answer.end_line();
 }
 
-/// Answers what a stream says in these pieces, where that isn't the line that is answered.
+/// Appends the log of a stream that is read in these pieces, if it isn't the line that the answer has.
 pub fn tell_pieces(reader: Reader, log: &mut Log, pieces: &[&[u8]], answer: &mut Answer) {
     reader.read(log, pieces);
     if answer.as_str().strip_suffix('\n') != Some(log.told()) {

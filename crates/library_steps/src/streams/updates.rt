@@ -47,7 +47,7 @@ impl Timeout for Flagged {
     }
 }
 
-/// A clock that stands still.
+/// A stopped clock.
 #[derive(Drop)]
 struct Still(Duration);
 
@@ -83,8 +83,8 @@ fn stop<T: Timeout + Drop>(processor: &mut Processor<T, Global>, log: &mut Log) 
 
 /// Plays words on a processor whose timeout is a flag. `give PIECE`, `times N PIECE` and `stop` answer the calls that
 /// the processor makes then, and how many bytes it holds. `pending` and `sets` answer whether the timeout is pending,
-/// and how often it was set. `up` and `down` set the flag. After `watch` each call has `true` or `false` behind it,
-/// whether the flag is up, and after `count` inputs are counted, and not told.
+/// and how often it was set. `up` and `down` set the flag. After `watch` each call is followed by `true` or `false`:
+/// whether the flag is up. After `count` inputs are counted, and not written down.
 pub fn tell_updates(alloc: Global, words: &Words, answer: &mut Answer) -> Result<(), StepError> {
     let flag = Rc::new(alloc, Cell::new(false))?;
     let mut log = Log::new(alloc)?;
@@ -135,7 +135,7 @@ fn play_word(
     }
 }
 
-// Hands a piece over, once or so many times, or stops the processor.
+// Hands a piece over, once or a number of times, or stops the processor.
 fn hand(processor: &mut Processor<Flagged, Global>, log: &mut Log, name: &str, words: &Words) {
     match name {
         "stop" => stop(processor, log),
@@ -150,7 +150,7 @@ fn hand(processor: &mut Processor<Flagged, Global>, log: &mut Log, name: &str, w
     }
 }
 
-// Answers the calls that were made, how many bytes are held, and how many inputs there were if they are counted.
+// Appends the calls that were made, how many bytes are held, and how many inputs there were if they are counted.
 fn tell_held(processor: &Processor<Flagged, Global>, log: &Log, answer: &mut Answer) {
     answer.line(log.told());
     answer.number(processor.sync_bytes_count() as u64);
@@ -163,7 +163,8 @@ fn tell_held(processor: &Processor<Flagged, Global>, log: &Log, answer: &mut Ans
     answer.end_line();
 }
 
-/// Answers how many bytes are held after each piece, and when the update's time is over. The clock stands at 1 second.
+/// Appends how many bytes are held after each piece, and when the update's time is over. The clock is stopped at 1
+/// second.
 pub fn tell_times(alloc: Global, words: &Words, answer: &mut Answer) -> Result<(), StepError> {
     let mut log = Log::new(alloc)?;
     let timeout = StdSyncHandler::new(Still(Duration::from_secs(1)));
@@ -185,8 +186,8 @@ fn push_end(processor: &Processor<StdSyncHandler<Still>, Global>, answer: &mut A
     answer.end_line();
 }
 
-/// Answers when a fresh timeout is due to end and whether it is pending, then when it is set for 150 milliseconds, and
-/// then when it is cleared. The clock stands at so many seconds, or at the `last` moment.
+/// Appends when a fresh timeout is due to end and whether it is pending, then when it is set for 150 milliseconds, and
+/// then when it is cleared. The clock is stopped at a number of seconds, or at the `last` moment.
 pub fn tell_timeout(words: &Words, answer: &mut Answer) {
     let now = match words.word() {
         "last" => Duration::MAX,

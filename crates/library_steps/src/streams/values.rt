@@ -109,7 +109,7 @@ fn push_private_mode(number: u16, answer: &mut Answer) {
     push_number(mode.raw(), answer);
 }
 
-// A number behind something else.
+// A number after something else.
 fn push_number(number: u16, answer: &mut Answer) {
     answer.push(" ");
     answer.number(u64::from(number));
@@ -181,14 +181,14 @@ fn push_keyboard_modes(answer: &mut Answer) {
     answer.debug(&bits);
 }
 
-// The numbers of modes that are made of their names: insert, new line, and origin.
+// The numbers of modes that are created from their names: insert, new line, and origin.
 fn push_modes(answer: &mut Answer) {
     answer.number(u64::from(Mode::from(NamedMode::Insert).raw()));
     push_number(Mode::from(NamedMode::LineFeedNewLine).raw(), answer);
     push_number(PrivateMode::from(NamedPrivateMode::Origin).raw(), answer);
 }
 
-// How many parameters there are, whether there are none, whether the first one isn't there, and their text.
+// How many parameters there are, whether the list is empty, whether the first one is missing, and their text.
 fn push_params(params: &Params, answer: &mut Answer) {
     answer.number(params.len() as u64);
     answer.push(" ");

@@ -27,7 +27,7 @@ pub enum Call<'a> {
     Detach(Client),
     /// Asks for a frame for the client.
     Frame(Client),
-    /// Writes the bytes that the client is owed to a scripted writer. The results of its first writes are given; each
+    /// Writes the bytes that wait for the client to a scripted writer. The results of its first writes are given; each
     /// later write takes all bytes.
     Pump(Client, &'a [Take]),
     /// Asks for a new client that has what this one has once it has read all its frames.
@@ -39,13 +39,13 @@ pub enum Call<'a> {
 /// The reply to a call.
 #[derive(Debug, Drop)]
 pub enum Reply {
-    /// The call was made: a feed, a resize, a detach, or a pump after which nothing is owed.
+    /// The call was made: a feed, a resize, a detach, or a pump after which no bytes are pending.
     Done,
     /// The client that was attached, or the fork.
     Attached(Client),
     /// The answer to a request for a frame.
     Answered(Answer),
-    /// The redraw. None if it is too long.
+    /// The redraw. `None` if it is too long.
     Redrawn(Option<Vec<u8>>),
     /// The call was refused.
     Refused(HubError),

@@ -184,8 +184,8 @@ fn pump_kept(
 }
 
 /// Forks a client of a hub. The fork's session begins with what was pumped to the last session of the client that
-/// hasn't ended, and with what the client is owed. If there is none, no session begins. The memory for the session is
-/// allocated first.
+/// hasn't ended, and with the client's pending bytes. If the client has no such session, none begins. The memory for
+/// the session is allocated first.
 fn fork_kept(
     hub: &mut Hub,
     alloc: Global,
@@ -236,12 +236,13 @@ fn redraw(hub: &Hub, client: Client) -> Reply
 /// Makes the calls in order. The log keeps the reply to each, and the bytes that were pumped.
 ///
 /// An attach begins a session, and so does a fork: its session has the bytes of the last session of its client that
-/// hasn't ended, and what the client was owed. A pump's bytes are added to the last session of its client that hasn't
-/// ended. If there is none, as for a client that was attached outside the log, no session changes. A detach ends that
-/// last session, and a resize ends all sessions. A refused call is kept as its reply, and the run goes on.
+/// hasn't ended, and the bytes that waited for the client. A pump's bytes are added to the last session of its client
+/// that hasn't ended. If a client has no such session, as one that was attached outside the log, no session changes. A
+/// detach ends that last session, and a resize ends all sessions. A refused call is kept as its reply, and the run goes
+/// on.
 ///
 /// Fails only if an allocation for the log fails, with `Memory`. Then the calls before that one were made, and it and
-/// the later ones weren't. Before a pump, memory is allocated for all the bytes that are owed.
+/// the later ones weren't. Before a pump, memory is allocated for all pending bytes.
 pub fn run(hub: &mut Hub, calls: &[Call<'_>], log: &mut Log) -> Result<(), HubError>
     ensures { RunsCalls hub.old log.old (map call_of calls.now) result hub.new log.new }
 {

@@ -107,7 +107,7 @@ impl Session {
         self.ended = true;
     }
 
-    /// The bytes that were pumped, and these behind them. Fails only if an allocation fails.
+    /// The bytes that were pumped, and these after them. Fails only if an allocation fails.
     pub(crate) fn pumped_with(&self, alloc: Global, owed: &[u8]) -> Result<Vec<u8>, AllocError>
         ensures { IfOk result (λ bytes. bytes.items ≡ self.now.pumped ++ owed.now) }
     {
@@ -176,7 +176,7 @@ pub(crate) fn pump(hub: &mut Hub, client: Client, takes: &[Take]) -> Reply
     }
 }
 
-/// The bytes that the client is owed: none for an unknown client.
+/// The bytes that wait for the client: no bytes for an unknown client.
 pub(crate) fn owed(hub: &Hub, client: Client) -> &[u8]
     ensures { result.now ≡ bytes_owed (clients_in hub.now client) }
 {
@@ -186,7 +186,7 @@ pub(crate) fn owed(hub: &Hub, client: Client) -> &[u8]
     }
 }
 
-/// How many bytes the client is owed: 0 for an unknown client.
+/// How many bytes wait for the client: 0 for an unknown client.
 fn owed_count(hub: &Hub, client: Client) -> usize
     ensures { MatchOption (clients_in hub.now client) (result ≡ 0) (λ c. result ≡ length c.owed) }
 {

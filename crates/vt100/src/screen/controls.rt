@@ -43,7 +43,7 @@ impl<CB: Callbacks> WrappedScreen<CB> {
         }
     }
 
-    /// Brings back the cursor, origin mode and the drawing attributes that were saved last (DECRC).
+    /// Restores the cursor, origin mode and the drawing attributes that were saved last (DECRC).
     pub fn decrc(&mut self)
         ensures { Changes restored self.old self.new }
     {

@@ -23,7 +23,7 @@ use vt100_cells::PackedAttrs;
 use vt100_core::attrs::Attrs;
 use vte_core::{Event, Params, Perform};
 
-/// Attributes such as the calls of a terminal make.
+/// Proper attributes: those that the calls of a terminal can set.
 #[derive(Drop)]
 struct ProperAttrs {
     attrs: PackedAttrs,
@@ -75,7 +75,7 @@ impl Screen {
         self.grid.erase_row_forward(Attrs::new());
     }
 
-    /// Whether the screen is usable, and its cursor's row has room for more than so many characters of one column.
+    /// Whether the screen is usable, and its cursor's row has room for more than `len` characters of one column.
     #[inline(always)]
     fn has_room_for(&self, len: usize) -> bool
         ensures live { IsTrue result → self.now.failed ≡ false }
@@ -88,8 +88,8 @@ impl Screen {
 }
 
 /// A screen with its callbacks, on which the erasing of the cursor's row from the cursor on may be put off. Printable
-/// ASCII that leaves a column of the row takes cells that it would erase, and another erasing takes its place. Any other
-/// event does it first, but for the most frequent SGR.
+/// ASCII that leaves a column of the row takes cells that it would erase, and another erasing replaces it. It is done
+/// before any other event, except the most frequent SGR.
 #[derive(Drop)]
 pub(crate) struct Deferring<'a, CB> {
     screen: &'a mut WrappedScreen<CB>,
@@ -169,7 +169,7 @@ impl<'a, CB: Callbacks> Deferring<'a, CB> {
     }
 
     /// A control sequence without intermediates.
-    // It isn't inlined, so that SGR, which is asked for before, needs no stack for the others.
+    // It isn't inlined, so that SGR, which is checked for before, needs no stack for the others.
     #[inline(never)]
     fn plain_csi(&mut self, params: &Params, action: char)
         requires { self.old.screen.now.screen.failed ≡ false }
@@ -185,7 +185,7 @@ impl<'a, CB: Callbacks> Deferring<'a, CB> {
         }
     }
 
-    /// EL, while nothing is put off. Erasing of the row's end with other attributes than the default ones is.
+    /// EL, while nothing is put off. Erasing of the row's end with attributes other than the default ones is put off.
     #[inline(never)]
     fn el(&mut self, params: &Params)
         requires live { self.old.screen.now.screen.failed ≡ false }
@@ -202,8 +202,8 @@ impl<'a, CB: Callbacks> Deferring<'a, CB> {
         }
     }
 
-    /// A control sequence without intermediates while an erasing is put off. It stays so at the most frequent numbers of
-    /// SGR, which call nothing back, and erasing of the row's end takes its place.
+    /// A control sequence without intermediates while an erasing is put off. It stays put off at the most frequent
+    /// numbers of SGR, which call nothing back. Erasing of the row's end replaces it.
     #[cold]
     #[inline(never)]
     fn csi_late(&mut self, params: &Params, action: char)

@@ -20,7 +20,7 @@ impl<CB: Callbacks> WrappedScreen<CB> {
         }
     }
 
-    /// Takes cells out at the cursor; default ones follow at the row's end (DCH).
+    /// Removes cells at the cursor; default ones follow at the row's end (DCH).
     #[tactic(auto, using(crate::proofs::ProperScreens::drawn_rules))]
     pub fn dch(&mut self, count: u16)
         ensures { Changes (cells_taken count) self.old self.new }
@@ -51,7 +51,7 @@ impl<CB: Callbacks> WrappedScreen<CB> {
         }
     }
 
-    /// Takes lines out at the cursor's row, if it is in the scroll region; blank ones follow at its end (DL).
+    /// Removes lines at the cursor's row, if it is in the scroll region; blank ones follow at its end (DL).
     #[tactic(auto, using(crate::proofs::ProperScreens::drawn_rules))]
     pub fn dl(&mut self, count: u16)
         ensures { Changes (lines_taken count) self.old self.new }
@@ -72,7 +72,7 @@ impl<CB: Callbacks> WrappedScreen<CB> {
     }
 
     /// Empties the screen from the cursor on (0), up to the cursor and at it (1), or whole (2), with the drawing
-    /// attributes; or takes the kept rows away, and reports them to the callbacks (3) (ED). Answers how many sequences
+    /// attributes; or removes the kept rows, and reports them to the callbacks (3) (ED). Returns how many sequences
     /// were unhandled: 1 at another number.
     #[tactic(auto, using(crate::proofs::ProperScreens::drawn_rules))]
     pub fn ed(&mut self, mode: u16) -> usize
@@ -99,8 +99,8 @@ impl<CB: Callbacks> WrappedScreen<CB> {
         0
     }
 
-    /// Empties what [`ed`](Self::ed) empties (DECSED), since no cell is protected from being erased. Answers how many
-    /// sequences were unhandled, as it does.
+    /// Empties what [`ed`](Self::ed) empties (DECSED), since no cell is protected from being erased. Returns how many
+    /// sequences were unhandled, as `ed` does.
     pub fn decsed(&mut self, mode: u16) -> usize
         ensures { Counts CB.scrolls (display_erased mode) self.old.screen self.old.callbacks result self.new.screen
             self.new.callbacks }
@@ -109,7 +109,7 @@ impl<CB: Callbacks> WrappedScreen<CB> {
     }
 
     /// Empties the cursor's row from the cursor on (0), up to the cursor and at it (1), or whole (2), with the drawing
-    /// attributes (EL). Answers how many sequences were unhandled: 1 at another number.
+    /// attributes (EL). Returns how many sequences were unhandled: 1 at another number.
     #[tactic(auto, using(crate::proofs::ProperScreens::drawn_rules))]
     #[inline(always)]
     pub fn el(&mut self, mode: u16) -> usize
@@ -131,8 +131,8 @@ impl<CB: Callbacks> WrappedScreen<CB> {
         0
     }
 
-    /// Empties what [`el`](Self::el) empties (DECSEL), since no cell is protected from being erased. Answers how many
-    /// sequences were unhandled, as it does.
+    /// Empties what [`el`](Self::el) empties (DECSEL), since no cell is protected from being erased. Returns how many
+    /// sequences were unhandled, as `el` does.
     pub fn decsel(&mut self, mode: u16) -> usize
         ensures { Counts CB.scrolls (line_erased mode) self.old.screen self.old.callbacks result self.new.screen
             self.new.callbacks }

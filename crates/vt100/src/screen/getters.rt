@@ -1,4 +1,4 @@
-//! What a screen answers about itself.
+//! What a screen reports about itself.
 ghost use Rattle.std.specs.Prelude.{not, ◌≡◌, length, false, unwrap_or, MatchOption};
 ghost use Rattle.std.specs.Option.{option_copied, option_map};
 ghost use Rattle.vt100_forms.specs.Attrs.{is_bold, is_dim, is_italic, is_underlined, is_inverse};
@@ -11,7 +11,8 @@ use std::num::NonZeroU16;
 use vt100_core::{Cell, Color, CursorStyle, MouseProtocolEncoding, MouseProtocolMode, Pos};
 
 impl Screen {
-    /// Whether a call found no memory. What a failed screen shows is open, and it doesn't change any more.
+    /// Whether an allocation failed in a call. What a failed screen shows is unspecified, and it doesn't change any
+    /// more.
     pub fn failed(&self) -> bool
         ensures { result ≡ self.now.failed }
     {
@@ -61,8 +62,8 @@ impl Screen {
         self.grid.scrollback()
     }
 
-    /// The cursor's row and column, counted from 0. The column is the number of columns where the next character wraps
-    /// first.
+    /// The cursor's row and column, counted from 0. The column equals the number of columns if the next character
+    /// wraps first.
     pub fn cursor_position(&self) -> (u16, u16)
         ensures { result ≡ (self.now.state.shown.row, self.now.state.shown.col) }
     {
@@ -78,7 +79,7 @@ impl Screen {
     }
 
     /// The cells of the row that is shown at `row`, counted from 0, from the left: those that [`cell`](Self::cell)
-    /// tells of one by one. A kept row can be wider than the screen.
+    /// returns one by one. A kept row can be wider than the screen.
     pub fn row_cells(&self, row: u16) -> Option<&[Cell]>
         ensures { option_copied result ≡ option_map (λ v. v.cells) (visible_row_at self.now.state.shown row) }
     {
@@ -89,7 +90,7 @@ impl Screen {
     }
 
     /// A column from which on each cell of the row that is shown at `row` is a default cell. Both are counted from 0.
-    /// It is 65,535 if none is known, and 0 if there is no such row.
+    /// It is 65,535 if no such column is known, and 0 if there is no such row.
     pub fn row_filled(&self, row: u16) -> u16
         ensures { MatchOption (visible_row_at self.now.state.shown row) (result ≡ 0)
             (λ v. IsBlankFrom v.cells result) }
@@ -146,8 +147,8 @@ impl Screen {
     }
 
     /// Whether the program is in a synchronized update: it is drawing, and asks that nothing be shown until it has
-    /// ended (mode 2026). A full reset ends it too, and so does another size, or the same one set again; no text of the
-    /// screen tells of it.
+    /// ended (mode 2026). A full reset ends it too, and so does another size, or the same one set again. No text of
+    /// the screen contains it.
     pub fn synchronized_update(&self) -> bool
         ensures { result ≡ self.now.state.updating }
     {

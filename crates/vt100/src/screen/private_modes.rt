@@ -16,9 +16,9 @@ use vte_core::Params;
 
 impl<CB: Callbacks> WrappedScreen<CB> {
     /// Sets private modes (DECSET): 1, 6, 9, 25, 47, 1000, 1002, 1003, 1005, 1006, 1049, 2004, 2026, each in a group of
-    /// its own. Answers how many groups were unhandled: those of other numbers, and of more numbers than one.
+    /// its own. Returns how many groups were unhandled: those of other numbers, and those of more than one number.
     ///
-    /// Refused for memory is only the alternate sheet's showing for the first time (clause `allocates`).
+    /// It is refused for memory only if it shows the alternate sheet for the first time (clause `allocates`).
     pub fn decset(&mut self, params: &Params) -> Result<usize, ScreenError>
         ensures tries { TriesParts CB.scrolls (modes_set params.now) self.old.screen self.old.callbacks result
             self.new.screen self.new.callbacks }
@@ -38,7 +38,7 @@ impl<CB: Callbacks> WrappedScreen<CB> {
         Ok(unhandled)
     }
 
-    /// Resets private modes (DECRST), the same ones. Answers how many groups were unhandled.
+    /// Resets private modes (DECRST), the same ones. Returns how many groups were unhandled.
     pub fn decrst(&mut self, params: &Params) -> usize
         ensures { Counts CB.scrolls (modes_reset params.now) self.old.screen self.old.callbacks result
             self.new.screen self.new.callbacks }
@@ -58,7 +58,7 @@ impl<CB: Callbacks> WrappedScreen<CB> {
 }
 
 impl Screen {
-    /// Sets the mode that a group names. Answers whether it names one.
+    /// Sets the mode that a group names. Returns whether it names one.
     fn set_private_mode(&mut self, group: &[u16]) -> Result<bool, ScreenError>
         requires { self.old.failed ≡ false }
         ensures screen { OnOk result (self.new ≡ alive (row_state (row_of set_rows group.now) self.old.state)) }
@@ -91,7 +91,7 @@ impl Screen {
         Ok(true)
     }
 
-    /// Resets the mode that a group names. Answers whether it names one.
+    /// Resets the mode that a group names. Returns whether it names one.
     fn clear_private_mode(&mut self, group: &[u16]) -> bool
         requires { self.old.failed ≡ false }
         ensures screen { self.new ≡ alive (row_state (row_of reset_rows group.now) self.old.state) }
@@ -145,7 +145,7 @@ impl Screen {
         self.saved_attrs = self.attrs.attrs();
     }
 
-    /// Brings back what was saved last.
+    /// Restores what was saved last.
     pub(super) fn restore_cursor(&mut self)
         ensures { self.new ≡ record self.old { state = restored self.old.state } }
     {
@@ -164,7 +164,7 @@ impl Screen {
         }
     }
 
-    /// Shows the alternate sheet, which gets rows at the first time.
+    /// Shows the alternate sheet, which gets its rows the first time.
     fn enter_alternate_grid(&mut self) -> Result<(), ScreenError>
         requires { self.old.failed ≡ false }
         ensures screen { OnOk result (self.new ≡ alive (alternate_shown self.old.state)) }

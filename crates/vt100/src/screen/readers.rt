@@ -95,8 +95,8 @@ impl Screen {
     }
 
     /// Writes the rows of a range in that format: those that are shown, as [`contents_formatted_basic`] does, or the
-    /// kept rows and those that are drawn on, from the state that is handed in. The only error is the writer's, after
-    /// which that state is open; there is none where there is nothing to write.
+    /// kept rows and those that are drawn on, from the state that is passed in. The only error is the writer's, after
+    /// which that state is unspecified. There is no error if there is nothing to write.
     ///
     /// [`contents_formatted_basic`]: Self::contents_formatted_basic
     pub fn write_contents_formatted_basic<W: fmt::Write>(

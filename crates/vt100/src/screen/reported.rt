@@ -65,7 +65,7 @@ pub(super) fn print_run<G: Glyph, const COLUMNS: usize, CB: Callbacks>(
     grid.print_run::<G, COLUMNS, _>(text, attrs, reporter)
 }
 
-/// Prints a character on a sheet so many times, and gives the reporter the rows that leave it.
+/// Prints a character on a sheet `count` times, and gives the reporter the rows that leave it.
 pub(super) fn print_times<CB: Callbacks>(
     grid: &mut Grid,
     reporter: &mut Reporter<'_, CB>,
@@ -106,7 +106,7 @@ pub(super) fn scroll_up<CB: Callbacks>(
     grid.scroll_up(count, reporter)
 }
 
-/// The kept rows go.
+/// Removes the kept rows, and gives them to the reporter.
 pub(super) fn erase_kept<CB: Callbacks>(grid: &mut Grid, reporter: &mut Reporter<'_, CB>)
     requires { IsAllocated grid.old }
     ensures grid { grid.new ≡ scrollback_erased grid.old }
@@ -118,7 +118,7 @@ pub(super) fn erase_kept<CB: Callbacks>(grid: &mut Grid, reporter: &mut Reporter
     grid.erase_all_scrollback(reporter);
 }
 
-/// Another size.
+/// Gives a sheet another size, and gives the reporter the rows that leave it.
 #[tactic(auto, using(crate::proofs::SizeLemmas::resized_height, crate::proofs::SizeLemmas::resized_width))]
 fn resize<CB: Callbacks>(
     grid: &mut Grid,
@@ -142,7 +142,7 @@ fn resize<CB: Callbacks>(
     grid.set_size(size, reporter)
 }
 
-/// Another size of the main sheet, and then of the alternate one.
+/// Gives the main sheet another size, and then the alternate one.
 #[tactic(auto, using(crate::proofs::ReceiveLemmas::receives_append))]
 pub(super) fn resize_both<CB: Callbacks>(
     main: &mut Grid,

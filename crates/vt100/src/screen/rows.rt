@@ -14,8 +14,8 @@ use std::marker::Model;
 use vt100_core::attrs::Attrs;
 use vt100_core::{Pos, Row, VisibleRows};
 
-/// An iterator over the rows that are shown, from the top: of each a text, as the call says that made it. Where there
-/// was no memory for a row's text, the item is that error, and the next item is the next row's.
+/// An iterator over the rows that are shown, from the top: it yields a text for each, as the call that created it
+/// says. If there was no memory for a row's text, the item is that error, and the next item is the next row's.
 #[derive(Debug, Drop)]
 pub struct Rows<'a> {
     rows: VisibleRows<'a>,

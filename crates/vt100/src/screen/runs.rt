@@ -9,7 +9,7 @@ use vt100_cells::{Char3, RUN_LEN, TextGlyph, take_run};
 
 impl<CB: Callbacks> WrappedScreen<CB> {
     /// Prints the characters at the start of a text that take one column each, or two each, up to a run of them, and
-    /// returns what is left. Where there is none, or no room for one in a row, nothing is done.
+    /// returns what is left. If there is no such character, or a row has no room for one, nothing is done.
     pub(crate) fn print_chars<'a>(&mut self, text: &'a str) -> Option<&'a str>
         ensures shorter { IfSome result (λ rest. length rest.now < length text.now) }
         ensures printed { IfSome result (λ rest. PrintsPrefix CB.step CB.scrolls text.now rest.now self.old.callbacks
@@ -39,8 +39,8 @@ impl<CB: Callbacks> WrappedScreen<CB> {
         }
     }
 
-    /// Prints the run of characters of so many columns each at the start of a text, which it takes into `run`, and
-    /// returns what is left. Where there is none, or no room for one in a row, nothing is done.
+    /// Prints the run of characters of `COLUMNS` columns each at the start of a text, which it takes into `run`, and
+    /// returns what is left. If there is no such character, or a row has no room for one, nothing is done.
     fn print_taken<'a, G: TextGlyph, const COLUMNS: usize>(
         &mut self,
         text: &'a str,
@@ -62,7 +62,7 @@ impl<CB: Callbacks> WrappedScreen<CB> {
             return None;
         }
         prove!(self.screen.is_live() || self.screen.failed());
-        // A refusal is kept in the screen, which has failed then.
+        // A refusal is recorded in the screen, which has then failed.
         let _ = self.run::<G, COLUMNS>(run.as_slice());
         Some(rest)
     }

@@ -21,8 +21,8 @@ impl<CB: Callbacks> WrappedScreen<CB> {
     /// Changes the drawing attributes (SGR): 0 to 4, 7, 22 to 24, 27, the colours of 30 to 49, 90 to 97 and 100 to 107,
     /// those of 38 and 48 in one group or in groups of their own. Without any group the attributes become the default
     /// ones. A value past 255, or one that is missing, ends the reading; so does a kind of colour that is neither 2 nor
-    /// 5. Answers how many groups were unhandled: such a kind, and any other group.
-    // Most sequences are these. With a call here and one at text, coloured text takes 8 % more instructions.
+    /// 5. Returns how many groups were unhandled: such a kind, and any other group.
+    // Most sequences are these. If this and text aren't inlined, coloured text takes 8 % more instructions.
     #[inline(always)]
     pub fn sgr(&mut self, params: &Params) -> usize
         ensures { Counts CB.scrolls (attributes_read params.now) self.old.screen self.old.callbacks result
@@ -35,7 +35,7 @@ impl<CB: Callbacks> WrappedScreen<CB> {
     }
 }
 
-/// Reads all groups; without any the attributes become the default ones. Answers how many were unhandled.
+/// Reads all groups; without any the attributes become the default ones. Returns how many were unhandled.
 #[inline(always)]
 fn read_sgr(attrs: &mut PackedAttrs, params: &Params) -> usize
     ensures { read_of attrs.new result ≡ sgr_read params.now attrs.old }
@@ -82,7 +82,7 @@ pub(super) enum End {
     Kind,
 }
 
-/// Reads groups, from the first one on. Answers how many were unhandled.
+/// Reads groups, from the first one on. Returns how many were unhandled.
 fn read_groups(attrs: &mut PackedAttrs, params: &Params) -> usize
     ensures { read_of attrs.new result ≡ read_groups params.now 0 attrs.old }
 {
@@ -99,7 +99,7 @@ fn read_groups(attrs: &mut PackedAttrs, params: &Params) -> usize
     unhandled
 }
 
-/// Reads a group, and of those after it the ones that a colour in groups of its own takes. Answers whether it is
+/// Reads a group, and of those after it the ones that a colour in groups of its own takes. Returns whether it is
 /// handled.
 fn read_group(
     attrs: &mut PackedAttrs,
@@ -141,7 +141,7 @@ fn read_numbers(attrs: &mut PackedAttrs, numbers: &[u16]) -> usize
     unhandled
 }
 
-/// Reads a number, and of those after it the ones that a colour takes. Answers how many groups are unhandled, and how
+/// Reads a number, and of those after it the ones that a colour takes. Returns how many groups are unhandled, and how
 /// many numbers it takes.
 #[inline(always)]
 fn read_number(attrs: &mut PackedAttrs, code: u16, others: &[u16]) -> Result<(usize, usize), End>
@@ -183,9 +183,9 @@ fn color_in_numbers(numbers: &[u16]) -> Result<(Color, usize), End>
     }
 }
 
-/// What a group of one number does, but for 38 and 48. Answers how many groups are unhandled. The numbers that most
-/// streams have most of are told apart by comparisons: a jump by a table costs more where its target changes.
-// It isn't inlined, so that it stands once for the two that call it.
+/// What a group of one number does, but for 38 and 48. Returns how many groups are unhandled. Comparisons distinguish
+/// the most frequent numbers: a jump through a table costs more where its target changes.
+// It isn't inlined, so that its two callers share it.
 #[inline(never)]
 fn read_code(attrs: &mut PackedAttrs, code: u16) -> usize
     ensures unhandled { result ≡ unhandled_of (code_row code) }
@@ -201,9 +201,8 @@ fn read_code(attrs: &mut PackedAttrs, code: u16) -> usize
     0
 }
 
-/// What any group of one number does, but for 38 and 48, by the whole table. Answers how many groups
-/// are unhandled.
-// It isn't inlined, so that no jump by a table stands before the frequent numbers.
+/// What any group of one number does, but for 38 and 48, by the whole table. Returns how many groups are unhandled.
+// It isn't inlined, so that no jump through a table comes before the frequent numbers.
 #[inline(never)]
 fn read_any_code(attrs: &mut PackedAttrs, code: u16) -> usize
     ensures unhandled { result ≡ unhandled_of (code_row code) }

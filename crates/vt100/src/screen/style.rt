@@ -7,7 +7,7 @@ use crate::screen::WrappedScreen;
 use vt100_core::CursorStyle;
 
 impl<CB: Callbacks> WrappedScreen<CB> {
-    /// Sets how the cursor looks (DECSCUSR). Answers how many sequences were unhandled: 1 past 6.
+    /// Sets how the cursor looks (DECSCUSR). Returns how many sequences were unhandled: 1 for a style past 6.
     pub(crate) fn decscusr(&mut self, style: u16) -> usize
         ensures { Counts CB.scrolls (styled style) self.old.screen self.old.callbacks result self.new.screen
             self.new.callbacks }

@@ -18,12 +18,12 @@ use vt100_core::{CursorStyle, Grid, Scrollback, Size};
 
 impl Screen {
     /// Gives the screen another size, and reports the rows that leave it to no callbacks. A synchronized update of the
-    /// program's ends. The same size changes nothing else.
+    /// program ends. The same size changes nothing else.
     ///
-    /// Refused is only what makes the screen wider or higher, or keeps a row more. Then the answer is
-    /// [`ScreenError::Memory`], the screen has failed, and the call has stopped at the sheet that found no memory,
-    /// whose size is open; the main sheet comes first. On a failed screen nothing is done, and the answer is
-    /// [`ScreenError::Failed`].
+    /// Only a call that makes the screen wider or higher, or keeps one more row, can be refused. It then returns
+    /// [`ScreenError::Memory`], the screen has failed, and the call has stopped at the sheet whose allocation failed.
+    /// The size of that sheet is unspecified; the main sheet comes first. On a failed screen the call does nothing
+    /// and returns [`ScreenError::Failed`].
     pub fn set_size(&mut self, rows: NonZeroU16, cols: NonZeroU16) -> Result<(), ScreenError>
         ensures tries { TriesAlone (λ s. (resized_to rows.value cols.value s).state) self.old result self.new }
         ensures stops { result ≡ Err Memory → Stops rows.value cols.value self.old.state self.new.state }
@@ -69,11 +69,11 @@ impl Screen {
     }
 
     /// Shows the newest `rows` of the kept rows above the others, or all of them if there are fewer. What the screen
-    /// answers then, and what [`cell`](Self::cell) and the texts show, is read there.
+    /// then reports, and what [`cell`](Self::cell) and the texts show, is read there.
     ///
-    /// Where memory is refused the answer is [`ScreenError::Memory`], and the screen has failed, with its size; refused
-    /// is only what makes a kept row wider. On a failed screen nothing is done, and the answer is
-    /// [`ScreenError::Failed`].
+    /// If an allocation fails, the call returns [`ScreenError::Memory`], and the screen has failed, but keeps its
+    /// size. Only a call that makes a kept row wider can be refused. On a failed screen the call does nothing and
+    /// returns [`ScreenError::Failed`].
     pub fn set_scrollback(&mut self, rows: usize) -> Result<(), ScreenError>
         ensures tries { TriesAlone (kept_shown rows) self.old result self.new }
         ensures bounds { SameBounds self.old.state self.new.state }
@@ -92,7 +92,7 @@ impl Screen {
         Ok(())
     }
 
-    /// Takes the kept rows of the shown sheet away, and reports them to no callbacks.
+    /// Removes the kept rows of the shown sheet, and reports them to no callbacks.
     pub fn clear_scrollback(&mut self)
         ensures { self.new ≡ unless_failed kept_dropped self.old }
     {
@@ -101,7 +101,7 @@ impl Screen {
         }
     }
 
-    /// Makes everything as at first, at the size and the capacity of the main sheet, whose rows serve again.
+    /// Resets everything to the initial state, at the size and the capacity of the main sheet, whose rows are reused.
     fn renew(&mut self)
         requires { self.old.failed ≡ false }
         ensures { self.new ≡ alive (made_anew self.old.state) }
@@ -142,7 +142,7 @@ impl Screen {
     }
 }
 
-/// Makes a sheet that keeps rows as at first. Its rows serve again.
+/// Resets a sheet that keeps rows to its initial state. Its rows are reused.
 fn renew_sheet(grid: &mut Grid)
     requires drawn { IsAllocated grid.old }
     requires keeps { grid.old.kept.keeps ≡ true }
@@ -155,9 +155,9 @@ fn renew_sheet(grid: &mut Grid)
 }
 
 impl<CB: Callbacks> WrappedScreen<CB> {
-    /// Makes everything as at first, at this size and capacity (RIS). No row is reported to the callbacks.
+    /// Resets everything to the initial state, at this size and capacity (RIS). No row is reported to the callbacks.
     ///
-    /// No memory is allocated: the main sheet's rows serve again. On a failed screen nothing is done, and the answer is
+    /// No memory is allocated: the main sheet's rows are reused. On a failed screen the call does nothing and returns
     /// [`ScreenError::Failed`].
     // Never inlined, so that the frequent escape sequences need no stack.
     #[inline(never)]
@@ -174,11 +174,11 @@ impl<CB: Callbacks> WrappedScreen<CB> {
         Ok(())
     }
 
-    /// Gives the screen another size, and reports the rows that leave it: those of the main sheet first.
-    /// A synchronized update of the program's ends. The same size changes nothing else.
+    /// Gives the screen another size, and reports the rows that leave it: those of the main sheet first. A
+    /// synchronized update of the program ends. The same size changes nothing else.
     ///
-    /// Refused is only what makes the screen wider or higher, or keeps a row more. Then the call has stopped at the
-    /// sheet that found no memory, whose size is open.
+    /// Only a call that makes the screen wider or higher, or keeps one more row, can be refused. It has then stopped
+    /// at the sheet whose allocation failed, and the size of that sheet is unspecified.
     pub fn set_size_with_cb(
         &mut self,
         rows: NonZeroU16,

@@ -14,10 +14,10 @@ use vt100_core::Printed;
 
 /// A screen with the callbacks that get its events.
 ///
-/// A call that finds no memory answers [`ScreenError::Memory`] and marks the screen as failed: what it shows is open,
-/// but its sheets keep their sizes, unless another size was asked for, and the callbacks got rows only, the first
-/// of those that the call reports. On a failed screen no call does anything; those that answer a `Result` answer
-/// [`ScreenError::Failed`].
+/// A call in which an allocation fails returns [`ScreenError::Memory`] and marks the screen as failed. What the
+/// screen shows is then unspecified, but its sheets keep their sizes, unless another size was asked for. The
+/// callbacks got only rows: a prefix of those that the call reports. On a failed screen no call does anything; those
+/// that return a `Result` return [`ScreenError::Failed`].
 #[derive(Drop)]
 pub struct WrappedScreen<CB> {
     /// The screen. It can be read and changed here without a call of the callbacks.
@@ -76,7 +76,7 @@ impl<CB: Callbacks> WrappedScreen<CB> {
         Ok(())
     }
 
-    /// Moves the cursor a row down, where the scroll region moves up at its last row (LF).
+    /// Moves the cursor a row down. At the scroll region's last row the region moves up instead (LF).
     pub fn lf(&mut self) -> Result<(), ScreenError>
         ensures { MayScroll CB.scrolls line_fed self.old result self.new }
     {
@@ -122,7 +122,7 @@ impl<CB: Callbacks> WrappedScreen<CB> {
         Ok(())
     }
 
-    /// Prints the last character that was drawn in a cell of its own, so many times more, if there is one (REP).
+    /// Prints the last character that was drawn in a cell of its own `count` more times, if there is one (REP).
     pub(crate) fn rep(&mut self, count: u16) -> Result<(), ScreenError>
         ensures { MayScroll CB.scrolls (repeated count) self.old result self.new }
     {
@@ -147,7 +147,7 @@ impl<CB: Callbacks> WrappedScreen<CB> {
     }
 }
 
-/// The last character of a run, or where it is empty the one before it.
+/// The last character of a run, or `last` if the run is empty.
 #[inline(always)]
 fn last_of<G: Glyph>(text: &[G], last: Option<char>) -> Option<char>
     ensures { result ≡ last_of (map G.code text.now) last }

@@ -27,7 +27,7 @@ use vt100_core::{CursorStyle, GridError, MouseProtocolEncoding, MouseProtocolMod
 
 impl Screen {
     /// The escape sequences that take a terminal to all that the screen shows, whatever it showed before, if its
-    /// mouse mode and encoding and its cursor's style are as they are at first:
+    /// mouse mode and encoding and its cursor's style are the initial ones:
     /// [`contents_formatted`](Self::contents_formatted), and [`input_mode_formatted`](Self::input_mode_formatted)
     /// after it. They are at most 1,024 bytes for each cell of the screen, and 1,008 more (`short`).
     ///
@@ -90,7 +90,7 @@ impl Screen {
     /// they are shown; the cursor is that of the rows that are drawn on. They are at most 1,024 bytes for each cell of
     /// the screen, and 512 more (`short`).
     ///
-    /// Where kept rows are shown, [`clone_visible`](Self::clone_visible) is the way, as
+    /// Where kept rows are shown, use [`clone_visible`](Self::clone_visible), as
     /// [`state_formatted`](Self::state_formatted) says.
     pub fn contents_formatted(&self) -> Result<String, ScreenError>
         ensures { GivesRedraw contents_formatted picture.contents_formatted 512 self.now.state result }
@@ -129,12 +129,12 @@ impl Screen {
     }
 
     /// The escape sequences that take a terminal from the picture that `prev` shows to the one that the screen shows.
-    /// What is alike isn't drawn again. Both screens have one size: of others, the rows and columns that both have
-    /// are compared.
+    /// What is alike isn't drawn again. Both screens have one size; otherwise the rows and columns that both have are
+    /// compared.
     ///
     /// They are at most 1,024 bytes for each cell of the screen, and 512 more (`short`), and touch the cells that
-    /// [`state_diff`](Self::state_diff) says (`local`). Where either shows kept rows,
-    /// [`clone_visible`](Self::clone_visible) is the way, as it says too.
+    /// [`state_diff`](Self::state_diff) says (`local`). Where either shows kept rows, use
+    /// [`clone_visible`](Self::clone_visible), as it says too.
     pub fn contents_diff(&self, prev: &Self) -> Result<String, ScreenError>
         ensures { GivesDifference contents_diff picture.contents_diff 512 prev.now.state self.now.state result }
     {
@@ -176,8 +176,8 @@ impl Screen {
     }
 
     /// The escape sequences that set a terminal's modes: the keypad's and the cursor keys' application mode and
-    /// bracketed paste; and where they aren't as at first, the mouse's mode and encoding and the cursor's style. They
-    /// are at most 128 bytes (`short`).
+    /// bracketed paste; and, where they aren't the initial ones, the mouse's mode and encoding and the cursor's
+    /// style. They are at most 128 bytes (`short`).
     pub fn input_mode_formatted(&self) -> Result<String, ScreenError>
         ensures { GivesModes (input_mode_formatted (shown_state self.now.state)) 128 result }
     {
@@ -272,9 +272,9 @@ impl Screen {
             .write_escape_code_diff(contents, &Attrs::new())
     }
 
-    /// The escape sequences that bring a terminal's cursor, which may stand anywhere, to the screen's, and hide or
-    /// show it. The terminal shows the rows that are drawn on, and draws with the default attributes, before and
-    /// afterwards. Where it shows kept rows, those of a [`clone_visible`](Self::clone_visible) are the way.
+    /// The escape sequences that bring a terminal's cursor, which may be anywhere, to the screen's, and hide or show
+    /// it. The terminal shows the rows that are drawn on, and draws with the default attributes, before and
+    /// afterwards. Where kept rows are shown, use those of a [`clone_visible`](Self::clone_visible).
     pub fn cursor_state_formatted(&self) -> Result<String, ScreenError>
         ensures text { IfOk result (λ contents. string_bytes contents
             ≡ bytes_of (cursor_state_formatted self.now.state)) }
@@ -296,7 +296,7 @@ impl Screen {
     }
 }
 
-/// Appends a form, where a switch changes.
+/// Appends a form, if a switch changes.
 fn write_change<F: BufWrite>(
     contents: &mut String,
     prev: bool,

@@ -17,8 +17,8 @@ use vt100_rows::kept_rows::kept_at;
 impl Grid {
     /// Writes the rows of a range with their attributes: no control sequences but SGR, and no control characters but a
     /// newline before each row whose predecessor isn't wrapped. Attributes run on from row to row, and aren't reset at
-    /// the end. The only error is the writer's, after which the state that was handed in is open; there is none where
-    /// there is nothing to write.
+    /// the end. The only error is the writer's, after which the state that was passed in is unspecified. There is no
+    /// error if there is nothing to write.
     pub fn write_contents_formatted_basic<W: fmt::Write>(
         &self,
         writer: &mut W,

@@ -12,8 +12,8 @@ use vt100_rows::Row;
 
 impl Grid {
     /// Appends the text of the rows that are shown, in the screen's columns: without the empty columns at a row's end,
-    /// and with a newline after each row that doesn't go on in the next. Then the newlines at the end of `contents` go,
-    /// also those that it had before.
+    /// and with a newline after each row that doesn't go on in the next. Then the newlines at the end of `contents`
+    /// are removed, also those that it had before.
     ///
     /// It is refused only where what `contents` becomes doesn't fit in its capacity and there is no memory for more
     /// (`full`). Then a part of the text may have been appended.
@@ -40,8 +40,8 @@ impl Grid {
     }
 }
 
-/// Appends the text of a row, and before it the newlines that are owed. Answers how many are owed behind it: of a row
-/// without text nothing is appended, and where `wrapping` is set a newline more is owed for it.
+/// Appends the text of a row, and before it the pending newlines. Returns how many newlines are pending after it. Of
+/// a row without text nothing is appended; if `wrapping` is set, one more newline is pending for it.
 fn write_row(
     contents: &mut String,
     row: &Row,
@@ -95,7 +95,7 @@ fn push_newlines(contents: &mut String, n: usize) -> Result<(), GridError>
     Ok(())
 }
 
-/// Takes the newlines at the end away.
+/// Removes the newlines at the end.
 fn trim_newlines(text: &mut String)
     ensures { string_bytes text.new ≡ newlines_cut (string_bytes text.old) }
 {

@@ -107,7 +107,7 @@ impl Grid {
     }
 }
 
-/// A copy of a row that has so many columns. It goes on in the next row if the row does, one follows, and its last
+/// A copy of a row, with `width` columns. It goes on in the next row if the row does, one follows, and its last
 /// column shows something.
 fn clone_fitted(row: &Row, width: u16, followed: bool) -> Result<Row, GridError>
     ensures { IfOk result (λ copy. copy ≡ fitted_row row.now width followed) }
@@ -118,7 +118,7 @@ fn clone_fitted(row: &Row, width: u16, followed: bool) -> Result<Row, GridError>
     Ok(copy)
 }
 
-/// What a grid keeps that keeps no rows.
+/// The scrollback of a grid that keeps no rows.
 fn nothing_kept(alloc: Global) -> ScrollbackState
     ensures { kept_of result ≡ nothing_kept }
 {

@@ -9,7 +9,7 @@ impl Grid {
     ghost use Rattle.vt100_core.specs.Cursor.{cursor_at, with_origin, cursor_saved, cursor_restored, with_region};
     ghost use Rattle.vt100_core.specs.Cursor.{moved_rows_down, moved_rows_up, tab_stop};
 
-    /// The cursor; its column is the number of columns where the next character wraps first.
+    /// The cursor. Its column equals the number of columns if the next character wraps first.
     pub fn pos(&self) -> Pos
         ensures { result ≡ record { row = self.now.row; col = self.now.col } }
     {
@@ -44,7 +44,7 @@ impl Grid {
         self.saved_origin_mode = self.origin_mode;
     }
 
-    /// Brings back the cursor and origin mode that were saved last (DECRC).
+    /// Restores the cursor and origin mode that were saved last (DECRC).
     pub fn restore_cursor(&mut self)
         requires { IsAllocated self.old }
         ensures grid { self.new ≡ cursor_restored self.old }

@@ -63,7 +63,7 @@ impl Grid {
 
     /// Empties the cursor's row from the cursor on, as [`erase_row_forward`](Self::erase_row_forward) does. Mostly the
     /// attributes are the default ones, and then none is looked at.
-    // Apart, since the erasing of a row is inlined twice here.
+    // A function of its own, since the erasing of a row is inlined twice here.
     #[doc(hidden)]
     #[inline(never)]
     pub fn erase_forward(&mut self, attrs: &PackedAttrs)
@@ -108,7 +108,7 @@ impl Grid {
         self.rows[usize::from(self.pos.row)].insert(self.pos.col, count);
     }
 
-    /// Takes cells out at the cursor (DCH). Default cells follow at the row's end.
+    /// Removes cells at the cursor (DCH). Default cells follow at the row's end.
     pub fn delete_cells(&mut self, count: u16)
         requires { IsAllocated self.old }
         ensures grid { self.new ≡ cells_deleted self.old count }

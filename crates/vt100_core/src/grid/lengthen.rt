@@ -10,9 +10,9 @@ impl Grid {
     ghost use Rattle.vt100_core.specs.Grid.{GridView, SameKeeping};
     ghost use Rattle.vt100_core.specs.Resize.{lengthened};
 
-    /// Brings back rows at the top and adds blank ones at the bottom, up to so many rows. As many come back as scrolled
-    /// off, at most those that are added, and blank ones in place of those that weren't kept. The cursors go with their
-    /// rows.
+    /// Brings back rows at the top and adds blank ones at the bottom, until there are `rows`. As many come back as
+    /// scrolled off, but at most as many as are added, and blank ones in place of those that weren't kept. The
+    /// cursors go with their rows.
     pub(crate) fn lengthen(&mut self, rows: NonZeroU16) -> Result<(), GridError>
         requires higher { self.old.height ≤ rows.value }
         requires whole { self.old.top ≡ 0 }

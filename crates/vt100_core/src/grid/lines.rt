@@ -21,7 +21,7 @@ impl Grid {
         }
     }
 
-    /// Takes lines out at the cursor's row, if it is in the scroll region; blank ones follow at the region's end (DL).
+    /// Removes lines at the cursor's row, if it is in the scroll region; blank ones follow at the region's end (DL).
     pub fn delete_lines(&mut self, count: u16)
         requires { IsAllocated self.old }
         ensures grid { self.new ≡ lines_deleted self.old count }
@@ -32,7 +32,7 @@ impl Grid {
         }
     }
 
-    /// Takes lines out at a row of the scroll region, as many as there are down to its end, where blank ones follow.
+    /// Removes lines at a row of the scroll region, as many as there are down to its end, where blank ones follow.
     pub(crate) fn close_lines_at(&mut self, first: u16, count: u16)
         requires allocated { IsAllocated self.old }
         requires in_region { first ≤ self.old.bottom }

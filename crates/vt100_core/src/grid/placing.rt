@@ -18,9 +18,9 @@ use vt100_rows::Cell;
 use vt100_rows::rows_edit::at;
 
 impl Grid {
-    /// Appends the forms that bring a terminal's cursor, which stands at `prev_pos` or at a place that isn't known, to
-    /// the grid's. The terminal shows the rows that are drawn on, and draws with `prev_attrs`, the default attributes
-    /// if they aren't given; it does so afterwards.
+    /// Appends the forms that bring a terminal's cursor, which is at `prev_pos` or at an unknown place, to the
+    /// grid's. The terminal shows the rows that are drawn on, and draws with `prev_attrs`, the default attributes if
+    /// they aren't given; it does so afterwards.
     ///
     /// A cursor past the last column gets there by the last cell of its row, which is printed again; where that one has
     /// no text, by the last cell of the nearest row above that has one, and line feeds; where no row has one, by a
@@ -54,7 +54,7 @@ impl Grid {
     }
 }
 
-/// Where the cursor waits behind the last column.
+/// Where the cursor waits past the last column.
 impl Grid {
     /// The column of a row's last cell, or of that one's first half.
     fn last_col(&self, row: u16) -> u16
@@ -98,7 +98,7 @@ impl Grid {
         Some(row)
     }
 
-    /// The cursor waits at the end of this row, whose last cell has a text.
+    /// Makes the cursor wait at the end of this row, whose last cell has a text.
     fn wait_behind(
         &self,
         contents: &mut String,
@@ -125,7 +125,7 @@ impl Grid {
         print_with(contents, attrs, self.last_cell(row))
     }
 
-    /// The cursor waits at the end of its row, whose last cell is empty.
+    /// Makes the cursor wait at the end of its row, whose last cell is empty.
     fn wait_on_empty(
         &self,
         contents: &mut String,
@@ -167,7 +167,7 @@ fn arrive(contents: &mut String, prev_pos: Option<Pos>, pos: Pos) -> Result<(), 
     }
 }
 
-/// Whether the cursor is known to stand at `pos`.
+/// Whether the cursor is known to be at `pos`.
 fn is_at(prev_pos: Option<Pos>, pos: Pos) -> bool
     ensures { result ≡ is_pen_at prev_pos pos }
 {

@@ -17,12 +17,12 @@ impl Grid {
     /// Of a lower screen the rows below the cursor go first, and the sink isn't given them; then rows scroll off at its
     /// top, as [`scroll_up`](Self::scroll_up) says. On a higher one as many rows come back at the top as have scrolled
     /// off, at most those that are added, and blank where they weren't kept; blank ones follow at the bottom. The
-    /// cursors go with their rows, and stay on the screen. A row of another width isn't wrapped any more. The size that
-    /// the screen has already changes nothing.
+    /// cursors go with their rows, and stay on the screen. A row of another width isn't wrapped any more. The same
+    /// size changes nothing.
     ///
-    /// Refused is only what makes the screen wider or higher, or keeps a row more. After a refusal the grid is whole,
-    /// it keeps as many rows at most, and the sink has been given the rows that leave for good; its height and its
-    /// width are each the old or the new one, and what it shows is open.
+    /// Only a call that makes the screen wider or higher, or keeps one more row, can be refused. After a refusal the
+    /// grid is still valid, its capacity is the same, and the sink has been given the rows that leave for good. Its
+    /// height and its width are each the old or the new one, and what it shows is unspecified.
     #[tactic(auto, unfolding(crate::specs::Resize::resized, crate::specs::Scroll::scrolled_up))]
     pub fn set_size<S: RowSink>(&mut self, size: Size, sink: &mut S) -> Result<(), GridError>
         ensures grid { OnOk result (self.new ≡ (resized self.old size.rows.value size.cols.value).grid) }
@@ -80,7 +80,7 @@ impl Grid {
         self.size.rows = rows;
     }
 
-    /// Gives every row so many columns. If there isn't memory for that they have as many as before.
+    /// Gives every row `cols` columns. If there isn't memory for that, they have as many as before.
     fn set_width(&mut self, cols: NonZeroU16) -> Result<(), GridError>
         requires hidden { self.old.kept.offset ≡ 0 }
         ensures grid { OnOk result (self.new ≡ with_width self.old cols.value) }

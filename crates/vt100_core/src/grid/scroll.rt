@@ -19,8 +19,9 @@ impl Grid {
     /// screen's first row, the rows that leave it are kept, as many as the capacity allows. The sink is given those
     /// that leave for good: the oldest kept ones, and those that are never kept.
     ///
-    /// Refused is only what keeps a row: not on a grid that keeps none, and not where no row leaves the screen at its
-    /// top. After a refusal the sink has been given these rows, the grid is whole, and what it shows is open.
+    /// Only a call that keeps a row can be refused: none on a grid that keeps no rows, and none by which no row
+    /// leaves the screen at its top. After a refusal the sink has been given these rows, the grid is still valid, and
+    /// what it shows is unspecified.
     #[tactic(auto, unfolding(crate::specs::Scroll::scrolled_up))]
     pub fn scroll_up<S: RowSink>(&mut self, count: u16, sink: &mut S) -> Result<(), GridError>
         requires { IsAllocated self.old }
@@ -66,7 +67,8 @@ impl Grid {
     /// Shows the newest `rows` of the kept rows above the others, or all of them if there are fewer. Those that the
     /// screen shows are made at least as wide as it.
     ///
-    /// Refused is only what makes a row wider. After a refusal the grid is whole, and what it shows is open.
+    /// Only a call that makes a row wider can be refused. After a refusal the grid is still valid, and what it shows
+    /// is unspecified.
     pub fn set_scrollback(&mut self, rows: usize) -> Result<(), GridError>
         requires { IsAllocated self.old }
         ensures grid { OnOk result (self.new ≡ scrollback_shown self.old rows) }
@@ -84,7 +86,7 @@ impl Grid {
     }
 
     /// Moves the cursor down. In the scroll region it stops at the region's last row, and the region scrolls up by the
-    /// rows that are left (IND); their number is the answer. It is refused as [`scroll_up`](Self::scroll_up) is.
+    /// rows that are left (IND). The call returns their number. It is refused as [`scroll_up`](Self::scroll_up) is.
     #[tactic(auto, unfolding(crate::specs::Scroll::fed))]
     pub fn row_inc_scroll<S: RowSink>(&mut self, count: u16, sink: &mut S) -> Result<u16, GridError>
         requires { IsAllocated self.old }
@@ -115,9 +117,9 @@ impl Grid {
 
     /// Moves the cursor to the start of the next row if fewer than `width` columns are left, and scrolls as
     /// [`row_inc_scroll`](Self::row_inc_scroll) does. The row that it left is marked as wrapped if `wrap` is set, it
-    /// shows something in its last column, and it now stands directly above the cursor; else it isn't wrapped any more.
+    /// shows something in its last column, and it is now directly above the cursor; else it isn't wrapped any more.
     ///
-    /// Refused is only what scrolls, as [`scroll_up`](Self::scroll_up) is, which says what stays then.
+    /// Only a call that scrolls can be refused. [`scroll_up`](Self::scroll_up) says when, and what holds then.
     #[tactic(auto, unfolding(crate::specs::Scroll::wrapped_on))]
     pub fn col_wrap<S: RowSink>(
         &mut self,
@@ -147,7 +149,7 @@ impl Grid {
         Ok(())
     }
 
-    /// Sets whether a row is wrapped: it is if `wrap` is set, it shows something in its last column and it stands
+    /// Sets whether a row is wrapped: it is if `wrap` is set, it shows something in its last column and it is
     /// directly above the cursor.
     fn wrap_row(&mut self, row: u16, wrap: bool)
         requires { row < length self.old.rows }

@@ -18,7 +18,7 @@ use vt100_forms::{GridError, Pos};
 impl Grid {
     /// Appends the forms by which a terminal comes to show what the grid shows, whatever it showed before, and the
     /// terminal's cursor comes to the grid's: attributes and screen are cleared, each row is drawn, and the cursor is
-    /// placed as [`write_cursor_position_formatted`](Self::write_cursor_position_formatted) does. Answers the
+    /// placed as [`write_cursor_position_formatted`](Self::write_cursor_position_formatted) does. Returns the
     /// attributes with which the terminal draws afterwards.
     ///
     /// Kept rows that are shown are drawn in the screen's columns; the cursor is that of the rows that are drawn on.
@@ -47,8 +47,8 @@ impl Grid {
     /// Appends the forms by which a terminal that shows what `prev` shows, and whose cursor is that of `prev`, comes to
     /// show what the grid shows: where rows differ they are drawn, and the cursor is placed as
     /// [`write_cursor_position_formatted`](Self::write_cursor_position_formatted) does. `prev_attrs` are the attributes
-    /// with which the terminal draws; answers those with which it draws afterwards. Both grids have one size: of
-    /// others, the rows and columns that both have are compared.
+    /// with which the terminal draws; the call returns those with which it draws afterwards. Both grids have one
+    /// size; otherwise the rows and columns that both have are compared.
     ///
     /// They are at most 1,024 bytes for each cell of the screen, and 256 more (`short`).
     ///
@@ -146,7 +146,7 @@ fn has_flag(prev_wrapping: bool, pen: &Pen) -> bool
     prev_wrapping && !pen.lost
 }
 
-/// What is known of a terminal whose cursor stands here and which draws with these attributes.
+/// What is known of a terminal whose cursor is here and which draws with these attributes.
 fn pen_at(pos: Pos, attrs: Attrs) -> Pen
     ensures { result ≡ pen_at pos.row pos.col attrs }
 {

@@ -62,7 +62,7 @@ impl Row {
     }
 }
 
-/// Makes the first `end` cells those of another line, where the cells behind are default cells in both.
+/// Makes the first `end` cells those of another line, where the cells after these are default cells in both.
 fn copy_prefix(cells: &mut [Cell], others: &[Cell], end: usize)
     requires length { length cells.old ≡ length others.now }
     requires within { end ≤ length others.now }

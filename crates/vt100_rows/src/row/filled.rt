@@ -27,7 +27,7 @@ pub(crate) fn wipe_filled(cells: &mut [Cell], s: u16, e: u16, attrs: Attrs, fill
     }
 }
 
-/// Puts `count` default cells in at column `i`, as [`insert`] does.
+/// Inserts `count` default cells at column `i`, as [`insert`] does.
 pub(crate) fn insert_filled(cells: &mut [Cell], i: u16, count: u16, filled: u16)
     requires in_row { i ≤ length cells.old }
     requires paired { IsPaired (cell_at cells.old) }
@@ -40,7 +40,7 @@ pub(crate) fn insert_filled(cells: &mut [Cell], i: u16, count: u16, filled: u16)
     }
 }
 
-/// Takes the columns from `s` up to `e` out, as [`remove`] does.
+/// Removes the columns from `s` up to `e`, as [`remove`] does.
 pub(crate) fn remove_filled(cells: &mut [Cell], s: u16, e: u16, filled: u16)
     requires some { s < e }
     requires in_row { e ≤ length cells.old }

@@ -17,9 +17,10 @@ impl Row {
     /// shows default cells there. `wrapping` says whether the row above goes on in this one; then it gets its flag from
     /// the first character, if the cursor waits at its end.
     ///
-    /// `prev_pos` is where the terminal's cursor stands before: if it isn't given, at column `start`, or at the end of
-    /// the row above where `wrapping` is set. `prev_attrs` are the attributes that it draws with, the default ones if
-    /// they aren't given. Both are answered as they are afterwards. A row that ends before `start` appends nothing.
+    /// `prev_pos` is where the terminal's cursor is before: if it isn't given, at column `start`, or at the end of
+    /// the row above if `wrapping` is set. `prev_attrs` are the attributes that it draws with, the default ones if
+    /// they aren't given. The call returns both as they are afterwards. A row that ends before `start` appends
+    /// nothing.
     ///
     /// It is refused only where the forms don't fit in the capacity of `contents` and there is no memory for more
     /// (`full`). Then a part of them may have been appended.
@@ -62,9 +63,9 @@ impl Row {
     /// on in this one, `prev_wrapping` whether the terminal has the flag for it. If it hasn't, that row gets its flag
     /// from the first character, if the cursor waits at its end.
     ///
-    /// `prev_pos` is where the terminal's cursor stands before, and `prev_attrs` are the attributes that it draws with.
-    /// Both are answered as they are afterwards. Of rows of different lengths the columns that both have are compared;
-    /// where one of them ends before `start` nothing is appended.
+    /// `prev_pos` is where the terminal's cursor is before, and `prev_attrs` are the attributes that it draws with.
+    /// The call returns both as they are afterwards. Of rows of different lengths the columns that both have are
+    /// compared; where one of them ends before `start` nothing is appended.
     ///
     /// It is refused only where the forms don't fit in the capacity of `contents` and there is no memory for more
     /// (`full`). Then a part of them may have been appended.

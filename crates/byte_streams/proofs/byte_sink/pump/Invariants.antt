@@ -3,7 +3,7 @@ use Rattle.std.specs.declared.io.Error.{Error}
 use Rattle.byte_streams.specs.Pump.{Pumps}
 use Rattle.byte_streams.proofs.byte_sink.pump.Given as goal
 
--- whatever the rest does completes the whole
+-- a pump of the bytes that are left completes the whole pump
 abbrev pub invariant-writes : goal.invariant-writes
 invariant-writes g l = record {
   within : l.taken ≤ length l.owed;

@@ -4,7 +4,7 @@ use Rattle.c_objects.specs.Queue.{drafted}
 use Rattle.c_objects.specs.Requests.{osc_text}
 use Rattle.c_objects.proofs.told.push_osc.Given as goal
 
--- what stands there and the pieces that are left
+-- the text so far, and the pieces that are left, make up the whole text
 abbrev pub invariant-loop-piece : goal.invariant-loop-piece
 invariant-loop-piece l =
     drafted (l.draft ++ flat_map (λ (y : List ℕ). codes ";" ++ y) (map (λ p. p.now) (drop l.piece-index l.rest)))

@@ -3,7 +3,7 @@ use Rattle.std.specs.List.{flat_map}
 use Rattle.vte_core.specs.ParamsText.{group_text}
 use Rattle.charset_filter.proofs.behind.push_group_text.Given as goal
 
--- what stands there and the numbers that are left
+-- the bytes so far, and those of the numbers that are left
 abbrev pub invariant-loop-number : goal.invariant-loop-number
 invariant-loop-number l =
     length (l.fn.behind.items ++ group_text l.fn.group) ≤ 252

@@ -2,7 +2,7 @@ use Rattle.std.proofs.Common.{◌≡◌, ◌≤◌, ◌++◌, length}
 use Rattle.charset_filter.specs.Behind.{modes_behind}
 use Rattle.charset_filter.proofs.behind.push_modes.Given as goal
 
--- what stands there and what the groups bring that are left
+-- the bytes so far, and those of the groups that are left
 abbrev pub invariant-loop-group : goal.invariant-loop-group
 invariant-loop-group l =
     length (l.fn.behind.items ++ modes_behind l.set l.fn.sets l.fn.params) ≤ 252

@@ -4,7 +4,7 @@ use Rattle.charset_filter.specs.Behind.{as_known, sgr}
 use Rattle.charset_filter.proofs.BehindLemmas.{rest_of}
 use Rattle.charset_filter.proofs.behind.push_sgr.Given as goal
 
--- what stands there and what the groups bring that are left
+-- the bytes so far, and those of the groups that are left
 abbrev pub invariant-loop-group : goal.invariant-loop-group
 invariant-loop-group l =
     length (l.fn.behind.items ++ sgr (flat_map as_known l.fn.params)) ≤ 252

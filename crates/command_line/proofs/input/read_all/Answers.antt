@@ -10,7 +10,7 @@ use Rattle.command_line.proofs.InputLemmas.{if_error, whole}
 use Rattle.command_line.proofs.input.read_all.Goals as goal
 use Rattle.command_line.proofs.input.read_all.Goals.{in-Ok+in_ok-extend_from_slice-in-Ok, in-Err+else-ne}
 
--- one read less may be made
+-- one read fewer may be made
 fewer : (i : ℕ) → i < 2 ^ 40 → 2 ^ 40 - i ≡ suc (2 ^ 40 - (i + 1))
 fewer i lt = omega (arith, lt)
 

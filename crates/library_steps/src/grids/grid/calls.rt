@@ -23,7 +23,7 @@ pub enum Call<'a> {
     SetScrollback(usize),
 }
 
-/// What a call tells, if it does: by how many lines the region scrolled, or what became of a character.
+/// What a call reports, if it does: by how many lines the region scrolled, or what became of a character.
 type Told = (Option<u16>, Option<Printed>);
 
 /// The call that a step is, if it is one.
@@ -102,7 +102,7 @@ pub fn make(grid: &mut Grid, call: Call<'_>, gone: &mut Counter) -> Result<Told,
     Ok((None, None))
 }
 
-/// Makes a call, and tells its answer. Where it is refused memory, the grid is put back as it was.
+/// Makes a call, and appends what it returns. If it is refused memory, the grid is put back as it was.
 pub fn take_call(
     alloc: Global,
     grid: &mut Grid,

@@ -6,8 +6,8 @@ use std::fmt;
 use vt100_core::Grid;
 use vt100_core::capture::{BasicFormattedCaptureRange, BasicFormattedCaptureState, RowContents};
 
-/// Tells what a writer takes of a capture: nothing, a part or all of it. It is refused unless it takes all. The words
-/// are what is captured, how much room the writer has, and the whole capture.
+/// Appends what a writer takes of a capture: nothing, a part or all of it. The capture is refused unless the writer
+/// takes all. The words are what is captured, how much room the writer has, and the whole capture.
 pub fn tell_capture(
     alloc: Global,
     grid: &Grid,

@@ -9,10 +9,10 @@ use case_player::StepError;
 use std::alloc::Global;
 use vt100_core::{Grid, Scrollback};
 
-/// The error of a grid that was refused memory in a call: what it keeps to holds, or it doesn't.
+/// The error of a grid that was refused memory in a call: `Memory` if its invariants hold, else a fault.
 ///
-/// It is whole, and the call leaves it whole the next time. Once it is cleared the call does to it what it does to a
-/// new grid.
+/// The grid is whole, and the call leaves it whole the next time. Once the grid is cleared, the call does to it what it
+/// does to a new grid.
 pub fn recovery(alloc: Global, grid: &mut Grid, call: Call<'_>) -> StepError
     requires { IsAllocated grid.old }
 {

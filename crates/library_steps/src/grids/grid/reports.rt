@@ -1,4 +1,4 @@
-//! What a grid tells, and what it appends to a text.
+//! What a grid reports, and what it appends to a text.
 use super::whole::is_whole;
 use crate::grids::answers::{push_cell, push_pos, push_row};
 use crate::grids::texts::{BEGUN, Left, refused, refused_append, tell_appended};
@@ -8,7 +8,7 @@ use std::alloc::Global;
 use vt100_core::attrs::Attrs;
 use vt100_core::{Grid, GridError};
 
-/// Tells what a step asks of a grid, from which so many rows are gone for good.
+/// Appends what a step asks of a grid, from which `gone` rows are gone for good.
 pub fn tell(grid: &Grid, gone: u64, name: &str, words: &Words, answer: &mut Answer) {
     match name {
         "rows" => push_rows(grid, answer),
@@ -87,7 +87,7 @@ fn append(grid: &Grid, earlier: &Grid, name: &str, text: &mut String) -> Result<
     Ok((None, Some(attrs)))
 }
 
-/// The same of a call that tells nothing.
+/// The same of a call that reports nothing.
 fn append_plain(grid: &Grid, name: &str, text: &mut String) -> Result<Left, GridError> {
     match name {
         "write_contents" => grid.write_contents(text)?,

@@ -1,4 +1,4 @@
-//! What every grid keeps to, also after memory was refused.
+//! The invariants of every grid, which hold also after memory was refused.
 ghost use Rattle.std.specs.Prelude.{IfOk, ◌<◌, length};
 ghost use Rattle.vt100_core.specs.Grid.{IsAllocated};
 
@@ -46,7 +46,7 @@ fn has_rows(grid: &Grid, size: Size) -> bool {
     is_even && count == u32::from(size.rows())
 }
 
-/// Whether each row that is shown has so many columns at least.
+/// Whether each row that is shown has at least this many columns.
 fn shows_wide_rows(grid: &Grid, cols: u16) -> bool {
     let mut is_wide = true;
     for row in grid.visible_rows() {

@@ -14,7 +14,7 @@ pub fn print(row: &mut Row, col: u16, text: &str, attrs: Attrs) {
     }
 }
 
-/// Prints a character, if it fits. Answers by how many columns the next one goes further.
+/// Prints a character, if it fits. Returns by how many columns the next one is further on.
 fn print_character(row: &mut Row, col: u16, c: char, attrs: Attrs) -> u16 {
     match join_at(row, col, c, attrs) {
         Some(Join::Widened) => 1,
@@ -23,7 +23,7 @@ fn print_character(row: &mut Row, col: u16, c: char, attrs: Attrs) -> u16 {
     }
 }
 
-/// Puts a character that takes columns, if it fits there. Answers how many columns it takes.
+/// Puts a character that takes columns, if it fits there. Returns how many columns it takes.
 fn put_at(row: &mut Row, col: u16, c: char, attrs: Attrs) -> u16 {
     match columns(c) {
         Some(n) if 0 < n && u32::from(col) + u32::from(n) <= u32::from(row.cols()) => {
@@ -34,7 +34,7 @@ fn put_at(row: &mut Row, col: u16, c: char, attrs: Attrs) -> u16 {
     }
 }
 
-/// Joins a character that takes no column, if there is one before it. Answers what became of it.
+/// Joins a character that takes no column, if there is one before it. Returns what became of it.
 fn join_at(row: &mut Row, col: u16, c: char, attrs: Attrs) -> Option<Join> {
     match columns(c) {
         Some(0) if 0 < col && col <= row.cols() => Some(row.join(col, c, attrs)),
@@ -42,7 +42,7 @@ fn join_at(row: &mut Row, col: u16, c: char, attrs: Attrs) -> Option<Join> {
     }
 }
 
-/// Joins a character that takes no column, and tells what became of it.
+/// Joins a character that takes no column, and appends what became of it.
 fn join(row: &mut Row, attrs: Attrs, words: &Words, answer: &mut Answer) {
     match join_at(row, words.place(), character(words), attrs) {
         Some(join) => tell_join(join, answer),

@@ -1,4 +1,4 @@
-//! What a row tells, and what it appends to a text.
+//! What a row reports, and what it appends to a text.
 use crate::grids::answers::{push_cell, push_row};
 use crate::grids::texts::{BEGUN, Left, refused, refused_append, tell_appended};
 use crate::words::{flag, pos};
@@ -7,7 +7,7 @@ use std::alloc::Global;
 use vt100_core::attrs::Attrs;
 use vt100_core::{Cell, GridError, Pos, Row};
 
-/// Tells what a step asks of a row.
+/// Appends what a step asks of a row.
 pub fn tell(row: &Row, earlier: &Option<Row>, name: &str, words: &Words, answer: &mut Answer) {
     match name {
         "shown" => push_row(answer, row),
@@ -68,7 +68,7 @@ struct Columns {
     wrapping: bool,
     /// Whether it went on in the earlier row.
     was_wrapping: bool,
-    /// Where the cursor stands, if that is known.
+    /// Where the cursor is, if that is known.
     place: Option<Pos>,
 }
 

@@ -4,7 +4,7 @@ use Rattle.player_page.specs.Rows.{acts_of}
 use Rattle.player_page.specs.Strips.{IsStrip}
 use Rattle.player_page.proofs.strip.strip_of.Given as goal
 
--- the events so far were done, and the strip has the screens up to now
+-- the events so far were applied, and the strip has the screens up to now
 abbrev pub invariant-loop-i : goal.invariant-loop-i
 invariant-loop-i l = record {
   live : l.terminal.screen.failed ≡ false;

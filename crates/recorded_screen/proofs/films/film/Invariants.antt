@@ -5,7 +5,7 @@ use Rattle.recorded_screen.specs.Moment.{act_of}
 use Rattle.recorded_screen.proofs.FilmLemmas.{IsTaken}
 use Rattle.recorded_screen.proofs.films.film.Given as goal
 
--- the events so far were done, and the screens after them have been looked at
+-- the events so far were applied, and the screens after them were handled
 abbrev pub invariant-loop-i : goal.invariant-loop-i
 invariant-loop-i l = record {
   live : l.terminal.screen.failed ≡ false;

@@ -3,7 +3,7 @@ use Rattle.clap.specs.Words.{app_of}
 use Rattle.screentext_command.specs.Words.{flag_rule, with_all}
 use Rattle.screentext_command.proofs.known.with_flags.Given as goal
 
--- the rest of the words makes of it what all of them make of the command
+-- the rest of the names makes of it what all of them make of the command
 abbrev pub invariant-loop-name : goal.invariant-loop-name
 invariant-loop-name l =
     with_all flag_rule (app_of l.known) (map (λ w. w.now) (drop l.name-index l.names))

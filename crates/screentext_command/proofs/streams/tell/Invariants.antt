@@ -4,7 +4,7 @@ use Rattle.std.specs.List.{flat_map}
 use Rattle.byte_streams.specs.Sent.{SendsText}
 use Rattle.screentext_command.proofs.streams.tell.Given as goal
 
--- what tells the rest of the line tells the whole
+-- what writes the rest of the line writes the whole
 abbrev pub invariant-loop-part : goal.invariant-loop-part
 invariant-loop-part g l =
     (t : _) (answer : Result (Unit {0}) Error)

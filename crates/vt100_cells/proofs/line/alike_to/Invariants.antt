@@ -2,7 +2,7 @@ use Rattle.std.proofs.Common.{◌≤◌, ◌-◌}
 use Rattle.vt100_cells.specs.Cells.{AreSame, cell_at}
 use Rattle.vt100_cells.proofs.line.alike_to.Given as goal
 
--- in the columns so far stands this cell
+-- the columns so far have this cell
 abbrev pub invariant-loop-n : goal.invariant-loop-n
 invariant-loop-n l = record {
   begun : l.from ≤ l.n;

@@ -20,10 +20,12 @@ impl Grid {
     /// Prints a character `count` times, as [`print`](Self::print) of each does.
     ///
     /// Once it has filled the screen, a further row of it changes nothing but the kept rows. Then each row costs only
-    /// that its first one leaves. This takes memory for a copy of the rows, and goes on one by one where there is none.
+    /// that its first one leaves. This takes memory for a copy of the rows; without it, the characters are printed
+    /// one by one.
     ///
-    /// Refused is only what scrolls, as [`scroll_up`](Self::scroll_up) is. After a refusal the sink has been given the
-    /// rows that leave for good while some of the characters are printed, the grid is whole, and what it shows is open.
+    /// Only a call that scrolls can be refused, as [`scroll_up`](Self::scroll_up) is. After a refusal the sink has
+    /// been given the rows that leave for good while some of the characters are printed, the grid is still valid, and
+    /// what it shows is unspecified.
     pub fn print_times<S: RowSink>(
         &mut self,
         c: char,
@@ -84,7 +86,7 @@ impl Grid {
         self.print_on(c, columns, count - first, attrs, sink)
     }
 
-    /// How many characters of so many columns fill the screen from any place, at most.
+    /// How many characters of `columns` columns fill the screen from any place, at most.
     fn screenful(&self, columns: u16) -> usize
         requires { 0 < columns }
     {
@@ -196,8 +198,8 @@ impl Grid {
         Ok(rows)
     }
 
-    /// Does to the kept rows what a line feed does, whereby the first row leaves. `spare` has a copy of it, and again
-    /// afterwards.
+    /// Does to the kept rows what a line feed does through which the first row leaves. `spare` has a copy of that
+    /// row, before and after.
     fn keep_first<S: RowSink>(&mut self, spare: &mut [Row], sink: &mut S) -> Result<(), GridError>
         requires allocated { IsAllocated self.old }
         requires first { self.old.top ≡ 0 }

@@ -6,7 +6,7 @@ use Rattle.vte.specs.Marks.{is_found_at}
 use Rattle.vte.proofs.MarkLemmas.{none_in_part, none_at_end, part_in}
 use Rattle.vte.proofs.marks.first_mark.Goals as goal
 
--- no mark has its third byte before a place, and that byte is nowhere in so many bytes from there on
+-- no mark has its third byte before a place, and that byte is nowhere in a number of bytes from there on
 none_before : (mark text : List ℕ) (from next at : ℕ) → 2 < length mark → next + at ≤ length text
     → ((k : ℕ) → from ≤ k → k + 2 < next → is_found_at mark text k ≡ false)
     → Nowhere (Passes (is_byte (slice_index mark 2)) (take (length text - next) (drop next text))) 0 at

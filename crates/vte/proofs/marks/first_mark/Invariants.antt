@@ -2,7 +2,7 @@ use Rattle.std.proofs.Common.{◌≡◌, ◌≤◌, ◌<◌, ◌+◌, ◌-◌, �
 use Rattle.vte.specs.Marks.{is_found_at}
 use Rattle.vte.proofs.marks.first_mark.Given as goal
 
--- no mark is in the text whose third byte stands before `next`
+-- no mark is in the text whose third byte is before `next`
 abbrev pub invariant-loop-at : goal.invariant-loop-at
 invariant-loop-at l = record {
   within : l.next ≤ length l.text;

@@ -2,7 +2,7 @@ use Rattle.std.proofs.Common.{◌≡◌, ◌≤◌, ◌+◌, ℕ, false, length}
 use Rattle.vte.specs.Marks.{is_found_at}
 use Rattle.vte.proofs.marks.last_mark.Given as goal
 
--- no mark is in the text whose third byte stands at `end` or later
+-- no mark is in the text whose third byte is at `end` or later
 abbrev pub invariant-loop-at : goal.invariant-loop-at
 invariant-loop-at l = record {
   within : l.end ≤ length l.text;

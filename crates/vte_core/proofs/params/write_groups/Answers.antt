@@ -4,7 +4,7 @@ use Rattle.std.specs.List.{flat_map}
 use Rattle.vte_core.specs.ParamsText.{group_text, groups_text}
 use Rattle.vte_core.proofs.params.write_groups.Goals as goal
 
--- groups behind another one
+-- groups after another one
 later : List (List ℕ) → List ℕ
 later groups = flat_map (λ group. codes ";" ++ group_text group) groups
 

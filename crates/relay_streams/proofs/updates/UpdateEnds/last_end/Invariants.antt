@@ -2,7 +2,7 @@ use Rattle.std.proofs.Common.{◌≡◌, ◌≤◌, ◌-◌, ◌++◌, ℕ, List
 use Rattle.relay_streams.specs.Updates.{HasSearched, last_end}
 use Rattle.relay_streams.proofs.updates.UpdateEnds.last_end.Given as goal
 
--- the parser has read so many bytes, and this is the last end in them
+-- the parser has read the first `read` bytes, and `end` is the last end in them
 abbrev pub invariant-loop-read : goal.invariant-loop-read
 invariant-loop-read l = record {
   within : l.read ≤ length l.bytes;

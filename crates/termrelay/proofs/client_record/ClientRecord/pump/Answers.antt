@@ -13,7 +13,7 @@ holds-value : {A : Type 0} (o : Option A) (view : A → FrameView) (left : ℕ)
 holds-value None view left h = tt
 holds-value (Some a) view left h = h
 
--- what is taken is no more than that
+-- at most that many bytes are taken
 taken-within : (last : Option FrameView) (left n : ℕ) (owed : List ℕ) → IfSome last (λ f. left ≤ length f.text)
     → owed ≡ left_of last left → n ≤ length owed → n ≤ left
 taken-within None left n owed holds is within = omega (arith, ap length is)

@@ -23,7 +23,7 @@ use Rattle.termrelay.proofs.LocalFrames.{due-short, due-local}
 use Rattle.termrelay.proofs.hub.Hub.frame.Goals as goal
 use Rattle.termrelay.proofs.hub.Hub.frame.Goals.{After-due}
 
--- the client that was asked for, which is owed nothing, while the program is in no synchronized update
+-- the client that was asked for, without pending bytes, while the program is in no synchronized update
 record Asked (p : ParserView (Unit {0})) (s : Slab RecordView) (key : ℕ) (r : RecordView) : Type 0 where
   found : get s key ≡ Some r
   live : p.screen.failed ≡ false
@@ -70,7 +70,7 @@ module _ {p : ParserView (Unit {0})} {s : Slab RecordView} {key : ℕ} {r : Reco
       let fits = text-fits z base now text refl short few in
       never-due z now base (sym (capped-short z now base (due z now base) fits) ∙ sym is ∙ e)
 
-  -- ---- where a frame is owed
+  -- ---- where a frame becomes pending
 
   module _ {f : FrameView} (d : IsDueFrame p.screen r.last f) where
     put : Puts (holding p s) key (Some (record { owed = f.text; base = Some (shown_state p.screen.state) }))
@@ -172,7 +172,7 @@ returns-in-Without-clause-small c few e =
     rw (← c.self.view_is) at few in
     small a c.in-Without.answer d.1 cells e
 
--- ---- a frame is owed
+-- ---- a frame becomes pending
 
 pub invariant_of-self-in-Frame : goal.invariant_of-self-in-Frame
 invariant_of-self-in-Frame c =

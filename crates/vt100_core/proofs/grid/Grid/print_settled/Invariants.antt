@@ -5,7 +5,7 @@ use Rattle.vt100_core.specs.Text.{PrintsAll}
 use Rattle.vt100_core.proofs.RepeatLemmas.{first_alone}
 use Rattle.vt100_core.proofs.grid.Grid.print_settled.Given as goal
 
--- so many rows of the character are printed, by which only what is kept has changed
+-- `_i` rows of the character are printed, by which only what is kept has changed
 abbrev pub invariant-loop-i : goal.invariant-loop-i
 invariant-loop-i g l = record {
   printed : PrintsAll g.S.RowSink.takes l.fn.sink l.sink l.fn.self l.self {T = Unit {0}} {E = GridError} (Ok tt)

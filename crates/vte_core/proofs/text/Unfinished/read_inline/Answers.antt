@@ -12,7 +12,7 @@ use Rattle.vte_core.proofs.Ground.{printable-run, text_end}
 use Rattle.vte_core.proofs.Telling.{same_events}
 use Rattle.vte_core.proofs.text.Unfinished.read_inline.Goals as goal
 
--- so many of the first eight bytes
+-- a number of the first eight bytes
 few : (bs : List ℕ) (k : ℕ) → k ≤ length (take 8 bs) → k ≤ 8
 few bs k within = omega (arith, within, length-take 8 bs)
 
