@@ -45,7 +45,7 @@ def taken(program, work, times, file):
 
 
 def times_for(program, work, file):
-    """How often the work is to be done, so that a run takes some time."""
+    """How often the work has to be done for a run to take some time."""
     times = 1
     while times < 1 << 22:
         spent = taken(program, work, times + 1, file)[1] - taken(program, work, 1, file)[1]
@@ -56,7 +56,7 @@ def times_for(program, work, file):
 
 
 class Compared:
-    """A work on a stream, and the least times of both programs for it: once, and so often more."""
+    """A work on a stream, and the least times of both programs for doing it once, and for `times` times more."""
 
     def __init__(self, programs, name, work, file):
         self.programs, self.name, self.work, self.file = programs, name, work, file
@@ -75,11 +75,11 @@ class Compared:
                 sys.exit(f"beside: {self.name} {self.work}: they print {said}")
 
     def seconds(self):
-        """What doing the work once takes each."""
+        """How long each program takes to do the work once."""
         return [(often - once) / self.times for once, often in self.least]
 
     def is_slow(self):
-        """Whether the other program takes too long, so far as is known."""
+        """Whether the other program takes too long, as far as is known."""
         ours, other = self.seconds()
         return self.work in MARKED and other > MARK * ours
 

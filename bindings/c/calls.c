@@ -1,4 +1,4 @@
-/* Every call, its examples byte for byte, and each code but those of refused memory. */
+/* Tests every call, with its examples byte for byte, and each code except those for refused memory. */
 #include "tried.h"
 
 static void codes_of_words(void) {
@@ -86,8 +86,8 @@ static void late(void) {
     jeihpal_view_close(&view);
 }
 
-/* A terminal that was left with modes on reads a whole frame, and goes on with the client's frames. What turns modes
- * off is xterm's private modes 9, 1000, 1002, 1003, 1005 and 1006, and DECSCUSR 0. */
+/* A terminal that was left with modes on reads a whole frame, and goes on with the client's frames. The modes are
+ * turned off by xterm's private modes 9, 1000, 1002, 1003, 1005 and 1006, reset, and DECSCUSR 0. */
 static void whole(void) {
     jeihpal_hub hub = JEIHPAL_INIT;
     jeihpal_view view = JEIHPAL_INIT;
@@ -150,7 +150,7 @@ static void other_answers(void) {
     CHECK(jeihpal_hub_attach(&hub, &client) == JEIHPAL_OK);
     CHECK(jeihpal_hub_frame(&hub, client) == JEIHPAL_TOO_LONG);
     CHECK(jeihpal_hub_whole_frame(&hub, client, text, sizeof text, &length) == JEIHPAL_OK && length == 0);
-    /* The frames of the other client were short, but not what draws all of it. */
+    /* The frames of the other client were short, but the redraw, which draws all cells, isn't. */
     CHECK(jeihpal_hub_redraw(&hub, other, text, sizeof text, &length) == JEIHPAL_TOO_LONG && length == 0);
     length = 7;
     CHECK(jeihpal_hub_whole_frame(&hub, other, text, sizeof text, &length) == JEIHPAL_TOO_LONG && length == 0);
@@ -221,7 +221,7 @@ static void screens(void) {
     jeihpal_screen_close(&screen);
 }
 
-/* A row's cells are those that the calls for one cell give, and as many as fit. */
+/* The cells of a row are the same as those of the calls for one cell, and as many as fit are copied. */
 static void row_cells(void) {
     jeihpal_hub hub = JEIHPAL_INIT;
     jeihpal_view view = JEIHPAL_INIT;
@@ -326,7 +326,7 @@ static void copies(void) {
     jeihpal_view_close(&view);
 }
 
-/* The parts of what redraws a screen; the bytes are those of the Rust crate vt100. */
+/* The parts of a redraw of a screen; the bytes are those of the Rust crate vt100. */
 static void parts(void) {
     jeihpal_screen screen = JEIHPAL_INIT;
     jeihpal_drawing drawing;
@@ -532,7 +532,7 @@ static void filters(void) {
     CHECK(!filter.held);
 }
 
-/* What a session of examples/ leaves, as a view shows it, is what stands beside it. */
+/* The screen that a session of examples/ leaves, as a view shows it, is the one in the file next to it. */
 static void session(const char *folder, const char *name, uint16_t rows, uint16_t cols) {
     static uint8_t bytes[65536], wanted[65536], shown[65536];
     char path[4096];

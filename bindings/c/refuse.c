@@ -1,5 +1,5 @@
-/* Each request for more memory is refused in turn: every call answers a code that is right then, and nothing
- * leaks. The library's own lines for memory are replaced by those below. */
+/* Refuses each request for more memory in turn: every call then returns a right code, and nothing leaks. The
+ * library's own functions for memory are replaced by those below. */
 #include "tried.h"
 #include <stdbool.h>
 
@@ -26,7 +26,8 @@ struct tried rattle_alloc(size_t count, size_t align) {
 
 struct tried rattle_realloc(void *old, size_t kept, size_t count, size_t align) {
     (void)align;
-    /* A block that doesn't get longer is kept as it is where this is refused, and nobody is told. */
+    /* If this is refused for a block that doesn't get longer, the block is kept as it is, and no call returns an
+     * error. */
     if (count > kept && ++requested == refused_at) return (struct tried){false, NULL};
     void *place = realloc(old, count);
     CHECK(place);
@@ -70,7 +71,7 @@ static void use_hub(jeihpal_hub *hub, jeihpal_view *view) {
     noted(jeihpal_hub_resize(hub, 6, 9));
 }
 
-/* A copy, and what is read of both. A refused copy leaves the word as it was. */
+/* A copy, and reads of both screens. A refused copy leaves the word as it was. */
 static void use_copy(jeihpal_screen *screen) {
     jeihpal_screen copy = JEIHPAL_INIT;
     size_t length, rows, lengths[9];
@@ -103,7 +104,7 @@ static void use_screen(jeihpal_screen *screen) {
     noted(jeihpal_screen_process(screen, BYTES("a\r\nb\x1b]2;title\a\x1b]9;x\a\x1b[?5;6i\r\n\r\n\r\n\r\nc\n\n\n\n")));
     CHECK(jeihpal_screen_tell(screen, 0, 0) == JEIHPAL_OK);
     CHECK(jeihpal_screen_request(screen, to, sizeof to, &request) >= 0);
-    made += (long)request.dropped; /* one that finds no memory is counted there */
+    made += (long)request.dropped; /* a request that finds no memory is counted there */
     noted(jeihpal_screen_mark(screen));
     noted(jeihpal_screen_process(screen, BYTES("\x1b[?1049hd")));
     noted(jeihpal_screen_difference(screen, to, sizeof to, &length));
@@ -178,7 +179,7 @@ int main(void) {
         if (requested < refused_at) break;
         if (made == 0) untold++;
     }
-    /* A recording's list of lines asks for room at first, and goes on without it where that is refused. */
+    /* A recording's list of lines asks for room at first, and goes on without it if that is refused. */
     CHECK(untold <= 1);
     CHECK(codes[-JEIHPAL_MEMORY] > 0 && codes[-JEIHPAL_FAILED] > 0);
     printf("refuse: well, %ld requests refused, of which no block was lost\n", refused);

@@ -1,5 +1,5 @@
-/* Prints the size of each struct, and where each field begins: for comparing with other declarations. Then it
- * has the library fill each struct twice, over different bytes: what differs after that wasn't written. */
+/* Prints the size of each struct, and where each field begins, to compare them with other declarations. Then the
+ * library fills each struct twice, over different bytes: bytes that differ after that weren't written. */
 #include "tried.h"
 
 #define SIZE(type) printf("%s %zu\n", #type, sizeof(jeihpal_##type))

@@ -73,7 +73,7 @@ static size_t do_view(void) {
     return cursor_sum(&look);
 }
 
-/* Makes the frame that is due and sends it, and answers how long it is. */
+/* Makes the frame that is due and sends it, and returns how long it is. */
 static size_t send_frame(jeihpal_hub *hub, size_t client) {
     size_t length;
     CHECK(jeihpal_hub_frame(hub, client) >= 0);

@@ -1,4 +1,4 @@
-/* What the tests in C have in common. */
+/* What the tests in C share. */
 #ifndef TRIED_H
 #define TRIED_H
 
@@ -7,7 +7,7 @@
 #include <stdlib.h>
 #include <string.h>
 
-/* Ends the program where something isn't as it should be. */
+/* Ends the program if something isn't as it should be. */
 #define CHECK(it) ((it) ? (void)0 : tried_fails(__FILE__, __LINE__, #it))
 
 static inline void tried_fails(const char *file, int line, const char *it) {
@@ -22,7 +22,7 @@ static inline int is_text(const uint8_t *bytes, size_t length, const char *text)
     return length == strlen(text) && memcmp(bytes, text, length) == 0;
 }
 
-/* Brings a view what a client is owed, in pieces of so many bytes. */
+/* Passes the bytes that wait for a client to a view, in pieces of at most `piece` bytes. */
 static inline void tried_carry(jeihpal_hub *hub, size_t client, jeihpal_view *view, size_t piece) {
     uint8_t to[4096];
     size_t owed;

@@ -5,12 +5,12 @@ package jeihpal
 */
 import "C"
 
-// Filter draws a program's lines, on the way to a Hub or a Screen: after ESC ( 0 the letters lqqk come as the edge of a
-// box. All other bytes are given on as they are. Directly behind a sequence that vt100 doesn't know stand others that
-// do the same, such as CSI 4 m behind the curly underline CSI 4:3 m.
+// Filter draws a program's lines, on the way to a Hub or a Screen: after ESC ( 0 it replaces the letters lqqk by the
+// edge of a box. It gives all other bytes on as they are. Directly after a sequence that vt100 doesn't know it adds
+// others that do the same, such as CSI 4 m after the curly underline CSI 4:3 m.
 type Filter struct{ object }
 
-// NewFilter makes a filter that nothing has passed.
+// NewFilter makes a filter through which nothing has passed.
 func NewFilter() (*Filter, error) {
 	filter := &Filter{}
 	err := filter.made(func(w *word) { C.jeihpal_filter_close(filterOf(w)) }, func(w *word) C.int32_t {
@@ -22,8 +22,8 @@ func NewFilter() (*Filter, error) {
 	return filter, nil
 }
 
-// Pass has the next bytes of a program's output pass, and answers what they give. They may be cut anywhere. At an error
-// they have not passed, and may be handed over again.
+// Pass reads the next piece of a program's output, and returns the bytes to use in its place. It may be cut anywhere.
+// After an error the piece has not passed, and the call may be repeated with it.
 func (f *Filter) Pass(bytes []byte) ([]byte, error) {
 	passed := false // the text may be asked for again, with more room
 	given, _, err := f.text(func(w *word, to *C.uint8_t, capacity C.size_t, length *C.size_t) C.int32_t {

@@ -10,12 +10,12 @@ import "io"
 // Client is a hub's name for one of its clients. That of one that has ended may be given again.
 type Client uint
 
-// Answer is what a request for a frame comes to.
+// Answer is the result of a request for a frame.
 type Answer int
 
 const (
 	Unchanged  Answer = iota // the screen shows what it did at the client's last frame
-	Behind                   // bytes of the last frame are still owed
+	Behind                   // bytes of the last frame still wait for the client
 	Held                     // the program is in a synchronized update of its own (private mode 2026)
 	TooLong                  // the frame would be longer than 2,097,150 bytes; never for up to 2,000 cells
 	Full                     // the frame leads from any picture
@@ -23,7 +23,7 @@ const (
 	Unsure                   // as Full, of a screen that shows U+FE0F, on whose width terminals disagree
 )
 
-// IsFrame says whether the client is owed a new frame now.
+// IsFrame says whether there is a new frame, whose bytes now wait for the client.
 func (a Answer) IsFrame() bool { return a >= Full }
 
 // Hub is one program's screen, and clients that are sent frames of it.
@@ -61,8 +61,8 @@ func NewHubWithin(rows, cols uint16, mostCells uint) (*Hub, error) {
 	return hub, nil
 }
 
-// Write gives the program's next bytes to the screen. They may be cut anywhere. After ErrMemory the hub has failed: no
-// frame is made any more, but what is owed can be sent.
+// Write feeds the program's next bytes to the screen. They may be cut anywhere. After ErrMemory the hub has failed: it
+// makes no further frames, but bytes that wait for clients can still be sent.
 func (h *Hub) Write(bytes []byte) (int, error) {
 	err := h.act(func(w *word) C.int32_t { return C.jeihpal_hub_feed(w, front(bytes), C.size_t(len(bytes))) })
 	if err != nil {
@@ -78,34 +78,34 @@ func (h *Hub) Resize(rows, cols uint16) error {
 	})
 }
 
-// Attach is a new client, which has had no frame.
+// Attach attaches a new client, which has had no frame, and returns its key.
 func (h *Hub) Attach() (Client, error) {
 	var client C.size_t
 	err := h.act(func(w *word) C.int32_t { return C.jeihpal_hub_attach(w, &client) })
 	return Client(client), err
 }
 
-// Fork is a new client that has what this one has once it has read all its frames. It is owed nothing, and its next
-// frame starts from there: a terminal that has read this client's frames, or its Redraw, goes on with the new client's
-// frames.
+// Fork adds a client that starts from what this one has once it has read all its frames, and returns its key. No bytes
+// wait for it, and its next frame starts from there: a terminal that has read this client's frames, or its Redraw, goes
+// on with the new client's frames.
 func (h *Hub) Fork(client Client) (Client, error) {
 	var fork C.size_t
 	err := h.act(func(w *word) C.int32_t { return C.jeihpal_hub_fork(w, C.size_t(client), &fork) })
 	return Client(fork), err
 }
 
-// Detach ends a client. What it is owed is gone.
+// Detach detaches a client. Bytes that wait for it are dropped.
 func (h *Hub) Detach(client Client) error {
 	return h.act(func(w *word) C.int32_t { return C.jeihpal_hub_detach(w, C.size_t(client)) })
 }
 
-// Frame asks for a frame for a client, best once it is owed nothing and the program pauses.
+// Frame asks for a frame for a client, best once no bytes wait for it and the program pauses.
 func (h *Hub) Frame(client Client) (Answer, error) {
 	answer, err := h.call(func(w *word) C.int32_t { return C.jeihpal_hub_frame(w, C.size_t(client)) })
 	return Answer(answer), err
 }
 
-// Owed are the bytes that the client is owed: those of its last frame that weren't sent yet.
+// Owed returns the bytes that wait for the client: those of its last frame that weren't sent yet.
 func (h *Hub) Owed(client Client) ([]byte, error) {
 	text, _, err := h.text(func(w *word, to *C.uint8_t, capacity C.size_t, length *C.size_t) C.int32_t {
 		return C.jeihpal_hub_owed(w, C.size_t(client), to, capacity, length)
@@ -113,9 +113,9 @@ func (h *Hub) Owed(client Client) ([]byte, error) {
 	return text, err
 }
 
-// Redraw is what draws, on a fresh terminal of the screen's size, what the client shows once it has read all its frames,
-// also those that it is still owed. Before its first frame it is empty. It is nil, without an error, where it is longer
-// than a terminal buffers.
+// Redraw returns the bytes that draw, on a fresh terminal of the screen's size, what the client shows once it has read
+// all its frames, also those that still wait for it. Before its first frame there are none. The result is nil, without
+// an error, if they are more than a terminal buffers.
 func (h *Hub) Redraw(client Client) ([]byte, error) {
 	text, answer, err := h.text(func(w *word, to *C.uint8_t, capacity C.size_t, length *C.size_t) C.int32_t {
 		return C.jeihpal_hub_redraw(w, C.size_t(client), to, capacity, length)
@@ -126,10 +126,10 @@ func (h *Hub) Redraw(client Client) ([]byte, error) {
 	return text, nil
 }
 
-// WholeFrame is a frame for a stream that several terminals read. It draws what Redraw does on any terminal of the
-// screen's size, whatever frames it has read: the redraw, with what turns off the mouse's modes and encodings and the
-// cursor's style behind its start mark. Before the client's first frame it is empty. It is nil, without an error, where
-// it is longer than a terminal buffers.
+// WholeFrame returns a frame for a stream that several terminals read. It draws what Redraw does on any terminal of the
+// screen's size, whatever frames it has read: it is the redraw, with escape sequences after the start mark that turn
+// off the mouse's modes and encodings, and reset the cursor's style. Before the client's first frame it is empty. It is
+// nil, without an error, if it is longer than a terminal buffers.
 func (h *Hub) WholeFrame(client Client) ([]byte, error) {
 	text, answer, err := h.text(func(w *word, to *C.uint8_t, capacity C.size_t, length *C.size_t) C.int32_t {
 		return C.jeihpal_hub_whole_frame(w, C.size_t(client), to, capacity, length)
@@ -140,12 +140,12 @@ func (h *Hub) WholeFrame(client Client) ([]byte, error) {
 	return text, nil
 }
 
-// Sent says that the first count bytes of what the client is owed were sent. They are owed no longer.
+// Sent reports that the first count of the bytes that wait for the client were sent. They no longer wait.
 func (h *Hub) Sent(client Client, count int) error {
 	return h.act(func(w *word) C.int32_t { return C.jeihpal_hub_sent(w, C.size_t(client), C.size_t(count)) })
 }
 
-// Pump writes what the client is owed. What the writer took is owed no longer, whatever it answers after that.
+// Pump writes the bytes that wait for the client. Those that the writer took no longer wait, whatever it returns.
 func (h *Hub) Pump(client Client, to io.Writer) error {
 	owed, err := h.Owed(client)
 	if err != nil || len(owed) == 0 {
@@ -170,7 +170,7 @@ func min(a, b int) int {
 	return b
 }
 
-// Contents is the text of all rows.
+// Contents returns the text of all rows.
 func (h *Hub) Contents() (string, error) {
 	text, _, err := h.text(func(w *word, to *C.uint8_t, capacity C.size_t, length *C.size_t) C.int32_t {
 		return C.jeihpal_hub_contents(w, to, capacity, length)

@@ -21,10 +21,10 @@ import (
 	"math"
 )
 
-// AnySize is a limit of cells that each size keeps.
+// AnySize is a limit of cells that no size exceeds.
 const AnySize uint = math.MaxUint
 
-// What a call is refused for.
+// The errors of refused calls.
 var (
 	ErrClosed        = errors.New("jeihpal: the object is closed")
 	ErrBadSize       = errors.New("jeihpal: no rows, or no columns")
@@ -53,7 +53,7 @@ var refusals = map[C.int32_t]error{
 	C.JEIHPAL_TOO_LARGE:      ErrTooLarge,
 }
 
-// refusal is the error of an answer, or nil where it is none.
+// refusal returns the error for a result, or nil if it isn't a refusal.
 func refusal(answer C.int32_t) error {
 	if answer >= 0 {
 		return nil
@@ -64,7 +64,7 @@ func refusal(answer C.int32_t) error {
 	return fmt.Errorf("jeihpal: refused by %d", int(answer))
 }
 
-// front points to the first byte; of no bytes to one that isn't read, since a null pointer isn't allowed.
+// front points to the first byte; if there are no bytes, to one that isn't read, since a null pointer isn't allowed.
 func front(bytes []byte) *C.uint8_t {
 	if len(bytes) == 0 {
 		return new(C.uint8_t)
@@ -72,10 +72,10 @@ func front(bytes []byte) *C.uint8_t {
 	return (*C.uint8_t)(&bytes[0])
 }
 
-// copier copies a text of the library's into room, says how long it is in all, and answers.
+// copier copies a text of the library's into room, sets how long it is in all, and returns the call's result.
 type copier func(to *C.uint8_t, capacity C.size_t, length *C.size_t) C.int32_t
 
-// whole is all of a text that is copied, and the answer.
+// whole returns all of a text that is copied, and the call's result.
 func whole(copies copier) ([]byte, C.int32_t, error) {
 	room := make([]byte, 1024)
 	for {

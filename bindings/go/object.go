@@ -19,14 +19,14 @@ func screenOf(w *word) *C.jeihpal_screen       { return (*C.jeihpal_screen)(unsa
 func recordingOf(w *word) *C.jeihpal_recording { return (*C.jeihpal_recording)(unsafe.Pointer(w)) }
 func filterOf(w *word) *C.jeihpal_filter       { return (*C.jeihpal_filter)(unsafe.Pointer(w)) }
 
-// object is one of the library's objects, which one call at a time is on.
+// object is one of the library's objects, with at most one call at a time.
 type object struct {
 	lock  sync.Mutex
 	word  *word
 	close func(*word)
 }
 
-// made calls what makes an object, and keeps how it is closed.
+// made calls the function that makes an object, and keeps the one that closes it.
 func (o *object) made(close func(*word), make func(*word) C.int32_t) error {
 	o.word, o.close = new(word), close
 	if err := refusal(make(o.word)); err != nil {
@@ -36,7 +36,7 @@ func (o *object) made(close func(*word), make func(*word) C.int32_t) error {
 	return nil
 }
 
-// call is one of the library's calls on the object, and its answer.
+// call makes one of the library's calls on the object, and returns its result.
 func (o *object) call(function func(*word) C.int32_t) (C.int32_t, error) {
 	o.lock.Lock()
 	defer o.lock.Unlock()
@@ -44,13 +44,13 @@ func (o *object) call(function func(*word) C.int32_t) (C.int32_t, error) {
 	return answer, refusal(answer)
 }
 
-// act is a call that answers nothing but a refusal.
+// act makes a call whose only result is success or a refusal.
 func (o *object) act(function func(*word) C.int32_t) error {
 	_, err := o.call(function)
 	return err
 }
 
-// text is what a call copies out, and its answer.
+// text returns the text that a call copies, and the call's result.
 func (o *object) text(function func(*word, *C.uint8_t, C.size_t, *C.size_t) C.int32_t) ([]byte, C.int32_t, error) {
 	o.lock.Lock()
 	defer o.lock.Unlock()

@@ -28,9 +28,9 @@ type FaultKind uint8
 
 const (
 	NoFault FaultKind = iota
-	BadLine           // a line of an asciicast is no event
+	BadLine           // a line of an asciicast isn't an event
 	BadByte           // no whole frame of a ttyrec begins at a byte
-	BadStep           // a line of a file of times is no step, or takes more bytes than are left
+	BadStep           // a line of a file of times isn't a step, or takes more bytes than are left
 )
 
 // EventKind is what an event does.
@@ -44,18 +44,18 @@ const (
 
 // Event is something that happens in a recording.
 type Event struct {
-	Time       time.Duration // since the beginning; never less than the event's before
+	Time       time.Duration // since the beginning; never less than that of the event before
 	Kind       EventKind
 	Text       []byte
 	Rows, Cols int // of NewSize
 }
 
-// Recorded is what a recording says of itself. What is read of it is what stands before the first fault.
+// Recorded is what a recording says of itself. Only what comes before the first fault is read.
 type Recorded struct {
 	Kind       RecordingKind
-	Rows, Cols int // the size at first; 0 where the recording doesn't say it
+	Rows, Cols int // the size at first; 0 if the recording doesn't say it
 	Events     int
-	Length     time.Duration // up to the last event, be it one that isn't among these
+	Length     time.Duration // up to the last event, even if that isn't among these
 	Fault      Fault
 }
 
@@ -87,7 +87,7 @@ func opened(open func(*word) C.int32_t) (*Recording, error) {
 
 func microseconds(count C.uint64_t) time.Duration { return time.Duration(count) * time.Microsecond }
 
-// Look is what the recording says of itself.
+// Look returns what the recording says of itself.
 func (r *Recording) Look() (Recorded, error) {
 	var look C.jeihpal_recorded
 	err := r.act(func(w *word) C.int32_t { return C.jeihpal_recording_look(recordingOf(w), &look) })
@@ -97,7 +97,7 @@ func (r *Recording) Look() (Recorded, error) {
 	}, err
 }
 
-// Event is one of the events, counted from 0. ErrNoEvent: there are fewer.
+// Event returns one of the events, counted from 0. ErrNoEvent: there are fewer.
 func (r *Recording) Event(index int) (Event, error) {
 	var event C.jeihpal_event
 	err := r.act(func(w *word) C.int32_t {
@@ -112,8 +112,8 @@ func (r *Recording) Event(index int) (Event, error) {
 	return Event{microseconds(event.time), EventKind(event.kind), text, int(event.rows), int(event.cols)}, err
 }
 
-// ScreenAt is a screen of this size that keeps up to scrollback rows, as it is after all events up to a time. It has no
-// requests.
+// ScreenAt makes a screen of this size that keeps at most scrollback rows, and does to it what the recording does up to
+// a time. It has no requests.
 func (r *Recording) ScreenAt(time time.Duration, rows, cols uint16, scrollback uint) (*Screen, error) {
 	screen := &Screen{shown: shown{reads: screenReads}, mostCells: AnySize}
 	err := screen.made(closeScreen, func(w *word) C.int32_t {

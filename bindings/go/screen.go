@@ -5,7 +5,7 @@ package jeihpal
 */
 import "C"
 
-// Screen is a terminal's screen from bytes, with the rows that scroll off, and what redraws it.
+// Screen is a terminal's screen made of a program's bytes, with rows that scroll off, and bytes that redraw it.
 type Screen struct {
 	shown
 	dropped   int
@@ -25,7 +25,7 @@ var screenReads = reads{
 	},
 }
 
-// NewScreen makes a blank screen of this size that keeps up to scrollback rows that scroll off.
+// NewScreen makes a blank screen of this size that keeps at most scrollback rows that scroll off.
 func NewScreen(rows, cols uint16, scrollback uint) (*Screen, error) {
 	return NewScreenWithin(rows, cols, scrollback, AnySize)
 }
@@ -46,8 +46,8 @@ func NewScreenWithin(rows, cols uint16, scrollback, mostCells uint) (*Screen, er
 
 func closeScreen(w *word) { C.jeihpal_screen_close(screenOf(w)) }
 
-// Clone is a screen that shows the same and keeps the same rows. It has no requests, and has read nothing of a character
-// or a sequence.
+// Clone makes a copy that shows the same and keeps the same rows. It is without the requests, and without what was read
+// of an unfinished character or sequence.
 func (s *Screen) Clone() (*Screen, error) {
 	return s.copied(func(to, from *C.jeihpal_screen) C.int32_t { return C.jeihpal_screen_clone(to, from) })
 }
@@ -65,9 +65,9 @@ func (s *Screen) copied(fill func(to, from *C.jeihpal_screen) C.int32_t) (*Scree
 	return clone, nil
 }
 
-// CloneVisible is a screen that draws on the rows that are shown, kept ones too, and keeps none. So what redraws it
-// leads a terminal to what s shows, whether kept rows are shown or not. Of a kept row that is wider than the screen, a
-// wide character that the right edge cuts is blank.
+// CloneVisible makes a screen that draws on copies of the rows that are shown, kept ones too, and keeps none. So its
+// redraws lead a terminal to what s shows, whether kept rows are shown or not. If a kept row is wider than the screen,
+// a wide character that the right edge cuts is blank.
 func (s *Screen) CloneVisible() (*Screen, error) {
 	return s.copied(func(to, from *C.jeihpal_screen) C.int32_t { return C.jeihpal_screen_clone_visible(to, from) })
 }
@@ -91,17 +91,17 @@ func (s *Screen) Resize(rows, cols uint16) error {
 	})
 }
 
-// Scroll shows the newest rows of the kept rows above the others, or all of them where there are fewer.
+// Scroll shows the newest kept rows, as many as rows says, above the others, or all of them if there are fewer.
 func (s *Screen) Scroll(rows uint) error {
 	return s.act(func(w *word) C.int32_t { return C.jeihpal_screen_scroll(screenOf(w), C.size_t(rows)) })
 }
 
-// ClearScrollback drops the kept rows of what is shown.
+// ClearScrollback removes the kept rows of what is shown.
 func (s *Screen) ClearScrollback() error {
 	return s.act(func(w *word) C.int32_t { return C.jeihpal_screen_clear_scrollback(screenOf(w)) })
 }
 
-// read is a text that a call without further parameters copies.
+// read returns the text that a call without further parameters copies.
 func (s *Screen) read(copies func(*C.jeihpal_screen, *C.uint8_t, C.size_t, *C.size_t) C.int32_t) ([]byte, error) {
 	text, _, err := s.text(func(w *word, to *C.uint8_t, capacity C.size_t, length *C.size_t) C.int32_t {
 		return copies(screenOf(w), to, capacity, length)
@@ -109,8 +109,8 @@ func (s *Screen) read(copies func(*C.jeihpal_screen, *C.uint8_t, C.size_t, *C.si
 	return text, err
 }
 
-// Contents is the text of the rows that are shown, with a newline after each that doesn't go on in the next, and without
-// newlines at its end.
+// Contents returns the text of the rows that are shown, with a newline after each that doesn't go on in the next, and
+// without newlines at its end.
 func (s *Screen) Contents() (string, error) {
 	text, err := s.read(func(w *C.jeihpal_screen, to *C.uint8_t, capacity C.size_t, length *C.size_t) C.int32_t {
 		return C.jeihpal_screen_contents(w, to, capacity, length)
@@ -118,26 +118,29 @@ func (s *Screen) Contents() (string, error) {
 	return string(text), err
 }
 
-// ContentsFormatted takes a terminal of this size to the picture, whatever it showed before.
+// ContentsFormatted returns the escape sequences that take a terminal of this size to the screen's picture, whatever it
+// showed before.
 func (s *Screen) ContentsFormatted() ([]byte, error) {
 	return s.read(func(w *C.jeihpal_screen, to *C.uint8_t, capacity C.size_t, length *C.size_t) C.int32_t {
 		return C.jeihpal_screen_contents_formatted(w, to, capacity, length)
 	})
 }
 
-// StateFormatted also sets its modes and its cursor's style, where these are as in a fresh terminal.
+// StateFormatted returns those that also set its modes and its cursor's style, for a terminal in which these are as in
+// a fresh one.
 func (s *Screen) StateFormatted() ([]byte, error) {
 	return s.read(func(w *C.jeihpal_screen, to *C.uint8_t, capacity C.size_t, length *C.size_t) C.int32_t {
 		return C.jeihpal_screen_state(w, to, capacity, length)
 	})
 }
 
-// Mark keeps a copy of the screen as it is now, in place of an earlier one.
+// Mark marks the screen as it is now: it keeps a copy of it, in place of an earlier mark.
 func (s *Screen) Mark() error {
 	return s.act(func(w *word) C.int32_t { return C.jeihpal_screen_mark(screenOf(w)) })
 }
 
-// Difference takes a terminal from what the mark shows to what the screen shows. Without a mark it is StateFormatted.
+// Difference returns the escape sequences that take a terminal from what the mark shows to what the screen shows.
+// Without a mark they are those of StateFormatted.
 func (s *Screen) Difference() ([]byte, error) {
 	return s.read(func(w *C.jeihpal_screen, to *C.uint8_t, capacity C.size_t, length *C.size_t) C.int32_t {
 		return C.jeihpal_screen_difference(w, to, capacity, length)
@@ -150,7 +153,7 @@ type RequestKind uint8
 const (
 	Bell          RequestKind = 1 + iota // BEL
 	VisualBell                           // ESC g
-	ResizeRequest                        // so many rows and columns, which may be 0 (XTWINOPS 8)
+	ResizeRequest                        // this many rows and columns, which may be 0 (XTWINOPS 8)
 	IconName                             // the name of the window's icon (OSC 0 and 1)
 	Title                                // the window's title (OSC 0 and 2)
 	CopyRequest                          // letters of clipboards, then data in base64 for them (OSC 52)
@@ -165,8 +168,8 @@ type Request struct {
 	Rows, Cols int // of a ResizeRequest
 }
 
-// NextRequest takes the oldest request out of the screen's queue; it is nil where none waits. A request is dropped where
-// 256 wait, where its text is longer than 1,021 bytes, and where there was no memory for it.
+// NextRequest takes the oldest request out of the screen's queue; it returns nil if none waits. A request is dropped if
+// 256 wait already, if its text is longer than 1,021 bytes, or if there was no memory for it.
 func (s *Screen) NextRequest() (*Request, error) {
 	var request C.jeihpal_request
 	room := make([]byte, C.JEIHPAL_MOST_REQUEST_BYTES)
@@ -184,7 +187,7 @@ func (s *Screen) NextRequest() (*Request, error) {
 	return &Request{RequestKind(request.kind), text, int(request.letters), int(request.rows), int(request.cols)}, nil
 }
 
-// DroppedRequests is how many requests had been dropped at the last call of NextRequest.
+// DroppedRequests returns how many requests had been dropped at the last call of NextRequest.
 func (s *Screen) DroppedRequests() int {
 	s.lock.Lock()
 	defer s.lock.Unlock()

@@ -7,7 +7,7 @@ import "C"
 
 import "unsafe"
 
-// Attributes are how a cell is drawn. Where both Bold and Dim are set the text is bold.
+// Attributes say how a cell is drawn. If both Bold and Dim are set, the text is bold.
 type Attributes uint8
 
 const (
@@ -27,7 +27,7 @@ const (
 	RGBColor                      // Red, Green and Blue
 )
 
-// Color is the colour of a cell's text, or of what is behind it.
+// Color is the colour of a cell's text, or of its background.
 type Color struct {
 	Kind             ColorKind
 	Index            uint8
@@ -36,14 +36,14 @@ type Color struct {
 
 // Cell is what a screen shows at one place.
 type Cell struct {
-	Text       string // a character and the zero-width ones that joined it; empty where nothing is shown
-	Width      int    // 1, 2 where the cell takes the next column too, 0 for the second half of such a cell
+	Text       string // a character and the zero-width ones that joined it; empty if nothing is shown
+	Width      int    // 1, 2 if the cell takes the next column too, 0 for the second half of such a cell
 	Attributes Attributes
 	Foreground Color
 	Background Color
 }
 
-// Mouse is which mouse events the program wants.
+// Mouse says which mouse events the program asks for.
 type Mouse uint8
 
 const (
@@ -54,7 +54,7 @@ const (
 	MouseAnyMotion          // and any motion (private mode 1003)
 )
 
-// Encoding is how mouse events are to be sent.
+// Encoding says how mouse events are to be sent.
 type Encoding uint8
 
 const (
@@ -66,7 +66,7 @@ const (
 // Look is the size, the cursor and the modes.
 type Look struct {
 	Rows, Cols int
-	Row, Col   int  // the cursor's; Col is Cols where the next character goes to the next row
+	Row, Col   int  // the cursor's; Col is Cols if the next character goes to the next row
 	Hidden     bool // the cursor is hidden
 	Style      int  // how the cursor looks: the number of DECSCUSR, 0 to 6
 	Mouse      Mouse
@@ -117,7 +117,7 @@ type shown struct {
 	reads reads
 }
 
-// reads are the library's calls that read it.
+// reads holds the library's calls that read it.
 type reads struct {
 	look     func(*word, *C.jeihpal_look) C.int32_t
 	cell     func(*word, C.uint16_t, C.uint16_t, *C.jeihpal_cell) C.int32_t
@@ -125,21 +125,21 @@ type reads struct {
 	rowText  func(*word, C.uint16_t, *C.uint8_t, C.size_t, *C.size_t) C.int32_t
 }
 
-// Look is the size, the cursor and the modes.
+// Look returns the size, the cursor and the modes.
 func (s *shown) Look() (Look, error) {
 	var look C.jeihpal_look
 	err := s.act(func(w *word) C.int32_t { return s.reads.look(w, &look) })
 	return lookOf(&look), err
 }
 
-// Cell is the cell at a place, counted from 0. ErrNoCell: there is none.
+// Cell returns the cell at a place, counted from 0. ErrNoCell: there is none.
 func (s *shown) Cell(row, col uint16) (Cell, error) {
 	var cell C.jeihpal_cell
 	err := s.act(func(w *word) C.int32_t { return s.reads.cell(w, C.uint16_t(row), C.uint16_t(col), &cell) })
 	return cellOf(&cell), err
 }
 
-// RowCells are the cells of a row, and whether its text goes on in the next row. ErrNoCell: there is no such row.
+// RowCells returns the cells of a row, and whether its text goes on in the next row. ErrNoCell: there is no such row.
 func (s *shown) RowCells(row uint16) ([]Cell, bool, error) {
 	s.lock.Lock()
 	defer s.lock.Unlock()
@@ -163,7 +163,7 @@ func (s *shown) RowCells(row uint16) ([]Cell, bool, error) {
 	return cells, wrapped != 0, nil
 }
 
-// RowText is the text of a row, without the empty columns at its end; nothing past the last row.
+// RowText returns the text of a row, without the empty columns at its end; nothing past the last row.
 func (s *shown) RowText(row uint16) (string, error) {
 	text, _, err := s.text(func(w *word, to *C.uint8_t, capacity C.size_t, length *C.size_t) C.int32_t {
 		return s.reads.rowText(w, C.uint16_t(row), to, capacity, length)

@@ -37,7 +37,7 @@ func NewViewWithin(rows, cols uint16, mostCells uint) (*View, error) {
 	return view, nil
 }
 
-// Write reads the next bytes. They may be cut anywhere. What a frame changes is shown once its last byte was read.
+// Write reads the next bytes. They may be cut anywhere. What a frame changes is shown once its last byte has been read.
 func (v *View) Write(bytes []byte) (int, error) {
 	err := v.act(func(w *word) C.int32_t {
 		return C.jeihpal_view_advance(viewOf(w), front(bytes), C.size_t(len(bytes)))
@@ -48,12 +48,13 @@ func (v *View) Write(bytes []byte) (int, error) {
 	return len(bytes), nil
 }
 
-// Stop shows what is held back. A host calls it where a frame has begun and its end doesn't come.
+// Stop parses the bytes that are held back, and shows what they change: for a frame that has begun, but whose end
+// doesn't come.
 func (v *View) Stop() error {
 	return v.act(func(w *word) C.int32_t { return C.jeihpal_view_stop(viewOf(w)) })
 }
 
-// HeldBytes are how many bytes are held back until the end of a frame: at most 2,097,150.
+// HeldBytes returns how many bytes are held back until the end of a frame: at most 2,097,150.
 func (v *View) HeldBytes() (int, error) {
 	var count C.size_t
 	err := v.act(func(w *word) C.int32_t { return C.jeihpal_view_held(viewOf(w), &count) })

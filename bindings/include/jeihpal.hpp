@@ -1,7 +1,7 @@
 // jeihpal.hpp: the hubs, views, screens and recordings of jeihpal.h as C++17 objects.
 //
 // An object closes its word when it ends. It can be moved, and a screen can be copied. A refused call throws
-// jeihpal::error, or std::bad_alloc where there was no memory. Texts and bytes may be empty, and their pointers null.
+// jeihpal::error, or std::bad_alloc if there was no memory. Texts and bytes may be empty, and their pointers null.
 // jeihpal.h says what each call does, and on which threads.
 #ifndef JEIHPAL_HPP
 #define JEIHPAL_HPP
@@ -50,14 +50,14 @@ private:
     int32_t code_;
 };
 
-// What a call answers; it throws what is refused.
+// Returns the result of a call, and throws if it is a refusal.
 inline int32_t checked(int32_t code) {
     if (code == JEIHPAL_MEMORY) throw std::bad_alloc();
     if (code < 0) throw error(code);
     return code;
 }
 
-// How many cells any size has at most.
+// A limit of cells that no size exceeds.
 inline constexpr size_t any_size = SIZE_MAX;
 
 // A row of a screen: its cells, and whether its text goes on in the next row.
@@ -79,7 +79,7 @@ inline const uint8_t *bytes_of(std::string_view bytes) noexcept {
     return bytes.data() ? reinterpret_cast<const uint8_t *>(bytes.data()) : &none;
 }
 
-// The whole text that a call copies: it is told where the room for it is.
+// The whole text that a call copies. The call is passed the room for it, and how much there is.
 template <class Call> std::string whole(Call call) {
     std::string room(1024, '\0');
     for (;;) {
@@ -91,7 +91,7 @@ template <class Call> std::string whole(Call call) {
     }
 }
 
-// A word, which is closed when it ends.
+// A word, which is closed when this object ends.
 template <class Word, void (*Close)(Word *)> class owned {
 public:
     owned() noexcept : word_() {}
@@ -102,7 +102,7 @@ public:
     }
     ~owned() { Close(&word_); }
 
-    // The word, for the calls of jeihpal.h. A call that reads the object is one too, so it is no constant.
+    // The word, for the calls of jeihpal.h. It isn't const, since calls that only read take a pointer to it as well.
     Word *word() const noexcept { return &word_; }
 
 private:
@@ -122,7 +122,7 @@ public:
         return look;
     }
 
-    // None outside of the screen.
+    // `nullopt` outside of the screen.
     std::optional<jeihpal_cell> cell(uint16_t row, uint16_t col) const {
         jeihpal_cell cell;
         int32_t code = Cell(this->word(), row, col, &cell);
@@ -188,8 +188,8 @@ public:
             return jeihpal_hub_owed(word(), client, to, room, length);
         });
     }
-    // What draws, on a fresh terminal, what the client shows once it has read all its frames. None where that is longer
-    // than a terminal buffers.
+    // The bytes that draw, on a fresh terminal, what the client shows once it has read all its frames. `nullopt` if
+    // they are more than a terminal buffers.
     std::optional<std::string> redraw(size_t client) const {
         int32_t answer = JEIHPAL_OK;
         std::string text = detail::whole([&](uint8_t *to, size_t room, size_t *length) {
@@ -198,8 +198,8 @@ public:
         if (answer != JEIHPAL_OK) return std::nullopt;
         return text;
     }
-    // A redraw for any terminal of this size, whatever frames it has read. Empty where the client has had no frame.
-    // None where it is longer than a terminal buffers.
+    // A redraw for any terminal of this size, whatever frames it has read. It is empty if the client has had no frame,
+    // and `nullopt` if it is longer than a terminal buffers.
     std::optional<std::string> whole_frame(size_t client) const {
         int32_t answer = JEIHPAL_OK;
         std::string text = detail::whole([&](uint8_t *to, size_t room, size_t *length) {
@@ -294,7 +294,7 @@ public:
     std::string cursor_state_formatted() const { return text(jeihpal_screen_cursor_state_formatted); }
     std::string difference() const { return text(jeihpal_screen_difference); }
 
-    // What leads from another screen to this one.
+    // The escape sequences that take a terminal from what another screen shows to what this one shows.
     std::string state_diff(const screen &earlier) const { return text_from(earlier, jeihpal_screen_state_diff); }
     std::string contents_diff(const screen &earlier) const { return text_from(earlier, jeihpal_screen_contents_diff); }
     std::string input_mode_diff(const screen &earlier) const {
@@ -307,7 +307,7 @@ public:
         });
     }
 
-    // What draws each row.
+    // The escape sequences that draw each row.
     std::vector<std::string> rows_formatted(uint16_t start, uint16_t width) const {
         std::vector<size_t> lengths(look().rows);
         size_t rows = 0;
@@ -324,10 +324,10 @@ public:
         return made;
     }
 
-    // What is told from now on beside requests: what the screen does nothing at, and rows that leave it for good.
+    // Sets whether next_request returns what the screen does nothing for, and rows that leave it for good.
     void tell(bool unhandled, bool rows) { checked(jeihpal_screen_tell(word(), unhandled, rows)); }
 
-    // The oldest request that waits, if one does.
+    // The oldest request that waits, if any.
     std::optional<request> next_request() {
         std::string room(JEIHPAL_MOST_REQUEST_BYTES, '\0');
         jeihpal_request told;
@@ -365,7 +365,8 @@ class filter : public detail::owned<jeihpal_filter, jeihpal_filter_close> {
 public:
     filter() { checked(jeihpal_filter_new(word())); }
 
-    // Has the next bytes pass, and answers what they give. Where it throws they have not passed.
+    // Reads the next piece of a program's output, and returns the bytes to use in its place. If it throws, the piece
+    // has not passed.
     std::string pass(std::string_view bytes) {
         checked(jeihpal_filter_pass(word(), detail::bytes_of(bytes), bytes.size()));
         return detail::whole([&](uint8_t *to, size_t room, size_t *length) {
@@ -400,7 +401,7 @@ public:
         return look;
     }
 
-    // Throws where there are fewer.
+    // Throws if there are fewer events.
     jeihpal::event event(size_t index) const {
         jeihpal_event told;
         checked(jeihpal_recording_event(word(), index, &told));
@@ -432,7 +433,7 @@ public:
         return screen;
     }
 
-    // None, or the colour of texts, that of backgrounds and sixteen others, each as 0xRRGGBB.
+    // Nothing, or the colour of texts, that of backgrounds and sixteen others, each as 0xRRGGBB.
     std::vector<uint32_t> colors() const {
         std::vector<uint32_t> colors(18);
         size_t count = 0;

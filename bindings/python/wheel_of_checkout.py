@@ -2,7 +2,7 @@
 sdist of the sources. It needs nothing but the standard library.
 
 The library is what JEIHPAL_LIBRARY names, or what ./build --library has left in the checkout. An sdist has none: what
-is built of it wants JEIHPAL_LIBRARY.
+is built of it needs JEIHPAL_LIBRARY.
 """
 
 from __future__ import annotations
@@ -93,7 +93,7 @@ def _record(files: dict[str, bytes]) -> bytes:
 
 
 def _written(files: dict[str, bytes], folder: str) -> str:
-    """Writes a wheel of these files, and answers its name."""
+    """Writes a wheel of these files, and returns its name."""
     files = {**files, **_information()}
     files[f"{INFO}/RECORD"] = _record(files)
     made = f"{NAME}-{VERSION}-{_tag()}.whl"
@@ -104,7 +104,7 @@ def _written(files: dict[str, bytes], folder: str) -> str:
 
 
 def build_wheel(wheel_directory: str, config_settings: object = None, metadata_directory: object = None) -> str:
-    """Makes the wheel in a folder, and answers its name."""
+    """Makes the wheel in a folder, and returns its name."""
     return _written({**_packaged(), "jeihpal/libjeihpal.so": _library()}, wheel_directory)
 
 
@@ -115,7 +115,7 @@ def build_editable(wheel_directory: str, config_settings: object = None, metadat
 
 
 def build_sdist(sdist_directory: str, config_settings: object = None) -> str:
-    """Makes an archive of the sources in a folder, and answers its name."""
+    """Makes an archive of the sources in a folder, and returns its name."""
     top = f"{NAME}-{VERSION}"
     files = {**_packaged(), **_licenses(), "PKG-INFO": METADATA.encode()}
     for name in ("pyproject.toml", os.path.basename(__file__)):

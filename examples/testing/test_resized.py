@@ -1,4 +1,4 @@
-"""A program that is told of another size."""
+"""A program whose terminal gets another size."""
 
 import sys
 

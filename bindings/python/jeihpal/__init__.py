@@ -1,8 +1,9 @@
 """Terminal screens that arrive whole: hubs, views, screens, recordings and filters, proved in Rattle.
 
-A `Hub` keeps the screen of one program, and owes each of its clients at most one frame of it. A `View` is a small far
-terminal that reads frames. A `Screen` is a terminal's screen from bytes, with what redraws it. A `Recording` has the
-events of an asciicast, a typescript or a ttyrec. A `Filter` draws a program's lines, on the way to a hub or a screen.
+A `Hub` keeps the screen of one program, and makes frames of it for its clients: at most one frame waits for each. A
+`View` is a small far terminal that reads frames. A `Screen` is a terminal's screen made of a program's bytes, with
+escape sequences that redraw it. A `Recording` has the events of an asciicast, a typescript or a ttyrec. A `Filter`
+draws a program's lines, on the way to a hub or a screen.
 
 >>> with Hub(1, 20) as hub, View(1, 20) as view:
 ...     client = hub.attach()
@@ -13,9 +14,9 @@ events of an asciicast, a typescript or a ttyrec. A `Filter` draws a program's l
 True
 '[####      ]  40%'
 
-An object may be used on any thread, and has a lock of its own, which a call takes for its time. No call waits for
-anything else. Close an object, or use it in a `with`; one that is let go is closed too. Rows and columns are counted
-from 0. A refused call raises an exception, and has changed nothing unless its description says so.
+An object may be used on any thread, and has a lock of its own, which each call holds while it runs. No call waits for
+anything else. Close an object, or use it in a `with`; an object that is garbage-collected is closed too. Rows and
+columns are counted from 0. A refused call raises an exception, and has changed nothing unless its description says so.
 """
 
 from ._cells import Attributes, Cell, Color, Cursor, Drawing, Encoding, Look, Modes, Mouse, Rgb, Row, Size

@@ -39,7 +39,7 @@ Color = Union[None, int, Rgb]
 
 
 class Attributes(enum.IntFlag):
-    """How a cell's text is drawn. Where both BOLD and DIM are set it is bold."""
+    """How a cell's text is drawn. If both BOLD and DIM are set, it is bold."""
 
     BOLD = 1
     DIM = 2
@@ -54,7 +54,7 @@ class Cell(NamedTuple):
     text: str
     """A character and the zero-width ones that joined it, or nothing."""
     width: int
-    """1; 2 where the cell takes the next column too; 0 for the second half of such a cell."""
+    """1; 2 if the cell takes the next column too; 0 for the second half of such a cell."""
     foreground: Color
     background: Color
     attributes: Attributes
@@ -90,7 +90,7 @@ class Cursor(NamedTuple):
 
     row: int
     col: int
-    """It is the number of columns where the next character goes to the next row."""
+    """It is the number of columns if the next character goes to the next row."""
     hidden: bool
     style: int
     """How it looks: the number of DECSCUSR, 0 to 6."""
@@ -156,7 +156,7 @@ class Look(NamedTuple):
     row: int
     """The cursor's row, from 0."""
     col: int
-    """The cursor's column, from 0; it is `cols` where the next character goes to the next row."""
+    """The cursor's column, from 0; it is `cols` if the next character goes to the next row."""
     hidden: bool
     """The cursor is hidden."""
     style: int
@@ -190,7 +190,7 @@ def color_of(raw: RawColor) -> Color:
 
 
 class _Cells(dict[bytes, Cell]):
-    """Cells by the bytes of the library's struct: those of a screen are much alike."""
+    """Cells by the bytes of the library's struct: a screen has the same cells many times."""
 
     def __missing__(self, data: bytes) -> Cell:
         if len(self) >= _MOST_CELLS:
@@ -200,7 +200,7 @@ class _Cells(dict[bytes, Cell]):
 
 
 class _Groups(dict[bytes, "tuple[Cell, ...]"]):
-    """Some cells by the bytes of the library's structs, one behind the other."""
+    """Groups of cells by the bytes of the library's structs, one after another."""
 
     def __missing__(self, data: bytes) -> tuple[Cell, ...]:
         if len(self) >= _MOST_CELLS:
@@ -224,9 +224,9 @@ class _Style(dict[int, Cell]):
 
 
 _MOST_CELLS = 8192
-_GROUP = 4  # a screen has so many cells again and again
+_GROUP = 4  # how many cells are kept as one group, since they come again and again
 CELL_SIZE = ctypes.sizeof(RawCell)
-_LENGTH = RawCell.length.offset  # the texts lie before it, and the widths behind it
+_LENGTH = RawCell.length.offset  # the texts lie before it, and the widths after it
 _STYLE = RawCell.attributes.offset  # attributes and colours lie from there on
 _LENGTHS = bytes([0, *[1] * 255])  # of texts of one byte, or none
 _known = _Cells()
@@ -236,7 +236,7 @@ _style = functools.lru_cache(maxsize=256)(_Style)
 
 @functools.lru_cache(maxsize=64)
 def _struct_of(cols: int) -> struct.Struct:
-    """So many of the library's structs, in groups, and a byte."""
+    """The layout of this many of the library's structs, in groups, and a byte."""
     groups, left = divmod(cols, _GROUP)
     return struct.Struct(f"{_GROUP * CELL_SIZE}s" * groups + f"{left * CELL_SIZE}sB")
 
@@ -263,7 +263,7 @@ def _any_cells(data: bytes) -> tuple[Cell, ...]:
 
 
 def row_of(data: bytes) -> Row:
-    """The row that the library's structs say, one behind the other, and then a byte: whether it goes on in the next."""
+    """The row of the library's structs, one after another, and of a byte after them: whether it goes on in the next."""
     return Row(_plain_cells(data) or _any_cells(data), data[-1] != 0)
 
 

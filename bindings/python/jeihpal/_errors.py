@@ -8,7 +8,7 @@ class JeihpalError(Exception):
 
 
 class Failed(JeihpalError):
-    """An earlier call found no memory, and what the screen shows is open: make a new object."""
+    """An earlier call found no memory, and what the screen shows is undefined: make a new object."""
 
 
 class UnknownClient(JeihpalError, LookupError):
@@ -16,7 +16,7 @@ class UnknownClient(JeihpalError, LookupError):
 
 
 class NotOwed(JeihpalError, ValueError):
-    """Fewer bytes are owed."""
+    """Fewer bytes wait for the client."""
 
 
 class TooLarge(JeihpalError, ValueError):

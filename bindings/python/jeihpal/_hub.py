@@ -10,12 +10,12 @@ from ._object import Shown, checked_count, checked_size
 
 
 class Answer(OpenEnum):
-    """What a request for a frame is answered."""
+    """The result of a request for a frame."""
 
     UNCHANGED = 0
     """The screen shows what it did at the client's last frame."""
     BEHIND = 1
-    """Bytes of the last frame are still owed."""
+    """Bytes of the last frame still wait for the client."""
     HELD = 2
     """The program is in a synchronized update of its own (private mode 2026)."""
     TOO_LONG = 3
@@ -29,7 +29,7 @@ class Answer(OpenEnum):
 
     @property
     def is_frame(self) -> bool:
-        """Whether the client is owed a new frame now."""
+        """Whether there is a new frame, whose bytes now wait for the client."""
         return self >= Answer.FULL
 
 
@@ -41,16 +41,17 @@ class Hub(Shown):
     def __init__(self, rows: int, cols: int, *, draws_lines: bool = False, most_cells: int | None = None) -> None:
         """A blank screen of this size, without clients.
 
-        Where it draws lines, what the program writes passes a `Filter` first. A size of more than `most_cells` cells
-        raises TooLarge, here and in `resize`.
+        If it draws lines, what the program writes passes through a `Filter` first. A size of more than `most_cells`
+        cells raises TooLarge, here and in `resize`.
         """
         self._filter = Filter() if draws_lines else None
         super().__init__(checked_size(rows), checked_size(cols), most_cells=most_cells)
 
     def feed(self, data: bytes) -> None:
-        """Gives the program's next bytes to the screen. They may be cut anywhere.
+        """Feeds the program's next bytes to the screen. They may be cut anywhere.
 
-        After a MemoryError the hub has failed: no frame is made any more, but what is owed can be sent.
+        After a MemoryError the hub has failed: it makes no further frames, but bytes that wait for clients can still be
+        sent.
         """
         with self._lock:
             self._give("feed", self._filter.drawn(data) if self._filter else data)
@@ -60,54 +61,54 @@ class Hub(Shown):
         self._size("resize", checked_size(rows), checked_size(cols))
 
     def attach(self) -> int:
-        """A new client, by its key. The key of one that has ended may be given again."""
+        """Attaches a new client, and returns its key. The key of a client that has ended may be given again."""
         client = ctypes.c_size_t()
         self._call("attach", client)
         return client.value
 
     def fork(self, client: int) -> int:
-        """A new client that has what this one has once it has read all its frames.
+        """Adds a client that starts from what this one has once it has read all its frames, and returns its key.
 
-        It is owed nothing, and its next frame starts from there: a terminal that has read this client's frames, or its
-        redraw, goes on with the new client's frames.
+        No bytes wait for it, and its next frame starts from there: a terminal that has read this client's frames, or
+        its redraw, goes on with the new client's frames.
         """
         fork = ctypes.c_size_t()
         self._call("fork", checked_count(client), fork)
         return fork.value
 
     def detach(self, client: int) -> None:
-        """Ends a client; what it is owed is gone."""
+        """Detaches a client. Bytes that wait for it are dropped."""
         self._call("detach", checked_count(client))
 
     def frame(self, client: int) -> Answer:
-        """Asks for a frame. Where the answer is one, the client is owed it from now on."""
+        """Asks for a frame. If there is a new one, its bytes wait for the client from then on."""
         return Answer(self._call("frame", checked_count(client)))
 
     def owed(self, client: int, most: int | None = None) -> bytes:
-        """The bytes that the client is owed, or the first `most` of them."""
+        """The bytes that wait for the client, or the first `most` of them."""
         return self._text("owed", checked_count(client), most=most)
 
     def redraw(self, client: int) -> bytes | None:
-        """What draws, on a fresh terminal, what the client shows once it has read all its frames.
+        """The bytes that draw, on a fresh terminal, what the client shows once it has read all its frames.
 
-        Frames that are still owed count as read. Before the first frame it is empty. None where it is longer than a
-        terminal buffers.
+        Bytes that still wait for it count as read. Before the first frame the redraw is empty. None if it is longer
+        than a terminal buffers.
         """
         answer, text = self._answered("redraw", checked_count(client))
         return None if answer else text
 
     def whole_frame(self, client: int) -> bytes | None:
-        """What draws what the client shows, as `redraw`, on any terminal, whatever frames it has read.
+        """The bytes that draw what the client shows, as `redraw`, on any terminal, whatever frames it has read.
 
-        It is the redraw, with what turns off the mouse's modes and encodings and the cursor's style behind its start
-        mark. So a stream that several terminals read can have it anywhere. Before the first frame it is empty. None
-        where it is longer than a terminal buffers.
+        They are the redraw, with escape sequences after the start mark that turn off the mouse's modes and encodings,
+        and reset the cursor's style. So they may come anywhere in a stream that several terminals read. Before the
+        first frame the result is empty. It is None if they are more than a terminal buffers.
         """
         answer, text = self._answered("whole_frame", checked_count(client))
         return None if answer else text
 
     def sent(self, client: int, count: int) -> None:
-        """The first `count` of the bytes that the client is owed were sent. They are owed no longer."""
+        """Reports that the first `count` of the bytes that wait for the client were sent. They no longer wait."""
         self._call("sent", checked_count(client), checked_count(count))
 
     def contents(self) -> str:

@@ -1,4 +1,4 @@
-"""What hubs, views, screens and recordings have in common."""
+"""What hubs, views, screens and recordings share."""
 
 from __future__ import annotations
 
@@ -16,7 +16,7 @@ _FIRST_ROOM = 4096
 
 
 def checked_size(number: int) -> int:
-    """A number of rows or columns that fits into the library's 16 bits; 0 it refuses itself."""
+    """A number of rows or columns that fits into the library's 16 bits. The library itself refuses 0."""
     if not 0 <= number < 1 << 16:
         raise ValueError("a size is 1 to 65,535 rows and columns")
     return number
@@ -38,7 +38,7 @@ def checked_count(number: int) -> int:
 
 @contextlib.contextmanager
 def locked(*objects: Object) -> Iterator[None]:
-    """Keeps other threads from these objects. Whoever wants the same ones takes their locks in the same order."""
+    """Keeps other threads from these objects. All callers take the locks of the same objects in the same order."""
     with contextlib.ExitStack() as stack:
         for it in sorted(objects, key=id):
             stack.enter_context(it._lock)
@@ -48,7 +48,7 @@ def locked(*objects: Object) -> Iterator[None]:
 class Object:
     """A word of the library's, closed with this object.
 
-    It may be used on any thread, which takes its lock for each call.
+    It may be used on any thread. Each call takes its lock.
     """
 
     _kind: ClassVar[str] = ""
@@ -61,7 +61,7 @@ class Object:
 
     def _begin(self) -> None:
         """What all objects have, before the library fills the word."""
-        # A signal's handler may call in the midst of a call on its thread, so the lock is one that lets it in.
+        # A signal handler may make a call during another call on its thread, so the lock is reentrant.
         self._lock = threading.RLock()
         self._word = ctypes.pointer(Word())
 
@@ -70,7 +70,7 @@ class Object:
         return getattr(library, f"jeihpal_{cls._kind}_{name}")  # type: ignore[no-any-return]
 
     def _call(self, name: str, *arguments: Any) -> int:
-        """Calls one of the library's functions on this word. Raises what it refuses."""
+        """Calls one of the library's functions on this word. Raises an exception if it refuses."""
         with self._lock:
             code: int = self._function(name)(self._word, *arguments)
         if code < 0:
@@ -78,7 +78,7 @@ class Object:
         return code
 
     def _size(self, name: str, *arguments: Any) -> None:
-        """Calls a function that gives the object a size; where it has a limit of cells, with that."""
+        """Calls a function that gives the object a size, with the object's limit of cells if it has one."""
         if self._most_cells is None:
             self._call(name, *arguments)
         else:
@@ -97,8 +97,8 @@ class Object:
         after: tuple[Any, ...] = (),
         first: int = _FIRST_ROOM,
     ) -> bytes:
-        """What a function copies out: all of it, or at most so many bytes of its front. The room for it belongs to
-        this call alone. At first it is for so many bytes."""
+        """The bytes that a function copies: all, or at most the first `most` of them. The room for them belongs to this
+        call alone. At first it has `first` bytes."""
         return self._answered(name, *arguments, most=most, after=after, first=first)[1]
 
     def _answered(
@@ -109,7 +109,7 @@ class Object:
         after: tuple[Any, ...] = (),
         first: int = _FIRST_ROOM,
     ) -> tuple[int, bytes]:
-        """The same, behind the function's answer."""
+        """The function's result, and after it the bytes of `_text`."""
         room, count = ctypes.create_string_buffer(first), ctypes.c_size_t()
         while True:
             answer = self._call(name, *arguments, room, len(room), count, *after)
@@ -119,7 +119,7 @@ class Object:
             room = ctypes.create_string_buffer(2 * wanted)
 
     def close(self) -> None:
-        """Frees it. A later call raises ValueError, and another close does nothing."""
+        """Frees the object. A later call raises ValueError, and another close does nothing."""
         with self._lock:
             self._function("close")(self._word)
 
@@ -181,8 +181,8 @@ class Shown(Object):
         return cell_of(raw)
 
     def _data(self, rows: range, cols: int) -> list[bytes]:
-        """Of each of these rows the library's structs, and behind them whether it goes on in the next. The caller has
-        the lock."""
+        """For each of these rows the library's structs, and after them whether it goes on in the next row. The caller
+        holds the lock."""
         size, count = cols * CELL_SIZE, ctypes.c_size_t()
         room = ctypes.create_string_buffer(size + 1)
         function, word, told, found = self._function("row_cells"), self._word, ctypes.byref(count), []

@@ -29,11 +29,11 @@ class FaultKind(OpenEnum):
     """How a recording stops making sense."""
 
     LINE = 1
-    """A line of an asciicast is no event."""
+    """A line of an asciicast isn't an event."""
     BYTE = 2
-    """No whole frame of a ttyrec begins at a byte."""
+    """No whole frame of a ttyrec begins at this byte."""
     STEP = 3
-    """A line of a file of times is no step, or takes more bytes than are left."""
+    """A line of a file of times isn't a step, or takes more bytes than are left."""
 
 
 class Fault(NamedTuple):
@@ -48,7 +48,7 @@ class EventKind(OpenEnum):
     """What an event does."""
 
     OUTPUT = 1
-    """The program writes the bytes, which needn't be UTF-8, nor end where a character does."""
+    """The program writes the bytes, which needn't be UTF-8, and may end within a character."""
     RESIZE = 2
     """The terminal gets a size."""
     MARKER = 3
@@ -59,7 +59,7 @@ class Event(NamedTuple):
     """What happens at a moment of a recording."""
 
     time: int
-    """Microseconds since the beginning. They never go back."""
+    """Microseconds since the beginning, never less than those of the event before."""
     kind: EventKind
     data: bytes
     """What is written, or a marker's name in UTF-8."""
@@ -75,11 +75,11 @@ class Recording(Object):
     kind: RecordingKind
     """The form in which it was stored."""
     size: Size | None
-    """How many rows and columns there are at first, where the recording says it."""
+    """How many rows and columns there are at first, if the recording says it."""
     length: int
-    """Microseconds from the beginning to the last event, be it one in which a screen has no part."""
+    """Microseconds from the beginning to the last event, even if that doesn't concern a screen."""
     fault: Fault | None
-    """The first place at which it stops making sense, if it does. What stands before is read."""
+    """The first place at which it stops making sense, if it does. What comes before it is read."""
 
     def __init__(self, data: bytes, timing: bytes | None = None) -> None:
         """Reads a recording in the kind that its first bytes say, or with a file of times a typescript."""
@@ -103,7 +103,7 @@ class Recording(Object):
         return self._events
 
     def __getitem__(self, index: int) -> Event:
-        """An event, counted from 0, or back from the end. Raises IndexError where there are fewer."""
+        """An event, counted from 0, or back from the end. Raises IndexError if there are fewer."""
         index = index + self._events if index < 0 else index
         if not 0 <= index < self._events:
             raise IndexError("the recording has fewer events")
@@ -119,9 +119,10 @@ class Recording(Object):
 
     @property
     def most_cells(self) -> int:
-        """How many cells its largest size has, at first or later; 0 where it says none.
+        """How many cells its largest size has, at first or later; 0 if it says no size.
 
-        Who made the recording chose it, and a screen takes memory for it: ask before `screen_at` of a stranger's."""
+        Whoever made the recording chose it, and a screen takes memory for it: check it before `screen_at` of a
+        stranger's recording."""
         raw, sizes = RawEvent(), [self.size] if self.size else []
         for index in range(self._events):
             self._call("event", index, raw)

@@ -27,7 +27,7 @@ class RequestKind(OpenEnum):
     COPY = 6
     PASTE = 7
     UNHANDLED_CHAR = 8
-    """U+FFFD, which malformed bytes give too. This and what follows is told where `Screen.tell` asks for it."""
+    """U+FFFD, which malformed bytes give too. It and the kinds below are queued only if `Screen.tell` asks for them."""
     UNHANDLED_CONTROL = 9
     UNHANDLED_ESCAPE = 10
     UNHANDLED_CSI = 11
@@ -45,8 +45,8 @@ class Request(NamedTuple):
 
     kind: RequestKind
     text: bytes
-    """A name, a title, or data in base64; of a sequence what isn't its intermediates; a row with its attributes, and a
-    newline where it doesn't go on in the next one."""
+    """A name, a title, or data in base64; of a sequence all but its intermediates; a row with its attributes, and a
+    newline if it doesn't go on in the next one."""
     clipboards: bytes
     """Letters of clipboards, of COPY and PASTE; intermediates, of UNHANDLED_ESCAPE and UNHANDLED_CSI."""
     rows: int
@@ -54,20 +54,20 @@ class Request(NamedTuple):
 
 
 class Screen(Shown):
-    """A terminal's screen from bytes, with the rows that scroll off, and what redraws it."""
+    """A terminal's screen made of a program's bytes, with rows that scroll off, and escape sequences that redraw it."""
 
     _kind = "screen"
 
     dropped_requests: int
-    """How many requests had been dropped when `requests` last looked."""
+    """How many requests had been dropped when `requests` last read the queue."""
 
     def __init__(
         self, rows: int, cols: int, scrollback: int = 0, *, draws_lines: bool = False, most_cells: int | None = None
     ) -> None:
-        """A blank screen of this size that keeps up to `scrollback` rows that scroll off.
+        """A blank screen of this size that keeps at most `scrollback` rows that scroll off.
 
-        Where it draws lines, what the program writes passes a `Filter` first. A size of more than `most_cells` cells
-        raises TooLarge, here and in `resize`, also of a clone. Kept rows don't count.
+        If it draws lines, what the program writes passes through a `Filter` first. A size of more than `most_cells`
+        cells raises TooLarge, here and in `resize`, also of a clone. Kept rows don't count.
         """
         self._prepare(draws_lines)
         size = checked_size(rows), checked_size(cols)
@@ -84,7 +84,7 @@ class Screen(Shown):
     def clone(self) -> Screen:
         """A copy of the screen, without its mark, its requests, and what it has read of a character or a sequence.
 
-        Where it draws lines, so does the copy, from the usual character sets on.
+        If it draws lines, so does the copy, starting with the usual character sets.
         """
         return self._copied("clone")
 
@@ -94,10 +94,10 @@ class Screen(Shown):
         return self.clone()
 
     def clone_visible(self) -> Screen:
-        """Such a copy of what is shown: it draws on the rows that are shown, kept ones too, and keeps none.
+        """As `clone`, but the copy draws on copies of the rows that are shown, kept ones too, and keeps none.
 
-        So its redraws and differences lead a terminal to what is shown, whether kept rows are shown or not. Of a kept
-        row that is wider than the screen, a wide character that the right edge cuts is blank.
+        So its redraws and differences lead a terminal to what is shown, whether kept rows are shown or not. If a kept
+        row is wider than the screen, a wide character that the right edge cuts is blank.
         """
         return self._copied("clone_visible")
 
@@ -123,10 +123,10 @@ class Screen(Shown):
             self._give("process", self._filter.drawn(data) if self._filter else data)
 
     def answer(self, data: bytes) -> bytes:
-        """Reads the program's next bytes, as `process` does, and answers what a terminal sends back for them.
+        """Reads the program's next bytes, as `process` does, and returns what a terminal sends back for them.
 
         Programs ask for the cursor's place (DSR), what the terminal is (DA), its size, modes and colours, and some
-        wait for the answer. Each is given with the screen as it was where the question was read.
+        wait for the answer. Each answer is for the screen as it was when the question was read.
         """
         from .testing._answers import Scanner, answer, is_update
 
@@ -142,19 +142,19 @@ class Screen(Shown):
         return said
 
     def resize(self, rows: int, cols: int) -> None:
-        """Gives the screen another size, or the same, ends the program's synchronized update, and forgets the mark."""
+        """Gives the screen another size, or the same, ends the program's synchronized update, and drops the mark."""
         self._size("resize", checked_size(rows), checked_size(cols))
 
     def scroll(self, rows: int) -> None:
-        """Shows the newest `rows` of the kept rows above the others, or all where there are fewer.
+        """Shows the newest `rows` kept rows above the others, or all if there are fewer.
 
-        Redraws and differences lead a terminal to the picture only where none is shown, or from copies by
-        `clone_visible`.
+        Redraws and differences lead a terminal to the picture only if no kept row is shown, or from copies that
+        `clone_visible` makes.
         """
         self._call("scroll", checked_count(rows))
 
     def clear_scrollback(self) -> None:
-        """Drops the kept rows."""
+        """Removes the kept rows."""
         self._call("clear_scrollback")
 
     # ---- what it shows
@@ -183,15 +183,15 @@ class Screen(Shown):
     # ---- what has changed
 
     def clean(self) -> None:
-        """Has `dirty` compare with the screen as it is now."""
+        """From now on `dirty` compares with the screen as it is now."""
         with self._lock:
             rows, cols = self.size
             self._clean = self._data(range(rows), cols), cols
 
     @property
     def dirty(self) -> set[int]:
-        """The numbers of the rows that differ from what they were at the last `clean`: all rows without one, and after
-        another number of columns."""
+        """The numbers of the rows that differ from what they were at the last `clean`: all rows if there was none, or
+        if the number of columns has changed since."""
         with self._lock:
             rows, cols = self.size
             before, cols_before = self._clean
@@ -203,8 +203,8 @@ class Screen(Shown):
     # ---- what redraws it
 
     def contents_formatted(self) -> bytes:
-        """What takes a terminal of this size to the picture, whatever it showed before; where a kept row is shown, maybe
-        to another one (`scroll`)."""
+        """The escape sequences that take a terminal of this size to the screen's picture, whatever it showed before. If
+        a kept row is shown, they may lead to another picture (`scroll`)."""
         return self._text("contents_formatted")
 
     def contents_formatted_basic(self) -> bytes:
@@ -212,49 +212,49 @@ class Screen(Shown):
         return self._text("contents_formatted_basic")
 
     def state(self) -> bytes:
-        """What takes a fresh terminal of this size to the picture, the modes and the cursor's style; of kept rows as
-        `contents_formatted`."""
+        """The escape sequences that take a fresh terminal of this size to the screen's picture, modes and cursor style.
+        For kept rows see `contents_formatted`."""
         return self._text("state")
 
     def input_mode_formatted(self) -> bytes:
-        """What sets the modes and the cursor's style."""
+        """The escape sequences that set the modes and the cursor's style."""
         return self._text("input_mode_formatted")
 
     def attributes_formatted(self) -> bytes:
-        """What sets how the next character is drawn."""
+        """The escape sequences that set how the next character is drawn."""
         return self._text("attributes_formatted")
 
     def cursor_state_formatted(self) -> bytes:
-        """What brings a terminal's cursor to the screen's, and hides or shows it; where a kept row is shown it may print
-        a character over another one."""
+        """The escape sequences that bring a terminal's cursor to the screen's, and hide or show it. If a kept row is
+        shown, they may print a character over another one."""
         return self._text("cursor_state_formatted")
 
     def rows_formatted(self, start: int = 0, width: int | None = None) -> list[bytes]:
-        """What draws each row on a row of default cells: `width` columns from column `start` on, or all."""
+        """The escape sequences that draw each row on a row of default cells: `width` columns from `start`, or all."""
         return self._texts("rows_formatted", [], start, width)
 
     def mark(self) -> None:
-        """Keeps a copy of the screen as it is now, in place of an earlier one."""
+        """Marks the screen as it is now: keeps a copy of it, in place of an earlier mark."""
         self._call("mark")
 
     def difference(self, earlier: Screen | None = None) -> bytes:
-        """What takes a terminal from what an earlier screen shows to what this one shows.
+        """The escape sequences that take a terminal from what an earlier screen shows to what this one shows.
 
-        Without one it is what the mark shows, and without a mark this is `state`. Where either shows a kept row, the
-        terminal may come to another picture.
+        Without an earlier screen they lead from what the mark shows, and without a mark they are those of `state`. If
+        either screen shows a kept row, they may lead to another picture.
         """
         return self._text("difference") if earlier is None else self._from(earlier, "state_diff")
 
     def contents_difference(self, earlier: Screen) -> bytes:
-        """The same of the pictures alone."""
+        """As `difference`, for the pictures alone."""
         return self._from(earlier, "contents_diff")
 
     def input_mode_difference(self, earlier: Screen) -> bytes:
-        """The same of the modes and the cursor's style alone."""
+        """As `difference`, for the modes and the cursor's style alone."""
         return self._from(earlier, "input_mode_diff")
 
     def rows_difference(self, earlier: Screen, start: int = 0, width: int | None = None) -> list[bytes]:
-        """What draws each row over the one that an earlier screen shows there."""
+        """The escape sequences that draw each row over the one that an earlier screen shows there."""
         if earlier is self:
             return [b""] * self.size.rows
         with locked(self, earlier):
@@ -267,7 +267,7 @@ class Screen(Shown):
             return self._text(name, earlier._word)
 
     def _texts(self, name: str, words: list[Any], start: int, width: int | None) -> list[bytes]:
-        """What a function copies out of each row."""
+        """The bytes that a function copies for each row."""
         with self._lock:
             rows, cols = self.size
             columns = checked_place(start), cols if width is None else checked_size(width)
@@ -282,14 +282,14 @@ class Screen(Shown):
     # ---- what the program asks for
 
     def tell(self, *, unhandled: bool = False, rows: bool = False) -> None:
-        """Chooses what `requests` gives from now on beside requests: what the screen does nothing at, and rows that
-        leave it for good. A new screen and a clone tell neither."""
+        """Sets whether `requests` from now on gives what the screen does nothing for, and whether it gives rows that
+        leave the screen for good. For a new screen and a clone it gives neither."""
         self._call("tell", unhandled, rows)
 
     def requests(self) -> Iterator[Request]:
         """Takes what the program has asked for out of the screen's queue, oldest first.
 
-        The queue holds up to 256 requests, each with a text of up to 1,021 bytes. Others are dropped, and none is cut.
+        The queue holds up to 256 requests, each with a text of up to 1,021 bytes. Others are dropped. No text is cut.
         Rows wait as long as there is memory, and count among the 256.
         """
         while True:
@@ -311,12 +311,12 @@ class Screen(Shown):
         return self._names[RequestKind.ICON_NAME]
 
     def _take_requests(self) -> None:
-        """Takes all of the library's queue over. As many wait here as there."""
+        """Takes all requests out of the library's queue. At most as many wait here as can wait there."""
         raw, room = RawRequest(), ctypes.create_string_buffer(_FIRST_ROOM)
         with self._lock:
             while kind := self._call("request", room, len(room), raw):
                 if raw.length > len(room):
-                    room = ctypes.create_string_buffer(raw.length)  # it is still the oldest
+                    room = ctypes.create_string_buffer(raw.length)  # the request is still the oldest
                     continue
                 text = ctypes.string_at(room, raw.length)
                 request = Request(RequestKind(kind), text[raw.letters :], text[: raw.letters], raw.rows, raw.cols)
@@ -350,7 +350,7 @@ class History:
         return self._read(number, lambda screen: screen.row_text(0))
 
     def _read(self, number: int, read: Callable[[Screen], Made]) -> Made:
-        """What is read of a row, while it is shown at the top. Then what was shown is shown again."""
+        """What `read` returns while this row is shown at the top. After that, the rows of before are shown again."""
         screen = self._screen
         with locked(screen):
             look = screen.look()

@@ -13,7 +13,7 @@ class View(Shown):
     _kind = "view"
 
     def __init__(self, rows: int, cols: int, *, most_cells: int | None = None) -> None:
-        """A view of this size that shows nothing. It takes all the memory that it needs, but for texts.
+        """A view of this size that shows nothing. It allocates all the memory that it needs, except for texts.
 
         A size of more than `most_cells` cells raises TooLarge.
         """
@@ -21,11 +21,12 @@ class View(Shown):
         self._rows = rows
 
     def advance(self, data: bytes) -> None:
-        """Reads the next bytes. What a frame changes is shown once its last byte was read."""
+        """Reads the next bytes. What a frame changes is shown once its last byte has been read."""
         self._give("advance", data)
 
     def stop(self) -> None:
-        """Shows what is held back: for where a frame has begun and its end doesn't come."""
+        """Parses the bytes that are held back, and shows what they change: for a frame that has begun, but whose end
+        doesn't come."""
         self._call("stop")
 
     def held(self) -> int:

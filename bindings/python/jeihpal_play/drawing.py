@@ -1,4 +1,4 @@
-"""What is drawn of a screen in this terminal: its cells, and a line of words below them."""
+"""Draws a screen in this terminal: its cells, and a line of words below them."""
 
 from __future__ import annotations
 
@@ -50,7 +50,7 @@ class Display:
         self._client = self._hub.attach()
 
     def frame(self, screen: Screen, words: str) -> bytes:
-        """What takes the terminal to a screen with words below it, or nothing where it shows that already."""
+        """The bytes that take the terminal to a screen with words below it, or nothing if it shows that already."""
         look = screen.look()
         rows, cols = min(look.rows, self.rows - 1), min(look.cols, self.cols)
         drawn = ["\x1b[?25l\x1b[m\x1b[2J"]
@@ -72,5 +72,5 @@ class Display:
 
 
 def _clean(words: str) -> str:
-    """Words without controls and what turns the order of others."""
+    """Words without controls, and without characters that turn the order of others."""
     return "".join(it if it.isprintable() else "?" for it in words)

@@ -19,7 +19,7 @@ class Moment(NamedTuple):
 
 
 def _moments(events: list[Event], draws_lines: bool) -> list[Moment]:
-    """The moments of a recording. The first is at its beginning, be it of nothing."""
+    """The moments of a recording. The first is at its beginning, even if nothing happens there."""
     lines = Filter() if draws_lines else None
     moments = [Moment(0, [])]
     for time, group in itertools.groupby(events, key=lambda event: event.time):
@@ -35,7 +35,7 @@ def _moments(events: list[Event], draws_lines: bool) -> list[Moment]:
 
 
 class Playback:
-    """A recording, a place in it, and the screen there. Places are in microseconds as it is played."""
+    """A recording, a place in it, and the screen there. Places are in microseconds of playing time."""
 
     def __init__(self, recording: Recording, size: Size, idle: int | None = None, draws_lines: bool = True) -> None:
         self._size = size
@@ -74,7 +74,7 @@ class Playback:
         self._done = moment
 
     def go(self, place: float) -> None:
-        """Goes to a place, or to the nearest that there is."""
+        """Goes to a place, or to the nearest place that exists."""
         self.place = int(max(0, min(place, self.end)))
         self.moment = bisect.bisect_right(self._starts, self.place) - 1
         self._reach(self.moment)
@@ -95,7 +95,7 @@ class Playback:
         """Goes to a time of the recording."""
         self.go(self.place_of(time))
         moment = max(bisect.bisect_right(self.times, time) - 1, 0)
-        if moment != self.moment:  # moments at one place, where none may stand
+        if moment != self.moment:  # several moments are at this place
             self.moment = moment
             self._reach(moment)
 

@@ -1,4 +1,4 @@
-"""screenplay itself: words, keys, and what is shown when."""
+"""screenplay itself: its arguments, its keys, and what it shows when."""
 
 from __future__ import annotations
 
@@ -37,7 +37,7 @@ _BAR = 20  # columns of the bar
 
 
 def clock(micros: int) -> str:
-    """A time as minutes and seconds, and hours where there are any."""
+    """A time as minutes and seconds, and hours if there are any."""
     seconds = micros // 1_000_000
     minutes = f"{seconds // 60 % 60:02}" if seconds >= 3600 else f"{seconds // 60}"
     return (f"{seconds // 3600}:" if seconds >= 3600 else "") + f"{minutes}:{seconds % 60:02}"
@@ -52,7 +52,7 @@ class Player:
         self._speed, self._is_playing = speed, is_playing
         self._began = time.monotonic() - self._lasted()
         self._display = Display(*terminal.size())
-        self._note = note  # what is said behind the bar, until a key comes
+        self._note = note  # what is shown after the bar, until a key comes
         self._typed: str | None = None  # the text that is being typed
         self._found: list[int] = []
         self._is_over = False
@@ -76,7 +76,7 @@ class Player:
         self._display.close()
 
     def _wait(self) -> float | None:
-        """How many seconds nothing need be done."""
+        """For how many seconds there is nothing to do."""
         if not self._is_playing:
             return None
         due = (self._playback.next_place() - self._playback.place) / 1e6 / self._speed
@@ -249,7 +249,7 @@ def _bytes(path: str) -> bytes:
 
 
 def _read(path: str, timing: str | None) -> Recording:
-    """Reads a recording. Where it is one in part alone, that is said."""
+    """Reads a recording. If only a part of it makes sense, that is said."""
     try:
         recording = parse(_bytes(path), None if timing is None else _bytes(timing))
     except NoRecording as error:
@@ -260,7 +260,7 @@ def _read(path: str, timing: str | None) -> Recording:
 
 
 def _print_found(playback: Playback, text: str) -> bool:
-    """Prints when a text comes to the screen. Answers whether it does."""
+    """Prints when a text comes to the screen. Returns whether it does."""
     found = playback.first_shown(text)
     for moment in found:
         print(f"{playback.times[moment] / 1e6:.6f}")
@@ -286,7 +286,7 @@ def _play(playback: Playback, speed: float, is_playing: bool, note: str) -> None
 
 
 def main(words: list[str] | None = None) -> int:
-    """Runs the program on its words, and answers its status."""
+    """Runs the program on its arguments, and returns its status."""
     given = _parser().parse_args(words)
     recording = _read(given.file, given.timing)
     size = given.size or recording.size or Size(24, 80)

@@ -17,7 +17,7 @@ _FAULTS = {
 
 
 class NoRecording(Exception):
-    """What was read is no recording."""
+    """What was read isn't a recording."""
 
 
 class Marker(NamedTuple):
@@ -40,11 +40,11 @@ class Recording(NamedTuple):
     """A recording, up to the first fault."""
 
     size: Size | None
-    """The size at first, where the recording says it."""
+    """The size at first, if the recording says it."""
     events: list[Event]
     """What happens, in order."""
     length: int
-    """The time of the last event, in microseconds, be it one that changes nothing here."""
+    """The time of the last event, in microseconds, even if it changes nothing here."""
     fault: str = ""
     """Where it stops making sense, if it does."""
 
@@ -55,7 +55,7 @@ def microseconds(seconds: float) -> int:
 
 
 def _fitting(size: Size) -> Size:
-    """The size, which a screen can well have. Raises NoRecording where it is too large."""
+    """The size, if a screen can have it. Raises NoRecording if it is too large."""
     if size.rows * size.cols > _MOST_CELLS:
         raise NoRecording(f"a size of {size.rows} rows and {size.cols} columns: more than {_MOST_CELLS:,} cells")
     return size

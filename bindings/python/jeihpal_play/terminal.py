@@ -1,4 +1,4 @@
-"""The terminal that a recording is played in. It is left as it was, also where a signal ends the program."""
+"""The terminal that a recording is played in. It is left as it was, even if a signal ends the program."""
 
 from __future__ import annotations
 
@@ -39,7 +39,7 @@ def _key_of(part: bytes) -> str:
 
 
 class Terminal:
-    """Standard input and output, where both are a terminal, for as long as the block runs."""
+    """Standard input and output, if both are a terminal, for as long as the block runs."""
 
     def __init__(self) -> None:
         self._in, self._out = sys.stdin.fileno(), sys.stdout.fileno()
@@ -106,7 +106,7 @@ class Terminal:
             data = data[os.write(self._out, data) :]
 
     def keys(self, seconds: float | None) -> Iterator[str]:
-        """The keys that come within some time: characters, and names as `left` or `shift-left`. `end-of-input` where
+        """The keys that come within some time: characters, and names such as `left` or `shift-left`. `end-of-input` if
         the terminal is gone."""
         ready = select.select([self._in, self._woken], [], [], seconds)[0]
         if self._woken in ready:

@@ -10,17 +10,17 @@ from typing import Callable
 
 from .notices import Notices
 
-_SEND_BUFFER = 16384  # bytes that the kernel keeps for a slow one at most, so that what comes is new
-_UNSENT = 1  # with fewer bytes than so many that it hasn't sent yet it takes more
+_SEND_BUFFER = 16384  # most bytes that the kernel buffers for a slow connection, so that what it reads is new
+_UNSENT = 1  # a socket with fewer unsent bytes than this takes more
 _PIECE = 65536
-_AT_ONCE = 100  # connections that are taken before others have their turn
-_BACKLOG = 4096  # connections that wait in the kernel to be taken
-_REST = 0.5  # seconds in which nobody is taken, where descriptors have run out
+_AT_ONCE = 100  # most connections that are accepted before other work has its turn
+_BACKLOG = 4096  # most connections that wait in the kernel to be accepted
+_REST = 0.5  # seconds in which no connection is accepted, after descriptors have run out
 _EXHAUSTED = (errno.EMFILE, errno.ENFILE, errno.ENOBUFS, errno.ENOMEM)
 
 
 class Door:
-    """A listening socket, and who takes those that connect."""
+    """A listening socket, and the function that takes its connections."""
 
     def __init__(
         self,
@@ -52,13 +52,13 @@ class Door:
             self._take(sock)
 
     def _wait(self) -> None:
-        """Takes nobody for a while. Who connects meanwhile waits in the kernel."""
+        """Accepts no connections for a while. Those that come meanwhile wait in the kernel."""
         self._notices.say("who connects has to wait: there are no descriptors left")
         self._loop.remove_reader(self._listener)
         self._resting = self._loop.call_later(_REST, self._open)
 
     def close(self) -> None:
-        """Takes nobody any more."""
+        """Accepts no connections any more."""
         if self._resting:
             self._resting.cancel()
         self._loop.remove_reader(self._listener)
@@ -71,7 +71,7 @@ class Connection:
     def __init__(self, loop: asyncio.AbstractEventLoop, sock: socket.socket, crowd: Crowd) -> None:
         self._loop, self._sock, self._crowd = loop, sock, crowd
         self._rest = memoryview(b"")
-        self.has = 0  # the mark of what it was sent last, where it isn't level with the others
+        self.has = 0  # the mark of what it was sent last, if it isn't level with the others
         keep_little(sock)
         loop.add_reader(sock, self._read)
 
@@ -93,11 +93,11 @@ class Connection:
             self._crowd.leave(self)
 
     def heard(self, data: bytes) -> None:
-        """It has sent something."""
+        """The peer has sent something."""
         raise NotImplementedError
 
     def give(self, data: bytes) -> None:
-        """Sends it, and the rest of it once the socket takes more."""
+        """Sends data, and the rest of it once the socket takes more."""
         try:
             count = self._sock.send(data)
         except BlockingIOError:
@@ -120,7 +120,7 @@ class Connection:
             self._crowd.has_room(self)
 
     def close(self, farewell: bytes) -> None:
-        """Ends it, with a last text where it has taken all before."""
+        """Ends the connection, with a last text if it has taken all that came before."""
         self._loop.remove_reader(self._sock)
         self._loop.remove_writer(self._sock)
         bid_farewell(self._sock, b"" if self._rest else farewell)
@@ -141,20 +141,20 @@ class Crowd:
         return len(self._level) + len(self._late) + len(self._parting)
 
     def lead(self, connection: Connection) -> bytes:
-        """What leads a connection from what it has to where the others are; nothing where that must be made first."""
+        """The bytes that lead a connection from what it has to where the others are; nothing if they must be made."""
         raise NotImplementedError
 
     def make_lead(self) -> None:
-        """Sees to it that there soon is what leads on."""
+        """Arranges that the bytes that lead on are soon made."""
         raise NotImplementedError
 
     def add(self, connection: Connection) -> None:
-        """Has another one, which has nothing yet."""
+        """Adds a connection, which has nothing yet."""
         self._late.add(connection)
         self._lift(connection)
 
     def give(self, data: bytes, mark: int = 0) -> None:
-        """Sends something to each that is level. One that hasn't taken what was before falls behind."""
+        """Sends data to each connection that is level. One that hasn't taken the data before is no longer level."""
         for it in list(self._level):
             if it.is_sending:
                 it.has = self._mark
@@ -165,7 +165,7 @@ class Crowd:
         self._mark = mark
 
     def fall_behind(self) -> None:
-        """Nothing leads on from where the others were: each is behind."""
+        """Notes that no data leads on from where the others were: no connection is level any more."""
         for it in self._level:
             it.has = self._mark
         self._late |= self._level
@@ -173,11 +173,11 @@ class Crowd:
 
     @property
     def is_lead_wanted(self) -> bool:
-        """Whether one is behind that has taken all that it was sent."""
+        """Whether a connection that isn't level has taken all that it was sent."""
         return not all(it.is_sending for it in self._late)
 
     def lift(self) -> None:
-        """Has those that can take more made level with the others."""
+        """Makes the connections that can take more level with the others."""
         for it in [it for it in self._late if not it.is_sending]:
             self._lift(it)
 
@@ -201,7 +201,7 @@ class Crowd:
             self._part(connection)
 
     def _part(self, connection: Connection) -> None:
-        """Where nothing new comes, sends a connection that has the last the farewell, and ends it."""
+        """If nothing new comes, sends the farewell to a connection that has the last data, and ends it."""
         if self._farewell is not None and connection in self._level:
             self._level.discard(connection)
             self._parting.add(connection)
@@ -217,7 +217,7 @@ class Crowd:
                 connection.close(farewell)
 
     def finish(self, farewell: bytes) -> None:
-        """Nothing new comes: each gets the last, and then a farewell, as soon as it takes them."""
+        """Notes that nothing new comes: each connection gets the last data and a farewell, as soon as it takes them."""
         self._farewell = farewell
         for it in [it for it in self._level if not it.is_sending]:
             self._part(it)
@@ -244,7 +244,7 @@ def bid_farewell(sock: socket.socket, text: bytes) -> None:
     with sock, contextlib.suppress(OSError):
         sock.send(text)
         sock.shutdown(socket.SHUT_WR)
-        # The text may be lost where the socket is closed with bytes that weren't read.
+        # The text may be lost if the socket is closed with bytes that weren't read.
         for _ in range(16):
             if not sock.recv(_PIECE):
                 break

@@ -1,4 +1,4 @@
-"""Moments as numbered messages, which lead a page from one to the next."""
+"""Moments as numbered messages, each of which takes a page from one moment to the next."""
 
 from __future__ import annotations
 
@@ -10,7 +10,7 @@ from typing import Any
 
 from .moments import Moment
 
-MOST_KEPT = 20  # messages from which a difference leads on; who has an older one gets the whole screen
+MOST_KEPT = 20  # messages from which a difference leads on; a page with an older one gets the whole screen
 
 
 class Messages:

@@ -18,11 +18,11 @@ class Moment(NamedTuple):
     A run has one character for each column, or is one cell. A cell of several characters has a sixth item, 1.
     """
     cursor: list[int] | None
-    """The cursor's row, first column and columns, or nothing where it is hidden."""
+    """The cursor's row, first column and columns, or nothing if it is hidden."""
 
 
 class Camera:
-    """Makes moments. The text of a row is made again only where the row has changed."""
+    """Makes moments. The text of a row is made again only if the row has changed."""
 
     def __init__(self) -> None:
         self._cells: list[tuple[Cell, ...]] = []

@@ -7,7 +7,7 @@ from collections import Counter
 
 
 class Notices:
-    """Lines for standard error: at once, or at the end where the command's screen is shown in the same terminal."""
+    """Lines for standard error: at once, or at the end if the command's screen is shown in the same terminal."""
 
     def __init__(self, is_shown_here: bool) -> None:
         self._is_shown_here = is_shown_here

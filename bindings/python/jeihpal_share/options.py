@@ -112,7 +112,7 @@ def _parser() -> argparse.ArgumentParser:
 
 
 def parsed(words: list[str]) -> Options:
-    """The options that the words give. Ends the program, with status 2, where they don't."""
+    """The options that the arguments give. Ends the program, with status 2, if they are wrong."""
     parser = _parser()
     given = vars(parser.parse_args(words))
     if given["command"][:1] == ["--"]:

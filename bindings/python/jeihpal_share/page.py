@@ -14,8 +14,8 @@ from .requests import HEADER_SECONDS, Refused, head_of, is_loopback, parsed_requ
 from .screen import SharedScreen
 from .tokens import Token
 
-_STILL_HERE = 15.0  # seconds after which a message is sent where nothing changes
-_MOST_REFUSED = 64  # connections past the most that are told so at the same time
+_STILL_HERE = 15.0  # seconds after which a message is sent if nothing changes
+_MOST_REFUSED = 64  # most connections past the limit that get a refusal at the same time
 
 with open(os.path.join(os.path.dirname(os.path.abspath(__file__)), "page.html"), encoding="utf-8") as _file:
     _PAGE = _file.read()
@@ -36,7 +36,7 @@ class Page(Connection):
         self._browsers = browsers
 
     def heard(self, data: bytes) -> None:
-        """A browser sends no more than its request."""
+        """Ends the connection: a browser may send nothing after its request."""
         self._browsers.notices.say("a browser was refused: it sends more than a request")
         self._browsers.leave(self)
 
@@ -80,7 +80,7 @@ class Browsers(Crowd):
         sock.close()
 
     async def _answer(self, sock: socket.socket) -> bool:
-        """Answers a request. Whether the connection becomes a page's."""
+        """Answers a request. Returns whether the connection becomes a page's."""
         if len(self) + len(self._tasks) > self._most:
             raise Refused("503 Service Unavailable")
         head, rest = await read_head(self._loop, sock)
@@ -119,7 +119,7 @@ class Browsers(Crowd):
         self.lift()
 
     def _give_newest(self) -> None:
-        """Sends the newest message, and has another one follow where nothing changes."""
+        """Sends the newest message, and plans another one in case nothing changes."""
         number = self._messages.number
         self.give(_event(self._messages.text(number - 1)), number)
         if self._still_here:
@@ -134,7 +134,7 @@ class Browsers(Crowd):
             self._give_newest()
 
     def lead(self, connection: Connection) -> bytes:
-        """What leads a page from the message that it has to the newest one."""
+        """The data that leads a page from the message that it has to the newest one."""
         return _event(self._messages.text(connection.has)) if self._is_current else b""
 
     def make_lead(self) -> None:
@@ -142,7 +142,7 @@ class Browsers(Crowd):
         self._screen.show_soon()
 
     def detach(self) -> None:
-        """Browsers are no clients of the hub."""
+        """Does nothing: browsers aren't clients of the hub."""
 
     def end(self, status: int) -> None:
         """The last moment was shown: each page is sent it and the command's status, and then leaves."""

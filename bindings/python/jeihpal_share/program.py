@@ -23,7 +23,7 @@ from .watchers import Watchers, remove_socket, tcp_listener, unix_listener
 
 LINGER = 5.0  # seconds that watchers may take to read the last frame
 _DRAIN = 0.5  # seconds that what the command has started may write on after its end
-_KILL = 2.0  # seconds that the command may take to end when it is told to
+_KILL = 2.0  # seconds that the command may take to end after the signal to end
 
 
 class Session:
@@ -102,7 +102,7 @@ class Session:
         self._reap()
 
     def hang_up(self) -> None:
-        """Tells the command to end, and soon makes it."""
+        """Sends the command a signal to end, and soon kills it."""
         self._command.signal(signal.SIGHUP)
         self._command.signal(signal.SIGCONT)
         self._loop.call_later(_KILL, self._command.signal, signal.SIGKILL)
@@ -117,7 +117,7 @@ class Session:
         return bool(self._picture and self._picture.is_waiting)
 
     def close(self) -> None:
-        """Reads and writes no more."""
+        """Stops reading and writing."""
         self._loop.remove_reader(self._command.fd)
         self._keys.close()
         if self._local and self._picture:
@@ -126,7 +126,7 @@ class Session:
 
 
 async def _until(loop: asyncio.AbstractEventLoop, is_done: Callable[[], bool], seconds: float) -> None:
-    """Waits until something is done, at most so many seconds."""
+    """Waits until something is done, at most this many seconds."""
     end = loop.time() + seconds
     while not is_done() and loop.time() < end:
         await asyncio.sleep(0.005)
@@ -210,7 +210,7 @@ class Audiences:
 async def _share(
     options: Options, command: Command, size: tuple[int, int], sockets: Sockets, local: LocalTerminal | None
 ) -> int:
-    """Shares the command's screen until it ends. Answers its status."""
+    """Shares the command's screen until it ends. Returns its status."""
     loop, notices = asyncio.get_running_loop(), Notices(local is not None)
     screen = SharedScreen(loop, size, options.rate, notices, options.draws_lines)
     audiences = Audiences(options, screen, sockets, notices)
@@ -236,7 +236,7 @@ def _reason(error: OSError) -> str:
 
 
 def main(words: list[str] | None = None) -> int:
-    """Runs share. Answers its status: the command's, 127 where there is no such command, 1 where it can't begin."""
+    """Runs share. Returns its status: the command's, 127 if there is no such command, 1 if it can't begin."""
     options = parsed(sys.argv[1:] if words is None else words)
     if not shutil.which(options.command[0]):
         print(f"share: {options.command[0]}: there is no such command", file=sys.stderr)

@@ -9,12 +9,12 @@ from .messages import Messages
 from .notices import Notices
 from .screen import SharedScreen
 
-EVERY = 20  # each so many messages one is whole
+EVERY = 20  # one of this many messages is whole
 _BETWEEN = 0.1  # seconds between two messages at least
-_AGAIN = 0.5  # seconds after which what wasn't taken is tried again
-_STILL = 30.0  # seconds after which a whole message follows where nothing changes
-_MOST_SECONDS = 5.0  # that an answer may take
-_LINES = 100  # of an answer's head, at most
+_AGAIN = 0.5  # seconds after which a message that wasn't taken is tried again
+_STILL = 30.0  # seconds after which a whole message follows if nothing changes
+_MOST_SECONDS = 5.0  # seconds that an answer may take
+_LINES = 100  # most lines of an answer's head
 
 
 class NotTaken(Exception):
@@ -22,7 +22,7 @@ class NotTaken(Exception):
 
 
 class Post:
-    """A connection to nginx, by which one message after the other is posted."""
+    """A connection to nginx, by which one message after another is posted."""
 
     def __init__(self, socket_path: str, name: str) -> None:
         self._socket_path, self._name = socket_path, name
@@ -80,7 +80,7 @@ class Publisher:
         screen.show_soon()
 
     def show(self) -> None:
-        """Posts what is shown, unless a message is on its way: then it is told again."""
+        """Posts what is shown, unless a message is on its way. Then this is called again after it."""
         self._is_due = self._task is not None
         if self._is_due:
             return
@@ -90,7 +90,7 @@ class Publisher:
             self._task = self._screen.loop.create_task(self._publish())
 
     async def _publish(self) -> None:
-        """Posts the newest message, and has the next one follow."""
+        """Posts the newest message, and plans the next one."""
         pause = _BETWEEN
         try:
             await self._post_newest()
@@ -104,18 +104,18 @@ class Publisher:
             self._screen.show_soon()
 
     def _publish_within(self, seconds: float) -> None:
-        """Has a whole message follow where nothing has changed for so long."""
+        """Plans a whole message for when nothing has been posted for this many seconds."""
         if self._still:
             self._still.cancel()
         self._still = self._screen.loop.call_later(seconds, self._publish_whole)
 
     def _publish_whole(self) -> None:
-        """Has a whole message follow."""
+        """Makes the next message a whole one."""
         self._kept = 0
         self._screen.show_soon()
 
     async def _post_newest(self) -> None:
-        """Posts the newest message: a whole one where it isn't known what nginx has, and each so many."""
+        """Posts the newest message: a whole one if it isn't known what nginx has, and at every `EVERY`th message."""
         number, kept = self._messages.number, self._kept
         since = self._messages.leads_from(number - 1 if 0 < kept < EVERY else 0)
         kept = kept + 1 if since else 1
@@ -124,7 +124,7 @@ class Publisher:
         self._kept = kept
 
     def detach(self) -> None:
-        """It is no client of the hub."""
+        """Does nothing: it isn't a client of the hub."""
 
     async def end(self, status: int, seconds: float) -> None:
         """The last moment was shown: it is posted, and the command's status."""

@@ -1,4 +1,4 @@
-"""What is shown, as an asciicast."""
+"""Records what is shown, as an asciicast."""
 
 from __future__ import annotations
 
@@ -55,7 +55,7 @@ class Recorder:
         return frame
 
     def detach(self) -> None:
-        """The client ends: a whole frame follows."""
+        """Notes that the client ends: a whole frame follows."""
         self._client, self._begins = None, True
 
     def end(self, status: int) -> None:

@@ -1,4 +1,4 @@
-"""Requests of browsers, and the heads of what they are answered."""
+"""Requests of browsers, and the heads of their answers."""
 
 from __future__ import annotations
 
@@ -51,7 +51,7 @@ def is_loopback(host: str) -> bool:
 
 
 def parsed_request(head: bytes, is_local: bool) -> Request:
-    """The request that a head makes. Raises Refused where it is none that is answered."""
+    """The request that a head makes. Raises Refused if it isn't one that is answered."""
     lines = head.decode("latin-1").split("\r\n")
     asked = re.fullmatch(r"([A-Z]+) (/[!-~]*) HTTP/1\.[01]", lines[0])
     fields = [_FIELD.fullmatch(line) for line in lines[1:] if line]
@@ -69,7 +69,7 @@ def parsed_request(head: bytes, is_local: bool) -> Request:
 
 
 async def read_head(loop: asyncio.AbstractEventLoop, sock: socket.socket) -> tuple[bytes, bytes]:
-    """The head of a request, and what came behind it. Raises Refused where it is too long, or takes too long."""
+    """The head of a request, and what came after it. Raises Refused if it is too long, or takes too long."""
     try:
         return await asyncio.wait_for(_read_head(loop, sock), HEADER_SECONDS)
     except asyncio.TimeoutError:

@@ -12,18 +12,18 @@ from .moments import Camera, Moment
 from .notices import Notices
 from .updates import UpdateEnds
 
-PAUSE = 0.01  # a command that is silent for so many seconds has drawn what it wanted
-MOST_HELD = 1.0  # for so many seconds it may hold an update back
+PAUSE = 0.01  # seconds; a command that writes nothing for this long has finished drawing
+MOST_HELD = 1.0  # seconds for which it may hold an update back
 
 
 class Audience(Protocol):
-    """Who watches."""
+    """Those that watch the screen."""
 
     def show(self) -> None:
         """Shows the screen as it is now."""
 
     def detach(self) -> None:
-        """Its clients of the hub end. It begins anew when it is told to show the screen next."""
+        """Notes that its clients of the hub end. It starts again when it next has to show the screen."""
 
 
 class SharedScreen:
@@ -54,7 +54,7 @@ class SharedScreen:
         return Hub(rows, cols, draws_lines=self._draws_lines)
 
     def add(self, audience: Audience) -> None:
-        """Has another audience from now on."""
+        """Adds an audience."""
         self._audiences.append(audience)
 
     def feed(self, data: bytes) -> None:
@@ -114,7 +114,7 @@ class SharedScreen:
         self._took = time.thread_time() - begun
 
     def moment(self) -> Moment:
-        """What is shown, for an audience that is just told to show it. It is made once for all of them."""
+        """The moment that is shown, for an audience that is showing it. It is made once for all of them."""
         self._moment = self._moment or self._camera.take(self.hub)
         return self._moment
 
@@ -137,7 +137,7 @@ class SharedScreen:
         self.show()
 
     def finish(self) -> None:
-        """The command has ended: its last screen is shown, also where it has left an update open."""
+        """Shows the last screen of a command that has ended, even if it has left an update open."""
         if self.hub.look().updating:
             self.resize(*self.size)
         else:

@@ -31,12 +31,12 @@ def window(fd: int) -> tuple[int, int]:
 
 
 def set_window(fd: int, rows: int, cols: int) -> None:
-    """Gives a pseudo-terminal so many rows and columns."""
+    """Gives a pseudo-terminal this many rows and columns."""
     fcntl.ioctl(fd, termios.TIOCSWINSZ, struct.pack("HHHH", rows, cols, 0, 0))
 
 
 def raise_descriptors() -> tuple[int, int]:
-    """Allows as many descriptors as may be. Answers the limits that there were, for the command."""
+    """Allows as many descriptors as possible. Returns the limits of before, for the command."""
     limits = resource.getrlimit(resource.RLIMIT_NOFILE)
     with contextlib.suppress(OSError, ValueError):
         resource.setrlimit(resource.RLIMIT_NOFILE, (limits[1], limits[1]))
@@ -44,7 +44,7 @@ def raise_descriptors() -> tuple[int, int]:
 
 
 def undoing(look: Look) -> bytes:
-    """What ends the modes that a command has left on, in the terminal here. It ends colours too."""
+    """The bytes that end, in the terminal here, the modes that a command has left on. They end colours too."""
     left = (
         (look.updating, b"\x1b[?2026l"),
         (look.alternate, b"\x1b[?1049l"),
@@ -68,7 +68,7 @@ class Outlet:
 
     @property
     def is_full(self) -> bool:
-        """Whether no more should be written for now. `on_room` is called once that ends."""
+        """Whether nothing further should be written for now. `on_room` is called once that ends."""
         return len(self._waiting) >= _MOST_WAITING
 
     @property
@@ -128,7 +128,7 @@ class Command:
             os._exit(126)
 
     def read(self) -> bytes | None:
-        """The next bytes that the command has written; nothing at their end, None where there are none yet."""
+        """The next bytes that the command has written; nothing at their end, None if there are none yet."""
         try:
             return os.read(self.fd, _PIECE)
         except BlockingIOError:
@@ -137,7 +137,7 @@ class Command:
             return b""
 
     def resize(self, rows: int, cols: int) -> None:
-        """Gives its terminal another size, of which it is told."""
+        """Gives its terminal another size, and notifies the command."""
         set_window(self.fd, rows, cols)
 
     def signal(self, number: int) -> None:
@@ -147,7 +147,7 @@ class Command:
                 os.killpg(self.pid, number)
 
     def has_ended(self) -> bool:
-        """Whether it has ended. Then `status` is its status, as a shell has it."""
+        """Whether it has ended. Then `status` is its status, as a shell reports it."""
         if self.status is None:
             pid, status = os.waitpid(self.pid, os.WNOHANG)
             if pid:
@@ -177,7 +177,7 @@ class LocalTerminal:
         return os.isatty(0) and os.isatty(1)
 
     def keys(self) -> bytes | None:
-        """The next keys; nothing at the end of input, None where there are none yet."""
+        """The next keys; nothing at the end of input, None if there are none yet."""
         try:
             return os.read(self.fd, 4096)
         except BlockingIOError:

@@ -1,4 +1,4 @@
-"""The word that who watches must know."""
+"""The token that a watcher must know."""
 
 from __future__ import annotations
 
@@ -10,7 +10,7 @@ import secrets
 
 
 def kept_token(path: str) -> str:
-    """The first line of a file. Where there is no such file a new token is made and kept there, for this user alone."""
+    """The first line of a file. If there is no such file, a new token is made and kept there, for this user alone."""
     with contextlib.suppress(FileExistsError):
         with open(os.open(path, os.O_WRONLY | os.O_CREAT | os.O_EXCL, 0o600), "w", encoding="ascii") as file:
             file.write(f"{secrets.token_urlsafe(24)}\n")
@@ -33,10 +33,10 @@ class Token:
         return self._text is not None
 
     def is_known(self, said: bytes) -> bool:
-        """Whether somebody who says this may watch. How long it takes tells nothing of the token."""
+        """Whether a watcher who says this may watch. How long the check takes reveals nothing of the token."""
         return self._text is None or hmac.compare_digest(said, self._text.encode())
 
     def is_in(self, query: str) -> bool:
-        """Whether the token stands in an address, behind its question mark."""
+        """Whether the token is in an address, after its question mark."""
         said = re.search(r"(?:^|&)token=([^&]*)", query)
         return self.is_known(said[1].encode() if said else b"")

@@ -18,8 +18,8 @@ from .notices import Notices
 from .screen import SharedScreen
 from .tokens import Token
 
-TOKEN_SECONDS = 10.0  # that somebody may take to say the token
-_MOST_LINE = 256  # bytes of the line in which it is said
+TOKEN_SECONDS = 10.0  # seconds that a connection may take to send the token
+_MOST_LINE = 256  # most bytes of the line with the token
 MOST_SENT = 16384  # bytes that a watcher may send in a second, as reports of the mouse; they are thrown away
 _LEAVES = (b"\x03", b"\x04")  # Ctrl-C and Ctrl-D
 # Mouse, paste, keypad and cursor keys as in a fresh terminal, a visible cursor, and no colours.
@@ -35,7 +35,7 @@ class Watcher(Connection):
         self._second, self._sent = 0, 0
 
     def heard(self, data: bytes) -> None:
-        """Nothing that a watcher sends goes anywhere. It may leave."""
+        """Throws away what a watcher sends, except keys by which it leaves."""
         if any(key in data for key in _LEAVES):
             return self._watchers.leave(self, _FAREWELL)
         second = int(time.monotonic())
@@ -49,16 +49,17 @@ class Watcher(Connection):
 class Watchers(Crowd):
     """All terminals, at one listening socket. The frames of one client of the hub go to each that is level.
 
-    Who comes, or has fallen behind, begins with this client's whole frame: it leads to where the others are.
+    A terminal that joins, or isn't level any more, begins with this client's whole frame: it leads to where the others
+    are.
     """
 
     def __init__(self, screen: SharedScreen, most: int, token: Token, notices: Notices) -> None:
         super().__init__()
         self._loop, self._screen, self._most, self.notices = screen.loop, screen, most, notices
         self._token = token
-        self._tasks: set[asyncio.Task[None] | None] = set()  # of those that have still to say the token
+        self._tasks: set[asyncio.Task[None] | None] = set()  # of those that haven't sent the token yet
         self._client: int | None = None
-        self._whole = b""  # the client's whole frame, where it was wanted since its last frame
+        self._whole = b""  # the client's whole frame, if one was needed since its last frame
         self._is_current = False  # the client was asked for a frame when the screen was shown last
         self._door: Door | None = None
         screen.add(self)
@@ -143,23 +144,23 @@ class Watchers(Crowd):
         self._whole = whole
 
     def _begin_anew(self) -> None:
-        """Takes another client in place of the shared one."""
+        """Attaches another client in place of the shared one."""
         if self._client is not None:
             self._screen.hub.detach(self._client)
         self.detach()
 
     def lead(self, connection: Connection) -> bytes:
-        """The whole frame; nothing where the shared client is behind the screen that is shown, or has had no frame."""
+        """The whole frame; nothing if the shared client doesn't have the shown screen yet, or has had no frame."""
         if self._is_current:
             self._try(self._make_whole)
         return self._whole
 
     def make_lead(self) -> None:
-        """The shared client is asked for a frame when the screen is shown next, and there is a whole frame of it."""
+        """Has the screen shown soon. Then the shared client is asked for a frame, and there is a whole frame of it."""
         self._screen.show_soon()
 
     def detach(self) -> None:
-        """The client ends: each watcher gets a whole frame next."""
+        """Notes that the client ends: each watcher gets a whole frame next."""
         self._client, self._whole = None, b""
         self.fall_behind()
 

@@ -1,4 +1,4 @@
-"""Chromium, driven by a pipe: pages, what a script answers, pictures, and what a screen reader is told."""
+"""Chromium, driven by a pipe: pages, values of scripts, pictures, and what a screen reader gets."""
 
 from __future__ import annotations
 
@@ -16,7 +16,7 @@ _WORDS = ["--no-sandbox", "--disable-gpu", "--no-first-run", "--window-size=900,
 
 
 class Chromium:
-    """A browser with one page. It has a window where an X display is given, and else none."""
+    """A browser with one page. It has a window if an X display is given, and else none."""
 
     def __init__(self, url: str, *more: str, display: str | None = None) -> None:
         self._folder = tempfile.mkdtemp(prefix="chromium-")
@@ -44,7 +44,7 @@ class Chromium:
         self._page = {"sessionId": self.ask("Target.attachToTarget", targetId=target, flatten=True)["sessionId"]}
 
     def ask(self, method: str, **params: Any) -> dict[str, Any]:
-        """Calls a method, and answers its result."""
+        """Calls a method, and returns its result."""
         self._number += 1
         message = {"id": self._number, "method": method, "params": params, **self._page}
         os.write(self._write, json.dumps(message).encode() + b"\0")
@@ -65,7 +65,7 @@ class Chromium:
         return first
 
     def value(self, expression: str) -> Any:
-        """What a script's expression is in the page."""
+        """The value of a script's expression in the page."""
         return self.ask("Runtime.evaluate", expression=expression, returnByValue=True)["result"].get("value")
 
     def picture(self) -> bytes:
@@ -73,7 +73,7 @@ class Chromium:
         return base64.b64decode(self.ask("Page.captureScreenshot", format="png")["data"])
 
     def told(self) -> list[tuple[str, str]]:
-        """What a screen reader is told: roles and names."""
+        """What a screen reader gets: roles and names."""
         self.ask("Accessibility.enable")
         nodes = self.ask("Accessibility.getFullAXTree")["nodes"]
         seen = [node for node in nodes if not node.get("ignored")]

@@ -45,7 +45,7 @@ while (now := time.monotonic() - begun) < seconds:
 write("\x1b[?1000l\x1b[m\x1b[H\x1b[2Jthe end"); time.sleep(.5)
 """
 FLOOD = 4.0  # seconds from its begin on, in which no keys are typed
-A_WHILE = 8.0  # seconds for what an answer may take
+A_WHILE = 8.0  # seconds that an answer may take
 
 
 class SharedHere(Shared):
@@ -151,7 +151,7 @@ def door(pages: int) -> Nginx | None:
 
 
 def typed_meanwhile(shared: SharedHere, keys: Keys, begun: float, seconds: float, nginx: Nginx | None) -> float:
-    """Types keys until shortly before the end, and starts nginx again. Answers the part of a core that share took."""
+    """Types keys until shortly before the end, and starts nginx again. Returns the part of a core that share took."""
     parts, is_restarted = [], False
     while (now := time.monotonic() - begun) < seconds - 3:
         if nginx and not is_restarted and now > 0.75 * seconds:
@@ -169,7 +169,7 @@ def typed_meanwhile(shared: SharedHere, keys: Keys, begun: float, seconds: float
 
 
 def told(name: str, figures: dict[str, Any]) -> bool:
-    """Prints figures. Whether all is well."""
+    """Prints figures. Returns whether all is well."""
     print(f"{figures['watchers']} {name}, {figures['slow']} slow ones, {figures['killed']} killed:", end=" ")
     print(f"{figures['messages']} messages, {figures['joins']} joins, {figures['lost']} lost,", end=" ")
     print(f"{figures['wrong']} not shown the last screen, their own processor {figures['processor']} s")
@@ -179,7 +179,7 @@ def told(name: str, figures: dict[str, Any]) -> bool:
 
 
 def crowd(pages: int, terminals: int) -> bool:
-    """So many watchers, to the end. Whether all is well."""
+    """Runs this many watchers to the end. Returns whether all is well."""
     seconds = 30 + pages / 200
     options = ["--listen", "127.0.0.1:0", "--http", "127.0.0.1:0", "--rate", "10"]
     options += ["--browsers", str(pages + 10), "--terminals", str(terminals + 10)]

@@ -1,4 +1,4 @@
-"""Firefox, driven over Marionette: a page, what a script answers, and a picture."""
+"""Firefox, driven over Marionette: a page, values of scripts, and a picture."""
 
 from __future__ import annotations
 
@@ -24,7 +24,7 @@ _SECONDS = 120.0
 
 
 class Firefox:
-    """A browser with one page. It has a window where an X display is given, and else none."""
+    """A browser with one page. It has a window if an X display is given, and else none."""
 
     def __init__(self, url: str, display: str | None = None) -> None:
         self._folder = tempfile.mkdtemp(prefix="firefox-")
@@ -54,7 +54,7 @@ class Firefox:
         raise TimeoutError("the browser doesn't listen")
 
     def ask(self, name: str, **params: Any) -> Any:
-        """Calls a command, and answers its result."""
+        """Calls a command, and returns its result."""
         self._number += 1
         message = json.dumps([0, self._number, name, params]).encode()
         self._sock.sendall(b"%d:%s" % (len(message), message))
@@ -81,7 +81,7 @@ class Firefox:
         self._said += data
 
     def value(self, expression: str) -> Any:
-        """What a script's expression is in the page."""
+        """The value of a script's expression in the page."""
         return self.ask("WebDriver:ExecuteScript", script=f"return {expression}", args=[])["value"]
 
     def picture(self) -> bytes:

@@ -1,4 +1,4 @@
-"""Requests that no browser makes, and what each is answered."""
+"""Requests that no browser makes, and the answer to each."""
 
 from __future__ import annotations
 

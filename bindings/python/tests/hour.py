@@ -1,6 +1,6 @@
 """The page of a recording of an hour: its bytes, and how long it takes to make it, to open it and to go about in it.
 
-python3 -m tests.hour [FILE] prints figures of each browser; of FILE, an asciicast, in place of the hour. It wants
+python3 -m tests.hour [FILE] prints figures of each browser; of FILE, an asciicast, in place of the hour. It needs
 screentext, and Chromium or Firefox.
 """
 
@@ -41,7 +41,7 @@ class Hour:
         self.events: list[list[Any]] = []
 
     def write(self, text: str, least: float, most: float) -> None:
-        """Output, so many seconds after what was before."""
+        """Adds output, from `least` to `most` seconds after the event before."""
         self._now += self._chance.uniform(least, most)
         self.events.append([round(self._now, 6), "o", text])
 

@@ -47,7 +47,7 @@ class Crowd:
             self._selector.register(watcher.sock, selectors.EVENT_READ, watcher)
 
     def kill(self) -> None:
-        """One that is killed, in the midst of a frame or not."""
+        """Kills a watcher, in the middle of a frame or not."""
         watcher = self._random.choice(sorted(self._open, key=self.watchers.index))
         if watcher.sock in self._selector.get_map():
             self._selector.unregister(watcher.sock)
@@ -60,7 +60,7 @@ class Crowd:
         self.left()
 
     def read(self, to_kill: int, seconds: float) -> None:
-        """Reads until all have come to their end, and kills so many on the way."""
+        """Reads until all have come to their end, and kills `to_kill` of them on the way."""
         begun = time.monotonic()
         while self._open:
             now = time.monotonic()
@@ -103,7 +103,7 @@ class Crowd:
 
 
 def crowd(count: int, to_kill: int) -> None:
-    """So many watchers of a screen that changes all the time."""
+    """Runs this many watchers of a screen that changes all the time."""
     with Shared(DRAWING) as shared:
         watching, seen = Crowd(shared, count), [0.0, 0]
 

@@ -45,7 +45,7 @@ def _processors() -> tuple[int, int]:
 
 @contextlib.contextmanager
 def busy_processors(count: int) -> Iterator[None]:
-    """So many programs that always run."""
+    """Keeps this many programs running all the time."""
     programs = [subprocess.Popen([sys.executable, "-c", WORK]) for _ in range(count)]
     try:
         yield
@@ -56,7 +56,7 @@ def busy_processors(count: int) -> Iterator[None]:
 
 
 def _started(folder: str, number: int, times: int) -> subprocess.Popen[bytes]:
-    """pytest on the examples, so many times each."""
+    """Starts pytest on the examples, each test this many times."""
     words = [with_pytest(), "-m", "pytest", "-q", "-p", "jeihpal.testing.pytest_plugin", "-p", "no:cacheprovider"]
     words += [f"--times={times}", "--failed-screens", f"{folder}/failed{number}"]
     words += [f"--basetemp={folder}/made{number}", f"--junitxml={folder}/result{number}.xml", EXAMPLES]
@@ -90,7 +90,7 @@ def _scripts(folder: str, times: int) -> Result:
 
 
 def play(times: int, workers: int) -> Result:
-    """Plays tests so many times each, by so many processes of pytest at once, and then the scripts."""
+    """Runs each test this many times, by this many processes of pytest at once, and then the scripts."""
     shares = [share for number in range(workers) if (share := (times + number) // workers)]
     with tempfile.TemporaryDirectory(prefix="often-") as folder:
         runs = [_started(folder, number, share) for number, share in enumerate(shares)]
@@ -103,7 +103,7 @@ def play(times: int, workers: int) -> Result:
 
 
 def told(how: str, times: int, workers: int) -> bool:
-    """Plays them, and prints figures. Answers whether none has failed."""
+    """Runs them, and prints figures. Returns whether none has failed."""
     begun, (idle, whole) = time.monotonic(), _processors()
     result = play(times, workers)
     still, now = _processors()

@@ -38,7 +38,7 @@ class Reader:
         self.due = 0.0  # when a slow one reads again, or one that was cut off comes back
 
     def connect(self) -> None:
-        """Connects, and says what it wants."""
+        """Connects, and sends its request."""
         self.sock = socket.socket()
         if self.is_slow:
             self.sock.setsockopt(socket.SOL_SOCKET, socket.SO_RCVBUF, 4096)

@@ -13,7 +13,7 @@ from .sharing import PYTHON
 
 
 class Scripted:
-    """The page, with times of its own, and the events that are sent to whoever asks for them."""
+    """Serves the page, with times of its own, and the events to each connection that asks for them."""
 
     def __init__(self, **times: int) -> None:
         with open(os.path.join(PYTHON, "jeihpal_share", "page.html"), encoding="utf-8") as file:
@@ -24,7 +24,7 @@ class Scripted:
         self.page, self.asked = page.encode(), 0
         self._lock = threading.Lock()
         self._connections: list[queue.Queue[bytes | None]] = []  # the oldest first
-        self._waiting: list[bytes] = []  # what is sent while there is none
+        self._waiting: list[bytes] = []  # what is sent while there is no connection
         handler = type("Handler", (_Handler,), {"scripted": self})
         self._server = http.server.ThreadingHTTPServer(("127.0.0.1", 0), handler)
         self._server.daemon_threads = True
@@ -36,7 +36,7 @@ class Scripted:
         self._send(b"data: %s\n\n" % json.dumps(message).encode())
 
     def send_ended(self, status: int) -> None:
-        """Tells the end."""
+        """Sends the end."""
         self._send(b"event: ended\ndata: %d\n\n" % status)
 
     def _send(self, data: bytes) -> None:

@@ -17,8 +17,8 @@ from jeihpal import View
 PYTHON = os.path.dirname(os.path.dirname(os.path.abspath(__file__)))
 START = b"\x1b[?2026h"
 END = b"\x1b[?2026l"
-# What a whole frame begins with: behind its start mark each mouse mode and encoding is turned off, as xterm numbers
-# them, and the cursor's style (DECSCUSR).
+# What a whole frame begins with: after its start mark each mouse mode and encoding is turned off, as xterm numbers
+# them, and the cursor's style is reset (DECSCUSR).
 WHOLE = START + b"".join(b"\x1b[?%dl" % mode for mode in (9, 1000, 1002, 1003, 1005, 1006)) + b"\x1b[0 q"
 
 
@@ -74,7 +74,7 @@ class Shared:
             return 1024 * int(re.search(r"VmHWM:\s+(\d+)", file.read())[1])
 
     def end(self, seconds: float = 30.0) -> int:
-        """Waits for its end, and answers its status."""
+        """Waits for its end, and returns its status."""
         status = self.run.wait(seconds)
         self._reader.join()
         return status
@@ -118,7 +118,7 @@ class Watching:
         return sock
 
     def read(self, seconds: float = 0.0) -> bytes:
-        """Reads what comes in so many seconds, or what is there; nothing where the connection has ended."""
+        """Reads what comes in this many seconds, or what is there; nothing if the connection has ended."""
         if not select.select([self.sock], [], [], seconds)[0]:
             raise TimeoutError
         try:

@@ -85,7 +85,7 @@ class Folder(unittest.TestCase):
             return file.read()
 
     def run_here(self, status, *words, **env):
-        """Runs a program there, and answers what it says."""
+        """Runs a program there, and returns what it prints."""
         env = {**os.environ, "PYTHONPATH": PACKAGE, "PYTHONDONTWRITEBYTECODE": "1", **env}
         how = {"stdin": subprocess.DEVNULL, "stdout": subprocess.PIPE, "stderr": subprocess.STDOUT, "timeout": 300}
         run = subprocess.run(words, cwd=self.folder, env=env, encoding="utf-8", **how)
@@ -93,7 +93,7 @@ class Folder(unittest.TestCase):
         return run.stdout
 
     def said(self, told, *parts):
-        """What was said has these parts, one behind the other."""
+        """The output has these parts, one after another."""
         at = 0
         for part in parts:
             self.assertIn(part, told[at:], told)

@@ -171,7 +171,7 @@ class Terminals(unittest.TestCase):
                 watchers.close()
 
     def test_modes_of_one_that_was_behind(self):
-        """A slow one that skipped the end of a mode is told that it is off."""
+        """A slow watcher that skipped the end of a mode gets the sequence that turns it off."""
         rows = r"'\r\n'.join('\x1b[3%dm' % (1 + (n + r) % 6) + f'{n} ' * 12 for r in range(23))"
         program = f"""import sys, time
 w = sys.stdout.write
@@ -184,7 +184,7 @@ w('\\x1b[?1000;1006l\\x1b[m\\x1b[H\\x1b[2Jthe end'); sys.stdout.flush(); time.sl
             self.assertEqual(slow.view.text().strip(), "the end")
             self.assertFalse(slow.view.look().mouse)
             self.assertFalse(slow.view.look().encoding)
-            self.assertGreater(slow.data.count(WHOLE), 1)  # it was behind
+            self.assertGreater(slow.data.count(WHOLE), 1)  # it has skipped frames
             self.assertLess(slow.frames(), quick.read_all().frames())
 
 

@@ -55,7 +55,7 @@ class Published(Page):
         super().take(moment)
 
     def read_to_the_end(self, seconds: float = 60.0) -> None:
-        """Reads until it was told the end."""
+        """Reads until it has been sent the end."""
         end = time.monotonic() + seconds
         while self.ended is None:
             if time.monotonic() > end:

@@ -19,7 +19,7 @@ EXAMPLES = pathlib.Path(__file__).resolve().parents[3] / "examples"
 
 
 def carry(hub: Hub, client: int, view: View, piece: int) -> None:
-    """Brings a view what a client is owed, in pieces."""
+    """Passes the bytes that wait for a client to a view, in pieces."""
     while owed := hub.owed(client, most=piece):
         view.advance(owed)
         hub.sent(client, len(owed))
@@ -65,7 +65,7 @@ class Hubs(unittest.TestCase):
             hub.feed(b"one")
             hub.frame(client)
             hub.sent(client, len(hub.owed(client)))
-            # xterm's private modes 9, 1000, 1002, 1003, 1005 and 1006, and DECSCUSR 0, behind the start mark.
+            # After the start mark come xterm's private modes 9, 1000, 1002, 1003, 1005 and 1006, reset, and DECSCUSR 0.
             off = b"".join(b"\x1b[?%dl" % mode for mode in (9, 1000, 1002, 1003, 1005, 1006)) + b"\x1b[0 q"
             start, redraw = b"\x1b[?2026h", hub.redraw(client)
             self.assertEqual(hub.whole_frame(client), start + off + redraw[len(start) :])

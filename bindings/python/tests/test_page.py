@@ -244,7 +244,7 @@ class InChromium(unittest.TestCase):
         self.assertAlmostEqual(browser.value(cursor.format("width")), 2 * one, delta=1)
 
     def check_reader(self, browser: Chromium) -> None:
-        """A screen reader is told the text once, by its rows."""
+        """A screen reader gets the text once, by its rows."""
         told = browser.told()
         self.assertIn(("group", "Screen of 16 rows and 60 columns"), told)
         texts = [name for role, name in told if role == "StaticText" and "256 colours" in name]
@@ -299,7 +299,7 @@ input()
                     self.check_pause(browser, f"{folder}/stop")
 
     def check_pause(self, browser: Chromium, stop: str) -> None:
-        """A paused page stands still, and then goes on to the end."""
+        """A paused page doesn't change, and then goes on to the end."""
         value = lambda name: browser.value(f"document.getElementById('{name}')?.textContent") or ""
         wait_for(lambda: value("text").strip(), 30)
         browser.value("document.getElementById('pause').click()")

@@ -267,7 +267,7 @@ class Pages(unittest.TestCase):
                 keys(shown, "key", "ctrl+f")
                 wait(browser, "!document.hasFocus()")
                 keys(shown, "type", "--delay", "50", "two words")
-                time.sleep(2)  # it isn't told to the page what was found
+                time.sleep(2)  # the page isn't notified of what was found
                 keys(shown, "key", "Escape")
                 self.assertEqual(wait(browser, SELECTED), "two words")
 
@@ -334,7 +334,7 @@ class Terminals(unittest.TestCase):
         self.path = os.path.join(folder.name, "a.cast")
 
     def kept(self, data: bytes) -> list[str]:
-        """The words that play a recording."""
+        """The arguments that play a recording."""
         with open(self.path, "wb") as file:
             file.write(data)
         return [sys.executable, "-m", "jeihpal_play", self.path]

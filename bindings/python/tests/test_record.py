@@ -30,7 +30,7 @@ raise SystemExit(3)
 
 class Recording(unittest.TestCase):
     def recorded(self, folder):
-        """Runs share in a terminal that gets another size, and answers the recording's lines."""
+        """Runs share in a terminal that gets another size, and returns the recording's lines."""
         path = os.path.join(folder, "a.cast")
         words = [sys.executable, "-m", "jeihpal_share", "--record", path, "--", sys.executable, "-c", PROGRAM]
         with Terminal(words, rows=5, cols=60, cwd=PYTHON, timeout=60) as terminal:

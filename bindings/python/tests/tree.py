@@ -33,7 +33,7 @@ def figures(tops: list[Shared], begun: list[float], seconds: float) -> str:
 
 
 def tree(count: int, terminals: int) -> bool:
-    """So many shares below one. Whether all is well."""
+    """Runs this many shares below one. Returns whether all is well."""
     with contextlib.ExitStack() as stack:
         top = stack.enter_context(Shared(DRAWING % SECONDS, "--listen", "127.0.0.1:0"))
         shares = [top, *(stack.enter_context(below(top, terminals)) for _ in range(count))]

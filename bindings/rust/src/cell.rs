@@ -2,7 +2,7 @@
 use crate::raw::{RawCell, RawColor, RawDrawing, RawLook};
 use std::fmt;
 
-/// A colour of text, or of what is behind it.
+/// A colour of text, or of its background.
 #[derive(Clone, Copy, Debug, Default, Eq, Hash, PartialEq)]
 pub enum Color {
     /// The terminal's own.
@@ -64,7 +64,7 @@ impl Cell {
         Color::of(self.raw.foreground)
     }
 
-    /// The colour behind the text.
+    /// The background's colour.
     #[inline]
     pub fn bgcolor(&self) -> Color {
         Color::of(self.raw.background)
@@ -76,7 +76,7 @@ impl Cell {
         self.raw.attributes & 1 != 0
     }
 
-    /// Whether the text is dim. It isn't where it is bold.
+    /// Whether the text is dim. It isn't if it is bold.
     #[inline]
     pub fn dim(&self) -> bool {
         self.raw.attributes & 3 == 2
@@ -213,7 +213,7 @@ pub struct Look {
     pub rows: u16,
     /// How many columns it has.
     pub cols: u16,
-    /// The cursor's row and column. The column is `cols` where the next character goes to the next row.
+    /// The cursor's row and column. The column is `cols` if the next character goes to the next row.
     pub cursor: (u16, u16),
     /// How the cursor looks.
     pub cursor_style: CursorStyle,
@@ -265,7 +265,7 @@ const ENCODINGS: [MouseProtocolEncoding; 3] = [
     MouseProtocolEncoding::Sgr,
 ];
 
-/// What a number stands for; one that this crate doesn't know stands for the default.
+/// The value that a number means; a number that this crate doesn't know means the default.
 fn named<T: Copy + Default>(names: &[T], number: u8) -> T {
     names.get(usize::from(number)).copied().unwrap_or_default()
 }
@@ -276,7 +276,7 @@ fn named<T: Copy + Default>(names: &[T], number: u8) -> T {
 pub struct Drawing {
     /// The text's colour.
     pub fgcolor: Color,
-    /// The colour behind the text.
+    /// The background's colour.
     pub bgcolor: Color,
     /// It is bold.
     pub bold: bool,

@@ -1,19 +1,19 @@
 //! Why a call is refused.
 use std::{error, fmt, io, result};
 
-/// Why a call is refused. Unless the call says otherwise nothing has changed then.
+/// Why a call is refused. Nothing has changed then, unless the call says otherwise.
 #[derive(Clone, Copy, Debug, Eq, Hash, PartialEq)]
 #[non_exhaustive]
 pub enum Error {
     /// There was no memory.
     Memory,
-    /// An earlier call found no memory, and what the screen shows is open: make a new object.
+    /// An earlier call found no memory, and what the screen shows is undefined: make a new object.
     Failed,
     /// The client has ended, or never was.
     UnknownClient,
-    /// Fewer bytes are owed.
+    /// Fewer bytes wait for the client.
     NotOwed,
-    /// The first line of a recording is no header.
+    /// The first line of a recording isn't a header.
     NoHeader,
     /// A recording is a file of gzip, bzip2, xz or zstd: unpack it first.
     Compressed,
@@ -23,7 +23,7 @@ pub enum Error {
     Other(i32),
 }
 
-/// What most calls answer.
+/// What most calls return.
 pub type Result<T> = result::Result<T, Error>;
 
 impl fmt::Display for Error {
@@ -53,7 +53,7 @@ impl From<Error> for io::Error {
     }
 }
 
-/// What a code of the library says.
+/// What a code of the library means.
 pub(crate) fn answer(code: i32) -> Result<i32> {
     match code {
         0.. => Ok(code),
@@ -64,7 +64,7 @@ pub(crate) fn answer(code: i32) -> Result<i32> {
         -10 => Err(Error::NoHeader),
         -11 => Err(Error::Compressed),
         -13 => Err(Error::TooLarge),
-        // A word here is never closed nor of another kind, and has a size; places and events are looked at where they
+        // A word here is never closed nor of another kind, and has a size; places and events are checked where they
         // are used.
         _ => Err(Error::Other(code)),
     }

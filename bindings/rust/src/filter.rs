@@ -6,11 +6,11 @@ use crate::raw;
 /// A filter that draws a program's lines, on the way to a hub or a screen.
 ///
 /// Programs draw boxes with DEC's special graphics: after `ESC ( 0` the letters `lqqk` mean `┌──┐`. Hubs and screens
-/// show letters there, as `vt100` does. A filter gives all bytes on as they are, but for such letters: these come as
-/// the characters that they stand for.
+/// show letters there, as `vt100` does. A filter gives all bytes on as they are, except such letters: in their place it
+/// gives the characters that they mean.
 ///
-/// Directly behind a sequence that `vt100` doesn't know it gives others that `vt100` knows, and that do the same: such
-/// as `CSI 4 m` behind the curly underline `CSI 4:3 m`. `jeihpal.h` lists them.
+/// Directly after a sequence that `vt100` doesn't know, it gives others that `vt100` knows, and that do the same: such
+/// as `CSI 4 m` after the curly underline `CSI 4:3 m`. `jeihpal.h` lists them.
 ///
 /// ```
 /// let mut filter = jeihpal::Filter::new()?;
@@ -27,7 +27,7 @@ pub struct Filter {
 unsafe impl Send for Filter {}
 
 impl Filter {
-    /// A filter that nothing has passed.
+    /// A filter through which nothing has passed.
     pub fn new() -> Result<Filter> {
         // SAFETY, here and below: the word is as the last call left it, and what is lent is lent for the call.
         let fill = |word| unsafe { raw::jeihpal_filter_new(word) };
@@ -36,9 +36,9 @@ impl Filter {
         })
     }
 
-    /// Has the next bytes of a program's output pass, and answers what they give. They may be cut anywhere.
+    /// Reads the next piece of a program's output, and returns the bytes to use in its place. It may be cut anywhere.
     ///
-    /// Where no memory is found they have not passed, and may be handed over again.
+    /// If an allocation fails, the piece has not passed, and the call may be repeated with it.
     pub fn pass(&mut self, bytes: &[u8]) -> Result<Vec<u8>> {
         self.owned.give(raw::jeihpal_filter_pass, bytes)?;
         self.owned.bytes(|word, to, room, length| unsafe {

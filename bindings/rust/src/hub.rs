@@ -17,13 +17,13 @@ static FUNCTIONS: Functions = Functions {
 #[derive(Clone, Copy, Debug, Eq, Hash, Ord, PartialEq, PartialOrd)]
 pub struct Client(usize);
 
-/// What a request for a frame is answered.
+/// The result of a request for a frame.
 #[derive(Clone, Copy, Debug, Eq, Hash, PartialEq)]
 #[non_exhaustive]
 pub enum Answer {
     /// The screen shows what it did at the client's last frame.
     Unchanged,
-    /// Bytes of the last frame are still owed.
+    /// Bytes of the last frame still wait for the client.
     Behind,
     /// The program is in a synchronized update of its own (private mode 2026).
     Held,
@@ -35,7 +35,7 @@ pub enum Answer {
     Difference,
     /// As `Full`, of a screen that shows U+FE0F, on whose width terminals disagree.
     Unsure,
-    /// Another answer, which this crate doesn't know. From 4 on the client is owed a frame.
+    /// Another result, which this crate doesn't know. From 4 on, the bytes of a new frame wait for the client.
     Other(i32),
 }
 
@@ -50,7 +50,7 @@ const ANSWERS: [Answer; 7] = [
 ];
 
 impl Answer {
-    /// Whether the client is owed a new frame now.
+    /// Whether there is a new frame, whose bytes now wait for the client.
     pub fn is_frame(self) -> bool {
         match self {
             Answer::Full | Answer::Difference | Answer::Unsure => true,
@@ -109,8 +109,8 @@ impl Hub {
         })
     }
 
-    /// Gives the program's next bytes to the screen. They may be cut anywhere. After [`Error::Memory`] the hub has
-    /// failed: no frame is made any more, but what is owed can be sent.
+    /// Feeds the program's next bytes to the screen. They may be cut anywhere. After [`Error::Memory`] the hub has
+    /// failed: it makes no further frames, but bytes that wait for clients can still be sent.
     ///
     /// [`Error::Memory`]: crate::Error::Memory
     pub fn feed(&mut self, bytes: &[u8]) -> Result<()> {
@@ -128,7 +128,7 @@ impl Hub {
         })
     }
 
-    /// A new client, which has had no frame.
+    /// Attaches a new client, which has had no frame.
     pub fn attach(&mut self) -> Result<Client> {
         let mut key = 0;
         self.object
@@ -136,9 +136,9 @@ impl Hub {
         Ok(Client(key))
     }
 
-    /// A new client that has what this one has once it has read all its frames. It is owed nothing, and its next frame
-    /// starts from there: a terminal that has read this client's frames, or its [`redraw`](Self::redraw), goes on with
-    /// the new client's frames.
+    /// Adds a client that starts from what this one has once it has read all its frames. No bytes wait for it, and its
+    /// next frame starts from there: a terminal that has read this client's frames, or its [`redraw`](Self::redraw),
+    /// goes on with the new client's frames.
     pub fn fork(&mut self, client: Client) -> Result<Client> {
         let mut key = 0;
         self.object
@@ -146,13 +146,13 @@ impl Hub {
         Ok(Client(key))
     }
 
-    /// Ends a client; what it is owed is gone.
+    /// Detaches a client. Bytes that wait for it are dropped.
     pub fn detach(&mut self, client: Client) -> Result<()> {
         self.object
             .act(|word| unsafe { raw::jeihpal_hub_detach(word, client.0) })
     }
 
-    /// Asks for a frame for a client, best once it is owed nothing and the program pauses.
+    /// Asks for a frame for a client, best once no bytes wait for it and the program pauses.
     pub fn frame(&mut self, client: Client) -> Result<Answer> {
         let number = self
             .object
@@ -161,23 +161,24 @@ impl Hub {
         Ok(known.copied().unwrap_or(Answer::Other(number)))
     }
 
-    /// Copies as much of what the client is owed as fits, and answers how much it is owed in all.
+    /// Copies as many as fit of the bytes that wait for the client, and returns how many wait in all.
     pub fn copy_owed(&self, client: Client, to: &mut [u8]) -> Result<usize> {
         self.object.copy(to, |word, to, room, length| unsafe {
             raw::jeihpal_hub_owed(word, client.0, to, room, length)
         })
     }
 
-    /// The bytes that the client is owed: those of its last frame that weren't sent yet.
+    /// The bytes that wait for the client: those of its last frame that weren't sent yet.
     pub fn owed(&self, client: Client) -> Result<Vec<u8>> {
         self.object.bytes(|word, to, room, length| unsafe {
             raw::jeihpal_hub_owed(word, client.0, to, room, length)
         })
     }
 
-    /// What draws, on a fresh terminal of the screen's size, what the client shows once it has read all its frames.
+    /// The bytes that draw, on a fresh terminal of the screen's size, what the client shows once it has read all its
+    /// frames.
     ///
-    /// Frames that it is still owed count as read. Before its first frame the redraw is empty. `None` where it is longer
+    /// Bytes that still wait for it count as read. Before its first frame the redraw is empty. `None` if it is longer
     /// than a terminal buffers.
     pub fn redraw(&self, client: Client) -> Result<Option<Vec<u8>>> {
         let mut answer = 0;
@@ -188,13 +189,13 @@ impl Hub {
         Ok((answer == 0).then_some(text))
     }
 
-    /// A frame for a stream that several terminals read: what draws, on any terminal of the screen's size, whatever
-    /// frames it has read, what the client shows once it has read all its frames.
+    /// A frame for a stream that several terminals read: the bytes that draw, on any terminal of the screen's size,
+    /// whatever frames it has read, what the client shows once it has read all its frames.
     ///
-    /// It is the [`redraw`](Self::redraw), with what turns off the mouse's modes and encodings and the cursor's style
-    /// behind its start mark. A terminal that has read the client's frames so far shows the same after it. All go on
-    /// with the client's later frames. Before the client's first frame there is none, and the text is empty. `None`
-    /// where it is longer than a terminal buffers.
+    /// It is the [`redraw`](Self::redraw), with escape sequences after the start mark that turn off the mouse's modes
+    /// and encodings, and reset the cursor's style. A terminal that has read the client's frames so far shows the same
+    /// after it. All these terminals go on with the client's later frames. Before the client's first frame the text is
+    /// empty. `None` if it is longer than a terminal buffers.
     pub fn whole_frame(&self, client: Client) -> Result<Option<Vec<u8>>> {
         let mut answer = 0;
         let text = self.object.bytes(|word, to, room, length| {
@@ -204,13 +205,14 @@ impl Hub {
         Ok((answer == 0).then_some(text))
     }
 
-    /// The first `count` of the bytes that the client is owed were sent. They are owed no longer.
+    /// Reports that the first `count` of the bytes that wait for the client were sent. They no longer wait.
     pub fn sent(&mut self, client: Client, count: usize) -> Result<()> {
         self.object
             .act(|word| unsafe { raw::jeihpal_hub_sent(word, client.0, count) })
     }
 
-    /// Writes what the client is owed. What the writer took is no longer owed, whatever it answers after that.
+    /// Writes the bytes that wait for the client. Those that the writer took no longer wait, whatever it returns after
+    /// that.
     pub fn pump(&mut self, client: Client, to: &mut impl io::Write) -> io::Result<()> {
         let mut piece = [0; 8192];
         loop {

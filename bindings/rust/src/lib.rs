@@ -1,9 +1,10 @@
 //! Terminal screens that arrive whole.
 //!
-//! A [`Hub`] keeps the screen of one program, and owes each of its clients at most one frame of it. A [`View`] is a
-//! small far terminal that reads frames. A [`Screen`] is a terminal's screen from bytes, with what redraws it; module
-//! [`vt100`] has one with the names of the crate `vt100` 0.18.1. A [`Recording`] has the events of an asciicast, a
-//! typescript or a ttyrec. A [`Filter`] draws a program's lines, on the way to a hub or a screen.
+//! A [`Hub`] keeps the screen of one program, and makes frames of it for its clients: at most one frame waits for each.
+//! A [`View`] is a small far terminal that reads frames. A [`Screen`] is a terminal's screen made of a program's bytes,
+//! with escape sequences that redraw it; module [`vt100`] has one with the names of the crate `vt100` 0.18.1. A
+//! [`Recording`] has the events of an asciicast, a typescript or a ttyrec. A [`Filter`] draws a program's lines, on the
+//! way to a hub or a screen.
 //!
 //! ```
 //! use std::num::NonZeroU16;
@@ -19,7 +20,7 @@
 //! # Ok::<(), Box<dyn std::error::Error>>(())
 //! ```
 //!
-//! What each call answers and does is proved, in Rattle, of the library below. That the declarations here fit it is
+//! For the library below, it is proved in Rattle what each call returns and does. That the declarations here fit it is
 //! only tested. Objects are `Send`, and not `Sync`. An object is freed when it is dropped. No call waits.
 //! Rows and columns are counted from 0.
 #![deny(missing_docs, unsafe_op_in_unsafe_fn)]

@@ -1,4 +1,4 @@
-//! What hubs, views, screens and recordings have in common.
+//! What hubs, views, screens and recordings share.
 use crate::cell::{Cell, Look};
 use crate::error::{answer, Result};
 use crate::raw::{
@@ -10,16 +10,16 @@ use std::mem::MaybeUninit;
 use std::ops::Deref;
 use std::{ptr, slice};
 
-/// The number of the interface that the declarations are for.
+/// The version number of the interface that the declarations are for.
 const ABI: u32 = 1;
 
-/// The library's answer to a place outside of the screen.
+/// The code that the library returns for a place outside of the screen.
 const NO_CELL: i32 = -8;
 
-/// A text of up to so many bytes is made once, where it doesn't yet say how many it has.
+/// A text of at most this many bytes is copied by a single call, even if its length isn't known before.
 const ROOM: usize = 16 * 1024;
 
-/// Short texts have at most so many bytes, as a rule.
+/// Short texts usually have at most this many bytes.
 const SHORT: usize = 64;
 
 /// The functions that all kinds with a screen have.
@@ -33,8 +33,8 @@ pub(crate) struct Functions {
 
 /// A word of the library's, which is closed when it is dropped.
 ///
-/// For the library reading is a call as any other, and there is one at a time. The word isn't `Sync`, and no call comes
-/// back here, so that there is never more than one on it.
+/// For the library a call that reads is like any other, and at most one call may run at a time. The word isn't `Sync`,
+/// and no call runs a callback, so there is never more than one call on it.
 pub(crate) struct Owned {
     word: UnsafeCell<Word>,
     close: Close,
@@ -64,7 +64,7 @@ impl Owned {
         answer(function(self.word()))
     }
 
-    /// Calls one that answers nothing but a refusal.
+    /// Calls a function whose only result is success or a refusal.
     pub(crate) fn act(&self, function: impl FnOnce(*mut Word) -> i32) -> Result<()> {
         self.call(function).map(drop)
     }
@@ -75,8 +75,8 @@ impl Owned {
         self.act(|word| unsafe { function(word, bytes.as_ptr(), bytes.len()) })
     }
 
-    /// Calls a function that copies bytes: it is told where the room for them is, how large that is, and where to say
-    /// how many there are in all, which is answered.
+    /// Calls a function that copies bytes, and returns how many there are in all. The function's arguments are the room
+    /// for the bytes, its size, and the place for their number.
     pub(crate) fn copy(
         &self,
         room: &mut [u8],
@@ -96,7 +96,7 @@ impl Owned {
         let mut length = 0;
         self.act(|word| function(word, room.as_mut_ptr().cast(), ROOM, &mut length))?;
         if length <= ROOM {
-            // SAFETY: so many bytes have been copied into the room.
+            // SAFETY: this many bytes have been copied into the room.
             let bytes = unsafe { slice::from_raw_parts(room.as_ptr().cast(), length) };
             return Ok(bytes.to_vec());
         }
@@ -129,7 +129,7 @@ impl Owned {
             let most = bytes.capacity();
             self.act(|word| unsafe { function(word, bytes.as_mut_ptr(), most, &mut length) })?;
             if length <= most {
-                // SAFETY: so many bytes have been copied into the room.
+                // SAFETY: this many bytes have been copied into the room.
                 unsafe { bytes.set_len(length) };
                 *text = text_of(bytes);
                 return Ok(());
@@ -138,8 +138,8 @@ impl Owned {
     }
 }
 
-/// What is copied of a screen, as a text.
-// To look at each character would take a third more time where they are beyond ASCII.
+/// Copied bytes of a screen, as a text.
+// Checking each character would take a third more time if they are beyond ASCII.
 fn text_of(bytes: Vec<u8>) -> String {
     debug_assert!(std::str::from_utf8(&bytes).is_ok());
     // SAFETY: the library makes texts and escape sequences as strings, whose bytes are UTF-8.
@@ -200,7 +200,7 @@ impl Object {
         self.read_cell(row, col, &mut cell).then_some(cell)
     }
 
-    /// Sets `cell` to the one at a place, and says whether there is one.
+    /// Sets `cell` to the one at a place, and returns whether there is one.
     pub(crate) fn read_cell(&self, row: u16, col: u16, cell: &mut Cell) -> bool {
         let to = ptr::from_mut(cell).cast();
         // SAFETY: a `Cell` is a `RawCell`; the rest is as in other calls.
@@ -219,7 +219,7 @@ impl Object {
         Some((cells, wrapped))
     }
 
-    /// Sets `cells` to those of a row, in one call, and answers whether its text goes on in the next row; nothing past
+    /// Sets `cells` to those of a row, in one call, and returns whether its text goes on in the next row; nothing past
     /// the last row.
     pub(crate) fn read_row(&self, row: u16, cols: u16, cells: &mut Vec<Cell>) -> Option<bool> {
         let most = usize::from(cols);
@@ -246,7 +246,7 @@ impl Object {
         cells.unwrap_or_default().into_iter()
     }
 
-    /// The text that a function copies that reads another object too. Of one and the same object it has no bytes.
+    /// The text that a function copies that also reads another object. If both are the same object, it is empty.
     pub(crate) fn text_from(&self, earlier: &Object, function: GetTextFrom) -> Result<String> {
         if std::ptr::eq(self, earlier) {
             return Ok(String::new());

@@ -5,7 +5,7 @@ use crate::raw::{self, RawEvent, RawRecorded, Word};
 use crate::screen::Screen;
 use std::num::NonZeroU16;
 
-/// The library's answer to an event that isn't there.
+/// The code that the library returns for an event that isn't there.
 const NO_EVENT: i32 = -12;
 
 /// How many colours a recording may have of its own.
@@ -31,11 +31,11 @@ pub enum Kind {
 #[derive(Clone, Copy, Debug, Eq, Hash, PartialEq)]
 #[non_exhaustive]
 pub enum Fault {
-    /// This line of an asciicast, counted from 1, is no event.
+    /// This line of an asciicast, counted from 1, isn't an event.
     Line(u64),
     /// No whole frame of a ttyrec begins at this byte, counted from 0.
     Byte(u64),
-    /// This line of a file of times, counted from 1, is no step, or takes more bytes than are left.
+    /// This line of a file of times, counted from 1, isn't a step, or takes more bytes than are left.
     Step(u64),
     /// Another fault, by its number, which this crate doesn't know, and its place.
     Other(u8, u64),
@@ -45,9 +45,9 @@ pub enum Fault {
 #[derive(Clone, Debug, Eq, Hash, PartialEq)]
 #[non_exhaustive]
 pub enum Change {
-    /// The program writes these bytes, which needn't be UTF-8, nor end where a character does.
+    /// The program writes these bytes, which needn't be UTF-8, and may end within a character.
     Output(Vec<u8>),
-    /// The terminal gets so many rows and columns.
+    /// The terminal gets this many rows and columns.
     Resize(NonZeroU16, NonZeroU16),
     /// Nothing: this names the moment.
     Marker(String),
@@ -58,7 +58,7 @@ pub enum Change {
 /// An event of a recording.
 #[derive(Clone, Debug, Eq, Hash, PartialEq)]
 pub struct Event {
-    /// Microseconds since the beginning. They never go back.
+    /// Microseconds since the beginning, never less than those of the event before.
     pub time: u64,
     /// What happens then.
     pub change: Change,
@@ -133,17 +133,17 @@ impl Recording {
         }
     }
 
-    /// How many rows and columns there are at first, where the recording says it.
+    /// How many rows and columns there are at first, if the recording says it.
     pub fn size(&self) -> Option<(NonZeroU16, NonZeroU16)> {
         NonZeroU16::new(self.look.rows).zip(NonZeroU16::new(self.look.cols))
     }
 
-    /// Microseconds from the beginning to the last event, be it one in which a screen has no part.
+    /// Microseconds from the beginning to the last event, even if that doesn't concern a screen.
     pub fn length(&self) -> u64 {
         self.look.length
     }
 
-    /// The first place at which it stops making sense, if it does. What stands before is read.
+    /// The first place at which it stops making sense, if it does. What comes before it is read.
     pub fn fault(&self) -> Option<Fault> {
         let place = self.look.place;
         match self.look.fault {
@@ -160,8 +160,9 @@ impl Recording {
         self.look.events
     }
 
-    /// How many cells its largest size has, at first or later; 0 where it says none. Who made the recording chose it,
-    /// and a screen takes memory for it: ask before [`screen_at`](Recording::screen_at) of a stranger's recording.
+    /// How many cells its largest size has, at first or later; 0 if it says no size. Whoever made the recording chose
+    /// it, and a screen takes memory for it: check it before [`screen_at`](Recording::screen_at) of a stranger's
+    /// recording.
     pub fn most_cells(&self) -> usize {
         let cells = |rows: u16, cols: u16| usize::from(rows) * usize::from(cols);
         let later = (0..self.look.events).filter_map(|index| self.raw_event(index).ok().flatten());
@@ -179,7 +180,7 @@ impl Recording {
         Ok(Some(event))
     }
 
-    /// An event, counted from 0; nothing where there are fewer.
+    /// An event, counted from 0; nothing if there are fewer.
     pub fn event(&self, index: usize) -> Result<Option<Event>> {
         let Some(event) = self.raw_event(index)? else {
             return Ok(None);
@@ -221,7 +222,7 @@ impl Recording {
     }
 }
 
-/// The rows and columns of a recording that says none.
+/// The rows and columns of a recording that says no size.
 fn usual_size() -> (NonZeroU16, NonZeroU16) {
     let side = |number| NonZeroU16::new(number).expect("it isn't 0");
     (side(24), side(80))

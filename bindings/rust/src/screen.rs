@@ -14,7 +14,7 @@ static FUNCTIONS: Functions = Functions {
     row_text: raw::jeihpal_screen_row_text,
 };
 
-/// A terminal's screen from bytes, with the rows that scroll off, and what redraws it.
+/// A terminal's screen made of a program's bytes, with rows that scroll off, and escape sequences that redraw it.
 ///
 /// What is written to it as [`io::Write`] it processes. It may move to another thread, and
 /// [`try_clone`](Screen::try_clone) makes a copy.
@@ -44,7 +44,7 @@ pub struct Screen {
 unsafe impl Send for Screen {}
 
 impl Screen {
-    /// A blank screen of this size that keeps up to `scrollback` rows that scroll off.
+    /// A blank screen of this size that keeps at most `scrollback` rows that scroll off.
     pub fn new(rows: NonZeroU16, cols: NonZeroU16, scrollback: usize) -> Result<Screen> {
         // SAFETY, here and below: the word is as the last call left it, and what is lent is lent for the call.
         Screen::filled(|word| unsafe {
@@ -68,7 +68,7 @@ impl Screen {
         Ok(screen)
     }
 
-    /// What a call puts into a word.
+    /// The object that a call puts into a word.
     pub(crate) fn filled(fill: impl FnOnce(*mut Word) -> i32) -> Result<Screen> {
         Ok(Screen {
             object: Object::new(&FUNCTIONS, fill)?,
@@ -78,28 +78,28 @@ impl Screen {
         })
     }
 
-    /// What calls the library.
+    /// The object by which the library is called.
     #[inline]
     pub(crate) fn object(&self) -> &Object {
         &self.object
     }
 
-    /// A copy that shows the same and keeps the same rows: without a mark, requests, and what was read of a character or
-    /// a sequence.
+    /// A copy that shows the same and keeps the same rows. It is without a mark, requests, and what was read of an
+    /// unfinished character or sequence.
     pub fn try_clone(&self) -> Result<Screen> {
         let from = self.object.word();
-        // SAFETY: the new word is null, and another one than that of this screen.
+        // SAFETY: the new word is null, and isn't the word of this screen.
         let mut copy = Screen::filled(|word| unsafe { raw::jeihpal_screen_clone(word, from) })?;
         copy.most_cells = self.most_cells;
         Ok(copy)
     }
 
-    /// A copy that draws on the rows that are shown, kept ones too, and keeps none. Its redraws and differences lead a
-    /// terminal to what this screen shows, whether kept rows are shown or not. Of a kept row that is wider than the
-    /// screen, a wide character that the right edge cuts is blank.
+    /// A copy that draws on copies of the rows that are shown, kept ones too, and keeps none. Its redraws and
+    /// differences lead a terminal to what this screen shows, whether kept rows are shown or not. If a kept row is
+    /// wider than the screen, a wide character that the right edge cuts is blank.
     pub fn try_clone_visible(&self) -> Result<Screen> {
         let from = self.object.word();
-        // SAFETY: the new word is null, and another one than that of this screen.
+        // SAFETY: the new word is null, and isn't the word of this screen.
         Screen::filled(|word| unsafe { raw::jeihpal_screen_clone_visible(word, from) })
     }
 
@@ -111,7 +111,7 @@ impl Screen {
         self.object.give(raw::jeihpal_screen_process, bytes)
     }
 
-    /// Gives the screen another size, or the same, ends the program's synchronized update, and forgets the mark.
+    /// Gives the screen another size, or the same, ends the program's synchronized update, and drops the mark.
     pub fn resize(&mut self, rows: NonZeroU16, cols: NonZeroU16) -> Result<()> {
         let (rows, cols, most_cells) = (rows.get(), cols.get(), self.most_cells);
         self.object.act(|word| unsafe {
@@ -122,15 +122,15 @@ impl Screen {
         })
     }
 
-    /// Shows the newest `rows` of the kept rows above the others, or all where there are fewer. Redraws and differences
-    /// lead a terminal to the picture only where none is shown, or from copies by
-    /// [`try_clone_visible`](Screen::try_clone_visible).
+    /// Shows the newest `rows` kept rows above the others, or all if there are fewer. Redraws and differences lead a
+    /// terminal to the picture only if no kept row is shown, or from copies that
+    /// [`try_clone_visible`](Screen::try_clone_visible) makes.
     pub fn scroll(&mut self, rows: usize) -> Result<()> {
         self.object
             .act(|word| unsafe { raw::jeihpal_screen_scroll(word, rows) })
     }
 
-    /// Drops the kept rows of what is shown.
+    /// Removes the kept rows of what is shown.
     pub fn clear_scrollback(&mut self) -> Result<()> {
         self.object
             .act(|word| unsafe { raw::jeihpal_screen_clear_scrollback(word) })
@@ -166,15 +166,15 @@ impl Screen {
         })
     }
 
-    /// What takes a terminal of this size to the picture, whatever it showed before; where a kept row is shown, maybe
-    /// to another one ([`scroll`](Screen::scroll)).
+    /// The escape sequences that take a terminal of this size to the screen's picture, whatever it showed before. If a
+    /// kept row is shown, they may lead to another picture ([`scroll`](Screen::scroll)).
     pub fn contents_formatted(&self) -> Result<String> {
         self.object
             .whole_text(raw::jeihpal_screen_contents_formatted)
     }
 
-    /// What takes a fresh terminal of this size to the picture, the modes and the cursor's style; of kept rows as
-    /// [`contents_formatted`](Screen::contents_formatted).
+    /// The escape sequences that take a fresh terminal of this size to the screen's picture, modes and cursor style.
+    /// For kept rows see [`contents_formatted`](Screen::contents_formatted).
     pub fn state_formatted(&self) -> Result<String> {
         self.object.whole_text(raw::jeihpal_screen_state)
     }
@@ -185,26 +185,26 @@ impl Screen {
             .whole_text(raw::jeihpal_screen_contents_formatted_basic)
     }
 
-    /// What sets the modes and the cursor's style.
+    /// The escape sequences that set the modes and the cursor's style.
     pub fn input_mode_formatted(&self) -> Result<String> {
         self.object
             .whole_text(raw::jeihpal_screen_input_mode_formatted)
     }
 
-    /// What sets how the next character is drawn.
+    /// The escape sequences that set how the next character is drawn.
     pub fn attributes_formatted(&self) -> Result<String> {
         self.object
             .whole_text(raw::jeihpal_screen_attributes_formatted)
     }
 
-    /// What brings a terminal's cursor to the screen's, and hides or shows it. Where a kept row is shown it may print a
-    /// character over another one.
+    /// The escape sequences that bring a terminal's cursor to the screen's, and hide or show it. If a kept row is
+    /// shown, they may print a character over another one.
     pub fn cursor_state_formatted(&self) -> Result<String> {
         self.object
             .whole_text(raw::jeihpal_screen_cursor_state_formatted)
     }
 
-    /// What draws each row on a row of default cells: `width` columns from column `start` on.
+    /// The escape sequences that draw each row on a row of default cells: `width` columns from column `start` on.
     pub fn rows_formatted(&self, start: u16, width: u16) -> Result<Vec<String>> {
         self.texts(|word, to, room, length, lengths, most, rows| unsafe {
             raw::jeihpal_screen_rows_formatted(
@@ -213,26 +213,26 @@ impl Screen {
         })
     }
 
-    /// What takes a terminal from what an earlier screen shows to what this one shows; where either shows a kept row,
-    /// maybe to another picture.
+    /// The escape sequences that take a terminal from what an earlier screen shows to what this one shows. If either
+    /// shows a kept row, they may lead to another picture.
     pub fn state_diff(&self, earlier: &Screen) -> Result<String> {
         self.object
             .text_from(&earlier.object, raw::jeihpal_screen_state_diff)
     }
 
-    /// The same of the pictures alone.
+    /// As [`state_diff`](Screen::state_diff), for the pictures alone.
     pub fn contents_diff(&self, earlier: &Screen) -> Result<String> {
         self.object
             .text_from(&earlier.object, raw::jeihpal_screen_contents_diff)
     }
 
-    /// The same of the modes and the cursor's style alone.
+    /// As [`state_diff`](Screen::state_diff), for the modes and the cursor's style alone.
     pub fn input_mode_diff(&self, earlier: &Screen) -> Result<String> {
         self.object
             .text_from(&earlier.object, raw::jeihpal_screen_input_mode_diff)
     }
 
-    /// What draws each row over the one that an earlier screen shows there.
+    /// The escape sequences that draw each row over the one that an earlier screen shows there.
     pub fn rows_diff(&self, earlier: &Screen, start: u16, width: u16) -> Result<Vec<String>> {
         if std::ptr::eq(self, earlier) {
             return Ok(vec![String::new(); usize::from(self.look().rows)]);
@@ -245,7 +245,7 @@ impl Screen {
         })
     }
 
-    /// The texts of rows that a function copies, one behind the other, with their lengths.
+    /// The texts of rows. The function copies them one after another, with their lengths.
     fn texts(
         &self,
         function: impl Fn(*mut Word, *mut u8, usize, *mut usize, *mut usize, usize, *mut usize) -> i32,
@@ -272,20 +272,21 @@ impl Screen {
         Ok(texts.collect())
     }
 
-    /// Keeps a copy of the screen as it is now, its mark, in place of an earlier one.
+    /// Marks the screen as it is now: keeps a copy of it, in place of an earlier mark.
     pub fn mark(&mut self) -> Result<()> {
         self.object
             .act(|word| unsafe { raw::jeihpal_screen_mark(word) })
     }
 
-    /// What takes a terminal from what the mark shows to what the screen shows; where either shows a kept row, maybe to
-    /// another picture. Without a mark it is [`state_formatted`](Screen::state_formatted).
+    /// The escape sequences that take a terminal from what the mark shows to what the screen shows. If either shows a
+    /// kept row, they may lead to another picture. Without a mark they are those of
+    /// [`state_formatted`](Screen::state_formatted).
     pub fn difference(&self) -> Result<String> {
         self.object.whole_text(raw::jeihpal_screen_difference)
     }
 
-    /// Chooses whether [`requests`](Screen::requests) tells from now on what the screen doesn't know, and whether it
-    /// tells the rows that leave the screen for good. A new screen and a clone tell neither.
+    /// Sets whether [`requests`](Screen::requests) from now on gives what the screen doesn't know, and whether it gives
+    /// rows that leave the screen for good. For a new screen and a clone it gives neither.
     pub fn tell(&mut self, unknown: bool, rows: bool) {
         self.object
             .act(|word| unsafe { raw::jeihpal_screen_tell(word, unknown.into(), rows.into()) })
@@ -308,7 +309,7 @@ impl Screen {
         std::iter::from_fn(move || self.next_request())
     }
 
-    /// How many requests had been dropped when [`requests`](Screen::requests) last looked.
+    /// How many requests had been dropped when [`requests`](Screen::requests) last read the queue.
     pub fn dropped_requests(&self) -> usize {
         self.dropped
     }
@@ -325,7 +326,7 @@ impl Screen {
                 })
                 .expect("it is never refused");
             self.dropped = raw.dropped;
-            // One whose text is longer than the room stays in the queue.
+            // A request whose text is longer than the room stays in the queue.
             if raw.length <= room.len() {
                 return Request::of(&raw, &room[..raw.length]);
             }
@@ -350,7 +351,7 @@ const FIRST_ROOM: usize = 128;
 
 /// What a program asks of its terminal beyond drawing. Texts are as it wrote them, and needn't be UTF-8.
 ///
-/// Those from `UnhandledChar` on are told where [`Screen::tell`] asks for them.
+/// Those from `UnhandledChar` on are queued only if [`Screen::tell`] asks for them.
 #[derive(Clone, Debug, Eq, Hash, PartialEq)]
 #[non_exhaustive]
 pub enum Request {
@@ -358,7 +359,7 @@ pub enum Request {
     Bell,
     /// `ESC g`.
     VisualBell,
-    /// So many rows and columns, which may be 0 (XTWINOPS 8).
+    /// This many rows and columns, which may be 0 (XTWINOPS 8).
     Resize(u16, u16),
     /// The name of the window's icon (OSC 0 and 1).
     IconName(Vec<u8>),
@@ -397,7 +398,7 @@ pub enum Request {
     UnhandledOsc(Vec<u8>),
     /// A row left the screen for good: it isn't kept, or was pushed out of those that are.
     Row {
-        /// Its text with its attributes, as [`Screen::contents_formatted_basic`] has it of one row.
+        /// Its text with its attributes, as [`Screen::contents_formatted_basic`] gives it for one row.
         text: String,
         /// Its text goes on in the next row.
         wrapped: bool,
@@ -427,7 +428,7 @@ impl Request {
         }
     }
 
-    /// One of those that are told where it is asked for.
+    /// One of those that are queued only if [`Screen::tell`] asks for them.
     fn told(kind: u8, intermediates: &[u8], rest: &[u8]) -> Request {
         let text = || String::from_utf8_lossy(rest).into_owned();
         match kind {

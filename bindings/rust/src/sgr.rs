@@ -1,4 +1,4 @@
-//! The SGR sequences of captures: how they are read, and how one is written that changes attributes.
+//! The SGR sequences of captures: reading them, and writing one that changes attributes.
 use crate::cell::{Color, Drawing};
 use std::fmt::{self, Write};
 
@@ -33,7 +33,7 @@ impl<'a> Iterator for Runs<'a> {
     }
 }
 
-/// Changes attributes as the numbers of an SGR sequence say, among those that captures have.
+/// Changes attributes as the numbers of an SGR sequence say, of those numbers that captures have.
 fn apply(attrs: &mut Drawing, numbers: &str) {
     let mut numbers = numbers.split(';').map(|it| it.parse().unwrap_or(0));
     while let Some(number) = numbers.next() {
@@ -65,7 +65,7 @@ fn color_of(numbers: &mut impl Iterator<Item = u8>) -> Color {
     }
 }
 
-/// Writes the SGR sequence that changes attributes to others: none where they are the same.
+/// Writes the SGR sequence that changes attributes to others: none if they are the same.
 pub(crate) fn write_difference(
     writer: &mut impl Write,
     from: &Drawing,
@@ -89,7 +89,7 @@ pub(crate) fn write_difference(
     write!(writer, "\x1b[{}m", parts.join(";"))
 }
 
-/// A colour as a parameter of SGR, of text (30) or of what is behind it (40).
+/// A colour as a parameter of SGR, of text (30) or of its background (40).
 fn color(color: Color, base: u8) -> String {
     match color {
         Color::Default => (base + 9).to_string(),

@@ -1,13 +1,13 @@
-//! Where a program's bytes are cut, so that a callback is called right behind what asks for it.
+//! Where a program's bytes are cut, so that a callback is called right after the bytes that ask for it.
 
 /// What kind of sequence the bytes so far are in.
 #[derive(Clone, Copy, Debug, Default, Eq, PartialEq)]
 enum Inside {
     #[default]
     Text,
-    /// Behind ESC and intermediates.
+    /// After ESC and intermediates.
     Escape,
-    /// Behind `ESC [`.
+    /// After `ESC [`.
     Control,
     /// An operating system command.
     Command,
@@ -22,19 +22,19 @@ const ESCAPE: u8 = 0x1b;
 const DELETE: u8 = 0x7f;
 const STRING_END: u8 = 0x9c;
 
-/// A piece has at most so many bytes, less the rows that its sequences may scroll off. So fewer rows than this scroll off
-/// before its last sequence, and what that one asks finds room in the library's queue.
+/// A piece has at most this many bytes, less the rows that its sequences may scroll off. So fewer rows than this scroll
+/// off before its last sequence, and there is room in the library's queue for what that sequence asks.
 const MOST_BYTES: usize = 256;
 
-/// So many bytes of a control sequence are looked at.
+/// How many bytes of a control sequence are looked at.
 const MOST_PARAMETERS: usize = 64;
 
-/// Finds the bytes behind which a callback may be due. One too many costs time alone. It also keeps operating system
+/// Finds the bytes after which a callback may be due. A stop too many only costs time. It also keeps operating system
 /// commands, which the library cuts.
 #[derive(Clone, Debug, Default)]
 pub(crate) struct Stops {
     inside: Inside,
-    /// What stands behind ESC, or behind `ESC [`.
+    /// The bytes after ESC, or after `ESC [`.
     sequence: Vec<u8>,
     command: Vec<u8>,
     is_whole: bool,
@@ -43,7 +43,7 @@ pub(crate) struct Stops {
 }
 
 impl Stops {
-    /// How many of these bytes, of which there are some, lead up to the next stop.
+    /// How many of these bytes there are up to the next stop. There must be at least one byte.
     pub(crate) fn next(&mut self, bytes: &[u8]) -> usize {
         let mut most = MOST_BYTES;
         let mut bytes = &bytes[..bytes.len().min(most)];
@@ -88,8 +88,8 @@ impl Stops {
         is_whole.then(|| std::mem::take(&mut self.command))
     }
 
-    /// The control sequence that these bytes begin with, if it is whole and has numbers alone: most are. Behind a
-    /// character that is cut there is a stop in it.
+    /// The control sequence that these bytes begin with, if it is whole and has only numbers, as most have. After a
+    /// character that is cut, there is a stop in it.
     fn control_at<'a>(&self, bytes: &'a [u8], is_cut: bool) -> Option<(&'a [u8], u8)> {
         if self.inside != Inside::Text || is_cut {
             return None;
@@ -121,7 +121,7 @@ impl Stops {
         }
     }
 
-    /// The same within a sequence: at its end, at an operating system command, and at a control.
+    /// As `is_stop`, within a sequence: at its end, at an operating system command, and at a control.
     fn is_stop_inside(&mut self, before: Inside, byte: u8) -> bool {
         if self.inside == before && byte != ESCAPE {
             if matches!(byte, 0x20..=0x7e) && self.sequence.len() < MOST_PARAMETERS {
@@ -138,7 +138,7 @@ impl Stops {
         !is_known
     }
 
-    /// Keeps a byte of an operating system command, or says that it is at its end.
+    /// Keeps a byte of an operating system command, and returns whether the command ends with it.
     fn is_end(&mut self, byte: u8) -> bool {
         self.is_whole = matches!(byte, BELL | CANCEL | SUBSTITUTE | ESCAPE);
         if byte >= 0x20 {
@@ -154,13 +154,13 @@ fn text_length(bytes: &[u8]) -> usize {
     bytes.iter().position(mark).unwrap_or(bytes.len())
 }
 
-/// Whether a screen does nothing at a control. It knows those from BS to SI.
+/// Whether a screen does nothing for a control. It knows those from BS to SI.
 fn is_unknown_control(byte: u8) -> bool {
     !matches!(byte, 0x08..=0x0f | ESCAPE)
 }
 
-/// Whether a screen knows an escape sequence without intermediates, and calls nothing for it. Those that begin another
-/// sequence are as well.
+/// Whether a screen knows an escape sequence without intermediates, and no callback is called for it. Those that begin
+/// another sequence count too.
 fn is_known_escape(last: u8) -> bool {
     matches!(
         last,
@@ -168,7 +168,7 @@ fn is_known_escape(last: u8) -> bool {
     )
 }
 
-/// Whether a screen certainly knows a control sequence, and calls nothing for it.
+/// Whether a screen certainly knows a control sequence, and no callback is called for it.
 fn is_known_control(parameters: &[u8], last: u8) -> bool {
     let are_plain = |byte: &u8| matches!(*byte, b'0'..=b'9' | b';');
     if parameters.len() >= MOST_PARAMETERS || !parameters.iter().all(are_plain) {
@@ -191,7 +191,7 @@ fn rows_of(parameters: &[u8], last: u8) -> usize {
     number_of(parameters)
 }
 
-/// The number that bytes begin with; 0 where they begin with none.
+/// The number that bytes begin with; 0 if they don't begin with one.
 fn number_of(bytes: &[u8]) -> usize {
     let digits = bytes.iter().take_while(|byte| byte.is_ascii_digit());
     digits.fold(0, |number: usize, digit| {
@@ -222,8 +222,8 @@ fn are_known_attributes(parameters: &[u8]) -> bool {
 }
 
 /// Up to where a text has to be read for the first character that a screen doesn't show: U+FFFD, a control from U+0080
-/// to U+009F, or malformed bytes. A byte that begins no character is malformed by itself; others are shown to be so by
-/// the byte behind them.
+/// to U+009F, or malformed bytes. A byte that can't begin a character is malformed by itself. Other bytes are found to
+/// be malformed by the byte after them.
 fn unknown_in(text: &[u8]) -> Option<usize> {
     if text.is_ascii() {
         return None;

@@ -32,7 +32,7 @@ pub struct View {
 unsafe impl Send for View {}
 
 impl View {
-    /// A view of this size that shows nothing. It takes all the memory that it needs, but for texts.
+    /// A view of this size that shows nothing. It allocates all the memory that it needs, except for texts.
     pub fn new(rows: NonZeroU16, cols: NonZeroU16) -> Result<View> {
         // SAFETY, here and below: the word is as the last call left it, and what is lent is lent for the call.
         let fill = |word| unsafe { raw::jeihpal_view_new(word, rows.get(), cols.get()) };
@@ -52,14 +52,15 @@ impl View {
         })
     }
 
-    /// Reads the next bytes. What a frame changes is shown once its last byte was read.
+    /// Reads the next bytes. What a frame changes is shown once its last byte has been read.
     pub fn advance(&mut self, bytes: &[u8]) {
         self.object
             .give(raw::jeihpal_view_advance, bytes)
             .expect("a view reads everything");
     }
 
-    /// Shows what is held back: for where a frame has begun and its end doesn't come.
+    /// Parses the bytes that are held back, and shows what they change: for a frame that has begun, but whose end
+    /// doesn't come.
     pub fn stop(&mut self) {
         self.object
             .call(|word| unsafe { raw::jeihpal_view_stop(word) })

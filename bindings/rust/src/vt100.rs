@@ -15,10 +15,10 @@
 //!
 //! `docs/MOVING.md` lists item by item what is as there and what differs. In short:
 //!
-//! - [`Screen::cell`] has no cell outside of the screen's columns, also where a kept row is wider;
-//! - malformed bytes that begin a character are told ([`Callbacks::unhandled_char`]) behind the byte that shows it;
-//! - redraws and differences lead a terminal to the picture only where no kept row is shown, as in `vt100`;
-//! - where no memory is found a call panics. [`crate::Screen`] answers an error there.
+//! - [`Screen::cell`] has no cell outside of the screen's columns, even if a kept row is wider;
+//! - malformed bytes that begin a character are reported ([`Callbacks::unhandled_char`]) after the byte that shows it;
+//! - redraws and differences lead a terminal to the picture only if no kept row is shown, as in `vt100`;
+//! - a call panics if an allocation fails. [`crate::Screen`] returns an error then.
 pub mod capture;
 mod kept;
 mod osc;
@@ -44,7 +44,7 @@ struct Single {
     cell: Cell,
 }
 
-/// So many cells are read by themselves before rows are.
+/// How many cells are read one by one before whole rows are read.
 const SINGLES: usize = 4;
 
 /// A row: its cells, and whether its text goes on in the next row.
@@ -58,22 +58,22 @@ struct Row {
 ///
 /// It is `Send` and `Sync`. What is read of it is kept until the screen changes, so that a cell can be lent.
 pub struct Screen {
-    /// There is one call of the library at a time.
+    /// The lock lets one call of the library at a time in.
     screen: Mutex<crate::Screen>,
     rows_and_cols: (NonZeroU16, NonZeroU16),
     capacity: usize,
     /// Whether the library's queue gets what isn't known, and rows.
     told: (bool, bool),
-    /// How many changes there were, and one more.
+    /// How many changes there were, plus one.
     turn: u64,
     /// Read at each change, where nobody else has the screen.
     look: RawLook,
-    /// How the next character is drawn, as the library says it and as it is asked for. Once asked for it is read at each
-    /// change.
+    /// How the next character is drawn, as the library gives it and as callers get it. Once a caller has asked for it,
+    /// it is read at each change.
     drawing: OnceLock<(RawDrawing, Drawing)>,
-    /// What sets the modes, while they stay as they are.
+    /// The escape sequences that set the modes, kept while the modes stay as they are.
     modes_text: OnceLock<String>,
-    /// What sets how the next character is drawn, while this stays as it is.
+    /// The escape sequences that set how the next character is drawn, kept while this stays as it is.
     drawing_text: OnceLock<String>,
     cursor_text: Kept<String>,
     singles: [Kept<Single>; SINGLES],
@@ -110,7 +110,7 @@ impl Screen {
         self.screen.lock().unwrap_or_else(PoisonError::into_inner)
     }
 
-    /// The library's screen, for what changes nothing that is read.
+    /// The library's screen, for calls that change nothing that is read of it.
     fn inner(&mut self) -> &mut crate::Screen {
         self.screen
             .get_mut()
@@ -142,7 +142,7 @@ impl Screen {
         answer
     }
 
-    /// Has the library's queue get what isn't known, or rows, from now on.
+    /// Sets whether the library's queue gets what isn't known, and whether it gets rows, from now on.
     fn tell(&mut self, unknown: bool, rows: bool) {
         if self.told != (unknown, rows) {
             self.inner().tell(unknown, rows);
@@ -162,7 +162,7 @@ impl Screen {
         Look::of(&self.look)
     }
 
-    /// The cells of a row, where they have been read.
+    /// The cells of a row, if they have been read.
     #[inline]
     fn cells_read(&self, row: u16) -> Option<&Vec<Cell>> {
         let row = self.rows.get()?.get(usize::from(row))?;
@@ -192,7 +192,7 @@ impl Screen {
         Some(cells)
     }
 
-    /// A cell of a row that hasn't been read. Who reads a few cells has these read, and who reads more has rows read.
+    /// A cell of a row that hasn't been read. A few cells are read by themselves; for more, their rows are read.
     fn unread_cell(&self, row: u16, col: u16) -> Option<&Cell> {
         let (rows, cols) = self.rows_and_cols;
         if row >= rows.get() || col >= cols.get() {
@@ -213,7 +213,7 @@ impl Screen {
         self.read_cells(row)?.get(usize::from(col))
     }
 
-    /// Reads a cell by itself; nothing where as many have been read as can.
+    /// Reads a cell by itself; nothing if there is no room for another one.
     fn read_single(&self, place: (u16, u16)) -> Option<&Cell> {
         let screen = self.lock();
         let read = |single: &mut Single| {
@@ -246,7 +246,7 @@ impl Screen {
     }
 
     /// What a call reads of this screen and an earlier one. Two threads may compare two screens the other way round, so
-    /// both locks are taken in the order of their places.
+    /// both locks are taken in the order of their addresses.
     fn compared<T>(
         &self,
         earlier: &Screen,
@@ -281,7 +281,7 @@ impl Screen {
         self.resized(rows, cols);
     }
 
-    /// Shows the newest `rows` of the rows that have scrolled off, or all where there are fewer.
+    /// Shows the newest `rows` of the rows that have scrolled off, or all if there are fewer.
     pub fn set_scrollback(&mut self, rows: usize) {
         self.change(|screen| screen.scroll(rows)).unwrap();
     }
@@ -300,7 +300,7 @@ impl Screen {
         self.look().scrollback_len
     }
 
-    /// How many rows the shown screen keeps at most: none where it is the alternate one.
+    /// How many rows the shown screen keeps at most: 0 if it is the alternate one.
     #[must_use]
     pub fn scrollback_capacity(&self) -> usize {
         if self.alternate_screen() {
@@ -310,7 +310,7 @@ impl Screen {
         }
     }
 
-    /// Drops the rows that have scrolled off.
+    /// Removes the rows that have scrolled off.
     pub fn clear_scrollback(&mut self) {
         self.change(crate::Screen::clear_scrollback).unwrap();
     }
@@ -342,19 +342,19 @@ impl Screen {
             .unwrap()
     }
 
-    /// What takes a fresh terminal of this size to the picture, the modes and the cursor's style.
+    /// The escape sequences that take a fresh terminal of this size to the picture, the modes and the cursor's style.
     #[must_use]
     pub fn state_formatted(&self) -> String {
         self.lock().state_formatted().unwrap()
     }
 
-    /// What takes a terminal from all that an earlier screen shows to all that this one shows.
+    /// The escape sequences that take a terminal from all that an earlier screen shows to all that this one shows.
     #[must_use]
     pub fn state_diff(&self, prev: &Self) -> String {
         self.compared(prev, |now, before| now.state_diff(before))
     }
 
-    /// What takes a terminal of this size to the picture.
+    /// The escape sequences that take a terminal of this size to the picture.
     #[must_use]
     pub fn contents_formatted(&self) -> String {
         self.lock().contents_formatted().unwrap()
@@ -405,19 +405,19 @@ impl Screen {
         }
     }
 
-    /// What draws each row: `width` columns from column `start` on.
+    /// The escape sequences that draw each row: `width` columns from column `start` on.
     pub fn rows_formatted(&self, start: u16, width: u16) -> impl Iterator<Item = String> + '_ {
         let rows = self.lock().rows_formatted(start, width).unwrap();
         rows.into_iter()
     }
 
-    /// What takes a terminal from the picture of an earlier screen to this one's.
+    /// The escape sequences that take a terminal from the picture of an earlier screen to this one's.
     #[must_use]
     pub fn contents_diff(&self, prev: &Self) -> String {
         self.compared(prev, |now, before| now.contents_diff(before))
     }
 
-    /// What draws each row over the one that an earlier screen shows there.
+    /// The escape sequences that draw each row over the one that an earlier screen shows there.
     pub fn rows_diff<'a>(
         &'a self,
         prev: &'a Self,
@@ -428,20 +428,20 @@ impl Screen {
         rows.into_iter()
     }
 
-    /// What sets the modes.
+    /// The escape sequences that set the modes.
     #[must_use]
     pub fn input_mode_formatted(&self) -> String {
         let read = || self.lock().input_mode_formatted().unwrap();
         self.modes_text.get_or_init(read).clone()
     }
 
-    /// What changes the modes from those of an earlier screen to these.
+    /// The escape sequences that change the modes from those of an earlier screen to these.
     #[must_use]
     pub fn input_mode_diff(&self, prev: &Self) -> String {
         self.compared(prev, |now, before| now.input_mode_diff(before))
     }
 
-    /// What sets how the next character is drawn.
+    /// The escape sequences that set how the next character is drawn.
     #[must_use]
     pub fn attributes_formatted(&self) -> String {
         self.drawing(); // so that changes read it again
@@ -449,14 +449,14 @@ impl Screen {
         self.drawing_text.get_or_init(read).clone()
     }
 
-    /// The cursor's row and column. The column is the width where the next character goes to the next row.
+    /// The cursor's row and column. The column is the width if the next character goes to the next row.
     #[must_use]
     #[inline]
     pub fn cursor_position(&self) -> (u16, u16) {
         self.look().cursor
     }
 
-    /// What brings the cursor to where it is, and hides or shows it.
+    /// The escape sequences that bring the cursor to where it is, and hide or show it.
     #[must_use]
     pub fn cursor_state_formatted(&self) -> String {
         if let Some(text) = self.cursor_text.get(self.turn) {
@@ -561,7 +561,7 @@ impl Screen {
         self.drawing().fgcolor
     }
 
-    /// The colour behind the next character.
+    /// The background colour of the next character.
     #[must_use]
     #[inline]
     pub fn bgcolor(&self) -> Color {
@@ -647,15 +647,15 @@ impl fmt::Debug for Screen {
 }
 
 /// What a program asks of its terminal beyond drawing, what the screen doesn't know, and rows that leave it for good.
-/// Each method does nothing unless it is written.
+/// Each method does nothing unless it is overridden.
 ///
-/// A call comes with the screen as it is behind the bytes that ask.
+/// A method is called with the screen as it is after the bytes that ask for it.
 pub trait Callbacks {
     /// BEL.
     fn audible_bell(&mut self, _: &mut Screen) {}
     /// `ESC g`.
     fn visual_bell(&mut self, _: &mut Screen) {}
-    /// So many rows and columns.
+    /// This many rows and columns.
     fn resize(&mut self, _: &mut Screen, _request: (u16, u16)) {}
     /// The name of the window's icon.
     fn set_window_icon_name(&mut self, _: &mut Screen, _icon_name: &[u8]) {}
@@ -665,7 +665,7 @@ pub trait Callbacks {
     fn copy_to_clipboard(&mut self, _: &mut Screen, _ty: &[u8], _data: &[u8]) {}
     /// Clipboards whose data is asked for.
     fn paste_from_clipboard(&mut self, _: &mut Screen, _ty: &[u8]) {}
-    /// U+FFFD, which malformed bytes give too. Where such bytes begin a character, the screen has read the byte behind
+    /// U+FFFD, which malformed bytes give too. If such bytes begin a character, the screen has read the byte after
     /// them.
     fn unhandled_char(&mut self, _: &mut Screen, _c: char) {}
     /// A control that does nothing.
@@ -685,13 +685,13 @@ pub trait Callbacks {
     }
     /// An operating system command that does nothing: its pieces.
     fn unhandled_osc(&mut self, _: &mut Screen, _params: &[&[u8]]) {}
-    /// A row left for good: it was kept and is pushed out, or it left the screen and isn't kept. So do rows where
+    /// A row left for good: it was kept and is pushed out, or it left the screen and isn't kept. Rows also leave if
     /// [`Parser::set_size`] makes the screen lower.
     fn on_scroll(&mut self, contents: RowContents<'_>, _alternate_screen: bool) {
         contents.is_unread_by(std::any::type_name::<Self>());
     }
 
-    /// Whether any is written. Without that none is called.
+    /// Whether any method is overridden. If it returns false, none is called.
     #[doc(hidden)]
     fn are_wanted(&self) -> bool {
         true
@@ -706,7 +706,7 @@ impl Callbacks for () {
 
 /// Makes a screen of bytes.
 ///
-/// It is `Send` and `Sync` where its callbacks are.
+/// It is `Send` and `Sync` if its callbacks are.
 ///
 /// ```
 /// use std::sync::{Arc, Mutex};
@@ -721,9 +721,9 @@ pub struct Parser<CB: Callbacks = ()> {
     screen: Screen,
     callbacks: CB,
     stops: Stops,
-    /// Room for what a piece asks.
+    /// Room for the requests of a piece.
     requests: Vec<Request>,
-    /// The callback for rows isn't written, as a row has shown.
+    /// The callback for rows isn't overridden, as its call for a row has shown.
     are_rows_unread: bool,
 }
 
@@ -740,7 +740,7 @@ impl Parser {
         None => unreachable!(),
     };
 
-    /// A blank screen of this size that keeps up to so many rows that scroll off.
+    /// A blank screen of this size that keeps at most `scrollback_capacity` rows that scroll off.
     #[must_use]
     pub fn new(rows: NonZeroU16, cols: NonZeroU16, scrollback_capacity: usize) -> Self {
         Self::new_with_callbacks(rows, cols, scrollback_capacity, ())
@@ -748,7 +748,7 @@ impl Parser {
 }
 
 impl<CB: Callbacks> Parser<CB> {
-    /// The same, with callbacks.
+    /// As `new`, with callbacks.
     pub fn new_with_callbacks(
         rows: NonZeroU16,
         cols: NonZeroU16,
@@ -784,7 +784,7 @@ impl<CB: Callbacks> Parser<CB> {
         }
     }
 
-    /// Calls the callbacks for what waits. Operating system commands are read whole elsewhere.
+    /// Calls the callbacks for the requests that wait. Operating system commands are read whole elsewhere.
     fn call_back(&mut self) {
         let mut requests = std::mem::take(&mut self.requests);
         requests.extend(self.screen.inner().requests());
@@ -832,7 +832,7 @@ impl<CB: Callbacks> Parser<CB> {
         }
     }
 
-    /// Gives the screen another size. Rows that it pushes out are told ([`Callbacks::on_scroll`]).
+    /// Gives the screen another size. Rows that it pushes out are reported ([`Callbacks::on_scroll`]).
     pub fn set_size(&mut self, rows: NonZeroU16, cols: NonZeroU16) {
         if !self.callbacks.are_wanted() {
             return self.screen.set_size(rows, cols);

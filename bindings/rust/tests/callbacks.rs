@@ -1,4 +1,4 @@
-//! Callbacks and captures of `jeihpal::vt100`. What is wanted is what `vt100` 0.18.1 does.
+//! Callbacks and captures of `jeihpal::vt100`. The expected values are those of `vt100` 0.18.1.
 use jeihpal::vt100::capture::{
     basic_formatted_rows, BasicFormattedCaptureRange, BasicFormattedCaptureState, RowContents,
 };

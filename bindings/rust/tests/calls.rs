@@ -82,7 +82,7 @@ fn a_whole_frame_turns_modes_off() {
     assert_eq!(hub.whole_frame(client), Err(Error::UnknownClient));
 }
 
-/// Takes so many bytes in all, and then is at fault.
+/// A writer that takes this many bytes in all, and then returns an error.
 struct Narrow(usize);
 
 impl io::Write for Narrow {
@@ -543,7 +543,7 @@ mod as_vt100 {
         );
     }
 
-    /// All that a screen says, each asked twice.
+    /// All that can be read of a screen, each read twice.
     fn said(screen: &vt100::Screen) -> Vec<String> {
         let (rows, cols) = screen.size();
         let mut said = Vec::new();
@@ -579,7 +579,7 @@ mod as_vt100 {
         said
     }
 
-    /// What is read again is what a copy says, which has read nothing.
+    /// What is read again is the same as in a copy, of which nothing has been read.
     #[test]
     fn what_is_read_follows_each_change() {
         let mut parser = vt100::Parser::new(super::size(3), super::size(4), 9);
@@ -673,7 +673,7 @@ mod as_vt100 {
             (parser.callbacks().bells, parser.callbacks().title.as_str()),
             (3000, "title (0, 2)")
         );
-        // The call comes with the screen behind the title, not behind the bytes.
+        // The callback is called with the screen after the title, not after all the bytes.
         parser.process(b"\x1b]2;again\x07cd\r\n");
         assert_eq!(parser.callbacks().title, "again (0, 2)");
     }

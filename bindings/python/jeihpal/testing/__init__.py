@@ -1,4 +1,4 @@
-"""Tests of programs that run in a terminal: screens that one waits for and compares.
+"""Tests of programs that run in a terminal: they wait for screens and compare them.
 
 >>> from jeihpal.testing import Terminal
 >>> with Terminal("less README.md") as less:
@@ -8,7 +8,7 @@
 0
 
 `Terminal` runs a program, `Picture` is what its screen shows at one moment. The plugin for pytest has the fixtures
-`terminal` and `assert_screen`, and `TerminalMixin` is the same for unittest. `jeihpal-test` plays scripts.
+`terminal` and `assert_screen`, and `TerminalMixin` is the same for unittest. `jeihpal-test` runs scripts.
 """
 
 from ._failures import ProgramNotFound, ScreenChanged, WaitFailed
@@ -19,7 +19,7 @@ from ._terminal import Terminal
 from ._unittest import TerminalMixin
 
 for _public in (ProgramNotFound, ScreenChanged, WaitFailed):
-    _public.__module__ = __name__  # reports name them as a test does
+    _public.__module__ = __name__  # so that reports name them as a test does
 
 __all__ = [
     "Cell",

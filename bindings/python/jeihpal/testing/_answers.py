@@ -1,4 +1,4 @@
-"""What a program asks its terminal, found in its bytes, and what is answered."""
+"""Finds what a program asks its terminal in its bytes, and makes the answers."""
 
 from __future__ import annotations
 
@@ -11,10 +11,10 @@ from ._colors import BACKGROUND, FOREGROUND, hex_of_number
 
 VERSION = "0.1.0"
 _ST = rb"(?:\x07|\x1b\\)"
-_MOST_TAIL = 4096  # bytes of an unfinished sequence that are looked at
-CELL_WIDTH, CELL_HEIGHT = 8, 16  # pixels, where a program asks for them
+_MOST_TAIL = 4096  # how many bytes of an unfinished sequence are looked at
+CELL_WIDTH, CELL_HEIGHT = 8, 16  # in pixels, for programs that ask for them
 
-# Behind ESC. Each name but the first is a method of _Answers.
+# What comes after ESC. Each name but the first is a method of _Answers.
 _FORMS = {
     "update": rb"\[\?(?:\d*;)*0*2026(?:;\d*)*[hl]",
     "status": rb"\[5n",
@@ -38,20 +38,20 @@ _BEGUN = re.compile(rb"\x1b(?:\[[?>=]?[\d;]*\$?|\](?:\d*(?:;[\d?]*)*\x1b?)|P(?:[
 
 
 class Piece(NamedTuple):
-    """A program's next bytes, up to the end of a sequence that asks or begins or ends an update, or of all."""
+    """A program's next bytes, up to the end of a sequence that asks, or begins or ends an update; or else all."""
 
     data: bytes
     asked: re.Match[bytes] | None
 
 
 class Scanner:
-    """Cuts a program's bytes behind what it asks, however they come in pieces."""
+    """Cuts a program's bytes after each question in them, no matter in what pieces they come."""
 
     def __init__(self) -> None:
         self._tail = b""
 
     def pieces(self, data: bytes) -> Iterator[Piece]:
-        """The bytes again, in pieces."""
+        """The same bytes, in pieces."""
         text, done = self._tail + data, len(self._tail)
         for found in _SEQUENCE.finditer(text):
             yield Piece(text[done : found.end()], found)
@@ -151,11 +151,11 @@ def _color_words(color: str) -> bytes:
 
 
 def is_update(asked: re.Match[bytes]) -> bool:
-    """Whether the program begins or ends an update, in place of asking something."""
+    """Whether the program begins or ends an update, rather than asks something."""
     return asked.lastgroup == "update"
 
 
 def answer(asked: re.Match[bytes], look: Look) -> bytes:
-    """What is answered, on a screen that looks so where the question was read."""
+    """The answer, for a screen that has this look when the question is read."""
     said: Callable[[], bytes] = getattr(_Answers(asked, look), asked.lastgroup or "")
     return said()

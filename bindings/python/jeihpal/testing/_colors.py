@@ -4,7 +4,7 @@ from __future__ import annotations
 
 from jeihpal import Color
 
-# The terminal's own, where a picture or a program wants to know them. These and the first sixteen are xterm's, as in
+# The terminal's own colours, if a picture or a program asks for them. These and the first sixteen are xterm's, as in
 # the theme `xterm` of screentext.
 FOREGROUND, BACKGROUND = "#e5e5e5", "#000000"
 _EIGHT = ("black", "red", "green", "yellow", "blue", "magenta", "cyan", "white")

@@ -1,4 +1,4 @@
-"""What differs between two pictures, to be read by people."""
+"""Describes what differs between two pictures, for people to read."""
 
 from __future__ import annotations
 
@@ -8,7 +8,7 @@ from ._picture import PLAIN, Cell, Picture, Style, cursor_words
 
 
 def difference(old: Picture, new: Picture) -> str:
-    """The rows, styles and the cursor that differ; nothing where the pictures are equal."""
+    """The rows, styles and the cursor that differ; nothing if the pictures are equal."""
     told: list[str] = []
     if old.size != new.size:
         told += ["size", f"- {old.size[0]} rows, {old.size[1]} columns", f"+ {new.size[0]} rows, {new.size[1]} columns"]
@@ -41,7 +41,7 @@ def _of_row(old: Picture, new: Picture, row: int) -> list[str]:
 
 
 def _marks(before: tuple[Cell, ...], after: tuple[Cell, ...]) -> str:
-    """`^` below each column whose text differs; nothing where none does."""
+    """`^` below each column whose text differs; nothing if no text does."""
     marks = "".join(" " if one.text == other.text else "^" for one, other in zip(before, after))
     return marks.rstrip()
 

@@ -13,7 +13,7 @@ class ProgramNotFound(FileNotFoundError):
 
 
 class WaitFailed(AssertionError):
-    """What was waited for didn't come. It says the screen, the cursor, and what was written and sent last."""
+    """What was waited for didn't come. The message has the screen, the cursor, and what was written and sent last."""
 
     def __init__(self, words: str, screen: Picture) -> None:
         super().__init__(words)
@@ -22,12 +22,12 @@ class WaitFailed(AssertionError):
 
 
 class ScreenChanged(AssertionError):
-    """A screen isn't as the kept one of its name."""
+    """A screen differs from the kept one of its name."""
 
     def __init__(self, words: str, name: str, kept: Optional[Picture], screen: Picture) -> None:
         super().__init__(words)
         self.name = name
         self.kept = kept
-        """The kept screen; None where there is none."""
+        """The kept screen; None if there is none."""
         self.screen = screen
         """The screen of this run."""

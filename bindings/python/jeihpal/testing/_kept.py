@@ -1,4 +1,4 @@
-"""The terminals of one test, and what is left of them where it fails."""
+"""The terminals of one test, and the files that are written if it fails."""
 
 from __future__ import annotations
 
@@ -15,12 +15,12 @@ from ._terminal import TIMEOUT, Terminal
 
 
 class TestTerminals:
-    """Makes the terminals of a test, compares its screens, and writes down what it has left."""
+    """Makes the terminals of a test, compares its screens, and writes files if it fails."""
 
-    __test__ = False  # pytest takes it for no test
+    __test__ = False  # so that pytest doesn't collect it as a test
 
     def __init__(self, snapshots: Snapshots, failed: str) -> None:
-        """`failed` is the folder for what is left where the test fails."""
+        """`failed` is the folder for the files that are written if the test fails."""
         self.snapshots, self.failed = snapshots, failed
         self.terminals: list[Terminal] = []
         self._changed: Optional[ScreenChanged] = None
@@ -48,11 +48,11 @@ class TestTerminals:
         styles: bool = True,
         cursor: bool = True,
     ) -> None:
-        """Compares a screen with the one that is kept under this name. Raises ScreenChanged where they differ.
+        """Compares a screen with the one that is kept under this name. Raises ScreenChanged if they differ.
 
-        Of a terminal it waits until its screen is as the kept one, for as long as the terminal waits. What `mask` finds
-        is compared as `*`: texts, patterns, and regions as (row, column, rows, columns). Without `styles` only texts
-        are compared, and without `cursor` the cursor isn't.
+        For a terminal it waits until its screen equals the kept one, for at most the terminal's timeout. What `mask`
+        finds is compared as `*`: texts, patterns, and regions as (row, column, rows, columns). Without `styles` only
+        texts are compared, and without `cursor` the cursor isn't.
         """
         __tracebackhide__ = True
         try:
@@ -62,7 +62,7 @@ class TestTerminals:
             raise
 
     def save(self) -> list[str]:
-        """Writes down what is left: of each terminal its screen and its session, and the two screens that differ."""
+        """Writes the files: for each terminal its screen and its session, and the two screens that differ."""
         files: dict[str, str] = {}
         for number, terminal in enumerate(self.terminals, 1):
             name = "screen" if len(self.terminals) == 1 else f"screen{number}"

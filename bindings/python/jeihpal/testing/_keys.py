@@ -41,7 +41,7 @@ class _Key(NamedTuple):
 
 
 def _parsed(words: str) -> _Key:
-    """The key that words as `Ctrl-Shift-Left` name. Raises ValueError where there is no such key."""
+    """The key that a name such as `Ctrl-Shift-Left` means. Raises ValueError if there is no such key."""
     modifiers, rest = 0, words
     while "-" in rest[1:]:
         modifier, _, after = rest.partition("-")
@@ -72,14 +72,14 @@ def key_bytes(words: str, look: Look) -> bytes:
 
 
 def _lettered(key: _Key, letter: str, introducer: str) -> bytes:
-    """A key that ends in a letter: short where no modifier is held."""
+    """A key whose sequence ends in a letter: a short one if no modifier is held."""
     if key.modifiers:
         return f"\x1b[1;{key.parameter}{letter}".encode()
     return f"\x1b{introducer}{letter}".encode()
 
 
 def _character(key: _Key) -> str:
-    """A key that stands for a character."""
+    """A key that types a character."""
     if key.name == "tab" and key.modifiers & _SHIFT:
         return "\x1b[Z"
     text = _CHARACTERS.get(key.name, key.name)
@@ -91,7 +91,7 @@ def _character(key: _Key) -> str:
 
 
 def _control(text: str) -> str:
-    """The control character of a character; the character itself where there is none."""
+    """The control character of a character; the character itself if there is none."""
     if text in _CONTROLS:
         return _CONTROLS[text]
     upper = text.upper()
@@ -104,13 +104,13 @@ def typed_bytes(text: str) -> bytes:
 
 
 def pasted_bytes(text: str, look: Look) -> bytes:
-    """What is sent for pasted text, marked as such where the program asks for it."""
+    """What is sent for pasted text, marked as such if the program asks for it."""
     text = text.replace(_END_PASTE, "")
     return typed_bytes(f"{_START_PASTE}{text}{_END_PASTE}" if look.paste else text)
 
 
 def click_bytes(row: int, col: int, button: str, modifiers: str, look: Look) -> bytes:
-    """What is sent for a button that goes down and up at a place. Raises ValueError where nothing can be."""
+    """What is sent for a button that goes down and up at a place. Raises ValueError if nothing can be sent."""
     if look.mouse == Mouse.NONE:
         raise ValueError("the program hasn't asked for mouse events, so a click sends nothing")
     if button not in _BUTTONS:

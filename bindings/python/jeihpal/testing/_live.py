@@ -1,4 +1,4 @@
-"""A program's screen as its bytes come, looked at only at whole moments."""
+"""A program's screen as its bytes come, read only at moments at which it is whole."""
 
 from __future__ import annotations
 
@@ -16,15 +16,15 @@ from ._picture import Picture, picture_of
 class LiveScreen:
     """A screen, the answers to what the program asks of it, and its pictures.
 
-    While the program is in a synchronized update of its own its picture is that of before. All calls are made on one
-    thread.
+    While the program is in a synchronized update of its own, the picture is the one before the update. All calls are
+    made on one thread.
     """
 
     def __init__(self, rows: int, cols: int) -> None:
         self._screen = jeihpal.Screen(rows, cols, draws_lines=True)
         self._scanner = Scanner()
         self._before: Optional[Picture] = None  # of an update
-        self._shown: Optional[Picture] = None  # the picture of now, where it was made already
+        self._shown: Optional[Picture] = None  # the current picture, if it has been made already
         self.look = self._screen.look()
         """Its size, cursor and modes."""
         self.title = ""
@@ -35,9 +35,9 @@ class LiveScreen:
         """What the program has last put into the clipboard."""
 
     def feed(self, data: bytes, on_moment: Callable[[Picture], None]) -> bytes:
-        """Takes the program's next bytes, and answers what is sent back for them.
+        """Reads the program's next bytes, and returns what is sent back for them.
 
-        `on_moment` is called with the screen where an update begins, and where it ends.
+        `on_moment` is called with the screen when an update begins, and when it ends.
         """
         answers = b""
         for piece in self._scanner.pieces(data):
@@ -60,7 +60,7 @@ class LiveScreen:
         return answers
 
     def _take_requests(self) -> None:
-        """Takes what the program asks of its terminal beyond drawing."""
+        """Takes the program's requests to its terminal beyond drawing."""
         for request in self._screen.requests():
             if request.kind == RequestKind.TITLE:
                 self.title = request.text.decode("utf-8", "replace")
@@ -74,13 +74,13 @@ class LiveScreen:
                     pass
 
     def resize(self, rows: int, cols: int) -> None:
-        """Gives it another size. That ends an update."""
+        """Gives the screen another size. That ends an update."""
         self._screen.resize(rows, cols)
         self.look = self._screen.look()
         self._before = self._shown = None
 
     def end_update(self) -> None:
-        """Ends an update that nobody will end any more, as terminals do."""
+        """Ends an update that the program won't end any more, as terminals do."""
         if self.look.updating:
             self.resize(self.look.rows, self.look.cols)
 
@@ -91,7 +91,7 @@ class LiveScreen:
         return self._picture()
 
     def state(self) -> bytes:
-        """What leads a fresh terminal to it."""
+        """The escape sequences that take a fresh terminal to it."""
         return self._screen.state()
 
     def close(self) -> None:

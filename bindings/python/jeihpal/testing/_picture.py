@@ -25,7 +25,7 @@ class Cursor(NamedTuple):
 
     row: int
     col: int
-    """It is the number of columns where the next character goes to the next row."""
+    """It is the number of columns if the next character goes to the next row."""
     hidden: bool = False
     style: str = "default"
     """`default`, or one of `block`, `underline` and `bar`, also with `blinking-` before it."""
@@ -37,13 +37,13 @@ class Cursor(NamedTuple):
 
 
 class Style(NamedTuple):
-    """How a cell is drawn. As text it is words, as `bold red on blue`."""
+    """How a cell is drawn. Its text is in words, such as `bold red on blue`."""
 
     foreground: str = "default"
     """A colour by its name: `default`, `red`, `bright-red`, `color-123` or `#rrggbb`."""
     background: str = "default"
     attributes: frozenset[str] = frozenset()
-    """Of `bold`, `dim`, `italic`, `underlined` and `inverse` those that are set."""
+    """Those of `bold`, `dim`, `italic`, `underlined` and `inverse` that are set."""
 
     def __str__(self) -> str:
         words = [name for name in ATTRIBUTES if name in self.attributes]
@@ -63,9 +63,9 @@ class Cell(NamedTuple):
     """One cell."""
 
     text: str = " "
-    """A character with the zero-width ones that joined it; a space where nothing is; nothing in a second half."""
+    """A character with the zero-width ones that joined it; a space in an empty cell; nothing in a second half."""
     width: int = 1
-    """1; 2 where it takes the next column too; 0 for the second half of such a cell."""
+    """1; 2 if it takes the next column too; 0 for the second half of such a cell."""
     style: Style = PLAIN
 
     @property
@@ -75,7 +75,7 @@ class Cell(NamedTuple):
 
     @property
     def background(self) -> str:
-        """The colour behind it, by its name."""
+        """The background's colour, by its name."""
         return self.style.background
 
     @property
@@ -85,7 +85,7 @@ class Cell(NamedTuple):
 
 
 def style_of_words(words: str) -> Style:
-    """The style whose text this is."""
+    """The style that this text describes."""
     front, _, background = words.partition("on ") if words.startswith("on ") else words.partition(" on ")
     attributes = frozenset(word for word in front.split() if word in ATTRIBUTES)
     colors = [word for word in front.split() if word not in ATTRIBUTES]
@@ -126,7 +126,7 @@ class Row:
 
 
 def matches(text: str, sought: Sought) -> Iterator[tuple[int, int]]:
-    """Where a text or a pattern stands in a line: first character and the one behind it."""
+    """Where a text or a pattern is found in a line: the first character, and the one after the last."""
     pattern = re.compile(re.escape(sought)) if isinstance(sought, str) else sought
     for found in pattern.finditer(text):
         yield found.span()
@@ -135,8 +135,8 @@ def matches(text: str, sought: Sought) -> Iterator[tuple[int, int]]:
 class Picture:
     """What a screen shows at one moment: its cells, its cursor, its title. It never changes.
 
-    Rows and columns are counted from 0. Two pictures are equal where their sizes, cells and cursors are; a space that
-    was written is as one that wasn't.
+    Rows and columns are counted from 0. Two pictures are equal if their sizes, cells and cursors are; a space that was
+    written equals an empty cell.
     """
 
     def __init__(
@@ -147,13 +147,13 @@ class Picture:
         lines: Optional[tuple[str, ...]] = None,
         size: Optional[tuple[int, int]] = None,
     ) -> None:
-        """A picture of these cells. A function that makes them is called once they are looked at."""
+        """A picture of these cells, or of a function that makes them, which is called when they are first read."""
         self._made: Optional[Cells] = None if callable(cells) else cells
         self._make = cells if callable(cells) else None
         self.cursor = cursor
         """Its cursor."""
         self.title = title
-        """The window's title, where the program has set one."""
+        """The window's title, if the program has set one."""
         self._lines = lines
         self.size = size or (len(self.cells), len(self.cells[0]) if self.cells else 0)
         """Its rows and columns."""
@@ -184,7 +184,7 @@ class Picture:
         return tuple(self.row(index) for index in range(self.size[0]))
 
     def row(self, index: int) -> Row:
-        """A row; -1 is the last one. Raises IndexError where there is none."""
+        """A row; -1 is the last one. Raises IndexError if there is no such row."""
         text = self.lines[index]
         at = index % self.size[0]
         return Row(at, text, lambda: self.cells[at])
@@ -196,11 +196,11 @@ class Picture:
         return self.cells[row][col]
 
     def find(self, sought: Sought) -> Optional[Place]:
-        """Where a text or a pattern first stands in a row; None where it stands in none."""
+        """Where a text or a pattern is first found in a row; None if it is in no row."""
         return next(iter(self.find_all(sought)), None)
 
     def find_all(self, sought: Sought) -> list[Place]:
-        """All places where it stands, from the first row."""
+        """All places where it is found, from the first row on."""
         found = []
         for row, line in enumerate(self.lines):
             for start, _ in matches(line, sought):
@@ -208,7 +208,7 @@ class Picture:
         return found
 
     def column(self, row: int, at: int) -> int:
-        """The column in which the character number `at` of a row's text stands."""
+        """The column of the character number `at` of a row's text."""
         if self.lines[row].isascii():
             return at
         length = 0
@@ -219,13 +219,13 @@ class Picture:
         return self.size[1]
 
     def __contains__(self, sought: Sought) -> bool:
-        """Whether a text or a pattern stands in a row, or in the text of all rows where it goes over their ends."""
+        """Whether a text or a pattern is found in a row, or in the text of all rows if it goes over rows' ends."""
         if isinstance(sought, str):
             return any(sought in line for line in self.lines) or ("\n" in sought and sought in self.text)
         return any(sought.search(line) for line in self.lines) or bool(sought.search(self.text))
 
     def region(self, row: int, col: int, rows: int, cols: int) -> Picture:
-        """The part of so many rows and columns from a place on, as a picture of its own."""
+        """The part of this many rows and columns from a place on, as a picture of its own."""
         if row < 0 or col < 0 or rows < 1 or cols < 1 or row + rows > self.size[0] or col + cols > self.size[1]:
             size = f"{self.size[0]} rows and {self.size[1]} columns"
             raise IndexError(f"{rows}x{cols} at {row}, {col} isn't within a screen of {size}")
@@ -236,7 +236,7 @@ class Picture:
         return Picture(cells, cursor, self.title)
 
     def difference(self, other: Picture) -> str:
-        """What differs from another picture, row by row; nothing where they are equal. `-` is this one, `+` that."""
+        """What differs from another picture, row by row; nothing if they are equal. `-` is this one, `+` the other."""
         from ._differences import difference
 
         return difference(self, other)
@@ -259,7 +259,7 @@ class Picture:
 
 
 def _part(cells: tuple[Cell, ...]) -> tuple[Cell, ...]:
-    """Some cells of a row, of which none is half of a wide one."""
+    """Some cells of a row, without halves of wide ones."""
     made = list(cells)
     if made[0].width == 0:
         made[0] = made[0]._replace(text=" ", width=1)
@@ -295,7 +295,7 @@ def padded(picture: Picture, row: int) -> str:
 
 
 def _end(picture: Picture, row: int) -> int:
-    """The column behind the last one of a row that shows something."""
+    """The column after the last one of a row that shows something."""
     cells = picture.cells[row]
     end = len(cells)
     while end and cells[end - 1].text == " ":
@@ -311,9 +311,9 @@ def cursor_words(cursor: Cursor) -> str:
     return " ".join(words)
 
 
-# What `picture_of` needs of a live screen.
+# What `picture_of` reads of a live screen.
 def picture_of(screen: jeihpal.Screen, look: jeihpal.Look, title: str) -> Picture:
-    """What a live screen shows now. Its cells are read where they are looked at."""
+    """What a live screen shows now. Its cells are read when they are first looked at."""
     state = screen.state()
     size = look.rows, look.cols
     lines = tuple(screen.row_text(row).rstrip() for row in range(look.rows))

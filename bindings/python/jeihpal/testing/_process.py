@@ -15,9 +15,9 @@ from ._answers import CELL_HEIGHT, CELL_WIDTH
 from ._failures import ProgramNotFound
 from ._terminfo import fitting_terminfo
 
-_IUTF8 = 0o40000  # a character of several bytes is erased as one
+_IUTF8 = 0o40000  # so that a character of several bytes is erased as one
 _ENTER = 'cd -- "$1" && shift && exec "$@"'
-# What another terminal has said of itself.
+# Variables in which another terminal describes itself.
 _OF_OTHERS = {
     *("LINES", "COLUMNS", "TERMCAP", "TERM_PROGRAM", "TERM_PROGRAM_VERSION", "TMUX", "TMUX_PANE", "STY", "WINDOW"),
     *("VTE_VERSION", "KITTY_WINDOW_ID", "WT_SESSION", "KONSOLE_VERSION", "COLORFGBG", "WINDOWID", "NO_COLOR"),
@@ -25,7 +25,7 @@ _OF_OTHERS = {
 
 
 class Activity(NamedTuple):
-    """What a program and those that it has started do."""
+    """What a program, and those that it has started, are doing."""
 
     is_busy: bool
     """One of them runs, or waits for a processor or a disk."""
@@ -37,7 +37,7 @@ IDLE = Activity(False, 0)
 
 
 def environment(changes: Optional[Mapping[str, Optional[str]]]) -> dict[str, str]:
-    """The environment of a program: that of the test, with what says how the terminal is, and with the changes."""
+    """The environment of a program: that of the test, with variables that describe the terminal, and the changes."""
     made = {name: text for name, text in os.environ.items() if name not in _OF_OTHERS and not name.startswith("LC_")}
     made.update({"TERM": "xterm-256color", "COLORTERM": "truecolor", "LANG": "C.UTF-8", "NCURSES_NO_UTF8_ACS": "1"})
     terminfo = fitting_terminfo()
@@ -67,7 +67,7 @@ def _program(word: str, env: Mapping[str, str], cwd: str) -> str:
 
 
 class Process:
-    """A program that runs in a pseudo-terminal. Once `status` isn't None it has ended."""
+    """A program that runs in a pseudo-terminal. It has ended once `status` isn't None."""
 
     def __init__(self, words: Sequence[str], size: tuple[int, int], env: Mapping[str, str], cwd: Optional[str]) -> None:
         path = _program(words[0], env, cwd or ".")
@@ -92,7 +92,7 @@ class Process:
             os.close(other)
         os.set_blocking(self.fd, False)
         self.ended_fd: Optional[int] = None
-        """A file that can be read once it has ended, where the system has such."""
+        """A file that can be read once the program has ended, if the system has such files."""
         with contextlib.suppress(AttributeError, OSError):
             self.ended_fd = os.pidfd_open(self.pid)
 
@@ -108,12 +108,12 @@ class Process:
             raise ProgramNotFound(f"{path} can't be run: {error.strerror}") from None
 
     def resize(self, rows: int, cols: int) -> None:
-        """Gives its terminal another size, of which it is told."""
+        """Gives its terminal another size, and notifies the program."""
         size = struct.pack("HHHH", rows, cols, min(cols * CELL_WIDTH, 65535), min(rows * CELL_HEIGHT, 65535))
         fcntl.ioctl(self.fd, termios.TIOCSWINSZ, size)
 
     def signal(self, number: int) -> None:
-        """Sends a signal to the processes that have the terminal, as the keys do. Nothing once it has ended."""
+        """Sends a signal to the processes that have the terminal, as keys do. Does nothing if the program has ended."""
         group = self.pid
         with contextlib.suppress(OSError):
             group = os.tcgetpgrp(self.fd) or self.pid
@@ -141,11 +141,11 @@ class Process:
         return self.status is not None
 
     def activity(self) -> Activity:
-        """What it, and what it has started, does just now."""
+        """What it, and what it has started, is doing just now."""
         return _activity(self.pid, 0) if self.status is None else IDLE
 
     def read(self) -> Optional[bytes]:
-        """The next bytes that it has written; nothing at their end, None where there are none yet."""
+        """The next bytes that it has written; nothing at their end, None if there are none yet."""
         try:
             return os.read(self.fd, 65536)
         except BlockingIOError:
@@ -154,13 +154,13 @@ class Process:
             return b""
 
     def write(self, data: bytes) -> int:
-        """Sends as much as there is room for, and answers how much that is."""
+        """Sends as much as there is room for, and returns how much that is."""
         try:
             return os.write(self.fd, data)
         except BlockingIOError:
             return 0
         except OSError:
-            return len(data)  # nobody reads it any more
+            return len(data)  # no process reads it any more
 
     def close(self) -> None:
         """Closes its terminal."""
@@ -171,7 +171,7 @@ class Process:
 
 
 def _activity(pid: int, depth: int) -> Activity:
-    """The same of a process and those that it has started; idle where the system doesn't tell."""
+    """The activity of a process and those that it has started; idle if the system doesn't say."""
     is_busy, ticks, folder = False, 0, f"/proc/{pid}/task"
     with contextlib.suppress(OSError, ValueError, IndexError):  # it may end meanwhile
         ticks = sum(map(int, _stat(f"/proc/{pid}/stat")[11:15]))
@@ -186,7 +186,7 @@ def _activity(pid: int, depth: int) -> Activity:
 
 
 def _stat(path: str) -> list[bytes]:
-    """The words of a process behind its name: its state is the first."""
+    """The fields of a process after its name; the first is its state."""
     with open(path, "rb") as file:
         return file.read().rpartition(b")")[2].split()
 

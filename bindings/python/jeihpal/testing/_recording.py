@@ -8,7 +8,7 @@ import shlex
 import time
 from typing import Sequence
 
-_MOST = 8 << 20  # characters that are kept; then the recording begins anew from the screen of that moment
+_MOST = 8 << 20  # characters that are kept; after that the recording starts again from the screen of that moment
 
 
 class Recording:
@@ -24,11 +24,11 @@ class Recording:
 
     @property
     def is_full(self) -> bool:
-        """Whether it has become so long that it is to begin anew."""
+        """Whether it has become so long that it must start again."""
         return self._kept > _MOST
 
     def begin_anew(self, state: bytes, rows: int, cols: int) -> None:
-        """Forgets all before the screen that a state leads to."""
+        """Forgets all events, and starts with the screen that a state leads to."""
         self._events, self._kept, self._size = [], 0, (rows, cols)
         self._start = self._last = time.monotonic()
         self.output(state)

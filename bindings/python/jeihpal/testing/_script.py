@@ -1,4 +1,4 @@
-"""jeihpal-test: tests of programs in a terminal as scripts, a step a line."""
+"""jeihpal-test: tests of programs in a terminal as scripts, with one step on each line."""
 
 from __future__ import annotations
 
@@ -26,7 +26,7 @@ class Skipped(Exception):
 
 
 class Player:
-    """Plays the steps of one script."""
+    """Runs the steps of one script."""
 
     def __init__(self, terminals: TestTerminals, folder: str) -> None:
         self._terminals, self._folder = terminals, folder
@@ -37,7 +37,7 @@ class Player:
         self._terminal: Optional[Terminal] = None
 
     def play(self, step: Step) -> None:
-        """Plays a step. Raises AssertionError where what is expected doesn't come."""
+        """Runs a step. Raises AssertionError if what is expected doesn't come."""
         name = f"{step.name}_{step.words[0]}" if step.name == "expect" else step.name
         play: Callable[[Step, list[Any]], None]
         play = getattr(self, f"_do_{name}", None) or getattr(self, f"_do_{step.name}")
@@ -102,7 +102,7 @@ class Player:
     def _do_mask(self, step: Step, words: list[Word]) -> None:
         self._masks += words
 
-    # What is expected is waited for.
+    # These steps wait for what they expect.
 
     def _do_expect(self, step: Step, words: list[Word]) -> None:
         self._running.wait_for(words[0])
@@ -151,7 +151,7 @@ class Player:
 
 
 def _scripts(paths: list[str]) -> Iterator[str]:
-    """The scripts that the words of the command line name."""
+    """The scripts that the arguments name."""
     for path in paths:
         if os.path.isdir(path):
             for folder, folders, files in sorted(os.walk(path)):
@@ -169,7 +169,7 @@ class Run:
         self.status = 0
 
     def test(self, path: str, number: int) -> None:
-        """Plays a script, and prints its lines of TAP."""
+        """Runs a script, and prints its lines of TAP."""
         name = os.path.basename(path)
         name = name[: -len(ENDING)] if name.endswith(ENDING) else name
         try:
@@ -210,7 +210,7 @@ class Run:
 
 
 def main(words: Optional[list[str]] = None) -> int:
-    """Plays the scripts that the command line names. Answers the status."""
+    """Runs the scripts that the arguments name. Returns the exit status."""
     steps = "\n".join(f"  {name:8} {form}" for name, form in FORMS.items())
     parser = argparse.ArgumentParser(
         prog="jeihpal-test",

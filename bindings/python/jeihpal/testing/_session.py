@@ -19,17 +19,17 @@ from ._recording import Recording
 
 Made = TypeVar("Made")
 _Job = Tuple["concurrent.futures.Future[Any]", Callable[[LiveScreen], Any]]
-PAUSE = 0.01  # a program that is silent for so many seconds, and waits, has drawn what it wanted
-_RESTLESS = 0.2  # one that draws for so many seconds of processor time without a pause is looked at in between
-_LATEST = 2.0  # and one that does so for so many seconds
+PAUSE = 0.01  # seconds; a program that writes nothing for this long, and waits, has finished drawing
+_RESTLESS = 0.2  # seconds of processor time; a program that draws this long without a pause is looked at in between
+_LATEST = 2.0  # seconds; the same for one that draws this long
 _DRAIN = 0.3  # seconds that what the program has started may write on after its end
 _MOST_LAST = 2000  # bytes of what was written last
 _MOST_MOMENTS = 1000
-_HANG_UP = 2.0  # seconds that a program may take to end when it is told to
+_HANG_UP = 2.0  # seconds that a program may take to end after it was hung up
 
 
 class _Begun(NamedTuple):
-    """When the program began to draw what isn't seen yet."""
+    """When the program began to draw what isn't in a moment yet."""
 
     at: float
     ticks: int
@@ -39,7 +39,7 @@ class _Begun(NamedTuple):
 
 
 class Session:
-    """What a terminal reads and sends, on its thread. Its fields are looked at under its lock, `changed`."""
+    """What a terminal reads and sends, on its thread. Its fields are read under its lock, `changed`."""
 
     def __init__(self, process: Process, recording: Recording, size: tuple[int, int]) -> None:
         self.process, self.recording = process, recording
@@ -57,14 +57,14 @@ class Session:
         self.sent_at = self.written_at
         """When something was sent last."""
         self.is_fresh = False
-        """Whether nothing was written since the newest moment."""
+        """Whether nothing has been written since the newest moment."""
         self.is_done = False
         """Whether the program has ended, and all was read."""
         self.fault: Optional[BaseException] = None
         self._outgoing = bytearray()
         self._jobs: Deque[_Job] = collections.deque()
         self._first_unseen: Optional[_Begun] = None
-        self._look_again_at = 0.0  # what the program does isn't looked at before
+        self._look_again_at = 0.0  # before this time the program's activity isn't checked
         self._wake_read, self._wake_write = os.pipe()
         for fd in (self._wake_read, self._wake_write):
             os.set_blocking(fd, False)
@@ -79,7 +79,7 @@ class Session:
     # -- on other threads
 
     def send(self, data: bytes) -> None:
-        """Sends bytes to the program. Moments of before are forgotten but the newest."""
+        """Sends bytes to the program. Earlier moments are forgotten, except the newest."""
         with self.changed:
             self.recording.input(data)
             self._outgoing += data
@@ -88,12 +88,12 @@ class Session:
         self._wake()
 
     def forget(self) -> None:
-        """Forgets all moments but the newest. Under the lock."""
+        """Forgets all moments except the newest. The caller holds the lock."""
         while len(self.moments) > 1:
             self.moments.popleft()
 
     def on_thread(self, work: Callable[[LiveScreen], Made], seconds: float = 30.0) -> Made:
-        """Does some work on the thread, and answers what it made."""
+        """Does some work on the thread, and returns its result."""
         made: concurrent.futures.Future[Made] = concurrent.futures.Future()
         with self.changed:
             if self._is_closing or self.fault:
@@ -103,7 +103,7 @@ class Session:
         return made.result(seconds)
 
     def close(self) -> None:
-        """Ends the program where it runs, and the thread."""
+        """Ends the program if it runs, and the thread."""
         with self.changed:
             self._is_closing = True
         self._wake()
@@ -135,14 +135,14 @@ class Session:
                 self._started.set()
                 while not self._is_closing:
                     self._turn()
-        except BaseException as error:  # it is raised where somebody waits
+        except BaseException as error:  # it is raised for a caller that waits
             self.fault = error
         finally:
             self._end()
             self._started.set()
 
     def _turn(self) -> None:
-        """Waits until something is to be done, and does it."""
+        """Waits until there is something to do, and does it."""
         poll = select.poll()
         poll.register(self._wake_read, select.POLLIN)
         if not self.is_done:
@@ -164,7 +164,7 @@ class Session:
     def _do(self, made: concurrent.futures.Future[Any], work: Callable[[LiveScreen], Any]) -> None:
         try:
             made.set_result(work(self.live))
-        except BaseException as error:  # it is raised where the result is asked for
+        except BaseException as error:  # it is raised when the result is asked for
             made.set_exception(error)
 
     def _patience(self) -> Optional[float]:
@@ -205,7 +205,7 @@ class Session:
             time.sleep(0.005)  # it has closed its terminal, but runs
 
     def _notice_end(self) -> None:
-        """A program that has ended, and is silent, is done with, also where others still have its terminal."""
+        """Finishes once the program has ended and is silent, even if other processes still have its terminal."""
         if self.is_done or not self.process.has_ended():
             return
         now = time.monotonic()
@@ -225,7 +225,7 @@ class Session:
             self.changed.notify_all()
 
     def _notice_moment(self) -> None:
-        """Looks whether the program has drawn what it wanted."""
+        """Checks whether the program has finished drawing."""
         if self._first_unseen is None or not self._has_drawn(self._first_unseen):
             return
         if self.live.look.updating:
@@ -237,7 +237,7 @@ class Session:
         self._first_unseen = None
 
     def _has_drawn(self, begun: _Begun) -> bool:
-        """Whether it is silent and waits, or draws for so long without a pause that it is looked at in between."""
+        """Whether it is silent and waits, or has drawn for so long without a pause that it is looked at in between."""
         now = time.monotonic()
         is_silent, is_restless = now - self.written_at >= PAUSE, now - begun.at > _RESTLESS
         if not (is_silent or is_restless) or now < self._look_again_at:
@@ -250,18 +250,18 @@ class Session:
         return True
 
     def _has_more(self) -> bool:
-        """Whether more can be read at once."""
+        """Whether more can be read immediately."""
         poll = select.poll()
         poll.register(self.process.fd, select.POLLIN)
         return any(event & select.POLLIN for _, event in poll.poll(0))
 
     def publish(self) -> None:
-        """The screen as it is now is a moment. On the thread."""
+        """Keeps the screen as it is now as a moment. Called on the thread."""
         self._publish(self.live.picture())
         self._first_unseen = None
 
     def _publish(self, picture: Picture) -> None:
-        """A moment of the screen, if it isn't the newest one again."""
+        """Adds a moment of the screen, unless it is the newest one already."""
         with self.changed:
             if not self.moments or picture is not self.moments[-1]:
                 self.moments.append(picture)
@@ -270,7 +270,7 @@ class Session:
             self.changed.notify_all()
 
     def _end(self) -> None:
-        """Ends the program, and lets everybody know."""
+        """Ends the program, and wakes all that wait."""
         process = self.process
         for number in (signal.SIGHUP, signal.SIGCONT):
             process.kill(number)

@@ -22,7 +22,7 @@ _STYLE = re.compile(r"(\d+) (\d+)(?:-(\d+))? (.+)")
 
 
 def written(picture: Picture, styles: bool = True, cursor: bool = True) -> str:
-    """A picture as text: a line for each row behind a bar, then cursor, title and styles."""
+    """A picture as text: a bar and then the text for each row, then cursor, title and styles."""
     told = [f"screen of {picture.size[0]} rows and {picture.size[1]} columns"]
     told += [f"|{line}" for line in picture.lines]
     if cursor:
@@ -38,7 +38,7 @@ def written(picture: Picture, styles: bool = True, cursor: bool = True) -> str:
 
 
 def read(text: str) -> Picture:
-    """The picture that a text is of. Raises ValueError, with the line, where it is of none."""
+    """The picture that a text describes. Raises ValueError, with the line, if it doesn't describe one."""
     lines = text.split("\n")
     head = _HEAD.fullmatch(lines[0])
     if not head:
@@ -92,7 +92,7 @@ def cells_of_lines(lines: list[str], cols: int) -> Cells:
 
 
 def masked(picture: Picture, masks: tuple[Mask, ...]) -> Picture:
-    """A picture with `*` for what a text or a pattern finds, or what stands in a region."""
+    """A picture with `*` for what a text or a pattern finds, or for what is in a region."""
     if not masks:
         return picture
     cells = [list(row) for row in picture.cells]
@@ -123,7 +123,7 @@ class Snapshots:
     """The kept screens of one file of tests, in a folder."""
 
     def __init__(self, folder: str, is_updating: bool, how: str) -> None:
-        """`how` says how a screen is kept anew, for those who read what failed."""
+        """`how` is for the message of a failure: it says how to keep the new screen."""
         self.folder, self.is_updating, self._how = folder, is_updating, how
 
     def path(self, name: str) -> str:
@@ -140,9 +140,9 @@ class Snapshots:
         styles: bool = True,
         cursor: bool = True,
     ) -> None:
-        """Compares a screen with the kept one of this name. Raises ScreenChanged where they differ.
+        """Compares a screen with the kept one of this name. Raises ScreenChanged if they differ.
 
-        Of a terminal it waits until its screen is so.
+        For a terminal it waits until its screen equals the kept one.
         """
         __tracebackhide__ = True
         path, masks = self.path(name), tuple(mask)
@@ -162,7 +162,7 @@ class Snapshots:
             raise ScreenChanged(self._told(path, name, kept, now), name, _read_or_none(kept), read(now))
 
     def _told(self, path: str, name: str, kept: str, now: str) -> str:
-        """What differs, row by row, or line by line where the kept text is no screen."""
+        """What differs, row by row, or line by line if the kept text isn't a screen."""
         old = _read_or_none(kept)
         told = old.difference(read(now)) if old else ""
         if not told:
@@ -177,7 +177,7 @@ class Snapshots:
 
 
 def _waited(terminal: Terminal, is_wanted: Callable[[Picture], bool], is_unknown: bool) -> Picture:
-    """A terminal's screen once it is as wanted, or its last one; where nobody knows what is wanted, a quiet one."""
+    """A terminal's screen once it is as wanted, or its last one; if no wanted screen is known, one that is quiet."""
     try:
         return terminal.wait_until_quiet() if is_unknown else terminal.wait_for(is_wanted)
     except WaitFailed as failure:

@@ -1,4 +1,4 @@
-"""The lines of a script: words, texts and patterns, and which steps there are."""
+"""The lines of a script: their words, texts and patterns, and the steps that exist."""
 
 from __future__ import annotations
 
@@ -12,7 +12,7 @@ Word = Union[str, Pattern[str]]
 _WORD = re.compile(r'"(?:[^"\\]|\\.)*"|/(?:[^/\\]|\\.)+/(?=\s|$)|[^\s"]\S*')
 _ESCAPES = {"n": "\n", "t": "\t", "r": "\r", "e": "\x1b", "0": "\0", '"': '"', "\\": "\\"}
 
-# Each step, and how its line goes on.
+# Each step, and the rest of its line.
 FORMS = {
     "needs": "PROGRAM ..",
     "size": "ROWS COLUMNS",
@@ -42,7 +42,7 @@ EXPECTATIONS = {
 
 
 class ScriptError(ValueError):
-    """A line is no step."""
+    """A line isn't a step."""
 
     def __init__(self, line: int, words: str) -> None:
         super().__init__(words)
@@ -57,9 +57,9 @@ class Step(NamedTuple):
     words: list[Word]
     """Its words: texts and patterns."""
     rest: str
-    """The line behind the step's name, as it stands."""
+    """The line after the step's name, as it is written."""
     rows: list[str]
-    """The rows of a screen that follow it, behind a bar each."""
+    """The rows of a screen that follow it, each after a bar."""
 
     @property
     def form(self) -> str:
@@ -102,7 +102,7 @@ def _step(number: int, line: str) -> Step:
 
 
 def _words(rest: str) -> list[str]:
-    """The words of a line, as they stand."""
+    """The words of a line, as they are written."""
     words, at = [], 0
     while at < len(rest):
         if rest[at].isspace():
@@ -143,7 +143,7 @@ def _is_number(word: Word) -> bool:
 
 
 def _fits(step: Step) -> bool:
-    """Whether the step has words as it wants them."""
+    """Whether the step has the words that it needs."""
     words, count = step.words, len(step.words)
     if step.name in ("size", "resize"):
         return _are_numbers(words, 2)

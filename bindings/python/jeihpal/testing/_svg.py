@@ -8,7 +8,7 @@ from typing import Iterator
 from ._colors import BACKGROUND, FOREGROUND, NAMES, hex_of_name
 from ._picture import Cell, Picture, Style
 
-_WIDTH, _HEIGHT, _BASE, _FONT = 9, 18, 14, 15  # pixels: of a cell, to the line that letters stand on, of the font
+_WIDTH, _HEIGHT, _BASE, _FONT = 9, 18, 14, 15  # in pixels: a cell, the baseline of letters, the font
 
 
 def svg(picture: Picture) -> str:
@@ -31,7 +31,7 @@ def svg(picture: Picture) -> str:
 
 
 def _runs(cells: tuple[Cell, ...]) -> Iterator[tuple[int, int, str, Style]]:
-    """Runs of a row that are drawn at once: column, columns, text, style. A character that isn't ASCII is one."""
+    """Runs of a row that are drawn at once: column, columns, text, style. A character beyond ASCII is its own run."""
     start, cols, text, style = 0, 0, "", Style()
     for col, cell in enumerate(cells):
         if cell.width == 0:
@@ -48,7 +48,7 @@ def _runs(cells: tuple[Cell, ...]) -> Iterator[tuple[int, int, str, Style]]:
 
 
 def _row(row: int, cells: tuple[Cell, ...]) -> list[str]:
-    """A row: what is behind the texts, and the texts."""
+    """A row: the background of the texts, and the texts."""
     behind, texts = [], []
     for start, cols, text, style in _runs(cells):
         bright = f"bright-{style.foreground}"

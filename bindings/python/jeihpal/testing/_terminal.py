@@ -21,7 +21,7 @@ from ._session import Session
 
 Condition = Union[str, Pattern[str], Callable[[Picture], object]]
 TIMEOUT = 10.0
-_MOST_NAME = 100  # characters of the command
+_MOST_NAME = 100  # characters of the command in messages
 _MOST_TOLD = 400  # bytes of what was written last, in what a failed wait says
 
 
@@ -34,10 +34,10 @@ class Terminal:
     ...     screen.find("42")
     Place(row=1, col=0)
 
-    A thread of its own reads what the program writes, answers what it asks of its terminal, and looks at the screen at
-    whole moments alone: where the program is silent for 10 ms and waits for something, and where it ends an update that
-    it has marked as such (private mode 2026). One that draws without a pause is looked at after each 0.2 s of processor
-    time, or 2 s. A screen is a `Picture`, and never changes.
+    A thread of its own reads what the program writes, answers what it asks of its terminal, and reads the screen only
+    at whole moments: when the program is silent for 10 ms and waits for something, and when it ends an update that it
+    has marked as such (private mode 2026). A program that draws without a pause is looked at after each 0.2 s of
+    processor time, or 2 s. A screen is a `Picture`, and never changes.
     """
 
     def __init__(
@@ -51,7 +51,7 @@ class Terminal:
     ) -> None:
         """Runs a command: words, or a text that is split as a shell does. There is no shell.
 
-        `env` changes the environment: a name with None isn't in it. `timeout` is for how many seconds is waited where a
+        `env` changes the environment: a name with None is removed. `timeout` is how many seconds a wait lasts if the
         call doesn't say. Raises ProgramNotFound.
         """
         self.command = shlex.split(command) if isinstance(command, str) else [str(word) for word in command]
@@ -71,7 +71,7 @@ class Terminal:
 
     @property
     def screen(self) -> Picture:
-        """The screen now: at the newest whole moment, once what has come is drawn."""
+        """The screen now: at the newest whole moment, once all bytes that have come are drawn."""
         session = self._session
         end = time.monotonic() + 1
         with session.changed:
@@ -87,7 +87,7 @@ class Terminal:
 
     @property
     def title(self) -> str:
-        """The window's title, where the program has set one."""
+        """The window's title, if the program has set one."""
         return self._session.live.title
 
     @property
@@ -117,14 +117,14 @@ class Terminal:
         self._send(sent, f"press {' '.join(keys)}")
 
     def paste(self, text: str) -> None:
-        """Pastes a text: as one where the program asks for that, else as if it were typed."""
+        """Pastes a text: marked as pasted if the program asks for that, else as if it were typed."""
         self._send(pasted_bytes(text, self.modes), f"paste {text!r}")
 
     def click(self, where: Union[Sought, tuple[int, int]], button: str = "left", modifiers: str = "") -> None:
         """Clicks at a row and a column, or at the first character of a text or of what a pattern finds.
 
-        The button is `left`, `middle`, `right`, `wheel-up` or `wheel-down`. Modifiers are as `Ctrl-Shift`. Raises
-        ValueError where the program hasn't asked for mouse events, or the text isn't on the screen.
+        The button is `left`, `middle`, `right`, `wheel-up` or `wheel-down`. Modifiers are such as `Ctrl-Shift`. Raises
+        ValueError if the program hasn't asked for mouse events, or the text isn't on the screen.
         """
         place = Place(*where) if isinstance(where, tuple) else self.screen.find(where)
         if place is None:
@@ -137,7 +137,7 @@ class Terminal:
         self._send(data, f"send {data!r}")
 
     def resize(self, rows: int, cols: int) -> None:
-        """Gives the terminal another size, and tells the program."""
+        """Gives the terminal another size, and notifies the program."""
         session = self._session
 
         def work(live: object) -> None:
@@ -152,7 +152,7 @@ class Terminal:
         session.on_thread(work)
 
     def signal(self, which: Union[int, str]) -> None:
-        """Sends a signal to the program that has the terminal: a number, or a name as `INT`."""
+        """Sends a signal to the program that has the terminal: a number, or a name such as `INT`."""
         if isinstance(which, str):
             name = which.upper() if which.upper().startswith("SIG") else f"SIG{which.upper()}"
             if name not in signals.Signals.__members__:
@@ -169,16 +169,16 @@ class Terminal:
     # -- waiting
 
     def wait_for(self, what: Condition, timeout: Optional[float] = None) -> Picture:
-        """Waits until a text is on the screen, a pattern finds something, or a function of the screen says yes.
+        """Waits until a text is on the screen, a pattern finds something, or a function of the screen returns true.
 
-        Answers the screen at which it was so. Every whole moment is looked at since something was sent last or the last
-        wait found something, so one that came and went is found too. Raises WaitFailed once the time is over, and at
-        once where the program has ended without it.
+        Returns the screen for which this is so. It checks every whole moment since something was last sent or the last
+        wait found something, so it also finds a screen that came and went. Raises WaitFailed once the time is over, and
+        immediately if the program has ended without it.
         """
         return self._waited(_test_of(what), _words_of(what), timeout)
 
     def wait_for_test(self, test: Callable[[Picture], object], words: str, timeout: Optional[float] = None) -> Picture:
-        """The same of a function that has words for what it wants."""
+        """As `wait_for`, with a function, and words for what it waits for."""
         __tracebackhide__ = True
         return self._waited(test, words, timeout)
 
@@ -191,9 +191,9 @@ class Terminal:
         return self._waited(lambda screen: not test(screen), f"{_words_of(what)} to be gone", timeout)
 
     def wait_until_quiet(self, seconds: float = 0.1, timeout: Optional[float] = None) -> Picture:
-        """Waits until the program has written nothing for so many seconds, and hasn't run. Answers the screen.
+        """Waits until the program has written nothing for this many seconds, and hasn't run. Returns the screen.
 
-        The seconds count from the last thing that was sent, too.
+        The seconds start again when something is sent.
         """
         __tracebackhide__ = True
         session, end = self._session, self._end(timeout)
@@ -214,7 +214,7 @@ class Terminal:
             time.sleep(0.005)
 
     def wait_for_exit(self, timeout: Optional[float] = None) -> int:
-        """Waits until the program has ended. Answers its status; less than 0 is a signal's number."""
+        """Waits until the program has ended. Returns its status; less than 0 is a signal's number."""
         __tracebackhide__ = True
         session, end = self._session, self._end(timeout)
         with session.changed:
@@ -229,14 +229,14 @@ class Terminal:
 
     @property
     def status(self) -> Optional[int]:
-        """The program's status, as `wait_for_exit` has it; None while it runs."""
+        """The program's status, as `wait_for_exit` returns it; None while it runs."""
         return self._session.process.status if self._session.is_done else None
 
     def _end(self, timeout: Optional[float]) -> float:
         return time.monotonic() + (self.timeout if timeout is None else timeout)
 
     def _waited(self, test: Callable[[Picture], object], words: str, timeout: Optional[float]) -> Picture:
-        """Waits for a moment of which a test says yes."""
+        """Waits for a moment for which a test returns true."""
         __tracebackhide__ = True
         session, end = self._session, self._end(timeout)
         seen = 0
@@ -260,7 +260,7 @@ class Terminal:
                     session.changed.wait(left)
 
     def _forget_before(self, number: int) -> None:
-        """The next wait begins with the moment of this number."""
+        """Makes the next wait begin with the moment of this number."""
         session = self._session
         with session.changed:
             while len(session.moments) > max(1, session.count - number + 1):
@@ -271,7 +271,7 @@ class Terminal:
             raise RuntimeError("the terminal has failed") from self._session.fault
 
     def _fail(self, words: str, timeout: Optional[float]) -> NoReturn:
-        """A wait is over in vain."""
+        """Raises the error of a wait that has failed."""
         __tracebackhide__ = True
         seconds = self.timeout if timeout is None else timeout
         session = self._session
@@ -285,7 +285,7 @@ class Terminal:
         raise WaitFailed("\n".join(told), screen)
 
     def _state(self) -> list[str]:
-        """What the program and its screen are like, to be read where a test fails."""
+        """Describes the program and its screen, for the message of a failed test."""
         session = self._session
         ago = time.monotonic() - session.written_at
         if session.is_done:
@@ -315,7 +315,7 @@ class Terminal:
             self._recording.marker(name)
 
     def close(self) -> None:
-        """Ends the program where it runs: it is hung up, and killed after two seconds. The screen can still be read."""
+        """Ends the program if it runs: it is hung up, and killed after two seconds. The screen can still be read."""
         self._session.close()
 
     def __enter__(self) -> Terminal:
@@ -332,7 +332,7 @@ class Terminal:
 
     @property
     def _name(self) -> str:
-        """The command in a line that isn't long."""
+        """The command in one short line."""
         line = shlex.join(self.command).replace("\n", "\\n")
         return line if len(line) <= _MOST_NAME else line[: _MOST_NAME - 3] + "..."
 

@@ -1,4 +1,4 @@
-"""A description of the terminal for programs: that of xterm-256color without what the screen doesn't know."""
+"""A terminfo description for programs: that of xterm-256color without what the screen doesn't know."""
 
 from __future__ import annotations
 
@@ -32,7 +32,7 @@ _UNKNOWN = {
 
 
 def without_unknown(data: bytes) -> bytes:
-    """A compiled description without these strings. Raises ValueError where it is none."""
+    """A compiled description without these strings. Raises ValueError if the data isn't a description."""
     if len(data) < 12:
         raise ValueError("it is no description of a terminal")
     magic, names, flags, numbers, strings, _ = struct.unpack_from("<6H", data)
@@ -51,7 +51,7 @@ def without_unknown(data: bytes) -> bytes:
 
 @functools.lru_cache(maxsize=1)
 def fitting_terminfo() -> Optional[str]:
-    """A folder with the description, for TERMINFO; None where the system has none to begin with."""
+    """A folder with the description, for TERMINFO; None if the system has no description to start from."""
     for folder in _FOLDERS:
         try:
             with open(f"{folder}/x/{_NAME}", "rb") as file:

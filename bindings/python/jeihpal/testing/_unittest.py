@@ -22,8 +22,8 @@ else:
 class TerminalMixin(_Base):
     """For a `unittest.TestCase`: `self.terminal(..)` and `self.assert_screen(screen, "name")`.
 
-    Where the environment has JEIHPAL_UPDATE_SCREENS, the screens of the run are kept. What is left of a test that fails
-    goes to screens/failed beside its file.
+    If the environment has JEIHPAL_UPDATE_SCREENS, the screens of the run are kept. The files of a test that fails go to
+    screens/failed beside the test's file.
     """
 
     _terminals: TestTerminals
@@ -48,12 +48,12 @@ class TerminalMixin(_Base):
         styles: bool = True,
         cursor: bool = True,
     ) -> None:
-        """Compares a screen with the kept one of this name, as the fixture of pytest."""
+        """Compares a screen with the kept one of this name, as the fixture of pytest does."""
         __tracebackhide__ = True
         self._terminals.assert_screen(screen, name, mask, styles, cursor)
 
     def run(self, result: Optional[unittest.TestResult] = None) -> Optional[unittest.TestResult]:
-        """Runs the test, and writes down what is left where it fails."""
+        """Runs the test, and writes files if it fails."""
         folder, file = os.path.split(os.path.abspath(inspect.getfile(type(self))))
         module = os.path.splitext(file)[0]
         test = folder_name(f"{module}.{type(self).__name__}.{self._testMethodName}")

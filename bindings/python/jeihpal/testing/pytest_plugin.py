@@ -1,4 +1,4 @@
-"""A plugin for pytest: the fixtures `terminal` and `assert_screen`, and what is left of a failed test.
+"""A plugin for pytest: the fixtures `terminal` and `assert_screen`, and the files of a failed test.
 
 pytest finds it by itself where the module is installed. Elsewhere: `pytest -p jeihpal.testing.pytest_plugin`.
 """
@@ -59,7 +59,7 @@ def assert_screen(request: Any) -> Callable[..., None]:
 
 @pytest.hookimpl(hookwrapper=True)  # type: ignore[misc]
 def pytest_runtest_makereport(item: Any, call: Any) -> Generator[None, Any, None]:
-    """Writes down what is left of a test that fails, and says where."""
+    """Writes the files of a test that fails, and says where they are."""
     outcome = yield
     report = outcome.get_result()
     kept: Optional[TestTerminals] = getattr(item, _KEPT, None)
@@ -72,7 +72,7 @@ def pytest_runtest_makereport(item: Any, call: Any) -> Generator[None, Any, None
 
 
 def pytest_assertrepr_compare(op: str, left: object, right: object) -> Optional[list[str]]:
-    """What an assertion about pictures says."""
+    """The message of a failed assertion about pictures."""
     if isinstance(left, Picture) and isinstance(right, Picture) and op == "==":
         return ["the screens differ (- left, + right)", *left.difference(right).split("\n")]
     if isinstance(left, Row) and isinstance(right, Row) and op == "==":

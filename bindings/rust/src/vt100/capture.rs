@@ -49,7 +49,7 @@ pub struct RowContents<'a> {
     /// The row as a capture of its own.
     text: &'a str,
     wrapped: bool,
-    /// The type whose callback isn't written.
+    /// The type that doesn't override the callback.
     unread_by: &'a StdCell<&'static str>,
 }
 
@@ -62,7 +62,7 @@ impl<'a> RowContents<'a> {
         }
     }
 
-    /// Says that a type doesn't write the callback.
+    /// Reports that a type doesn't override the callback.
     #[doc(hidden)]
     pub fn is_unread_by(&self, name: &'static str) {
         self.unread_by.set(name);
@@ -180,10 +180,10 @@ pub fn basic_formatted_to_plain_indexed(capture: &str) -> BasicFormattedToPlainI
 
 /// The rows of a capture.
 pub struct BasicFormattedRows<'a> {
-    /// What is left of it; none behind its last row.
+    /// The rest of it; `None` after its last row.
     capture: Option<&'a str>,
     width: usize,
-    /// A screen that is asked for the columns of characters beyond ASCII.
+    /// A screen that is used to measure the width of characters beyond ASCII.
     ruler: Option<crate::Screen>,
 }
 
@@ -249,7 +249,7 @@ impl fmt::Debug for BasicFormattedRows<'_> {
 }
 
 /// The rows of a capture, for a screen of this width: cut at newlines, and before a character that would pass the
-/// width. A sequence belongs to the row that it stands in.
+/// width. A sequence belongs to the row in which it comes.
 ///
 /// ```
 /// use jeihpal::vt100::capture::basic_formatted_rows;

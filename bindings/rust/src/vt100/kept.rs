@@ -1,4 +1,4 @@
-//! What is read of a screen and kept until it changes.
+//! Values that are read of a screen and kept until it changes.
 use std::cell::UnsafeCell;
 use std::panic::RefUnwindSafe;
 use std::sync::atomic::{AtomicU64, Ordering};
@@ -18,7 +18,7 @@ unsafe impl<T: Send + Sync> Sync for Kept<T> {}
 impl<T> RefUnwindSafe for Kept<T> {}
 
 impl<T> Kept<T> {
-    /// The value, where it was read at this turn.
+    /// The value, if it was read at this turn.
     #[inline]
     pub(super) fn get(&self, turn: u64) -> Option<&T> {
         let is_read = self.turn.load(Ordering::Acquire) == turn;
@@ -26,7 +26,7 @@ impl<T> Kept<T> {
         is_read.then(|| unsafe { &*self.value.get() })
     }
 
-    /// The value, which is read where it wasn't at this turn.
+    /// The value, which is read unless it was already read at this turn.
     ///
     /// # Safety
     ///

@@ -1,7 +1,7 @@
 //! Operating system commands, as `vt100` reads them. The library keeps 1,024 bytes of one, so they are read here.
 use super::{Callbacks, Screen};
 
-/// A command has at most so many pieces.
+/// How many pieces a command has at most.
 const MOST_PIECES: usize = 16;
 
 /// Calls the callback that a command is for.
@@ -33,7 +33,7 @@ fn is_base64(byte: u8) -> bool {
     byte.is_ascii_alphanumeric() || matches!(byte, b'+' | b'/' | b'=')
 }
 
-/// What stands between the first semicolons. What comes behind the last of these isn't kept.
+/// The pieces between the first semicolons. What comes after the last of these semicolons isn't kept.
 fn pieces(command: &[u8]) -> Vec<&[u8]> {
     let between = command.split(|byte| *byte == b';');
     between.take(MOST_PIECES).collect()
