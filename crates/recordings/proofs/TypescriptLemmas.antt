@@ -1,12 +1,12 @@
 -- Steps of a typescript, one after another.
-use Rattle.std.proofs.Common.{◌≡◌, ◌∙◌, ◌<◌, ◌+◌, ℕ, suc, List, [], ◌∷◌, ◌++◌, length, take, drop, get_or, refl, sym}
+use Rattle.std.proofs.Common.{◌≡◌, ◌∙◌, ◌<◌, ◌+◌, ℕ, suc, List, [], ◌∷◌, ◌++◌, ◌==◌, length, take, drop, get_or, refl, sym}
 use Rattle.std.proofs.Common.{ap, nat_le, ◌≤◌, ◌&&◌, ◌⊎◌, inl, inr, cond, codes, ap₂, add-one, drop-cons, Bool, true}
 use Rattle.std.proofs.Common.{false, Option, Some, None, arith, subst}
 use Rattle.std.specs.Borrow.{Bor}
 use Rattle.std.specs.Prelude.{option_and_then}
 use Rattle.std.specs.Option.{option_map}
 use Rattle.std.specs.Str.{IsUtf8, all_ascii_digits, bytes_eq}
-use Rattle.std.specs.List.{find}
+use Rattle.std.specs.List.{before_first, find}
 use mathlib.Core.Logic.{⊎_elim}
 use Rattle.std.proofs.lemmas.Bool.Decides.{nat_tests}
 use Rattle.std.proofs.lemmas.Fmt.{IsAscii-from_digits}
@@ -18,7 +18,7 @@ use Rattle.recordings.specs.Details.{details_of, no_details}
 use Rattle.recordings.specs.Lines.{lines_in}
 use Rattle.recordings.specs.Recorded.{IsStateAfter, Row, said, size_said, writes}
 use Rattle.recordings.specs.Typescript.{AreSteps, IsReadScript, SaysRows, event_of, events_of, gives}
-use Rattle.recordings.specs.Typescript.{is_field, output_of, rest_of, shares_log, size_named, skips, taken}
+use Rattle.recordings.specs.Typescript.{begins_with, is_field, output_of, quoted_side, rest_of, script_size, shares_log, skips, taken}
 use Rattle.recordings.specs.Typescript.{value_named, word_of}
 use Rattle.recordings.specs.declared.error.RecordingError.{RecordingError}
 use Rattle.recordings.specs.declared.error.RecordingError.TheVariants.{Step as AStep}
@@ -133,10 +133,10 @@ bytes_skipped left after time count le rest =
 
 -- ---- what is read up to a fault
 
-says_rows : (timing : List ℕ) (rows : List Row) (t : Timeline) (r : Recording) → IsStateAfter FromLast rows t
-    → r.kind ≡ Script → option_map size_said r.size ≡ size_named (lines_in timing) → details_of r ≡ no_details
-    → r.events ≡ t.events → r.length ≡ t.time → SaysRows timing rows r
-says_rows timing rows t r state_after kind size own events end = record {
+says_rows : (typescript timing : List ℕ) (rows : List Row) (t : Timeline) (r : Recording) → IsStateAfter FromLast rows t
+    → r.kind ≡ Script → option_map size_said r.size ≡ script_size typescript (lines_in timing) → details_of r ≡ no_details
+    → r.events ≡ t.events → r.length ≡ t.time → SaysRows typescript timing rows r
+says_rows typescript timing rows t r state_after kind size own events end = record {
   kind = kind;
   size = size;
   own = own;
@@ -146,23 +146,23 @@ says_rows timing rows t r state_after kind size own events end = record {
 
 read_by : (typescript timing : List ℕ) (t : Timeline) (n : Option ℕ) (r : Recording)
     → AreSteps (shares_log (lines_in timing)) (output_of typescript) (lines_in timing) t n
-    → r.kind ≡ Script → option_map size_said r.size ≡ size_named (lines_in timing) → details_of r ≡ no_details
+    → r.kind ≡ Script → option_map size_said r.size ≡ script_size typescript (lines_in timing) → details_of r ≡ no_details
     → r.events ≡ t.events → r.length ≡ t.time → IsReadScript typescript timing r (option_map AStep n)
 read_by typescript timing t None r read kind size own events end = record {
   rows = read.0;
   left = read.1;
   steps = read.2;
-  says = says_rows timing read.0 t r read.3 kind size own events end;
+  says = says_rows typescript timing read.0 t r read.3 kind size own events end;
 }
 read_by typescript timing t (Some n) r read kind size own events end = (
   read.0,
-  says_rows timing read.0.rows t r read.1 kind size own events end,
+  says_rows typescript timing read.0.rows t r read.1 kind size own events end,
 )
 
 pub steps_read : (typescript timing output : List ℕ) (shared : Bool) (lines : List (List ℕ)) (t : Timeline)
     (n : Option ℕ) (r : Recording) (fault : Option RecordingError) → output ≡ output_of typescript
     → lines ≡ lines_in timing → shared ≡ shares_log lines → AreSteps shared output lines t n → r.kind ≡ Script
-    → option_map size_said r.size ≡ size_named lines → details_of r ≡ no_details
+    → option_map size_said r.size ≡ script_size typescript lines → details_of r ≡ no_details
     → r.events ≡ t.events → r.length ≡ t.time → fault ≡ option_map AStep n → IsReadScript typescript timing r fault
 steps_read typescript timing output shared lines t n r fault output_is lines_is shared_is read kind size own events
     end is =
@@ -171,7 +171,7 @@ steps_read typescript timing output shared lines t n r fault output_is lines_is 
     let by_lines = subst (λ (ls : List (List ℕ)). AreSteps (shares_log ls) (output_of typescript) ls t n) lines_is
     by_shared in
     subst (λ (o : Option RecordingError). IsReadScript typescript timing r o) (sym is)
-    (read_by typescript timing t n r by_lines kind (size ∙ ap size_named lines_is) own events end)
+    (read_by typescript timing t n r by_lines kind (size ∙ ap (script_size typescript) lines_is) own events end)
 
 -- words that aren't UTF-8 are no numbers
 digits_are_text : (word : List ℕ) → all_ascii_digits word ≡ true → IsUtf8 word
@@ -198,8 +198,8 @@ no_size word h = unsized word (no_digits word h)
 
 -- ---- the fields of the header
 
-both : (a b : Bool) → a ≡ true → b ≡ true → a && b ≡ true
-both a b p q = rw (p, q) refl
+both_hold : (a b : Bool) → a ≡ true → b ≡ true → a && b ≡ true
+both_hold a b p q = rw (p, q) refl
 
 one : (a b : Bool) → (a ≡ false) ⊎ (b ≡ false) → a && b ≡ false
 one a b (inl p) = rw p refl
@@ -229,7 +229,7 @@ pub field_at : (name : List ℕ) (lines : List (Bor (List ℕ))) (i : ℕ) (d : 
 field_at name lines i d first rest field found value a b e f g lt p q =
     let line = (get_or lines i d).now in
     let third : field ≡ rest_of (rest_of line) = e ∙ ap rest_of b in
-    let hit : is_field name line ≡ true = both (bytes_eq (word_of line) (codes "H"))
+    let hit : is_field name line ≡ true = both_hold (bytes_eq (word_of line) (codes "H"))
     (bytes_eq (word_of (rest_of (rest_of line))) name)
     (ap (λ w. bytes_eq w (codes "H")) (sym a) ∙ p) (ap (λ w. bytes_eq w name) (sym (f ∙ ap word_of third)) ∙ q) in
     ap (found_in name) (parted lines i d lt)
@@ -251,3 +251,24 @@ field_not_at name lines i d first rest field found a b e f lt other =
     (λ q. inr (ap (λ w. bytes_eq w name) (sym (f ∙ ap word_of third)) ∙ q)) other) in
     ap (found_in name) (parted lines i d lt)
     ∙ ap (λ h. option_map value_of (cond h (Some line) (find (is_field name) (drop (i + 1) (texts lines))))) miss
+
+-- ---- the words of the first line
+
+abbrev quoted : List ℕ → List ℕ → Option ℕ
+quoted start word = size_in (before_first (λ b. b == 0x22) (drop (length start) word))
+
+pub quoted_at : (start : List ℕ) (words : List (Bor (List ℕ))) (i : ℕ) (d : Bor (List ℕ)) → i < length words
+    → begins_with start (get_or words i d).now ≡ true
+    → quoted_side start (drop i (texts words)) ≡ quoted start (get_or words i d).now
+quoted_at start words i d lt is =
+    ap (quoted_side start) (parted words i d lt)
+    ∙ ap (λ h. option_and_then (quoted start) (cond h (Some (get_or words i d).now)
+    (find (begins_with start) (drop (i + 1) (texts words))))) is
+
+pub quoted_not_at : (start : List ℕ) (words : List (Bor (List ℕ))) (i : ℕ) (d : Bor (List ℕ)) → i < length words
+    → begins_with start (get_or words i d).now ≡ false
+    → quoted_side start (drop i (texts words)) ≡ quoted_side start (drop (i + 1) (texts words))
+quoted_not_at start words i d lt is =
+    ap (quoted_side start) (parted words i d lt)
+    ∙ ap (λ h. option_and_then (quoted start) (cond h (Some (get_or words i d).now)
+    (find (begins_with start) (drop (i + 1) (texts words))))) is

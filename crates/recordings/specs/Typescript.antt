@@ -2,13 +2,14 @@
 use Rattle.std.specs.Prelude.{◌≡◌, ℕ, ◌+◌, ◌==◌, ◌&&◌, nat_le, Bool, false, List, [], ◌∷◌, ◌++◌, take, drop, length}
 use Rattle.std.specs.Prelude.{Option, Some, None, option_and_then, if◌then◌else◌, codes}
 use Rattle.std.specs.Char.{is_ascii_whitespace}
-use Rattle.std.specs.List.{list_all, before_first, after_first, find}
-use Rattle.std.specs.Option.{option_map}
+use Rattle.std.specs.List.{list_all, before_first, after_first, find, slice_split}
+use Rattle.std.specs.Option.{option_map, option_or}
 use Rattle.std.specs.Str.{bytes_eq}
 use Rattle.command_line.specs.Numbers.{count_of, size_in}
 use Rattle.recordings.specs.Details.{details_of, no_details}
-use Rattle.recordings.specs.Lines.{lines_in}
+use Rattle.recordings.specs.Lines.{first_line, lines_in}
 use Rattle.recordings.specs.Recorded.{IsStateAfter, Row, ended, resizes, said, size_said, reported, writes}
+use Rattle.recordings.specs.Sizes.{both}
 use Rattle.recordings.specs.Times.{time_in}
 use Rattle.recordings.specs.declared.error.RecordingError.{RecordingError}
 use Rattle.recordings.specs.declared.error.RecordingError.TheVariants as error
@@ -50,9 +51,7 @@ side_after name word = if bytes_eq (take (length name) word) name then size_in (
 
 -- `ROWS=N COLS=N`
 abbrev pub window_in : List ℕ → Option (ℕ × ℕ)
-window_in text =
-    option_and_then (λ rows. option_map (λ cols. (rows, cols)) (side_after (codes "COLS=") (rest_of text)))
-    (side_after (codes "ROWS=") (word_of text))
+window_in text = both (side_after (codes "ROWS=") (word_of text)) (side_after (codes "COLS=") (rest_of text))
 
 abbrev pub signal_of : ℕ → List ℕ → Option Step
 signal_of time signal =
@@ -109,9 +108,29 @@ abbrev pub shares_log : List (List ℕ) → Bool
 shares_log lines = are_same (value_named (codes "INPUT_LOG") lines) (value_named (codes "OUTPUT_LOG") lines)
 
 abbrev pub size_named : List (List ℕ) → Option (ℕ × ℕ)
-size_named lines =
-    option_and_then (λ rows. option_map (λ cols. (rows, cols)) (side_named (codes "COLUMNS") lines))
-    (side_named (codes "LINES") lines)
+size_named lines = both (side_named (codes "LINES") lines) (side_named (codes "COLUMNS") lines)
+
+-- ---- the first line: `Script started on DATE [TERM="xterm" COLUMNS="80" LINES="24"]`
+
+abbrev pub begins_with : List ℕ → List ℕ → Bool
+begins_with start word = bytes_eq (take (length start) word) start
+
+-- the number up to the next quote, in the first word that begins so
+abbrev pub quoted_side : List ℕ → List (List ℕ) → Option ℕ
+quoted_side start words =
+    option_and_then (λ word. size_in (before_first (λ b. b == 0x22) (drop (length start) word)))
+    (find (begins_with start) words)
+
+abbrev pub size_in_words : List (List ℕ) → Option (ℕ × ℕ)
+size_in_words words =
+    both (quoted_side (codes "LINES=" ++ 0x22 ∷ []) words) (quoted_side (codes "COLUMNS=" ++ 0x22 ∷ []) words)
+
+abbrev pub size_quoted : List ℕ → Option (ℕ × ℕ)
+size_quoted typescript = size_in_words (slice_split (λ b. b == 0x20) (first_line typescript))
+
+-- the size in the header, or else that in the first line
+abbrev pub script_size : List ℕ → List (List ℕ) → Option (ℕ × ℕ)
+script_size typescript lines = option_or (size_named lines) (size_quoted typescript)
 
 -- ---- the recording
 
@@ -138,9 +157,9 @@ events_of shared left (line ∷ lines) =
     (event_of shared left line)
 
 -- what a typescript with this timing file and these events says
-pub record SaysRows (timing : List ℕ) (rows : List Row) (r : Recording) : Type 0 where
+pub record SaysRows (typescript timing : List ℕ) (rows : List Row) (r : Recording) : Type 0 where
   pub kind : r.kind ≡ Script
-  pub size : option_map size_said r.size ≡ size_named (lines_in timing)
+  pub size : option_map size_said r.size ≡ script_size typescript (lines_in timing)
   pub own : details_of r ≡ no_details
   pub moments : said r.events.items ≡ reported FromLast 0 rows
   pub length : r.length ≡ ended FromLast 0 rows
@@ -150,7 +169,7 @@ pub record IsTypescript (typescript timing : List ℕ) (r : Recording) : Type 0 
   pub rows : List Row
   pub left : List ℕ
   pub steps : events_of (shares_log (lines_in timing)) (output_of typescript) (lines_in timing) ≡ Some (rows, left)
-  pub says : SaysRows timing rows r
+  pub says : SaysRows typescript timing rows r
 
 -- the first line that is no step, or takes more bytes than there are, counted from 1
 pub record IsBadStep (shared : Bool) (output : List ℕ) (lines : List (List ℕ)) (n : ℕ) : Type 0 where
@@ -183,5 +202,5 @@ abbrev pub IsReadScript : List ℕ → List ℕ → Recording → Option Recordi
 IsReadScript typescript timing r None = IsTypescript typescript timing r
 IsReadScript typescript timing r (Some (error.Step n)) =
     (bad : IsBadStep (shares_log (lines_in timing)) (output_of typescript) (lines_in timing) n)
-    × SaysRows timing bad.rows r
+    × SaysRows typescript timing bad.rows r
 IsReadScript typescript timing r _ = ⊥

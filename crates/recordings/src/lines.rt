@@ -1,7 +1,7 @@
 //! The lines of a file.
 
-ghost use Rattle.std.specs.Prelude.{◌≡◌, ◌<◌, length, map, IfOk};
-ghost use Rattle.std.specs.List.{list_all};
+ghost use Rattle.std.specs.Prelude.{◌≡◌, ◌<◌, ◌==◌, length, map, IfOk};
+ghost use Rattle.std.specs.List.{before_first, list_all};
 ghost use Rattle.std.specs.Char.{is_ascii_whitespace};
 ghost use Rattle.recordings.specs.Lines.{first_line as first_line_in, lines_in, unmarked as unmarked_text};
 
@@ -29,8 +29,15 @@ pub(crate) fn lines_of(alloc: Global, text: &[u8]) -> Result<Vec<&[u8]>, AllocEr
 pub(crate) fn first_line(text: &[u8]) -> &[u8]
     ensures { result.now ≡ first_line_in text.now }
 {
-    match text.iter().position(|b| *b == b'\n') {
-        Some(end) => &text[..end],
+    before(b'\n', text)
+}
+
+/// What comes before the first byte of this value, or all.
+pub(crate) fn before(end: u8, text: &[u8]) -> &[u8]
+    ensures { result.now ≡ before_first (λ b. b == end) text.now }
+{
+    match text.iter().position(|b| *b == end) {
+        Some(at) => &text[..at],
         None => text,
     }
 }

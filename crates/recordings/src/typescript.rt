@@ -4,9 +4,11 @@ ghost use Rattle.std.specs.Prelude.{◌≡◌, ◌∷◌, ◌++◌, [], List, ma
 ghost use Rattle.std.specs.Option.{option_map};
 ghost use Rattle.command_line.specs.Numbers.{count_of, size_in as size_of};
 ghost use Rattle.recordings.specs.Recorded.{Row, IsStateAfter, size_said};
+ghost use Rattle.recordings.specs.Sizes.{both};
 ghost use Rattle.recordings.specs.Typescript.{AreSteps, IsFaultOfStep, IsReadScript, IsTypescript, counted_in};
 ghost use Rattle.recordings.specs.Typescript.{input_in};
 ghost use Rattle.recordings.specs.Typescript.{other_in, output_in, output_of, rest_of, shares_log as shares_log_of};
+ghost use Rattle.recordings.specs.Typescript.{quoted_side, script_size, size_in_words, size_quoted};
 ghost use Rattle.recordings.specs.Typescript.{side_named, signal_in, size_named, step_in, step_said, taken};
 ghost use Rattle.recordings.specs.Typescript.{value_named};
 ghost use Rattle.recordings.specs.Typescript.{window_in as window_of, word_of};
@@ -14,7 +16,7 @@ ghost use Rattle.recordings.specs.declared.error.RecordingError.TheVariants.{Ste
 ghost use Rattle.recordings.specs.declared.timeline.Pace.TheVariants.{FromLast as Last};
 
 use crate::error::RecordingError;
-use crate::lines::{is_blank, lines_of};
+use crate::lines::{before, first_line, is_blank, lines_of};
 use crate::recording::{Change, Kind, Reading, Recording, ScreenSize};
 use crate::time::parse_seconds;
 use crate::timeline::{Pace, Timeline};
@@ -24,7 +26,8 @@ use std::num::NonZeroU16;
 use std::str;
 
 /// Reads a typescript by its timing file, of either format: lines `DELAY BYTES`, or lines that begin with `H`, `I`, `O`
-/// or `S`. The first line of the typescript, which says when it began, isn't output.
+/// or `S`. The first line of the typescript, which says when it began, isn't output. The size is that of an `H` line, or
+/// else that of the first line, as `script` of util-linux writes it: `COLUMNS="80" LINES="24"`.
 pub fn parse_typescript(
     alloc: Global,
     typescript: &[u8],
@@ -47,11 +50,12 @@ pub fn read_typescript(
     let all = lines_of(alloc, timing)?;
     let lines = all.as_slice();
     let shared = shares_log(lines);
+    let size = size_of_script(alloc, typescript, lines)?;
     let (timeline, fault) = read_steps(alloc, shared, lines, after_line(typescript))?;
     Ok(Reading {
         recording: Recording {
             kind: Kind::Script,
-            size: size_in(lines),
+            size,
             theme: None,
             idle: None,
             title: None,
@@ -247,14 +251,64 @@ fn window_in(text: &[u8]) -> Option<ScreenSize>
     })
 }
 
+// The size with these sides, if there are both.
+fn sized(rows: Option<NonZeroU16>, cols: Option<NonZeroU16>) -> Option<ScreenSize>
+    ensures { option_map size_said result ≡ both (option_map (λ n. n.value) rows) (option_map (λ n. n.value) cols) }
+{
+    Some(ScreenSize {
+        rows: rows?,
+        cols: cols?,
+    })
+}
+
+// The size in the header, or else that in the typescript's first line.
+fn size_of_script(
+    alloc: Global,
+    typescript: &[u8],
+    lines: &[&[u8]],
+) -> Result<Option<ScreenSize>, AllocError>
+    ensures { IfOk result (λ s. option_map size_said s ≡ script_size typescript.now (map (λ x. x.now) lines.now)) }
+{
+    match size_in(lines) {
+        Some(size) => Ok(Some(size)),
+        None => first_size(alloc, typescript),
+    }
+}
+
+// The size in the first line: `LINES="24"` and `COLUMNS="80"` are words of it.
+fn first_size(alloc: Global, typescript: &[u8]) -> Result<Option<ScreenSize>, AllocError>
+    ensures { IfOk result (λ s. option_map size_said s ≡ size_quoted typescript.now) }
+{
+    let all: Vec<&[u8]> = first_line(typescript).split(|b| *b == b' ').collect(alloc)?;
+    Ok(quoted_size(all.as_slice()))
+}
+
+fn quoted_size(words: &[&[u8]]) -> Option<ScreenSize>
+    ensures { option_map size_said result ≡ size_in_words (map (λ x. x.now) words.now) }
+{
+    sized(
+        quoted_in(words, b"LINES=\""),
+        quoted_in(words, b"COLUMNS=\""),
+    )
+}
+
+// The number up to the next quote, in the first word that begins so.
+fn quoted_in(words: &[&[u8]], start: &[u8]) -> Option<NonZeroU16>
+    ensures { option_map (λ n. n.value) result ≡ quoted_side start.now (map (λ x. x.now) words.now) }
+{
+    for word in words {
+        if let Some(rest) = word.strip_prefix(start) {
+            return side_in(before(b'"', rest));
+        }
+    }
+    None
+}
+
 // The size in the header: the values of `LINES` and `COLUMNS`.
 fn size_in(lines: &[&[u8]]) -> Option<ScreenSize>
     ensures { option_map size_said result ≡ size_named (map (λ x. x.now) lines.now) }
 {
-    Some(ScreenSize {
-        rows: header_in(lines, b"LINES")?,
-        cols: header_in(lines, b"COLUMNS")?,
-    })
+    sized(header_in(lines, b"LINES"), header_in(lines, b"COLUMNS"))
 }
 
 fn header_in(lines: &[&[u8]], name: &[u8]) -> Option<NonZeroU16>
