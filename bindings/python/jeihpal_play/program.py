@@ -236,7 +236,9 @@ def _time(playback: Playback, word: str) -> int:
     except ValueError:
         times = [at for at, name in playback.markers if name == word]
         if not times:
-            sys.exit("screenplay: no such marker")
+            names = ", ".join(repr(name) for _, name in playback.markers)
+            there = f"the markers are {names}" if names else "there are no markers"
+            sys.exit(f"screenplay: {word}: no such time or marker; {there}")
         return times[0]
 
 

@@ -1,5 +1,5 @@
 -- Why no text of a recording is printed.
-use Rattle.std.proofs.Common.{◌≡◌, ◌⊎◌, ◌∙◌, ℕ, List, Option, Some, Ok, Err, Result, IfErr, inl, inr, true, false}
+use Rattle.std.proofs.Common.{◌≡◌, ◌⊎◌, ℕ, List, Option, Some, Ok, Err, Result, IfErr, inl, inr, true, false}
 use Rattle.std.proofs.Common.{refl, subst, sym}
 use Rattle.player_page.specs.declared.error.PlayerError.{PlayerError}
 use Rattle.player_page.specs.declared.error.PlayerError.TheVariants as player

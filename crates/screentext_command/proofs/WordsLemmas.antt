@@ -1,10 +1,8 @@
 -- How the arguments are described to `clap`.
-use Rattle.std.proofs.Common.{◌≡◌, ◌∙◌, ap, ap₂, Bool, false, ℕ, nat_lt, List, ◌++◌, map, inl, inr, true, refl, sym, []}
+use Rattle.std.proofs.Common.{◌≡◌, ◌∙◌, ap, ap₂, Bool, false, ℕ, nat_lt, List, inl, inr, true, refl, sym, []}
 use Rattle.std.proofs.Common.{◌∷◌, subst, Ok, Err, Result, IfOk, IfSome, Option, Some, None, is_some}
 use Rattle.std.proofs.lemmas.Result.{IfOk-weaker}
-use Rattle.std.proofs.lemmas.List.{map-append}
-use Rattle.std.specs.Borrow.{Bor}
-use Rattle.clap.specs.Words.{AddsAliases, AddsArg, App, IsAmong, Kinds, Row, Rule, Text, app_of, fault_of, is_simple}
+use Rattle.clap.specs.Words.{AddsArg, App, IsAmong, Kinds, Row, Rule, Text, app_of, fault_of, is_simple}
 use Rattle.clap.specs.Words.{matches_of}
 use Rattle.clap.specs.Words.{is_simple_and_free}
 use Rattle.clap.specs.Words.{rule_of, with_rule}

@@ -1,5 +1,5 @@
 -- The arguments of the command line.
-use Rattle.std.specs.Prelude.{ℕ, nat_le, nat_lt, Bool, true, false, not, ◌&&◌, ◌||◌, List, [], ◌∷◌, map}
+use Rattle.std.specs.Prelude.{nat_le, nat_lt, Bool, true, false, not, ◌&&◌, ◌||◌, List, [], ◌∷◌, map}
 use Rattle.std.specs.Prelude.{is_some, Option, Some}
 use Rattle.std.specs.Prelude.{None, codes}
 use Rattle.std.specs.Option.{option_map_or}

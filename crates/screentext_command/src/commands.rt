@@ -83,10 +83,10 @@ pub fn command_with<F: Files, R: Source, W: FlushSink, V: ByteSink>(
             let answer = obey(alloc, files, invocation, input, output);
             report_answer(errors, answer)
         }
-        Ok(None) => {
-            tell_misuse(alloc, words, errors);
-            USAGE
-        }
+        Ok(None) => match tell_misuse(alloc, words, errors) {
+            Ok(()) => USAGE,
+            Err(error) => report_fault(errors, error),
+        },
         Err(error) => report_fault(errors, error),
     }
 }

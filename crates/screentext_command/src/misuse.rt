@@ -1,9 +1,10 @@
 //! What is wrong with arguments that aren't understood.
 
-ghost use Rattle.std.specs.Prelude.{◌++◌, IfOk, IfSome, List, codes, map};
+ghost use Rattle.std.specs.Prelude.{◌≡◌, ◌++◌, IfErr, IfOk, IfSome, List, codes, map};
 ghost use Rattle.clap.specs.Words.{Row, found_of, rows_of};
 ghost use Rattle.screentext_command.specs.Command.{TellsInParts};
 ghost use Rattle.screentext_command.specs.Misuse.{IsWrong, TellsMisuse, TellsWrong};
+ghost use Rattle.screentext_command.specs.declared.error.TextError.TheVariants.{Memory};
 
 use crate::error::TextError;
 use crate::frames::{font_size_of, padding_of};
@@ -15,7 +16,8 @@ use crate::source::{kind_of, most_cells_of};
 use crate::streams::tell;
 use crate::words::{Form, form_of, history_of, is_moment, size_of};
 use byte_streams::ByteSink;
-use clap::ArgMatches;
+use clap::error::ErrorKind;
+use clap::{ArgMatches, Error};
 use std::alloc::{AllocError, Global};
 
 /// An argument that isn't as it has to be, with its value if it has one, and what is wanted.
@@ -28,25 +30,55 @@ struct Misuse<'a> {
 }
 
 /// Writes in a line what is wrong with arguments that aren't understood: the first one that isn't as it has to be, or
-/// else the usage.
-pub(crate) fn tell_misuse<V: ByteSink>(alloc: Global, words: &[&str], errors: &mut V)
-    ensures { TellsMisuse V.takes (map (λ w. w.now) words.now) errors.old errors.new }
+/// else the usage. Nothing is written if an allocation fails before that is known.
+pub(crate) fn tell_misuse<V: ByteSink>(
+    alloc: Global,
+    words: &[&str],
+    errors: &mut V,
+) -> Result<(), TextError>
+    ensures told { IfOk result (λ u. TellsMisuse V.takes (map (λ w. w.now) words.now) errors.old errors.new) }
+    ensures fault { IfErr result (λ e. (e ≡ Memory) × (errors.new ≡ errors.old)) }
 {
-    match known_words(alloc) {
-        Ok(known) => match known.try_get_matches_from(words) {
-            Ok(matches) => tell_wrong(alloc, &matches, errors),
-            Err(_) => tell(errors, &[USAGE]),
-        },
-        Err(_) => tell(errors, &[USAGE]),
+    let known = known_words(alloc)?;
+    match known.try_get_matches_from(words) {
+        Ok(matches) => tell_wrong(alloc, &matches, errors),
+        Err(error) => tell_usage(&error, errors),
     }
 }
 
-fn tell_wrong<V: ByteSink>(alloc: Global, matches: &ArgMatches<'_>, errors: &mut V)
-    ensures { TellsWrong V.takes (rows_of (found_of matches.now)) errors.old errors.new }
+// Writes the usage, unless an allocation failed.
+fn tell_usage<V: ByteSink>(error: &Error, errors: &mut V) -> Result<(), TextError>
+    ensures told { IfOk result (λ u. TellsInParts V.takes errors.old USAGE.now errors.new) }
+    ensures fault { IfErr result (λ e. (e ≡ Memory) × (errors.new ≡ errors.old)) }
 {
-    match misuse_of(alloc, matches) {
-        Ok(Some(misuse)) => tell_word(misuse, errors),
-        Ok(None) | Err(_) => tell(errors, &[USAGE]),
+    match error.kind() {
+        ErrorKind::OutOfMemory => Err(TextError::Memory),
+        _ => {
+            tell(errors, &[USAGE]);
+            Ok(())
+        }
+    }
+}
+
+fn tell_wrong<V: ByteSink>(
+    alloc: Global,
+    matches: &ArgMatches<'_>,
+    errors: &mut V,
+) -> Result<(), TextError>
+    ensures told { IfOk result (λ u. TellsWrong V.takes (rows_of (found_of matches.now)) errors.old errors.new) }
+    ensures fault { IfErr result (λ e. (e ≡ Memory) × (errors.new ≡ errors.old)) }
+{
+    let misuse = misuse_of(alloc, matches)?;
+    tell_found(misuse, errors);
+    Ok(())
+}
+
+fn tell_found<V: ByteSink>(misuse: Option<Misuse<'_>>, errors: &mut V)
+    ensures { (rows : List Row) → IfSome misuse.entry (IsWrong rows) → TellsWrong V.takes rows errors.old errors.new }
+{
+    match misuse {
+        Some(misuse) => tell_word(misuse, errors),
+        None => tell(errors, &[USAGE]),
     }
 }
 
@@ -73,7 +105,8 @@ fn tell_value<V: ByteSink>(errors: &mut V, lead: &str, word: &str, value: &str, 
 }
 
 fn misuse_of<'a>(alloc: Global, matches: &ArgMatches<'a>) -> Result<Option<Misuse<'a>>, TextError>
-    ensures { IfOk result (λ m. IfSome m (IsWrong (rows_of (found_of matches.now)))) }
+    ensures misuse { IfOk result (λ m. IfSome m (IsWrong (rows_of (found_of matches.now)))) }
+    ensures fault { IfErr result (λ e. e ≡ Memory) }
 {
     if let Some(misuse) = wrong_moment(alloc, matches)? {
         return Ok(Some(misuse));
@@ -95,7 +128,8 @@ fn wrong_moment<'a>(
     alloc: Global,
     matches: &ArgMatches<'a>,
 ) -> Result<Option<Misuse<'a>>, TextError>
-    ensures { IfOk result (λ m. IfSome m (IsWrong (rows_of (found_of matches.now)))) }
+    ensures misuse { IfOk result (λ m. IfSome m (IsWrong (rows_of (found_of matches.now)))) }
+    ensures fault { IfErr result (λ e. e ≡ Memory) }
 {
     let wanted = "a time that isn't negative or a marker is wanted";
     if !is_moment(alloc, matches.get_str("at"))? {

@@ -56,7 +56,7 @@ fn reason_of(error: TextError) -> Reason
         TextError::Write => plain("write"),
         TextError::Memory => plain("memory"),
         TextError::File => plain("the timing file can't be read"),
-        TextError::Marker => plain("no such marker"),
+        TextError::Marker => plain("no such time or marker; --list shows the markers"),
         TextError::Film => plain("the film has more than 8 MiB"),
         TextError::Late => plain("--from is later than the end of the film"),
         TextError::Player => plain("the page has more than 32 MiB"),

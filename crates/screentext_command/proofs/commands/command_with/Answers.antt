@@ -13,5 +13,5 @@ pub returns-in-Err-clause-does : goal.returns-in-Err-clause-does
 returns-in-Err-clause-does g c = λ understood. record {
   answer = Err c.in-Err.error;
   does = rw c.in-Err.ensures.fault refused;
-  reported = (c.report_fault.ensures.status, c.report_fault.ensures.reports);
+  reported = (c.report_fault-in-Err.ensures.status, c.report_fault-in-Err.ensures.reports);
 }

@@ -1,4 +1,4 @@
-use Rattle.std.proofs.Common.{◌≡◌, ◌∙◌, ◌&&◌, Some, ap, ap₂, codes, is_some, nat_lt, subst, sym, true}
+use Rattle.std.proofs.Common.{◌∙◌, ◌&&◌, ap, ap₂, codes, nat_lt, sym, true}
 use Rattle.std.specs.Prelude.{string_bytes}
 use Rattle.std.specs.Option.{option_map, option_map_or}
 use Rattle.clap.specs.Words.{found_of, rows_of}
