@@ -65,8 +65,8 @@ strip_bytes rows lines =
     tag_bytes tag.PlayerTable
     ++ (rows ++ (tag_bytes tag.PlayerMoments ++ (lines ++ tag_bytes tag.PlayerScript)))
 
--- A page that plays the events: what comes first, the size, the rows at the poster's time, the markers, and the table of
--- rows with the lines that play the moments. Before the poster are the colours and the font.
+-- A page that plays the events: what comes first, the size, the rows at the poster's time, the markers, and the table
+-- of rows with the lines that play the moments. Before the poster are the colours and the font.
 pub record IsPlayer (look : Look) (size : ScreenSize) (events : List Event) (play : Play) (bytes : List ℕ) : Type 0 where
   pub front : List ℕ
   pub poster : List (List ℕ)

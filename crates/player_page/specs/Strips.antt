@@ -9,7 +9,7 @@ use Rattle.recordings.specs.declared.recording.ScreenSize.{ScreenSize}
 use Rattle.recorded_screen.specs.Film.{is_moment, reached, state_after}
 use Rattle.player_page.specs.Lines.{IsLine, Plays, Say, rows_at}
 use Rattle.player_page.specs.Moments.{IsPainted}
-use Rattle.player_page.specs.Pages.{IsTable, rows_bytes}
+use Rattle.player_page.specs.Pages.{HasLongPart, IsTable, rows_bytes}
 use Rattle.player_page.specs.Rows.{AddsRows}
 use Rattle.player_page.specs.declared.error.PlayerError.{PlayerError}
 use Rattle.player_page.specs.declared.error.PlayerError.TheVariants.{Memory, TooLong}
@@ -49,6 +49,16 @@ pub record IsDrawn (look : Look) (size : ScreenSize) (events : List Event) (s : 
   pub table : IsTable look size events (table_of s)
   pub rows : s.rows ≡ rows_bytes (table_of s)
   pub text : AddsRows size.rows.value size.cols.value events [] s.rows
+
+-- a change that draws rows of the screen in this state leaves rows of the recording's screens
+abbrev pub KeepsDrawn : Look → State → Strip → Strip → Type 0
+KeepsDrawn look s old new = (size : ScreenSize) (events : List Event) (n : ℕ) → s ≡ state_after size events n
+    → IsDrawn look size events old → IsDrawn look size events new
+
+-- if these are rows of the recording's screens, a part of its page has more bytes than this
+abbrev pub HasLongRows : ℕ → Look → State → Strip → Type 0
+HasLongRows most look s drawn = (size : ScreenSize) (events : List Event) (n : ℕ) → s ≡ state_after size events n
+    → IsDrawn look size events drawn → HasLongPart most look size events
 
 -- these are the numbers of the first rows of the screen in this state; of the strip, only the table got longer
 pub record AreNumbers (look : Look) (s : State) (old new : Strip) (numbers : List ℕ) : Type 0 where

@@ -5,12 +5,11 @@ ghost use Rattle.picture_page.specs.Page.{Adds};
 ghost use Rattle.row_pictures.specs.Text.{row_text};
 ghost use Rattle.recordings.specs.declared.recording.Event.{Event};
 ghost use Rattle.recordings.specs.declared.recording.ScreenSize.{ScreenSize};
-ghost use Rattle.recorded_screen.specs.Film.{state_after};
 ghost use Rattle.recorded_screen.specs.Picture.{cells_shown};
 ghost use Rattle.player_page.specs.Moments.{IsPainted};
 ghost use Rattle.player_page.specs.Pages.{HasLongPart, row_bytes};
-ghost use Rattle.player_page.specs.Strips.{AddsNumbers, AreNumbers, Draws, FailsFor, IsDrawn, IsDue, IsStrip, Takes};
-ghost use Rattle.player_page.specs.Strips.{TellsLine};
+ghost use Rattle.player_page.specs.Strips.{AddsNumbers, AreNumbers, Draws, FailsFor, HasLongRows, IsDue, IsStrip};
+ghost use Rattle.player_page.specs.Strips.{KeepsDrawn, Takes, TellsLine};
 ghost use Rattle.player_page.specs.declared.error.PlayerError.TheVariants.{Memory};
 
 use crate::error::PlayerError;
@@ -113,12 +112,8 @@ impl Strip {
         ensures few { IfOk result (λ numbers. length numbers.items < 2 ^ 16) }
         ensures numbers { IfOk result (λ numbers.
             AreNumbers look.now screen.now.state self.old self.new numbers.items) }
-        ensures drawn { OnOk result ((size : ScreenSize) (events : List Event) (n : ℕ)
-            → screen.now.state ≡ state_after size events n → IsDrawn look.now size events self.old
-            → IsDrawn look.now size events self.new) }
-        ensures fault { IfErr result (FailsFor ((size : ScreenSize) (events : List Event) (n : ℕ)
-            → screen.now.state ≡ state_after size events n → IsDrawn look.now size events self.old
-            → HasLongPart LONGEST_PLAYER look.now size events)) }
+        ensures drawn { OnOk result (KeepsDrawn look.now screen.now.state self.old self.new) }
+        ensures fault { IfErr result (FailsFor (HasLongRows LONGEST_PLAYER look.now screen.now.state self.old)) }
     {
         let mut numbers = Vec::new(alloc);
         let (rows, _) = screen.size();
@@ -138,12 +133,8 @@ impl Strip {
     ) -> Result<u32, PlayerError>
         ensures number { IfOk result (λ number. (painted : List ℕ)
             × IsPainted look.now screen.now.state row painted × Draws painted self.old self.new number) }
-        ensures drawn { OnOk result ((size : ScreenSize) (events : List Event) (n : ℕ)
-            → screen.now.state ≡ state_after size events n → IsDrawn look.now size events self.old
-            → IsDrawn look.now size events self.new) }
-        ensures fault { IfErr result (FailsFor ((size : ScreenSize) (events : List Event) (n : ℕ)
-            → screen.now.state ≡ state_after size events n → IsDrawn look.now size events self.old
-            → HasLongPart LONGEST_PLAYER look.now size events)) }
+        ensures drawn { OnOk result (KeepsDrawn look.now screen.now.state self.old self.new) }
+        ensures fault { IfErr result (FailsFor (HasLongRows LONGEST_PLAYER look.now screen.now.state self.old)) }
     {
         let painted = paint(alloc, screen, row, look)?;
         let number = self.draw(alloc, &painted)?;
