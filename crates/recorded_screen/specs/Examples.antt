@@ -36,8 +36,8 @@ pub record EachExampleHolds : Type 0 where
   pub faster : (change : Change)
       → film_time (record { speed = 2000000; idle = Some 1500000; rate = 30; plays = None; from = 0; poster = None })
       (three_events change) 3 ≡ 750000
-  -- At 10 screens a second, events after 0.05 s, 0.09 s and 0.1 s are in two slots. So the first screen isn't shown, nor
-  -- is the one after the first event; that after the second is shown from the beginning of its slot on.
+  -- At 10 screens a second, events after 0.05 s, 0.09 s and 0.1 s are in two slots. So the first screen isn't shown,
+  -- nor is the one after the first event; that after the second is shown from the beginning of its slot on.
   pub empty : (change : Change) → may_stand ten_a_second (close_events change) 0 ≡ false
   pub early : (change : Change) → may_stand ten_a_second (close_events change) 1 ≡ false
   pub latest : (change : Change) → may_stand ten_a_second (close_events change) 2 ≡ true

@@ -95,7 +95,8 @@ abbrev pub decimal_point : ℕ → ℕ → List ℕ
 decimal_point places value =
     decimal (in_32_bits (value / 10 ^ places)) ++ (tag_bytes tag.Point ++ last_digits places value)
 
--- A shot: from its time on, which is a part of the film's length in percent, the track is moved to the left by its place.
+-- A shot: from its time on, which is a part of the film's length in percent, the track is moved to the left by its
+-- place.
 abbrev pub shot_bytes : ℕ → ℕ → Shot → List ℕ
 shot_bytes cols length shot =
     decimal_point 5 (in_64_bits (shot.time * 10000000 / max length 1))

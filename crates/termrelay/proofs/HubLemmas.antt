@@ -120,7 +120,8 @@ pub found-last : (s : Slab RecordView) (key : ℕ) (r : RecordView) (P : FrameVi
     → EachLast s P → IfSome r.last P
 found-last s key r P found each = rw found at (each key)
 
--- The clients are updated at one key. What is there then fits the screen, and its last frame is one that some client has.
+-- The clients are updated at one key. What is there then fits the screen, and its last frame is one that some client
+-- has.
 pub hub-updated : (h : Inside) (t : Slab RecordView) (key : ℕ) (slot : Option RecordView) → IsHub h
     → Updates h.clients t key slot
     → (h.parser.screen.failed ≡ false → IfSome slot (IsRecordOf h.parser.screen))

@@ -25,8 +25,8 @@ impl Hubs {
         array::from_fn(|index| self.call(index))
     }
 
-    /// What a view shows of the first bytes of a session, in pieces of these lengths and then the rest. The calls so far
-    /// are made anew.
+    /// What a view shows of the first bytes of a session, in pieces of these lengths and then the rest. The calls so
+    /// far are made anew.
     pub fn far(
         &self,
         session: usize,
