@@ -139,7 +139,7 @@ func (s *shown) Cell(row, col uint16) (Cell, error) {
 	return cellOf(&cell), err
 }
 
-// RowCells returns the cells of a row, and whether its text goes on in the next row. ErrNoCell: there is no such row.
+// RowCells returns the cells of a row, and whether its text continues in the next row. ErrNoCell: there is no such row.
 func (s *shown) RowCells(row uint16) ([]Cell, bool, error) {
 	s.lock.Lock()
 	defer s.lock.Unlock()

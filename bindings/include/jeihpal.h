@@ -255,7 +255,7 @@ int32_t jeihpal_hub_look(jeihpal_hub *hub, jeihpal_look *look);
 int32_t jeihpal_hub_cell(jeihpal_hub *hub, uint16_t row, uint16_t col, jeihpal_cell *cell);
 
 /* The cells of a row of it, in its columns: as many as fit are copied into `cells`, and *count is how many there
- * are. *wrapped is 1 if the row's text goes on in the next row, else 0. NO_CELL: there is no such row. */
+ * are. *wrapped is 1 if the row's text continues in the next row, else 0. NO_CELL: there is no such row. */
 int32_t jeihpal_hub_row_cells(jeihpal_hub *hub, uint16_t row, jeihpal_cell *cells, size_t capacity, size_t *count,
                               uint8_t *wrapped);
 
@@ -378,8 +378,8 @@ int32_t jeihpal_screen_clone(jeihpal_screen *screen, jeihpal_screen *from);
 
 /* As jeihpal_screen_clone, but the copy draws on copies of the rows that `from` shows, kept ones too, and keeps none.
  * So its redraws and differences lead a terminal to what `from` shows, whether kept rows are shown or not. If a kept
- * row is wider than the screen, a wide character that the right edge cuts is blank, and the row goes on in the next one
- * only if its last column shows something. The last row doesn't go on in another one. MEMORY. */
+ * row is wider than the screen, a wide character that the right edge cuts is blank, and the row continues in the
+ * next one only if its last column shows something. The last row doesn't continue in another one. MEMORY. */
 int32_t jeihpal_screen_clone_visible(jeihpal_screen *screen, jeihpal_screen *from);
 
 /* Removes the kept rows of what is shown. FAILED. */

@@ -60,7 +60,7 @@ inline int32_t checked(int32_t code) {
 // A limit of cells that no size exceeds.
 inline constexpr size_t any_size = SIZE_MAX;
 
-// A row of a screen: its cells, and whether its text goes on in the next row.
+// A row of a screen: its cells, and whether its text continues in the next row.
 struct row {
     std::vector<jeihpal_cell> cells;
     bool wrapped = false;

@@ -128,7 +128,7 @@ class Row(NamedTuple):
 
     cells: tuple[Cell, ...]
     wrapped: bool
-    """Its text goes on in the next row."""
+    """Its text continues in the next row."""
 
     @property
     def text(self) -> str:
@@ -263,7 +263,7 @@ def _any_cells(data: bytes) -> tuple[Cell, ...]:
 
 
 def row_of(data: bytes) -> Row:
-    """The row of the library's structs, one after another, and of a byte after them: whether it goes on in the next."""
+    """The row of the library's structs and of a byte after them, which says whether it continues in the next row."""
     return Row(_plain_cells(data) or _any_cells(data), data[-1] != 0)
 
 

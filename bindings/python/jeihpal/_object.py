@@ -181,7 +181,7 @@ class Shown(Object):
         return cell_of(raw)
 
     def _data(self, rows: range, cols: int) -> list[bytes]:
-        """For each of these rows the library's structs, and after them whether it goes on in the next row. The caller
+        """For each of these rows the library's structs, and after them whether it continues in the next row. The caller
         holds the lock."""
         size, count = cols * CELL_SIZE, ctypes.c_size_t()
         room = ctypes.create_string_buffer(size + 1)
@@ -208,7 +208,7 @@ class Shown(Object):
         return made
 
     def row(self, row: int) -> Row:
-        """A row: its cells, from the first column to the last, and whether it goes on in the next row. Raises
+        """A row: its cells, from the first column to the last, and whether it continues in the next row. Raises
         IndexError outside of the screen."""
         with self._lock:
             return self._rows_of(range(checked_place(row), row + 1), self.look().cols)[0]

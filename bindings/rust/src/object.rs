@@ -212,14 +212,14 @@ impl Object {
         true
     }
 
-    /// The cells of a row and whether its text goes on in the next row; nothing past the last row.
+    /// The cells of a row and whether its text continues in the next row; nothing past the last row.
     pub(crate) fn row(&self, row: u16, cols: u16) -> Option<(Vec<Cell>, bool)> {
         let mut cells = Vec::new();
         let wrapped = self.read_row(row, cols, &mut cells)?;
         Some((cells, wrapped))
     }
 
-    /// Sets `cells` to those of a row, in one call, and returns whether its text goes on in the next row; nothing past
+    /// Sets `cells` to those of a row, in one call, and returns whether its text continues in the next row; nothing past
     /// the last row.
     pub(crate) fn read_row(&self, row: u16, cols: u16, cells: &mut Vec<Cell>) -> Option<bool> {
         let most = usize::from(cols);
@@ -276,7 +276,7 @@ macro_rules! reading_calls {
             self.object.cell(row, col)
         }
 
-        /// The cells of a row and whether its text goes on in the next row; nothing past the last row.
+        /// The cells of a row and whether its text continues in the next row; nothing past the last row.
         pub fn row(&self, row: u16) -> Option<(Vec<crate::cell::Cell>, bool)> {
             self.object.row(row, self.object.look().cols)
         }

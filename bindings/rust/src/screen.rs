@@ -400,7 +400,7 @@ pub enum Request {
     Row {
         /// Its text with its attributes, as [`Screen::contents_formatted_basic`] gives it for one row.
         text: String,
-        /// Its text goes on in the next row.
+        /// Its text continues in the next row.
         wrapped: bool,
         /// It was a row of the alternate screen.
         alternate: bool,

@@ -47,7 +47,7 @@ struct Single {
 /// How many cells are read one by one before whole rows are read.
 const SINGLES: usize = 4;
 
-/// A row: its cells, and whether its text goes on in the next row.
+/// A row: its cells, and whether its text continues in the next row.
 #[derive(Default)]
 struct Row {
     cells: Kept<Vec<Cell>>,
@@ -487,7 +487,7 @@ impl Screen {
         }
     }
 
-    /// Whether the text of a row goes on in the next one.
+    /// Whether the text of a row continues in the next one.
     #[must_use]
     pub fn row_wrapped(&self, row: u16) -> bool {
         let Some(kept) = self.row(row) else {
