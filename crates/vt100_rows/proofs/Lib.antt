@@ -9,6 +9,8 @@ pub mod Examples
 pub mod FormsLemmas
 pub mod SentTexts
 pub mod SheetLemmas
+pub mod OrderLemmas
+pub mod SettleLemmas
 pub mod MoveLemmas
 pub mod SinkLemmas
 pub mod ClearLemmas

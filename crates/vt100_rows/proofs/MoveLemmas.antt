@@ -14,18 +14,6 @@ use Rattle.vt100_rows.proofs.SheetLemmas.{IsRowOf-blank, IsRowOf-cond, wrapped-c
 
 -- ---- up
 
-pub turns_up : (rows ys mid ws : List RowView) (first end n : ℕ) → first + n ≤ end → end ≤ length rows
-    → mid ≡ take (end - first) (drop first rows) → ys ≡ drop n mid ++ take n mid
-    → ws ≡ put_mid first (end - first) rows ys
-    → ws ≡ rows_by_position (length rows) (turned_up rows first end n)
-turns_up rows ys mid ws first end n h l em ey ew =
-    let lm : length mid ≡ end - first = ap length em ∙ simp (length-take, length-drop) (omega arith) in
-    let ly : length ys ≡ end - first = ap length ey ∙ simp (length-append, length-take, length-drop) (omega arith) in
-    let lp : length (put_mid first (end - first) rows ys) ≡ length rows =
-    simp (length-append, length-take, length-drop) (omega arith) in
-    rows_by_position_is (length rows) (turned_up rows first end n) ws (ap length ew ∙ lp)
-    (λ r k. ap (λ vs. row_at vs r) ew ∙ grind (arith, places, nat_tests))
-
 moves_up-read : (rows zs : List RowView) (first end n width r : ℕ) → first + n ≤ end → end ≤ length rows
     → r < length rows → ((k : ℕ) → k < length rows → length (row_at rows k).cells ≡ width)
     → row_at zs r ≡ turned_up rows first end n r
@@ -65,23 +53,17 @@ moves_down-read : (rows zs : List RowView) (first end n width r : ℕ) → first
 moves_down-read rows zs first end n width r h l k w e = grind (arith, nat_tests, w (r + (end - first - n)))
 
 -- n rows down is the other rows up
-pub moves_down : (rows ys mid ws : List RowView) (first end n width : ℕ) → first + n ≤ end → end ≤ length rows
+pub moves_down : (rows zs ws : List RowView) (first end n width : ℕ) → first + n ≤ end → end ≤ length rows
     → ((k : ℕ) → k < length rows → IsRowOf width (row_at rows k))
-    → mid ≡ take (end - first) (drop first rows) → ys ≡ drop (length mid - n) mid ++ take (length mid - n) mid
-    → ws ≡ rows_by_position (length (put_mid first (end - first) rows ys))
-    (changed_between (λ v. blank_row (length v.cells)) (put_mid first (end - first) rows ys) first (first + n))
+    → zs ≡ rows_by_position (length rows) (turned_up rows first end (end - first - n))
+    → ws ≡ rows_by_position (length zs) (changed_between (λ v. blank_row (length v.cells)) zs first (first + n))
     → ws ≡ rows_by_position (length rows) (moved_down rows first end n width)
-moves_down rows ys mid ws first end n width h l w em ey ew =
+moves_down rows zs ws first end n width h l w ez ew =
     let up = end - first - n in
-    let zs = put_mid first (end - first) rows ys in
-    let lm : length mid ≡ end - first = ap length em ∙ simp (length-take, length-drop) (omega arith) in
-    let turned : zs ≡ rows_by_position (length rows) (turned_up rows first end up) =
-    turns_up rows ys mid zs first end up (omega arith) l em (ey ∙ ap (λ m. drop (m - n) mid ++ take (m - n) mid) lm)
-    refl in
     read_again (length rows) (length zs) (changed_between (λ v. blank_row (length v.cells)) zs first (first + n))
-    (moved_down rows first end n width) ws ew (length-read (length rows) (turned_up rows first end up) zs turned)
+    (moved_down rows first end n width) ws ew (length-read (length rows) (turned_up rows first end up) zs ez)
     (λ r k. moves_down-read rows zs first end n width r h l k (λ j m. (w j m).wide)
-    (row_at-read (length rows) (turned_up rows first end up) zs r turned k))
+    (row_at-read (length rows) (turned_up rows first end up) zs r ez k))
 
 -- ---- lines that come in
 

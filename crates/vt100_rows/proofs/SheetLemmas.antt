@@ -140,27 +140,16 @@ IsSheet-blank height width n count small =
     }
 
 -- rows of one width that are made blank
-resets-part : (rows ws : List RowView) (width first end : ℕ)
-    → ((r : ℕ) → r < length rows → IsRowOf width (row_at rows r))
-    → ws ≡ rows_by_position (length rows) (changed_between (λ v. blank_row (length v.cells)) rows first end)
-    → ws ≡ rows_by_position (length rows) (changed_between (λ v. blank_row width) rows first end)
-resets-part rows ws width first end each e =
-    read_again (length rows) (length rows) (changed_between (λ v. blank_row (length v.cells)) rows first end)
-    (changed_between (λ v. blank_row width) rows first end) ws e refl
-    (λ k h. ap (λ n. cond (nat_le first k && nat_lt k end) (blank_row n) (row_at rows k)) (each k h).wide)
-
 pub resets-all : (rows ws : List RowView) (width : ℕ) → ((r : ℕ) → r < length rows → IsRowOf width (row_at rows r))
-    → ws ≡ rows_by_position (length rows) (changed_between (λ v. blank_row (length v.cells)) rows 0 (length rows))
+    → ws ≡ rows_by_position (length rows) (λ r. blank_row (length (row_at rows r).cells))
     → ws ≡ replicate (length rows) (blank_row width)
 resets-all rows ws width each e =
     let n = length rows in
     let blank = blank_row width in
-    let reset = resets-part rows ws width 0 n each e in
-    let count = length-read n (changed_between (λ v. blank) rows 0 n) ws reset in
-    rows_equal ws (replicate n blank) (count ∙ sym (length-replicate n blank))
-    (λ k h. let l : k < n = omega arith in
-    row_at-read n (changed_between (λ v. blank) rows 0 n) ws k reset l ∙ all-read (λ v. blank) rows k l
-    ∙ sym (get_or-replicate n k blank (blank_row 0) l))
+    let f : ℕ → RowView = λ r. blank_row (length (row_at rows r).cells) in
+    rows_equal ws (replicate n blank) (length-read n f ws e ∙ sym (length-replicate n blank))
+    (λ k h. let l : k < n = omega (arith, length-read n f ws e) in
+    row_at-read n f ws k e l ∙ ap blank_row (each k l).wide ∙ sym (get_or-replicate n k blank (blank_row 0) l))
 
 pub IsSheet-with_blank : (height width : ℕ) (rows : List RowView) (r : ℕ) (v : RowView) → IsSheet height width rows
     → r < length rows → width < 2 ^ 16 → v ≡ blank_row width → IsSheet height width (set rows r v)

@@ -5,6 +5,8 @@ pub mod Examples
 pub mod Forms
 pub mod Laws
 pub mod Sheet
+pub mod SheetFields
+pub mod SheetLends
 pub mod Sink
 pub mod Picture
 pub use Rattle.vt100_forms.specs.Attrs

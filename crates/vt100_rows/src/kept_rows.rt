@@ -8,6 +8,7 @@ ghost use Rattle.vt100_rows.specs.Sink.{TakesAll};
 
 use crate::row::Row;
 use crate::row_sink::RowSink;
+use crate::sheet::Sheet;
 use std::alloc::Global;
 use std::collections::VecDeque;
 use vt100_cells::Cell;
@@ -39,7 +40,7 @@ pub fn drop_oldest<S: RowSink>(rows: &mut VecDeque<Row>, n: usize, sink: &mut S)
 #[inline(always)]
 pub fn keep_rows(
     kept: &mut VecDeque<Row>,
-    rows: &mut [Row],
+    rows: &mut Sheet,
     first: usize,
     end: usize,
     width: u16,
@@ -53,6 +54,7 @@ pub fn keep_rows(
         (changed_between (λ v. blank_row width) rows.old first end)) }
 
     // Also where memory ran out, which it does only where a row is kept.
+    ensures size { length rows.new ≡ length rows.old }
     ensures sheet { IsSheet (length rows.old) width rows.new }
     ensures each_kept { (j : ℕ) → j < length kept.new.items → IsRow (row_at kept.new.items j) }
     ensures count { length kept.new.items ≤ length kept.old.items + (end - first) }

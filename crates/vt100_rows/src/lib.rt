@@ -3,9 +3,9 @@
 //! A [`Cell`] is what one column of a row has, and a [`Row`] is the cells of one line. The two columns of a wide
 //! character are adjacent after every call: the cell with its text, and directly after it a blank continuation.
 //!
-//! A sheet's rows are lists: those that are drawn on, from the top, and those that are kept, the oldest first. The
-//! functions on such lists are a part of `vt100_core`, which re-exports [`RowSink`] and [`Size`] and calls the others
-//! where their conditions hold.
+//! A [`Sheet`] is the rows of a screen, from the top. Those that left it at its top are kept in a list of their own, the
+//! oldest first. Both are a part of `vt100_core`, which re-exports [`RowSink`] and [`Size`] and calls their functions
+//! where the conditions hold.
 #![tactic(auto)]
 
 mod attributed_text;
@@ -14,14 +14,12 @@ pub mod kept_rows;
 pub mod laws;
 mod row;
 pub mod row_sink;
-pub mod rows_back;
-pub mod rows_copy;
-pub mod rows_edit;
-pub mod rows_resize;
+mod sheet;
 pub mod size;
 
 pub use join::Join;
 pub use row::Row;
 pub use row_sink::RowSink;
+pub use sheet::Sheet;
 pub use size::Size;
 pub use vt100_cells::{Cell, columns};

@@ -1,6 +1,5 @@
 //! Where rows go that leave a grid for good.
 ghost use Rattle.std.specs.Prelude.{◌≡◌};
-ghost use Rattle.vt100_rows.specs.Sink.{TakesAll};
 
 use crate::row::Row;
 
@@ -20,13 +19,4 @@ impl RowSink for () {
     ghost takes = { λ s v t. s ≡ t };
 
     fn row(&mut self, _row: &Row) {}
-}
-
-/// Gives each row to the sink, from the first on.
-pub fn give_rows<S: RowSink>(rows: &[Row], sink: &mut S)
-    ensures { TakesAll S.takes sink.old rows.now sink.new }
-{
-    for row in rows {
-        sink.row(row);
-    }
 }

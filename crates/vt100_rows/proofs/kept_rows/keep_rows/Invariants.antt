@@ -7,6 +7,7 @@ abbrev pub invariant-loop-r : goal.invariant-loop-r
 invariant-loop-r l = record {
   blank : (k : ℕ) → row_at l.rows k ≡ changed_between (λ v. blank_row l.width) l.initial.rows l.first l.r k;
   kept : l.kept.items ≡ l.initial.kept.items ++ map trimmed (slice_range l.initial.rows l.first l.r);
+  size : length l.rows ≡ length l.initial.rows;
   sheet : IsSheet (length l.initial.rows) l.width l.rows;
   each_kept : (k : ℕ) → k < length l.kept.items → IsRow (row_at l.kept.items k);
   count : length l.kept.items ≤ length l.initial.kept.items + (l.r - l.first);

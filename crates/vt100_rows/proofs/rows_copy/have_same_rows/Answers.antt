@@ -1,9 +1,0 @@
-use Rattle.std.proofs.Common.{arith, refl}
-use Rattle.vt100_rows.proofs.CopyLemmas.{all-copied}
-use Rattle.vt100_rows.proofs.rows_copy.have_same_rows.Goals as goal
-
-pub returns : goal.returns
-returns c = (
-  λ _. all-copied c.args.rows.now c.args.others.now c.loop-r.r c.requires.count (omega arith) c.loop-r.invariant,
-  λ _. refl,
-)

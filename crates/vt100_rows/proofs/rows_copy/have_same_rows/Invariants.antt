@@ -1,6 +1,0 @@
-use Rattle.std.proofs.Common.{◌≡◌, ℕ, ◌<◌}
-use Rattle.vt100_rows.specs.Sheet.{row_at}
-use Rattle.vt100_rows.proofs.rows_copy.have_same_rows.Given as goal
-
-abbrev pub invariant-loop-r : goal.invariant-loop-r
-invariant-loop-r l = (k : ℕ) → k < l.r → row_at l.rows k ≡ row_at l.others k

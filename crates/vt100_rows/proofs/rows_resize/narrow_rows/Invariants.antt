@@ -1,7 +1,0 @@
-use Rattle.std.proofs.Common.{◌≡◌, ℕ}
-use Rattle.vt100_rows.specs.Row.{truncated}
-use Rattle.vt100_rows.specs.Sheet.{row_at, changed_between}
-use Rattle.vt100_rows.proofs.rows_resize.narrow_rows.Given as goal
-
-abbrev pub invariant-loop-r : goal.invariant-loop-r
-invariant-loop-r l = (k : ℕ) → row_at l.rows k ≡ changed_between (λ v. truncated v l.width) l.initial.rows 0 l.r k

@@ -1,0 +1,9 @@
+use Rattle.std.proofs.Common.{arith}
+use Rattle.vt100_rows.specs.Row.{cleared_row}
+use Rattle.vt100_rows.proofs.SheetLemmas.{changes-done}
+use Rattle.vt100_rows.proofs.sheet.Sheet.clear_between.Goals as goal
+
+pub returns : goal.returns
+returns c =
+    changes-done (λ v. cleared_row v c.args.attrs) c.args.self.now c.loop-r.self c.args.first c.loop-r.r c.args.end
+    c.loop-r.invariant.count (omega (arith, c.requires.in_part)) c.loop-r.invariant.changed
