@@ -5,12 +5,12 @@ ghost use Rattle.vt100_capture.specs.Capture.{captured, after_rows};
 
 use crate::state::{BasicFormattedCaptureState, RowContents};
 use std::fmt;
-use vt100_rows::Row;
+use vt100_rows::Sheet;
 
 /// Writes rows one after another, as the next part of the capture that has got to `state`. For the grid only.
 #[doc(hidden)]
 pub fn write_rows<W: fmt::Write>(
-    rows: &[Row],
+    rows: &Sheet,
     writer: &mut W,
     state: &mut BasicFormattedCaptureState,
 ) -> fmt::Result
@@ -18,8 +18,8 @@ pub fn write_rows<W: fmt::Write>(
     ensures state { OnOk result (state.new ≡ after_rows state.old rows.now) }
     ensures empty { captured state.old rows.now ≡ [] → IsOk result }
 {
-    for row in rows {
-        RowContents::new(row).write_formatted_basic(writer, state)?;
+    for r in 0..rows.len() {
+        RowContents::new(&rows[r]).write_formatted_basic(writer, state)?;
     }
     Ok(())
 }
