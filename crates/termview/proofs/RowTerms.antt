@@ -3,8 +3,7 @@ use Rattle.std.proofs.Common.{◌≡◌, ℕ, ◌+◌, ◌-◌, ◌<◌, ◌≤�
 use Rattle.std.specs.Prelude.{unwrap_or}
 use Rattle.unicode_width.specs.Width.{char_width}
 use Rattle.std.proofs.lemmas.Bool.Decides.{nat_tests}
-use Rattle.std.proofs.Common.{min, set, sym, refl, ap, ◌∙◌, arith, get_or, subst}
-use Rattle.std.proofs.lemmas.List.{get_or_read}
+use Rattle.std.proofs.Common.{min, set, sym, refl, ap, ◌∙◌, arith, subst}
 use Rattle.std.proofs.lemmas.Bool.{cond_both, cond-true, cond-false, lt-ltb, le-ltb, eqb-true}
 use Rattle.std.proofs.Math.Bool.{and-true, and-false}
 use mathlib.Core.Path.{fun_ext}
@@ -15,7 +14,7 @@ use Rattle.vt100_cells.specs.Line.{span_of, put, put_unflags, base_col, wipe_unf
 use Rattle.vt100_cells.specs.Line.{update as changed}
 use Rattle.vt100_cells.proofs.ListLemmas.{Bounded-row, cell_at-whole}
 use Rattle.vt100_cells.proofs.JoinedCells.{base_col-within, Bounded-update}
-use Rattle.vt100_rows.specs.Row.{RowView, blank_row, placed, joined_in_place, wiped_row, with_wrap}
+use Rattle.vt100_rows.specs.Row.{RowView, placed, joined_in_place, wiped_row, with_wrap}
 use Rattle.vt100_rows.proofs.RowLemmas.{line-placed, line-wiped}
 use Rattle.terminal_model.specs.Position.{update}
 use Rattle.terminal_model.specs.Term.{Size, Term}
@@ -50,10 +49,10 @@ cursor_row-is p i = i.sheet.each p.row (here p i)
 
 -- n columns from the cursor's on are within its row, as code reads it: the picture p is what the fields f give
 pub row-fits : {f p : PictureView} {r : ℕ} {v : RowView} (n : ℕ) → f ≡ p → IsPicture f → r ≡ f.row
-    → v ≡ get_or f.rows r v → p.col + n ≤ p.size.cols → f.col + n ≤ length v.cells
+    → v ≡ row_at f.rows r → p.col + n ≤ p.size.cols → f.col + n ≤ length v.cells
 row-fits {f} {p} {r} {v} n e i er ev h =
     let within : r < length f.rows = omega (arith, er, here f i) in
-    let is = ap (λ (u : RowView). length u.cells) (get_or_read f.rows r v within ev (blank_row 0)) in
+    let is = ap (λ (u : RowView). length u.cells) ev in
     let fits = subst (λ (x : PictureView). x.col + n ≤ x.size.cols) (sym e) h in
     omega (arith, is, (i.sheet.each r within).wide, fits)
 

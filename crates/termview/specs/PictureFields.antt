@@ -5,7 +5,7 @@ use Rattle.termview.specs.Picture.{PictureView, IsPicture}
 abbrev pub picture_of : Inside → PictureView
 picture_of p = record {
   size = record { rows = p.size.rows.value; cols = p.size.cols.value };
-  rows = p.rows.items;
+  rows = p.rows;
   row = p.pos.row;
   col = p.pos.col;
   hidden = p.hide_cursor;

@@ -18,14 +18,13 @@ use std::marker::Model;
 use vt100_cells::{Cell, PackedAttrs, columns};
 use vt100_forms::attrs::Attrs;
 use vt100_forms::{CursorStyle, MouseProtocolEncoding, MouseProtocolMode, Pos};
-use vt100_rows::rows_edit::{blank_rows, erase_forward, move_up};
-use vt100_rows::{Row, Size};
+use vt100_rows::{Sheet, Size};
 
 /// The picture that a terminal shows, with the saved cursor and attributes.
 #[derive(Drop)]
 pub struct Picture {
     pub(crate) size: Size,
-    pub(crate) rows: Vec<Row>,
+    pub(crate) rows: Sheet,
     pub(crate) pos: Pos,
     pub(crate) saved_pos: Pos,
     pub(crate) attrs: PackedAttrs,
@@ -59,7 +58,7 @@ impl Picture {
     {
         Ok(Picture {
             size,
-            rows: blank_rows(alloc, size)?,
+            rows: Sheet::blank(alloc, size)?,
             pos: Pos { row: 0, col: 0 },
             saved_pos: Pos { row: 0, col: 0 },
             attrs: PackedAttrs::new(),
@@ -261,7 +260,7 @@ impl Picture {
         ensures { Becomes self.old self.new (down self.old.size (term_of_picture self.old)) }
     {
         let end = self.rows.len();
-        move_up(&mut self.rows, 0, end, 1);
+        self.rows.move_up(0, end, 1);
     }
 
     /// Moves the cursor to a place, clamped to the screen.
@@ -319,7 +318,8 @@ impl Picture {
     {
         let row = usize::from(self.pos.row);
         let width = self.size.cols();
-        erase_forward(&mut self.rows, row, self.pos.col, width, self.attrs.attrs());
+        self.rows
+            .erase_forward(row, self.pos.col, width, self.attrs.attrs());
     }
 
     /// Moves the cursor to the left.

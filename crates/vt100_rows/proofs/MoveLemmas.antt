@@ -1,10 +1,8 @@
 -- Rows that move.
-use Rattle.std.proofs.Common.{◌≡◌, ℕ, ◌+◌, ◌-◌, ◌^◌, ◌<◌, ◌≤◌, ◌==◌, cond, ◌||◌, List, ◌++◌, length, set, take, drop}
-use Rattle.std.proofs.Common.{refl, ap, ◌∙◌, arith, length-set, length-take, length-drop, length-append}
+use Rattle.std.proofs.Common.{◌≡◌, ℕ, ◌+◌, ◌-◌, ◌^◌, ◌<◌, ◌≤◌, ◌==◌, cond, ◌||◌, List, length, set}
+use Rattle.std.proofs.Common.{refl, ap, ◌∙◌, arith, length-set}
 use Rattle.std.proofs.Common.{nat_lt, nat_le}
-use borrow.Rule.Slice.PartMut.{put_mid}
 use Rattle.std.proofs.lemmas.Bool.Decides.{nat_tests}
-use Rattle.std.proofs.lemmas.List.{places}
 use Rattle.vt100_rows.specs.Row.{RowView, blank_row, unwrapped}
 use Rattle.vt100_rows.proofs.RowLemmas.{IsRow-unwrapped}
 use Rattle.vt100_rows.specs.Sheet.{row_at, rows_by_position, IsRowOf, IsSheet, changed_between, moved_down, moved_up}

@@ -1,11 +1,11 @@
 -- Rows in an order of their numbers.
-use Rattle.std.proofs.Common.{◌≡◌, ℕ, zero, suc, ◌+◌, ◌-◌, ◌<◌, ◌≤◌, ◌==◌, Bool, true, false, cond, ◌||◌, List, [], ◌∷◌}
-use Rattle.std.proofs.Common.{◌++◌, length, set, take, drop, map, refl, sym, ap, ◌∙◌, arith, inl, inr, nat_lt, nat_le}
-use Rattle.std.proofs.Common.{append_assoc, length-set, length-append, length-take, length-drop, ⊎_elim}
+use Rattle.std.proofs.Common.{◌≡◌, ℕ, ◌+◌, ◌-◌, ◌<◌, ◌≤◌, ◌==◌, true, cond, List, [], ◌∷◌}
+use Rattle.std.proofs.Common.{◌++◌, length, set, take, drop, refl, sym, ap, ◌∙◌, arith, inl, inr, nat_lt}
+use Rattle.std.proofs.Common.{append_assoc, length-set, length-append, length-take, length-drop}
 use Rattle.std.proofs.lemmas.Bool.{cases_eq, cases_lt, eq-eqb, le-ltb}
 use Rattle.std.proofs.lemmas.Bool.Decides.{nat_tests}
-use Rattle.std.proofs.lemmas.List.{places, get_or-map, length-map, get_or-set_same, get_or-set_other, map-append}
-use Rattle.std.proofs.lemmas.List.{take-map, drop-map, get_or-take}
+use Rattle.std.proofs.lemmas.List.{places, get_or-map, length-map, get_or-set_same, get_or-set_other}
+use Rattle.std.proofs.lemmas.List.{get_or-take}
 use Rattle.std.proofs.lemmas.List.FromFn.{get_or-range_with_len, length-range_with_len, map-range_with_len_more}
 use Rattle.std.proofs.lemmas.List.{map-id}
 use Rattle.std.proofs.Math.ListN.{get_or-append}
@@ -15,7 +15,7 @@ use borrow.Rule.Slice.PartMut.{put_mid}
 use Rattle.vt100_rows.specs.Row.{RowView, blank_row}
 use Rattle.vt100_rows.specs.Sheet.{row_at, rows_by_position, turned_up}
 use Rattle.vt100_rows.specs.SheetFields.{number_at, IsOrder, in_order, turned_place}
-use Rattle.vt100_rows.proofs.SheetLemmas.{row_at-set, rows_by_position_is, rows_equal, row_at-read, length-read}
+use Rattle.vt100_rows.proofs.SheetLemmas.{row_at-set, rows_by_position_is, rows_equal, row_at-read}
 
 -- ---- reading
 

@@ -1,6 +1,6 @@
 -- Lists of rows by positions.
-use Rattle.std.proofs.Common.{◌≡◌, ℕ, ◌+◌, ◌-◌, ◌^◌, ◌<◌, ◌≤◌, ◌==◌, Bool, true, false, cond, ◌&&◌, List, length}
-use Rattle.std.proofs.Common.{set, replicate, sym, refl, ap, ◌∙◌, arith, length-set, nat_lt, nat_le, ⊎_elim}
+use Rattle.std.proofs.Common.{◌≡◌, ℕ, ◌+◌, ◌-◌, ◌^◌, ◌<◌, ◌≤◌, ◌==◌, Bool, true, false, cond, List, length}
+use Rattle.std.proofs.Common.{set, replicate, sym, refl, ap, ◌∙◌, arith, length-set, ⊎_elim}
 use Rattle.std.proofs.Common.{take, drop, ◌++◌}
 use Rattle.std.proofs.lemmas.Bool.{cond_both, eqb-true, eqb-false, cases_lt}
 use Rattle.std.proofs.lemmas.Bool.Decides.{nat_tests}

@@ -1,7 +1,8 @@
 //! The rows of a screen.
 ghost use Rattle.std.specs.Prelude.{◌≡◌, ℕ, ◌<◌, ◌^◌, ◌++◌, ◌∷◌, ◌==◌, [], length, replicate, true, false, OnOk, OnErr};
-ghost use Rattle.std.specs.Prelude.{IfOk};
+ghost use Rattle.std.specs.Prelude.{IfOk, slice_get};
 ghost use Rattle.std.specs.Borrow.{sem};
+ghost use Rattle.std.specs.Option.{option_copied};
 ghost use Rattle.vt100_rows.specs.Row.{RowView, blank_row};
 ghost use Rattle.vt100_rows.specs.Sheet.{row_at};
 
@@ -96,6 +97,14 @@ impl Sheet {
         ensures { result ≡ length self.now }
     {
         self.order.len()
+    }
+
+    /// The row at `r`, counted from 0 at the top.
+    #[inline]
+    pub fn get(&self, r: usize) -> Option<&Row>
+        ensures { option_copied result ≡ slice_get self.now r }
+    {
+        if r < self.len() { Some(&self[r]) } else { None }
     }
 
     /// Whether there is no row.

@@ -1,4 +1,5 @@
-use Rattle.std.proofs.Common.{◌≡◌, ℕ, List, [], ◌∷◌, ◌++◌, ◌∙◌, Some, Err, sym, ap, refl, subst, rules}
+use Rattle.std.proofs.lemmas.Result.{err_from_is_err_and}
+use Rattle.std.proofs.Common.{◌≡◌, ℕ, List, [], ◌∷◌, ◌++◌, ◌∙◌, Some, Err, sym, ap, refl, subst}
 use Rattle.std.specs.List.{concat}
 use Rattle.relay_streams.specs.Frames.{asked}
 use Rattle.relay_streams.specs.Turns.{fault_of}
@@ -12,7 +13,9 @@ pub returns-in_err-feed : goal.returns-in_err-feed
 returns-in_err-feed c = λ rows cols past base at.
     let e = c.in_err-feed.field-0.0 in
     let wants = feed-wants at c.args.piece.now c.feed.new.self e c.in_err-feed.ensures in
-    let fault : c.from_residual.result ≡ Err (fault_of e) = search rules in
+    let made = c.from_residual in
+    let p = err_from_is_err_and made.result made.ensures.1 in
+    let fault : c.from_residual.result ≡ Err (fault_of e) = p.1 ∙ ap Err p.2 in
     let is : c.from_residual.result ≡ Err Memory = fault ∙ ap Err wants.1 in
     rw is wants.0
 
@@ -21,7 +24,9 @@ returns-in_err-answer c = λ rows cols past base at.
     let e = c.in_err-answer.field-0.0 in
     let wants = frame-wants at c.args.piece.now c.feed.new.self c.frame.new.self e c.in_ok-feed.ensures
     c.in_err-answer.ensures.frames in
-    let fault : c.from_residual-in_err-answer.result ≡ Err (fault_of e) = search rules in
+    let made = c.from_residual-in_err-answer in
+    let p = err_from_is_err_and made.result made.ensures.1 in
+    let fault : c.from_residual-in_err-answer.result ≡ Err (fault_of e) = p.1 ∙ ap Err p.2 in
     let is : c.from_residual-in_err-answer.result ≡ Err Memory = fault ∙ ap Err wants.1 in
     rw is wants.0
 

@@ -1,3 +1,4 @@
+use Rattle.std.proofs.lemmas.Result.{err_from_is_err_and}
 use Rattle.std.proofs.Common.{◌≡◌, ◌∙◌, ap, arith, refl, rules, Err}
 use Rattle.std.proofs.lemmas.Result.{err_from_is_err_and}
 use Rattle.relay_streams.specs.declared.error.RelayError.TheVariants.{Memory}
@@ -20,7 +21,9 @@ pub returns-in_err-client-clause-prints : goal.returns-in_err-client-clause-prin
 returns-in_err-client-clause-prints g c =
     let e = c.in_err-client.field-0.0 in
     let none = attach-refused c.in_ok-hub.hub c.attach.new.self e c.in_err-client.ensures in
-    let reported : c.from_residual-in_err-client.result ≡ Err (fault_of e) = search rules in
+    let made = c.from_residual-in_err-client in
+    let p = err_from_is_err_and made.result made.ensures.1 in
+    let reported : c.from_residual-in_err-client.result ≡ Err (fault_of e) = p.1 ∙ ap Err p.2 in
     let is : c.from_residual-in_err-client.result ≡ Err Memory = reported ∙ ap Err none in
     rw is (refused refl refl)
 

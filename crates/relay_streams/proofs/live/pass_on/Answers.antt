@@ -1,4 +1,5 @@
-use Rattle.std.proofs.Common.{◌≡◌, ◌∙◌, List, ℕ, Ok, Err, IsOk, false, true, inr, refl, rules, subst}
+use Rattle.std.proofs.lemmas.Result.{err_from_is_err_and}
+use Rattle.std.proofs.Common.{◌≡◌, ◌∙◌, List, ℕ, Ok, Err, IsOk, false, true, inr, refl, subst, ap}
 use Rattle.charset_filter.specs.declared.lines.LineDrawing.{LineDrawing}
 use Rattle.charset_filter.specs.Lines.{HasPassed, passed}
 use Rattle.relay_streams.specs.declared.error.RelayError.TheVariants.{Memory}
@@ -8,7 +9,9 @@ use Rattle.relay_streams.proofs.live.pass_on.Goals as goal
 
 pub returns-in_err-pass : goal.returns-in_err-pass
 returns-in_err-pass g c =
-    let is : c.from_residual.result ≡ Err Memory = search rules in
+    let made = c.from_residual in
+    let p = err_from_is_err_and made.result made.ensures.1 in
+    let is : c.from_residual.result ≡ Err Memory = p.1 ∙ ap Err p.2 in
     rw is (record {
       sent = λ rows cols lines past fed base at passes. (
         unpassed rows cols lines fed (passed lines past c.args.piece.now) base (λ kept. absurd (let no : false ≡ true =
@@ -22,7 +25,9 @@ returns-in_err-pass g c =
 pub returns-in_err-turn : goal.returns-in_err-turn
 returns-in_err-turn g c =
     let fault = c.in_err-turn.field-0.0 in
-    let is : c.from_residual-in_err-turn.result ≡ Err fault = search rules in
+    let made = c.from_residual-in_err-turn in
+    let p = err_from_is_err_and made.result made.ensures.1 in
+    let is : c.from_residual-in_err-turn.result ≡ Err fault = p.1 ∙ ap Err p.2 in
     rw is (record {
       sent = λ rows cols lines past fed base at passes.
           let given : c.given.result.now ≡ passed lines past c.args.piece.now =

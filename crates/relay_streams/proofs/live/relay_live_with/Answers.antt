@@ -1,3 +1,4 @@
+use Rattle.std.proofs.lemmas.Result.{err_from_is_err_and}
 use Rattle.std.proofs.Common.{◌≡◌, ◌∙◌, ap, Err, arith, rules}
 use Rattle.relay_streams.specs.declared.error.RelayError.TheVariants.{Memory}
 use Rattle.relay_streams.specs.Live.{RelaysThrough, refused, streamed}
@@ -23,7 +24,9 @@ pub returns-in_err-client : goal.returns-in_err-client
 returns-in_err-client g c =
     let e = c.in_err-client.field-0.0 in
     let none = attach-refused c.in_ok-hub.hub c.attach.new.self e c.in_err-client.ensures in
-    let fault : c.from_residual-in_err-client.result ≡ Err (fault_of e) = search rules in
+    let made = c.from_residual-in_err-client in
+    let p = err_from_is_err_and made.result made.ensures.1 in
+    let fault : c.from_residual-in_err-client.result ≡ Err (fault_of e) = p.1 ∙ ap Err p.2 in
     let is : c.from_residual-in_err-client.result ≡ Err Memory = fault ∙ ap Err none in
     let r : RelaysThrough c.args.lines g.S.Source.gives g.W.ByteSink.takes g.W.FlushSink.flushes c.args.rows.value
     c.args.cols.value c.args.input.now c.args.output.now c.from_residual-in_err-client.result c.args.input.now

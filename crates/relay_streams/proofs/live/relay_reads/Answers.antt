@@ -1,6 +1,6 @@
+use Rattle.std.proofs.lemmas.Result.{err_from_is_err_and}
 use Rattle.std.proofs.Common.{◌≡◌, ◌∙◌, ℕ, List, [], ◌∷◌, ◌++◌, take, length, arith, ap, sym, subst, Ok, Err}
 use Rattle.std.proofs.Common.{refl, false, append_assoc, take-append-drop}
-use Rattle.std.proofs.Common.{rules}
 use Rattle.std.specs.List.{concat, list_any}
 use Rattle.charset_filter.specs.Lines.{HasPassed, all_passed}
 use Rattle.charset_filter.proofs.LineLemmas.{none-passed}
@@ -37,7 +37,9 @@ returns-in_err-n g c = λ rows cols lines at passes.
     let fault = c.in_err-n.field-0.0 in
     let cuts = cut_pieces so_far.past in
     let sent = so_far.sent rows cols lines at passes in
-    let is : c.from_residual.result ≡ Err fault = search rules in
+    let made = c.from_residual in
+    let p = err_from_is_err_and made.result made.ensures.1 in
+    let is : c.from_residual.result ≡ Err fault = p.1 ∙ ap Err p.2 in
     rw is (unread c.reads.input so_far.past (frames_of rows cols (all_passed lines cuts)) fault so_far.read
     (tried-fault c.read_some.ensures whole fault c.in_err-n.was)
     (frames-are-relayed rows cols (all_passed lines cuts) at.height at.width sent.0) sent.1
@@ -74,7 +76,9 @@ returns-in_err-pass_part g c = λ rows cols lines at passes.
     let past = so_far.past in
     let fed = all_passed lines (cut_pieces past) in
     let fault = c.in_err-pass_part.field-0.0 in
-    let is : c.from_residual-in_err-pass_part.result ≡ Err fault = search rules in
+    let made = c.from_residual-in_err-pass_part in
+    let p = err_from_is_err_and made.result made.ensures.1 in
+    let is : c.from_residual-in_err-pass_part.result ≡ Err fault = p.1 ∙ ap Err p.2 in
     let read = listens-on c.read_some.ensures whole n c.in_ok-n.was (omega arith) c.read_some.auto.room so_far.read in
     let sent = so_far.sent rows cols lines at passes in
     rw is (front-faults g.row.S.Denot g.row.W.Denot g.S.Source.gives g.W.ByteSink.takes g.W.FlushSink.flushes rows cols
@@ -97,7 +101,9 @@ returns-in_err-pass_part-2 g c = λ rows cols lines at passes.
     let fronts = all_passed lines (cut_pieces past ++ unless_empty front) in
     let found = c.last_end-end.ensures.end (concat past) so_far.searched in
     let fault = c.in_err-pass_part-2.field-0.0 in
-    let is : c.from_residual-in_err-pass_part-2.result ≡ Err fault = search rules in
+    let made = c.from_residual-in_err-pass_part-2 in
+    let p = err_from_is_err_and made.result made.ensures.1 in
+    let is : c.from_residual-in_err-pass_part-2.result ≡ Err fault = p.1 ∙ ap Err p.2 in
     let read = listens-on c.read_some.ensures whole n c.in_ok-n.was (omega arith) c.read_some.auto.room so_far.read in
     let sent = so_far.sent rows cols lines at passes in
     let passed = so_far.passes lines passes in

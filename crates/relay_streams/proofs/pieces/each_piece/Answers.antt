@@ -1,4 +1,5 @@
-use Rattle.std.proofs.Common.{◌≡◌, ℕ, List, [], ◌∷◌, ◌++◌, take, length, arith, Err, rules}
+use Rattle.std.proofs.lemmas.Result.{err_from_is_err_and}
+use Rattle.std.proofs.Common.{◌≡◌, ℕ, List, [], ◌∷◌, ◌++◌, take, length, arith, Err, ap, ◌∙◌}
 use Rattle.relay_streams.specs.Each.{none, more, unread, refused, taken}
 use Rattle.relay_streams.specs.Pieces.{piece_len}
 use Rattle.relay_streams.proofs.PieceLemmas.{none_read, filled_most, filled_on, filled_last, filled_fault, filled_begun}
@@ -12,7 +13,9 @@ returns-in_err-n g c =
     let so_far = c.pieces.invariant in
     let whole : length c.pieces.piece ≡ piece_len = omega (arith, c.fill.auto.piece) in
     let fault = c.in_err-n.field-0.0 in
-    let is : c.from_residual.result ≡ Err fault = search rules in
+    let made = c.from_residual in
+    let p = err_from_is_err_and made.result made.ensures.1 in
+    let is : c.from_residual.result ≡ Err fault = p.1 ∙ ap Err p.2 in
     rw is (unread so_far.past _ fault
     (filled_fault c.fill.ensures whole so_far.most fault c.in_err-n.was so_far.read) so_far.took)
 
@@ -23,7 +26,9 @@ returns-in_err-take_piece g c =
     let n = c.in_ok-n.n in
     let piece : List ℕ = take n c.fill.new.piece in
     let fault = c.in_err-take_piece.field-0.0 in
-    let is : c.from_residual-in_err-take_piece.result ≡ Err fault = search rules in
+    let made = c.from_residual-in_err-take_piece in
+    let p = err_from_is_err_and made.result made.ensures.1 in
+    let is : c.from_residual-in_err-take_piece.result ≡ Err fault = p.1 ∙ ap Err p.2 in
     rw is (refused c.pieces.consumer c.pieces.to so_far.past piece fault
     (filled_begun c.fill.ensures whole so_far.most n c.in_ok-n.was so_far.read) so_far.took
     c.in_err-take_piece.ensures.step)

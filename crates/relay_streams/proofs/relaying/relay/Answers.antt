@@ -1,3 +1,4 @@
+use Rattle.std.proofs.lemmas.Result.{err_from_is_err_and}
 use Rattle.std.proofs.Common.{◌≡◌, Ok, Err, ap, ◌∙◌, rules, arith}
 use Rattle.relay_streams.specs.declared.error.RelayError.TheVariants.{Memory}
 use Rattle.relay_streams.specs.Relayed.{Relays, refused, broken, unflushed, written}
@@ -16,7 +17,9 @@ pub returns-in_err-client : goal.returns-in_err-client
 returns-in_err-client g c =
     let e = c.in_err-client.field-0.0 in
     let none = attach-refused c.in_ok-hub.hub c.attach.new.self e c.in_err-client.ensures in
-    let reported : c.from_residual-in_err-client.result ≡ Err (fault_of e) = search rules in
+    let made = c.from_residual-in_err-client in
+    let p = err_from_is_err_and made.result made.ensures.1 in
+    let reported : c.from_residual-in_err-client.result ≡ Err (fault_of e) = p.1 ∙ ap Err p.2 in
     let is : c.from_residual-in_err-client.result ≡ Err Memory = reported ∙ ap Err none in
     let r : Relays g.S.Source.gives g.W.ByteSink.takes g.W.FlushSink.flushes c.args.rows.value c.args.cols.value
     c.args.input.now c.args.output.now c.from_residual-in_err-client.result c.args.input.now c.args.output.now =
@@ -32,7 +35,9 @@ returns-in_err-relay_pieces g c =
     let at = first-attached c.args.rows.value c.args.cols.value c.in_ok-client.client c.in_ok-hub.hub
     c.attach.new.self (c.args.rows.ok, omega arith) (c.args.cols.ok, omega arith) c.in_ok-hub.ensures.new
     c.in_ok-client.ensures in
-    let is : c.from_residual-in_err-relay_pieces.result ≡ Err e = search rules in
+    let made = c.from_residual-in_err-relay_pieces in
+    let p = err_from_is_err_and made.result made.ensures.1 in
+    let is : c.from_residual-in_err-relay_pieces.result ≡ Err e = p.1 ∙ ap Err p.2 in
     let r : Relays g.S.Source.gives g.W.ByteSink.takes g.W.FlushSink.flushes c.args.rows.value c.args.cols.value
     c.args.input.now c.args.output.now c.from_residual-in_err-relay_pieces.result c.relay_pieces.new.input
     c.relay_pieces.new.output =

@@ -1,4 +1,5 @@
-use Rattle.std.proofs.Common.{◌≡◌, Err, ◌∙◌, rules}
+use Rattle.std.proofs.lemmas.Result.{err_from_is_err_and}
+use Rattle.std.proofs.Common.{◌≡◌, Err, ◌∙◌, ap}
 use Rattle.relay_streams.specs.declared.error.RelayError.TheVariants.{Memory}
 use Rattle.relay_streams.specs.Shown.{Shows, sized, refused, unread, shown}
 use Rattle.relay_streams.proofs.OutcomeLemmas.{shows-text, shows-prefix}
@@ -7,13 +8,17 @@ use Rattle.relay_streams.proofs.showing.show.Goals as goal
 
 pub returns-in_err-view-clause-shows : goal.returns-in_err-view-clause-shows
 returns-in_err-view-clause-shows g c =
-    let is : c.from_residual.result ≡ Err Memory = search rules in
+    let made = c.from_residual in
+    let p = err_from_is_err_and made.result made.ensures.1 in
+    let is : c.from_residual.result ≡ Err Memory = p.1 ∙ ap Err p.2 in
     rw is refused
 
 pub returns-in_err-read_view : goal.returns-in_err-read_view
 returns-in_err-read_view g c =
     let fault = c.in_err-read_view.field-0.0 in
-    let is : c.from_residual-in_err-read_view.result ≡ Err fault = search rules in
+    let made = c.from_residual-in_err-read_view in
+    let p = err_from_is_err_and made.result made.ensures.1 in
+    let is : c.from_residual-in_err-read_view.result ≡ Err fault = p.1 ∙ ap Err p.2 in
     let read = c.in_err-read_view.ensures in
     let r : Shows g.S.Source.gives g.W.ByteSink.takes g.W.FlushSink.flushes (sized c.args.rows.value c.args.cols.value)
     c.args.input.now c.args.output.now c.from_residual-in_err-read_view.result c.read_view.new.input

@@ -1,3 +1,4 @@
+use Rattle.std.proofs.lemmas.Result.{err_from_is_err_and}
 use Rattle.std.proofs.Common.{ℕ, List, ap, subst, ◌≡◌, ◌++◌, ◌+◌, ◌-◌, ◌∙◌, [], Ok, Err, append_assoc, append-nil}
 use Rattle.std.proofs.Common.{arith, sym, refl, rules}
 use Rattle.byte_streams.specs.Sent.{SendsText, done}
@@ -19,7 +20,9 @@ returns-in_err-write_row g c =
     let end = c.get-row-end.result in
     let next = rows-next z t so_far.written row (end - row) (end - (row + 1)) so_far.follows (omega arith) in
     let e = c.in_err-write_row.field-0.0 in
-    let is : c.from_residual.result ≡ Err e = search rules in
+    let made = c.from_residual in
+    let p = err_from_is_err_and made.result made.ensures.1 in
+    let is : c.from_residual.result ≡ Err e = p.1 ∙ ap Err p.2 in
     rw (next, is) (text-more g.row.T.Denot g.T.ByteSink.takes _ _ _ so_far.written
     (row_line z t row ++ rows_text z t (row + 1) (end - (row + 1))) (Ok tt) (Err e) so_far.sent refl
     (text-broken g.row.T.Denot g.T.ByteSink.takes _ _ (row_line z t row) (rows_text z t (row + 1) (end - (row + 1)))

@@ -1,4 +1,5 @@
-use Rattle.std.proofs.Common.{◌≡◌, ◌∙◌, ℕ, List, Err, IsOk, false, true, refl, subst, rules}
+use Rattle.std.proofs.lemmas.Result.{err_from_is_err_and}
+use Rattle.std.proofs.Common.{◌≡◌, ◌∙◌, ℕ, List, Err, IsOk, false, true, refl, subst, ap}
 use Rattle.charset_filter.specs.Lines.{HasPassed}
 use Rattle.charset_filter.specs.declared.lines.LineDrawing.{LineDrawing}
 use Rattle.relay_streams.specs.declared.error.RelayError.TheVariants.{Memory}
@@ -9,7 +10,9 @@ use Rattle.relay_commands.proofs.far_screen.FilteredHubTakesPiecesViewUntilClear
 
 pub returns-in_err-pass : goal.returns-in_err-pass
 returns-in_err-pass c =
-    let is : c.from_residual.result ≡ Err Memory = search rules in
+    let made = c.from_residual in
+    let p = err_from_is_err_and made.result made.ensures.1 in
+    let is : c.from_residual.result ≡ Err Memory = p.1 ∙ ap Err p.2 in
     rw is (record {
       step = (
         refl,

@@ -7,6 +7,6 @@ use Rattle.termview.proofs.picture.Picture.row_cells.Goals as goal
 
 pub returns-in-None : goal.returns-in-None
 returns-in-None c =
-    let past : length c.self.inside.rows.items ≤ c.args.row = grind (arith, common_steps) in
-    text-past c.self.inside.rows.items c.args.row c.self.inside.size.cols.value past
+    let past : length c.self.inside.rows ≤ c.args.row = grind (arith, common_steps) in
+    text-past c.self.inside.rows c.args.row c.self.inside.size.cols.value past
     ∙ ap (λ (p : PictureView). text_shown p.size (term_of_picture p) c.args.row) c.self.view_is

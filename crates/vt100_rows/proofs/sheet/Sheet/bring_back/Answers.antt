@@ -1,9 +1,9 @@
-use Rattle.std.proofs.Common.{◌≡◌, ◌<◌, ◌≤◌, ◌∙◌, ◌+◌, ◌-◌, ◌++◌, ℕ, List, length, take, drop, map, replicate, append_assoc, ap, sym}
-use Rattle.std.proofs.Common.{refl, arith, vec_len, length-append, length-drop, length-take}
+use Rattle.std.proofs.Common.{◌≡◌, ◌≤◌, ◌∙◌, ◌+◌, ◌-◌, ◌++◌, ℕ, List, length, take, drop, replicate, append_assoc, ap, sym}
+use Rattle.std.proofs.Common.{refl, arith, length-append, length-drop, length-take}
 use Rattle.std.specs.List.{range_with_len}
 use Rattle.vt100_cells.specs.Cell.{default_cell}
 use Rattle.vt100_rows.specs.Row.{RowView, blank_row, resized_row}
-use Rattle.vt100_rows.specs.SheetFields.{number_at, turned_place, in_order, IsOrder}
+use Rattle.vt100_rows.specs.SheetFields.{in_order}
 use Rattle.vt100_rows.proofs.SheetLemmas.{refilled}
 use Rattle.vt100_rows.proofs.OrderLemmas.{added-back, length-added, length-in_order}
 use Rattle.vt100_rows.proofs.BackLemmas.{brings-back}

@@ -1,4 +1,4 @@
-use Rattle.std.proofs.Common.{◌≡◌, ◌∙◌, length, List, arith, ap}
+use Rattle.std.proofs.Common.{◌∙◌, length, List, arith, ap}
 use Rattle.vt100_rows.specs.Row.{RowView, cleared_row}
 use Rattle.vt100_rows.proofs.SheetLemmas.{refilled}
 use Rattle.vt100_rows.proofs.OrderLemmas.{in_order-each}

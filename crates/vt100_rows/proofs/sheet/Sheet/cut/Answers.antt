@@ -1,8 +1,8 @@
-use Rattle.std.proofs.Common.{◌≡◌, ◌∙◌, ◌<◌, ℕ, List, length, take, ap, sym, arith}
+use Rattle.std.proofs.Common.{◌≡◌, ◌∙◌, ◌<◌, ℕ, List, length, take, ap, arith}
 use Rattle.vt100_rows.specs.Row.{RowView}
 use Rattle.vt100_rows.specs.SheetFields.{number_at, in_order}
 use Rattle.vt100_rows.proofs.SheetLemmas.{refilled}
-use Rattle.vt100_rows.proofs.OrderLemmas.{IsOrder-first, in_order-first}
+use Rattle.vt100_rows.proofs.OrderLemmas.{in_order-first}
 use Rattle.vt100_rows.proofs.sheet.Sheet.cut.Goals as goal
 
 pub returns : goal.returns

@@ -1,4 +1,4 @@
-use Rattle.std.proofs.Common.{arith, refl, ◌-◌, ◌∙◌, ap, length}
+use Rattle.std.proofs.Common.{refl, ◌-◌, ◌∙◌, ap, length}
 use Rattle.vt100_rows.specs.Row.{RowView, unwrapped}
 use Rattle.vt100_rows.specs.Sheet.{moved_down}
 use Rattle.vt100_rows.proofs.SheetLemmas.{row_at-read, length-read}

@@ -1,4 +1,4 @@
-use Rattle.std.proofs.Common.{◌≡◌, ◌++◌, ◌∷◌, [], ℕ, List, length, ap, ◌∙◌, arith}
+use Rattle.std.proofs.Common.{◌++◌, ◌∷◌, [], ℕ, List, length, ap, ◌∙◌, arith}
 use Rattle.vt100_rows.specs.Row.{RowView}
 use Rattle.vt100_rows.proofs.OrderLemmas.{IsOrder-push, in_order-push, length-in_order}
 use Rattle.vt100_rows.proofs.sheet.Sheet.push.Goals as goal

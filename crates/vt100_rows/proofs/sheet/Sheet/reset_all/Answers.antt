@@ -1,4 +1,4 @@
-use Rattle.std.proofs.Common.{◌≡◌, ◌∙◌, length, List, arith, ap, subst}
+use Rattle.std.proofs.Common.{◌∙◌, length, List, arith, ap}
 use Rattle.vt100_rows.specs.Row.{RowView, blank_row}
 use Rattle.vt100_rows.proofs.SheetLemmas.{resets-all, refilled}
 use Rattle.vt100_rows.proofs.OrderLemmas.{in_order-each}

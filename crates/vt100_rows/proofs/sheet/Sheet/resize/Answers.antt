@@ -1,4 +1,4 @@
-use Rattle.std.proofs.Common.{arith, subst, ap, sym, ◌∙◌, ◌≡◌, List, length}
+use Rattle.std.proofs.Common.{arith, subst, ap, ◌∙◌, ◌≡◌, List, length}
 use Rattle.std.specs.Prelude.{OnOk}
 use Rattle.vt100_rows.specs.Row.{RowView, truncated}
 use Rattle.vt100_rows.specs.Sheet.{rows_by_position, changed_between}

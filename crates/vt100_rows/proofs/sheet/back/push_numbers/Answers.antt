@@ -1,5 +1,4 @@
-use Rattle.std.proofs.Common.{◌≡◌, ◌+◌, ◌-◌, ◌++◌, ◌∷◌, [], List, ℕ, ap, ◌∙◌, sym, arith, length, append_assoc}
-use Rattle.std.specs.List.{range_with_len}
+use Rattle.std.proofs.Common.{◌∙◌, arith}
 use Rattle.vt100_rows.proofs.OrderLemmas.{numbers-more}
 use Rattle.vt100_rows.proofs.sheet.back.push_numbers.Goals as goal
 

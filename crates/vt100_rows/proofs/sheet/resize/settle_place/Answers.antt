@@ -1,4 +1,4 @@
-use Rattle.std.proofs.Common.{◌≡◌, ◌<◌, ◌∙◌, ℕ, length, sym, arith}
+use Rattle.std.proofs.Common.{◌≡◌, ◌<◌, ◌∙◌, length, arith}
 use Rattle.vt100_rows.specs.SheetFields.{number_at}
 use Rattle.vt100_rows.proofs.SettleLemmas.{IsOrder-exchanged, in_order-settled, stays-settled, fewer-unsettled}
 use Rattle.vt100_rows.proofs.sheet.resize.settle_place.Goals as goal
