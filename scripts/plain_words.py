@@ -29,7 +29,7 @@ def without_code(text):
     """Text whose spans in backticks are one word, and whose links are their texts."""
     text = re.sub(r"``.+?``|`[^`]*`", "CODE", text)
     text = re.sub(r"!?\[([^\]]*)\]\([^)]*\)", r"\1", text)
-    return re.sub(r"<[^>]*>|[*_]{1,2}(?=\S)|(?<=\S)\*{1,2}", "", text)
+    return re.sub(r"<[^>]*>|\*", "", text)
 
 
 class Reader:
@@ -70,13 +70,13 @@ class Reader:
 
 
 def sentences(text):
-    """The sentences of a part, each with how many lines lie before its first word."""
+    """The sentences of a part, each with the place where it begins. A line's end in one is a space."""
     begin = 0
     for end in [m.end() for m in re.finditer(r"[.!?][)\"*]*(?=\s+[\"(*]*(?:[A-Z0-9]|CODE))|\Z", text)]:
         sentence = text[begin:end]
         if sentence.strip():
-            lead = len(sentence) - len(sentence.lstrip())
-            yield text.count("\n", 0, begin + lead), " ".join(sentence.split())
+            begin += len(sentence) - len(sentence.lstrip())
+            yield begin, text[begin:end].replace("\n", " ")
         begin = end
 
 
@@ -98,17 +98,24 @@ def joined_code(lines):
     return without_code(whole)
 
 
+def line_at(number, text, place):
+    """The line of a place in a part that begins in this line."""
+    return number + text.count("\n", 0, place)
+
+
 def long_sentences(path, number, text):
-    for before, sentence in sentences(text):
+    for begin, sentence in sentences(text):
         if words_in(sentence) > WORDS:
-            yield f"{path}:{number + before}: {words_in(sentence)} words, and {WORDS} at most: {sentence[:50]}.."
+            line = line_at(number, text, begin)
+            yield f"{path}:{line}: {words_in(sentence)} words, and {WORDS} at most: {sentence[:50]}.."
 
 
 def dialect(path, number, text):
-    for before, sentence in sentences(text):
+    for begin, sentence in sentences(text):
         for pattern, plainer in DIALECT:
             for match in re.finditer(pattern, sentence):
-                yield f"{path}:{number + before}: \"{match.group()[:30]}\": rather {plainer}: {sentence[:50]}.."
+                line = line_at(number, text, begin + match.start())
+                yield f"{path}:{line}: \"{match.group()[:30]}\": rather {plainer}: {sentence[:50]}.."
 
 
 def faults(path, text):
