@@ -92,7 +92,7 @@ def write():
 
 def block(path, name):
     """The definition of a name in a spec: up to the next empty line."""
-    found = re.search(rf"^{name}(?: : [^\n]*)? =(.*?)(?=\n\n|\Z)", text_of(path), re.M | re.S)
+    found = re.search(rf"^{name} =(.*?)(?=\n\n|\Z)", text_of(path), re.M | re.S)
     if not found:
         raise SystemExit(f"{path}: no {name}")
     return found.group(1)
@@ -108,16 +108,23 @@ def finals(path, name, marks=""):
     return {marks + chr(number) for number in numbers_in(path, name)}
 
 
+def ranges_in(path, name):
+    """The numbers of all ranges in a definition."""
+    ranges = re.findall(r"is_in_range (\d+) (\d+)", block(path, name))
+    return {str(number) for first, last in ranges for number in range(int(first), int(last) + 1)}
+
+
 def screens():
     """What a screen knows, by kind. SO and SI are read, and do nothing."""
-    path, modes = "crates/screen_model/specs/Effect.antt", "crates/screen_model/specs/PrivateModes.antt"
+    folder = "crates/screen_model/specs"
+    path, modes, sgr = f"{folder}/Effect.antt", f"{folder}/PrivateModes.antt", f"{folder}/Sgr.antt"
     return {
         "control": {str(n) for n in numbers_in(path, "control_rows") - {14, 15}},
         "escape": finals(path, "escape_rows"),
         "csi": finals(path, "plain_rows") | finals(path, "other_rows") | finals(path, "private_rows", "?") | {"SPq"},
         "private": {str(n) for n in numbers_in(modes, "set_rows") & numbers_in(modes, "reset_rows")},
         "osc": {chr(n) for n in numbers_in(path, "title_rows")} | {"52"},
-        "sgr": {str(n) for n in numbers_in("crates/screen_model/specs/Sgr.antt", "flag_rows")} | {"30", "40"},
+        "sgr": {str(n) for n in numbers_in(sgr, "flag_rows")} | ranges_in(sgr, "code_row n"),
     }
 
 
@@ -153,28 +160,45 @@ def named_modes(name):
     return set(re.findall(r"^    \w+ = (\d+),", body, re.M))
 
 
-def covered(key, kind):
-    """The keys that a row is about: of colours, the numbers after the first one too."""
-    if kind == "sgr" and key in ("30", "40"):
-        return {str(int(key) + n + more) for n in range(8) for more in (0, 60)}
-    return {key}
+def keys_of(row):
+    """The keys that a row is about: of 16 colours, each number."""
+    if row["kind"] == "sgr" and row["key"] in ("30", "40"):
+        return {str(int(row["key"]) + n + more) for n in range(8) for more in (0, 60)}
+    return {row["key"]} - {"-"}
 
 
-def code_faults(known, reader, knows):
-    """Where the marks of a reader aren't as its code, in either direction."""
-    faults = []
-    for kind, keys in knows.items():
-        marked, named = set(), set()
-        for row in (row for row in known if row["kind"] == kind and row["key"] != "-"):
-            named |= covered(row["key"], kind) | {row["key"]}
-            if row[reader] != "no":
-                marked |= covered(row["key"], kind) | {row["key"]}
-        if keys & {"30"} and reader == "screen":
-            keys = keys | covered("30", kind) | covered("40", kind)
-        faults += [f"{TABLE}: {kind} {key}: {reader} knows it, and no row has it" for key in sorted(keys - named)]
-        faults += [f"{TABLE}: {kind} {key}: no, but {reader} knows it" for key in sorted((keys & named) - marked)]
-        faults += [f"{TABLE}: {kind} {key}: {reader} doesn't know it" for key in sorted(marked - keys)]
-    return faults
+def kind_faults(kind, reader, known, keys):
+    """Where the marks of a reader aren't as its code, in either direction, for the rows of a kind."""
+    kinds = [row for row in known if row["kind"] == kind]
+    named = {key for row in kinds for key in keys_of(row)}
+    marked = {key for row in kinds if row[reader] != "no" for key in keys_of(row)}
+    place = f"{TABLE}: {kind}"
+    return (
+        [f"{place} {key}: {reader} knows it, and there is no row" for key in sorted(keys - named)]
+        + [f"{place} {key}: no, but {reader} knows it" for key in sorted((keys & named) - marked)]
+        + [f"{place} {key}: {reader} doesn't know it" for key in sorted(marked - keys)]
+    )
+
+
+def code_faults(known):
+    """Where the marks of the screen, the view or `vte` aren't as their code."""
+    return [
+        fault
+        for reader, knows in (("screen", screens()), ("view", views()), ("vte", handlers()))
+        for kind, keys in knows.items()
+        for fault in kind_faults(kind, reader, known, keys)
+    ]
+
+
+def peer_faults(known):
+    """Where `vt100` 0.18.1 isn't as the screen, and DIFFERENCES doesn't say so; where Alacritty knows more than `vte`."""
+    differences = text_of("docs/DIFFERENCES.md")
+    unsaid = [row for row in known if row["vt100"] != row["screen"] and row["key"] not in differences]
+    unread = [row for row in known if row["vte"] == "no" and row["alacritty"] not in ("no", "")]
+    return (
+        [f"{TABLE}:{row['line']}: vt100 isn't as screen, and docs/DIFFERENCES.md doesn't say so" for row in unsaid]
+        + [f"{TABLE}:{row['line']}: Alacritty reads by vte, which doesn't know it" for row in unread]
+    )
 
 
 def filter_faults(known):
@@ -204,10 +228,8 @@ def mark_faults(known):
 def faults():
     """All faults of the table and of the page."""
     known = rows()
-    found = mark_faults(known) + page_faults(known) + filter_faults(known)
-    for reader, knows in (("screen", screens()), ("view", views()), ("vte", handlers())):
-        found += code_faults(known, reader, knows)
-    return found
+    checks = (mark_faults, page_faults, code_faults, filter_faults, peer_faults)
+    return [fault for check in checks for fault in check(known)]
 
 
 if __name__ == "__main__":
