@@ -186,7 +186,7 @@ class Events(unittest.TestCase):
             self.assertIn(b"form-action 'none'", head)
             nonce = re.search(rb"script-src 'nonce-([\w-]+)'", head)[1]
             self.assertEqual(page.count(b'nonce="' + nonce), 2)
-            self.assertLess(len(page), 12000)
+            self.assertLess(len(page), 16000)
             self.assertNotIn(b"http", page)  # nothing comes from elsewhere
 
     def test_the_screen(self):

@@ -57,7 +57,7 @@ kbd { border: 1px solid GrayText; border-radius: .2rem; padding: 0 .25rem; }
 <h1><bdi>"#;
 
 /// What comes between the screen and the markers.
-pub const PLAYER_CONTROLS: &[u8] = br#"</div>
+pub const PLAYER_CONTROLS: &[u8] = br##"</div>
 <button id="start" type="button" aria-label="Play" hidden></button>
 <div id="controls" hidden>
 <span id="track"><input id="bar" type="range" min="0" max="0" step="any" value="0" aria-label="Time"
@@ -81,7 +81,7 @@ placeholder="Find a text"> <button>Find</button> <output id="found"></output></f
 </div>
 <noscript>This is one moment of a recording. A script plays it.</noscript>
 <ol id="markers">
-"#;
+"##;
 
 /// The script, and what ends the page.
 pub const PLAYER_SCRIPT: &[u8] = br##"</template>
