@@ -71,6 +71,7 @@ PROGRAMS = {
             ("html-block", None, None, "The block alone of such a page, to be pasted into another"),
             ("svg", None, None, "A picture in SVG of the screen"),
             ("animate", None, None, "With --svg: a picture that plays the recording, 8 MiB at most"),
+            ("frames", "DIR", FILES, "A PNG of each screen of such a film, into this folder; rsvg-convert makes them"),
             ("player", None, None, "A page in HTML that plays the recording, 32 MiB at most"),
             ("speed", "N", None, "It plays N times as fast as it was recorded"),
             ("idle", "SECONDS", None, "No screen stands longer than this time, in place of an asciicast's own limit"),

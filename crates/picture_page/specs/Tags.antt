@@ -9,7 +9,8 @@ tag_bytes tag.PageHead = codes "<!DOCTYPE html>\n<html><head><meta charset=\"utf
 tag_bytes tag.PageTitle = codes "screentext"
 tag_bytes tag.PageBody = codes "</title></head>\n<body>"
 tag_bytes tag.PageFoot = codes "</body></html>\n"
-tag_bytes tag.Block = codes "<pre style=\"display:inline-block;line-height:normal;"
+tag_bytes tag.Block = codes
+    "<pre style=\"display:inline-block;font-family:ui-monospace,Menlo,Consolas,'DejaVu Sans Mono',monospace;line-height:normal;"
 tag_bytes tag.BlockFont = codes ";font-family:'"
 tag_bytes tag.BlockFontEnd = codes "',ui-monospace,Menlo,Consolas,'DejaVu Sans Mono',monospace"
 tag_bytes tag.BlockRows = codes "\">\n"

@@ -4,7 +4,7 @@
 pub const PLAYER_HEAD: &[u8] = br#"<!DOCTYPE html>
 <html lang="en"><head><meta charset="utf-8"><meta name="viewport" content="width=device-width, initial-scale=1">
 <meta http-equiv="Content-Security-Policy" content="default-src 'none'; style-src 'unsafe-inline';
-script-src 'sha256-NFZEkSAdU1lnvFeFPg8hXMAEQEs7No8Pw11Lp9IYGZY='">
+script-src 'sha256-Ux531u0lYZAjekf/O4xHy+59Q+7ZfGIaTE/LojIn9UI='">
 <title>"#;
 
 /// What comes between the title and the heading.
@@ -22,16 +22,19 @@ h1:empty, h1:has(> bdi:empty) { display: none; }
   font-size: max(.25rem, min(var(--tallest), (100cqw - 1rem) / var(--cols) / var(--em))); }
 #screen > div { white-space: pre; direction: ltr; unicode-bidi: bidi-override; }
 #screen > div:empty::before { content: " "; }
-#start { grid-area: 1 / 1; place-self: center; width: 5rem; height: 5rem; padding: 0; border: 2px solid #fff;
-  border-radius: 50%; background: rgba(0, 0, 0, .7); cursor: pointer; }
+#start { grid-area: 1 / 1; place-self: center; --size: clamp(2.5rem, 14cqw, 5rem); width: var(--size);
+  height: var(--size); padding: 0; border: 2px solid #fff; border-radius: 50%; background: rgba(0, 0, 0, .7);
+  cursor: pointer; }
 #start[hidden] { display: none; }
-#start::before { content: ""; display: block; width: 1.8rem; height: 2.2rem; margin: auto; background: #fff;
-  transform: translateX(.25rem); clip-path: polygon(0 0, 100% 50%, 0 100%); }
+#start::before { content: ""; display: block; width: 36%; height: 44%; margin: auto; background: #fff;
+  transform: translateX(12%); clip-path: polygon(0 0, 100% 50%, 0 100%); }
 #player:fullscreen { background: Canvas; color: CanvasText; padding: .5rem; align-content: center; overflow: auto;
-  --tallest: (100vh - 8rem) / var(--rows) / 1.2; }
+  --tallest: (100vh - 8rem) / var(--rows) / 1.28; }
 .framed body { margin: 0; }
-.framed h1, .framed #markers, .framed details { display: none; }
-.framed #player { padding: .25rem; --tallest: (100vh - 7rem) / var(--rows) / 1.2; }
+.framed h1, .framed #markers, .framed details, .framed #search, .framed #aloud { display: none; }
+.framed #player { padding: .25rem; --tallest: (100vh - 6.6rem) / var(--rows) / 1.28; }
+.framed #controls { font-size: .875rem; margin-bottom: 0; }
+@media (max-width: 36rem) { .framed label, .framed #link { display: none; } }
 #controls { display: flex; flex-wrap: wrap; gap: .5rem .75rem; align-items: center; margin: .4rem 0; min-width: 0; }
 #controls[hidden] { display: none; }
 #track { position: relative; flex: 1 0 100%; padding-top: .5rem; }
@@ -416,7 +419,10 @@ function watchScreen() {
 }
 
 function begin() {
-  document.documentElement.classList.toggle("framed", window.parent !== window);
+  if (window.parent !== window) {
+    document.documentElement.className = "framed";
+    at("link").target = "_blank"; // the page itself has all controls
+  }
   document.title ||= "Recording";
   measure();
   at("speed").append(...SPEEDS.map((each) => new Option(`${each}\u00d7`, each)));
