@@ -323,13 +323,13 @@ impl Tag {
             Tag::ClipStart => b"<clipPath id=\"window\">",
             Tag::ClipEnd => b"\"/></clipPath><g clip-path=\"url(#window)\">",
             Tag::Corner => b"\" rx=\"",
-            Tag::Edge =>
-                b"\" fill=\"none\" stroke-width=\"2\" stroke-opacity=\".4\" stroke=\"#",
+            Tag::Edge => b"\" fill=\"none\" stroke-width=\"2\" stroke-opacity=\".4\" stroke=\"#",
             Tag::EdgeEnd => b"\"/></g>",
             Tag::Button => b"<circle cx=\"",
             Tag::MiddleY => b"\" cy=\"",
             Tag::Radius => b"\" r=\"",
-            Tag::TitleSize => b"\" font-family=\"system-ui,sans-serif\" text-anchor=\"middle\" font-size=\"",
+            Tag::TitleSize =>
+                b"\" font-family=\"system-ui,sans-serif\" text-anchor=\"middle\" font-size=\"",
             Tag::PlayerHead => PLAYER_HEAD,
             Tag::PlayerStyle => PLAYER_STYLE,
             Tag::PlayerLength => b"</bdi></h1>\n<main id=\"player\" data-length=\"",

@@ -20,11 +20,13 @@ const RED: Rgb = Rgb {
     green: 0x5f,
     blue: 0x57,
 };
+
 const YELLOW: Rgb = Rgb {
     red: 0xfe,
     green: 0xbc,
     blue: 0x2e,
 };
+
 const GREEN: Rgb = Rgb {
     red: 0x28,
     green: 0xc8,
