@@ -3,7 +3,6 @@
 The film of screentext has each row once, and says by key frames which of them is where. So each screen is a picture of
 the rows that it shows, without the times.
 """
-import contextlib
 import os
 import re
 import shutil
@@ -36,14 +35,12 @@ def parted(options):
     return asked[-1], others + [it for it in ("--svg", "--animate") if it not in others]
 
 
-def prepare(folder):
-    """Makes the folder, or says why no pictures can be made in it."""
+def check(folder):
+    """Says why no pictures can be made in the folder, if that is so."""
     if not shutil.which(CONVERTER):
         raise Failed(f"{OPTION} needs {CONVERTER}, which isn't installed; Debian's package of it is librsvg2-bin")
     try:
-        with contextlib.suppress(FileExistsError):
-            os.mkdir(folder)
-        is_empty = not os.listdir(folder)
+        is_empty = not os.path.lexists(folder) or not os.listdir(folder)
     except OSError as error:
         raise Failed(f"{folder}: {error.strerror}") from error
     if not is_empty:
@@ -99,6 +96,7 @@ def write(data, folder):
     """Writes the pictures of a film, and a list of them with their times, as ffmpeg reads it."""
     film = Film(data)
     times = film.times()
+    os.makedirs(folder, exist_ok=True)
     names = [f"frame-{number:06}.png" for number in range(1, len(times) + 1)]
     with ThreadPoolExecutor(min(MOST_AT_ONCE, os.cpu_count() or 1)) as pool:
         made = [pool.submit(convert, film.picture(at), f"{folder}/{name}") for at, name in zip(times, names)]
