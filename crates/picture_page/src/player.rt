@@ -51,7 +51,7 @@ button, select, input { font: inherit; }
   border-radius: .35rem; background: Canvas; color: CanvasText; }
 #controls button, select { cursor: pointer; }
 #controls button:hover { background: ButtonFace; }
-[aria-pressed=true] { text-decoration: underline; }
+#controls [aria-pressed=true] { background: CanvasText; color: Canvas; }
 :focus-visible { outline: 2px solid Highlight; outline-offset: 1px; }
 kbd { border: 1px solid GrayText; border-radius: .2rem; padding: 0 .25rem; }
 .aside { position: absolute; left: -200vw; width: 1px; overflow: hidden; white-space: pre; }
