@@ -317,11 +317,11 @@ class Pages(unittest.TestCase):
             with open(os.path.join(folder, "page.html"), "rb") as file:
                 text = file.read()
             # The page's own policy forbids other scripts, so this copy has none: its frame tells the outer page its size.
-            told = b"<script>parent.postMessage([document.documentElement.className, document.body.scrollHeight, "
-            told += b"document.body.scrollWidth].join(' '), '*')</script></body>"
+            report = b"<script>parent.postMessage([document.documentElement.className, document.body.scrollHeight, "
+            report += b"document.body.scrollWidth].join(' '), '*')</script></body>"
             text = re.sub(rb'<meta http-equiv="Content-Security-Policy".*?">', b"", text, flags=re.DOTALL)
             with open(os.path.join(folder, "page.html"), "wb") as file:
-                file.write(text.replace(b"</body>", told))
+                file.write(text.replace(b"</body>", report))
             with open(os.path.join(folder, "outer.html"), "w", encoding="utf-8") as file:
                 file.write(f"<!DOCTYPE html>{heard}{frame}")
             for name, kind in BROWSERS:
