@@ -4,7 +4,7 @@
 pub const PLAYER_HEAD: &[u8] = br#"<!DOCTYPE html>
 <html lang="en"><head><meta charset="utf-8"><meta name="viewport" content="width=device-width, initial-scale=1">
 <meta http-equiv="Content-Security-Policy" content="default-src 'none'; style-src 'unsafe-inline';
-script-src 'sha256-Ux531u0lYZAjekf/O4xHy+59Q+7ZfGIaTE/LojIn9UI='">
+script-src 'sha256-PmTHkkvInouV5d1iXD46EIRW3hFxyVoWDt0Pi47sji8='">
 <title>"#;
 
 /// What comes between the title and the heading.
@@ -102,6 +102,7 @@ const IDLE = said.idle ? micros(said.idle) : Infinity;
 const MARKERS = [...at("markers").children].map((item) => item.firstElementChild);
 const MARKS = MARKERS.map((button) => micros(button.value));
 const SPEEDS = [...new Set([0.25, 0.5, 1, 1.5, 2, 4, 8, 16, +said.speed])].sort((a, b) => a - b);
+const isFramed = window.parent !== window;
 const REORDERING = /[\u061c\u200e\u200f\u202a-\u202e\u2066-\u2069]/;
 
 // The last place of an ascending list that isn't above a value.
@@ -176,7 +177,7 @@ function posterMoment() {
 // ---- time
 
 let starts = [], end = 0, position = 0, moment = 0;
-let isPlaying = false, isFresh = true, speed = +said.speed, began = 0;
+let isPlaying = false, isFresh = true, hasPlayed = false, speed = +said.speed, began = 0;
 
 // When each moment begins as it is played, with none longer than the idle time.
 function lay(idle) {
@@ -230,7 +231,8 @@ function step(by) {
 
 function play() {
   if (isFresh || position >= end) go(0);
-  isPlaying = true;
+  isPlaying = hasPlayed = true;
+  at("start").hidden = true;
   at("play").textContent = "Pause";
   began = performance.now() - position / 1e3 / speed;
   requestAnimationFrame(tick);
@@ -388,6 +390,7 @@ function goToAddress() {
     const [hours, minutes, seconds] = named.slice(1).map((part) => +(part ?? 0));
     pause();
     goToTime(micros(3600 * hours + 60 * minutes + seconds));
+    at("start").hidden = hasPlayed || !isFramed;
   }
   if (asked.has("play")) play();
 }
@@ -419,7 +422,7 @@ function watchScreen() {
 }
 
 function begin() {
-  if (window.parent !== window) {
+  if (isFramed) {
     document.documentElement.className = "framed";
     at("link").target = "_blank"; // the page itself has all controls
   }
