@@ -72,7 +72,7 @@ PROGRAMS = {
             ("svg", None, None, "A picture in SVG of the screen"),
             ("animate", None, None, "With --svg: a picture that plays the recording, 8 MiB at most"),
             ("frames", "DIR", FILES, "A PNG of each screen of such a film, into this folder; rsvg-convert makes them"),
-            ("player", None, None, "A page in HTML that plays the recording, 32 MiB at most; --at is what it shows first"),
+            ("player", None, None, "A page in HTML that plays the recording, 32 MiB at most; --at comes first"),
             ("speed", "N", None, "It plays N times as fast as it was recorded"),
             ("idle", "SECONDS", None, "No screen stands longer than this time, in place of an asciicast's own limit"),
             ("fps", "N", None, "A film shows N screens a second at most, 1 to 1000: 30 without this option"),

@@ -4,7 +4,7 @@
 pub const PLAYER_HEAD: &[u8] = br#"<!DOCTYPE html>
 <html lang="en"><head><meta charset="utf-8"><meta name="viewport" content="width=device-width, initial-scale=1">
 <meta http-equiv="Content-Security-Policy" content="default-src 'none'; style-src 'unsafe-inline';
-script-src 'sha256-PmTHkkvInouV5d1iXD46EIRW3hFxyVoWDt0Pi47sji8='">
+script-src 'sha256-CD/E0qb+5oF+xThB1ogw44T6414MVBWlOuQhmvS8oLQ='">
 <title>"#;
 
 /// What comes between the title and the heading.
@@ -362,7 +362,7 @@ function flipFull() {
   else player.requestFullscreen?.()?.catch(() => {}); // a frame may forbid it
 }
 
-// What a key does. A sign may be typed with AltGr or Option. Where a layout has no such letter or digit, the place of the
+// What a key does. A sign may be typed with AltGr or Option. Where a layout lacks a letter or a digit, the place of its
 // key counts.
 function meant({ key, code, altKey, shiftKey }) {
   if (altKey) return "[]<>".includes(key) ? KEYS[key] : undefined;
@@ -395,7 +395,7 @@ function goToAddress() {
   if (asked.has("play")) play();
 }
 
-// How wide a column is, as a part of the size of letters. So the screen is as wide as the page, whichever font there is.
+// How wide a column is, as a part of the size of letters. So the screen is as wide as the page, in any font.
 function measure() {
   const probe = document.createElement("span");
   probe.className = "aside";

@@ -240,8 +240,8 @@ impl Tag {
             Tag::PageTitle => b"screentext",
             Tag::PageBody => b"</title></head>\n<body>",
             Tag::PageFoot => b"</body></html>\n",
-            Tag::Block =>
-                b"<pre style=\"display:inline-block;font-family:ui-monospace,Menlo,Consolas,'DejaVu Sans Mono',monospace;line-height:normal;",
+            Tag::Block => b"<pre style=\"display:inline-block;\
+font-family:ui-monospace,Menlo,Consolas,'DejaVu Sans Mono',monospace;line-height:normal;",
             Tag::BlockFont => b";font-family:'",
             Tag::BlockFontEnd => b"',ui-monospace,Menlo,Consolas,'DejaVu Sans Mono',monospace",
             Tag::BlockRows => b"\">\n",
