@@ -3,6 +3,7 @@
 The film of screentext has each row once, and says by key frames which of them is where. So each screen is a picture of
 the rows that it shows, without the times.
 """
+import bisect
 import os
 import re
 import shutil
@@ -19,7 +20,7 @@ KEYFRAMES = re.compile(rb"@keyframes t([0-9]+)\{((?:[0-9.]+%\{transform:translat
 KEYFRAME = re.compile(rb"([0-9.]+)%\{transform:translate\(-([0-9]+)px\)\}")
 TRACK = re.compile(rb'^<g class="film t([0-9]+)" transform="translate\(-([0-9]+)\)">(.*)</g>$', re.MULTILINE)
 USE = re.compile(rb'<use href="#r([0-9]+)" x="([0-9]+)" y="([0-9]+)"/>')
-ROW = re.compile(rb'^<g id="r([0-9]+)">.*\n', re.MULTILINE)
+ROW = re.compile(rb'^(<g id="r([0-9]+)">.*\n)', re.MULTILINE)
 
 
 class Failed(Exception):
@@ -47,40 +48,45 @@ def check(folder):
         raise Failed(f"{folder}: the folder isn't empty")
 
 
+class Track:
+    """A row of the screen: the rows that it shows, by their places, and when it moves to which place."""
+
+    def __init__(self, place, uses, moves):
+        self.place, self.times, self.places = place, [at for at, _ in moves], [x for _, x in moves]
+        self.uses = {int(x): (row, y) for row, x, y in uses}
+
+    def shown(self, time):
+        """The number of the row that is shown from a time on, and how far down."""
+        count = bisect.bisect_right(self.times, time)
+        return self.uses[self.places[count - 1] if count else self.place]
+
+
 class Film:
-    """A film, and when it shows what."""
+    """A film, and when it shows what. Times are parts of its length, in percent."""
 
     def __init__(self, data):
         style = STYLE.search(data)
-        if not style:
+        rows = {number: line for line, number in ROW.findall(data)}
+        found = list(TRACK.finditer(data))
+        if not style or not found:
             raise Failed("what was made isn't a film")
-        self.length = float(style[1])
-        self.data = data[: style.start()] + data[style.end() :]
-        self.moves = {}  # of each track that changes: when it moves to which place, by parts of the length in percent
+        self.length, self.rows = float(style[1]), rows
+        self.head, self.foot = data[: style.start()], data[found[-1].end() :]
+        moves = {}
         for track, frames in KEYFRAMES.findall(style[0]):
-            self.moves[track] = [(float(at), int(x)) for at, x in KEYFRAME.findall(frames) if float(at) < 100]
+            moves[track] = [(float(at), int(x)) for at, x in KEYFRAME.findall(frames) if float(at) < 100]
+        self.tracks = [Track(int(it[2]), USE.findall(it[3]), moves.get(it[1], [])) for it in found]
 
     def times(self):
-        """The parts of the length, in percent, at which the picture changes."""
-        return sorted({0.0, *(at for moves in self.moves.values() for at, _ in moves)})
+        """The times at which the picture changes."""
+        return sorted({0.0, *(at for track in self.tracks for at, _ in track.moves)})
 
     def picture(self, time):
         """The picture that is shown from a time on."""
-        used = set()
-
-        def still(track):
-            place = int(track[2])
-            for at, x in self.moves.get(track[1], ()):
-                if at <= time:
-                    place = x
-            for row, x, y in USE.findall(track[3]):
-                if int(x) == place:
-                    used.add(row)
-                    return b'<use href="#r%s" y="%s"/>' % (row, y)
-            return b""
-
-        data = TRACK.sub(still, self.data)
-        return ROW.sub(lambda row: row[0] if row[1] in used else b"", data)
+        shown = [track.shown(time) for track in self.tracks]
+        rows = b"".join(self.rows[number] for number in {number: None for number, _ in shown})
+        uses = b"".join(b'<use href="#r%s" y="%s"/>\n' % it for it in shown)
+        return b"%s<defs>\n%s</defs>\n%s%s" % (self.head, rows, uses, self.foot.lstrip(b"\n"))
 
 
 def convert(picture, path):
@@ -99,9 +105,8 @@ def write(data, folder):
     os.makedirs(folder, exist_ok=True)
     names = [f"frame-{number:06}.png" for number in range(1, len(times) + 1)]
     with ThreadPoolExecutor(min(MOST_AT_ONCE, os.cpu_count() or 1)) as pool:
-        made = [pool.submit(convert, film.picture(at), f"{folder}/{name}") for at, name in zip(times, names)]
-        for each in made:
-            each.result()
+        for _ in pool.map(lambda at, name: convert(film.picture(at), f"{folder}/{name}"), times, names):
+            pass
     lines = ["ffconcat version 1.0"]
     for name, at, end in zip(names, times, [*times[1:], 100.0]):
         lines += [f"file {name}", f"duration {film.length * (end - at) / 100:.6f}"]
