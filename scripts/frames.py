@@ -79,7 +79,7 @@ class Film:
 
     def times(self):
         """The times at which the picture changes."""
-        return sorted({0.0, *(at for track in self.tracks for at, _ in track.moves)})
+        return sorted({0.0, *(at for track in self.tracks for at in track.times)})
 
     def picture(self, time):
         """The picture that is shown from a time on."""
