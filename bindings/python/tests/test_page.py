@@ -186,7 +186,7 @@ class Events(unittest.TestCase):
             self.assertIn(b"form-action 'none'", head)
             nonce = re.search(rb"script-src 'nonce-([\w-]+)'", head)[1]
             self.assertEqual(page.count(b'nonce="' + nonce), 2)
-            self.assertLess(len(page), 12000)
+            self.assertLess(len(page), 16000)
             self.assertNotIn(b"http", page)  # nothing comes from elsewhere
 
     def test_the_screen(self):
@@ -213,11 +213,17 @@ class Events(unittest.TestCase):
             self.assertEqual((quick.lost, slow.lost), (0, 0))
 
 
+def dark(browser: Chromium, scheme: str = "dark") -> None:
+    """Has the reader prefer dark pages, or light ones."""
+    browser.ask("Emulation.setEmulatedMedia", features=[{"name": "prefers-color-scheme", "value": scheme}])
+
+
 @unittest.skipUnless(PROGRAM, "there is no Chromium")
 class InChromium(unittest.TestCase):
     def test_the_page(self):
         with Shared(COLOURS, *HTTP, size="16x60") as shared:
             with Chromium("http://%s:%d/" % shared.place("browsers")) as browser:
+                dark(browser)
                 wait_for(lambda: "make" in (browser.value("document.getElementById('text')?.textContent") or ""), 30)
                 self.assertEqual(browser.value("document.getElementById('state').textContent"), "live")
                 text = browser.value("document.getElementById('text').textContent")
@@ -289,6 +295,53 @@ input()
         first = dict(browser.value(script)[0])
         for at, letter in ((0, "a"), (1, "b"), (2, "c"), (4, "f")):
             self.assertLess(first[letter] - left, (at + 2) * one)
+
+    def test_it_fits_and_is_light_or_dark(self):
+        """On a phone and in a window, each column and row is seen; colours are readable on light paper."""
+        with Shared(COLOURS, *HTTP, size="24x80") as shared:
+            with Chromium("http://%s:%d/" % shared.place("browsers")) as browser:
+                wait_for(lambda: "make" in (browser.value("document.getElementById('text')?.textContent") or ""), 30)
+                for width, height in ((390, 844), (1280, 800)):
+                    size = {"width": width, "height": height, "deviceScaleFactor": 1, "mobile": False}
+                    browser.ask("Emulation.setDeviceMetricsOverride", **size)
+                    seen = "document.getElementById('screen').{0} <= document.getElementById('screen').{1}"
+                    self.assertTrue(browser.value(seen.format("scrollWidth", "clientWidth")), width)
+                    box = "document.getElementById('screen').getBoundingClientRect().{}"
+                    self.assertLessEqual(browser.value(box.format("right")), width)
+                    self.assertLessEqual(browser.value(box.format("bottom")), height)
+                red = "getComputedStyle(document.querySelectorAll('.row')[3].children[0]).color"
+                for scheme, color in (("light", "rgb(207, 34, 46)"), ("dark", "rgb(205, 49, 49)")):
+                    dark(browser, scheme)
+                    wait_for(lambda: browser.value(red) == color)
+                browser.value("document.getElementById('light').click()")
+                self.assertEqual(browser.value(red), "rgb(207, 34, 46)")
+
+    def test_it_goes_back(self):
+        """What was shown is shown again: by the bar, by keys, and as it came; and then the newest again."""
+        program = "import time\nfor n in range(30): print('\\x1b[Hmoment', n); time.sleep(.1)\ninput()"
+        with Shared(program, *HTTP, size="3x20") as shared:
+            with Chromium("http://%s:%d/" % shared.place("browsers")) as browser:
+                value = lambda name: browser.value(f"document.getElementById('{name}')?.textContent") or ""
+                wait_for(lambda: "moment 29" in value("text"), 30)
+                press = "document.body.dispatchEvent(new KeyboardEvent('keydown', {key: %s, bubbles: true}))"
+                browser.value(press % "'Home'")
+                first = int(value("text").split()[1])
+                self.assertLess(first, 15)
+                self.assertIn("before the newest", value("time"))
+                browser.value(press % "'.'")
+                second = int(value("text").split()[1])
+                self.assertGreater(second, first)
+                browser.value(press % "','")
+                self.assertEqual(int(value("text").split()[1]), first)
+                browser.value("(document.getElementById('bar').value = document.getElementById('bar').max / 2)")
+                browser.value("document.getElementById('bar').oninput()")
+                self.assertTrue(first < int(value("text").split()[1]) < 29)
+                browser.value("document.getElementById('play').click()")
+                wait_for(lambda: "moment 29" in value("text"), 30)
+                self.assertIn("newest", value("time"))
+                browser.value(press % "'Home'")
+                browser.value("document.getElementById('live').click()")
+                self.assertIn("moment 29", value("text"))
 
     def test_pause(self):
         with tempfile.TemporaryDirectory() as folder:

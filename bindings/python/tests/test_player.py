@@ -143,9 +143,10 @@ def go(browser: Any, at: str) -> None:
     wait(browser, f"Math.abs(parseFloat(document.getElementById('time').title) - {at}) < 0.001")
 
 
-def press(browser: Any, key: str) -> None:
+def press(browser: Any, key: str, **more: Any) -> None:
     """Presses a key in a page."""
-    event = f"new KeyboardEvent('keydown', {{ key: {json.dumps(key)}, bubbles: true, cancelable: true }})"
+    how = json.dumps({"key": key, "bubbles": True, "cancelable": True, **more})
+    event = f"new KeyboardEvent('keydown', {how})"
     browser.value(f"document.body.dispatchEvent({event})")
 
 
@@ -247,6 +248,85 @@ class Pages(unittest.TestCase):
             press(browser, " ")
             wait(browser, "document.getElementById('time').textContent === '0:40 / 0:40'")
             self.assertEqual(says(browser, "play"), "Play")
+
+    def test_keys_of_other_layouts(self):
+        """Signs that are typed with AltGr or Option, digits that want Shift, and letters of other scripts."""
+        events = [[i, "o", f"\r\nline {i}"] for i in range(1, 41)]
+        events[20:20] = [[20.5, "m", "half"]]
+        for _, browser in self.each(cast((5, 20), events)):
+            for key, how, place in (
+                ("]", {"code": "Digit9", "altKey": True, "ctrlKey": True, "modifierAltGraph": True}, "0:20"),
+                ("\u00e0", {"code": "Digit0"}, "0:00"),
+                ("]", {"code": "Digit6", "altKey": True}, "0:20"),
+                ("End", {}, "0:40"),
+                ("[", {"code": "Digit5", "altKey": True}, "0:20"),
+                ("Home", {}, "0:00"),
+                ("n", {"code": "KeyN"}, "0:20"),
+                ("5", {"code": "Digit5", "shiftKey": True}, "0:20"),
+                ("(", {"code": "Digit9", "shiftKey": True}, "0:20"),
+                ("ArrowLeft", {"altKey": True}, "0:20"),
+                ("1", {"ctrlKey": True}, "0:20"),
+                ("\u03c0", {"code": "KeyP"}, "0:20"),
+                ("End", {}, "0:40"),
+                ("\u03c0", {"code": "KeyP"}, "0:20"),
+            ):
+                press(browser, key, **how)
+                self.assertEqual(says(browser, "time"), f"{place} / 0:40", (key, how))
+
+    def test_it_opens_on_a_screen_with_text(self):
+        """Without --at it shows the last screen that has text, and a button that plays."""
+        events = [[i, "o", f"line {i}\r\n"] for i in range(1, 5)] + [[5, "o", "\x1b[2J\x1b[Hend"]]
+        for _, browser in self.each(cast((6, 20), events)):
+            self.assertIn("line 4", says(browser, "screen"))
+            self.assertEqual(says(browser, "time"), "0:00 / 0:05")
+            self.assertEqual(browser.value("document.title"), "Recording")
+            self.assertFalse(browser.value("document.getElementById('start').hidden"))
+            browser.value("document.getElementById('start').click()")
+            self.assertTrue(browser.value("document.getElementById('start').hidden"))
+            self.assertEqual(says(browser, "play"), "Pause")
+            browser.value("document.getElementById('screen').click()")
+            self.assertEqual(says(browser, "play"), "Play")
+            bar = "document.getElementById('bar').getBoundingClientRect().width"
+            page = "document.getElementById('player').getBoundingClientRect().width"
+            self.assertAlmostEqual(browser.value(bar), browser.value(page), delta=2)
+
+    def test_addresses(self):
+        events = [[i, "o", f"\r\nline {i}"] for i in range(1, 81)]
+        for _, browser in self.each(cast((5, 20), events)):
+            for asked, place, does in (
+                ("t=12.5", "0:12", "Play"),
+                ("t=1:05", "1:05", "Play"),
+                ("t=0:00:30.25", "0:30", "Play"),
+                ("t=3&play", "0:03", "Pause"),
+                ("t=2", "0:02", "Play"),
+                ("play", "0:02", "Pause"),
+            ):
+                browser.value(f"(location.hash = '#{asked}')")
+                wait(browser, f"document.getElementById('play').textContent === '{does}'")
+                wait(browser, f"document.getElementById('time').textContent.startsWith('{place}')")
+            browser.value("(location.hash = '#t=30.25')")
+            wait(browser, "document.getElementById('link').hash === '#t=30.25'")
+
+    def test_in_a_frame(self):
+        """The page in a frame of another one: it fits."""
+        data = screentext(cast((24, 80), [[i, "o", f"line {i}\r\n"] for i in range(1, 9)]), "--player")
+        # The page's policy forbids other scripts, so this copy has no policy. Its script reports to the outer page.
+        data = re.sub(rb'<meta http-equiv="Content-Security-Policy".*?">', b"", data, flags=re.DOTALL)
+        report = b"<script>parent.postMessage([document.documentElement.className, document.body.scrollHeight, "
+        report += b"document.body.scrollWidth].join(' '), '*')</script></body>"
+        frame = "<iframe src='page.html' width='600' height='360' style='border:0'></iframe>"
+        heard = "<script>onmessage = ({ data }) => { document.title = data; }</script>"
+        with tempfile.TemporaryDirectory() as folder:
+            with open(os.path.join(folder, "page.html"), "wb") as file:
+                file.write(data.replace(b"</body>", report))
+            with open(os.path.join(folder, "outer.html"), "w", encoding="utf-8") as file:
+                file.write(f"<!DOCTYPE html>{heard}{frame}")
+            for name, kind in BROWSERS:
+                with self.subTest(name), kind(f"file://{folder}/outer.html") as browser:
+                    state, height, width = wait(browser, "document.title").split()
+                    self.assertEqual(state, "framed")
+                    self.assertLessEqual(int(height), 360)
+                    self.assertLessEqual(int(width), 600)
 
     def test_texts_are_found_in_time(self):
         events = [[1, "o", "one\r\n"], [2, "o", "two\r\n"], [3, "o", "\x1b[2J"], [4, "o", "two"]]

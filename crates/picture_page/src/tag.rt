@@ -20,7 +20,7 @@ pub enum Tag {
     Block,
     /// What comes before the name of its font.
     BlockFont,
-    /// What comes after it.
+    /// What comes after it, with the fonts that are tried last.
     BlockFontEnd,
     /// What comes before its rows.
     BlockRows,
@@ -52,7 +52,7 @@ pub enum Tag {
     SvgFont,
     /// What comes after it.
     SvgFontEnd,
-    /// The font that is tried last.
+    /// The fonts that are tried last.
     Monospace,
     /// What comes before the width of the part that is seen.
     ViewBox,
@@ -170,6 +170,16 @@ pub enum Tag {
     Frame,
     /// The beginning of the place of a picture in another, before how far to the right it is.
     Inner,
+    /// The beginning of the outline that cuts off the corners of a window.
+    ClipStart,
+    /// What comes after the outline, before what is cut.
+    ClipEnd,
+    /// How round a corner is.
+    Corner,
+    /// The edge of a window: a line along the outline, before its colour.
+    Edge,
+    /// The end of the edge, and of what is cut.
+    EdgeEnd,
     /// The beginning of a round button, before where its middle is.
     Button,
     /// How far down its middle is.
@@ -230,9 +240,10 @@ impl Tag {
             Tag::PageTitle => b"screentext",
             Tag::PageBody => b"</title></head>\n<body>",
             Tag::PageFoot => b"</body></html>\n",
-            Tag::Block => b"<pre style=\"display:inline-block;line-height:normal;",
+            Tag::Block => b"<pre style=\"display:inline-block;\
+font-family:ui-monospace,Menlo,Consolas,'DejaVu Sans Mono',monospace;line-height:normal;",
             Tag::BlockFont => b";font-family:'",
-            Tag::BlockFontEnd => b"',monospace",
+            Tag::BlockFontEnd => b"',ui-monospace,Menlo,Consolas,'DejaVu Sans Mono',monospace",
             Tag::BlockRows => b"\">\n",
             Tag::BlockEnd => b"</pre>",
             Tag::Newline => b"\n",
@@ -249,7 +260,7 @@ impl Tag {
                 b"<svg xmlns=\"http://www.w3.org/2000/svg\" shape-rendering=\"crispEdges\" font-size=\"15\" font-family=\"",
             Tag::SvgFont => b"'",
             Tag::SvgFontEnd => b"',",
-            Tag::Monospace => b"monospace",
+            Tag::Monospace => b"ui-monospace,Menlo,Consolas,'DejaVu Sans Mono',monospace",
             Tag::ViewBox => b"\" viewBox=\"0 0 ",
             Tag::Space => b" ",
             Tag::SvgRows => b"\">\n",
@@ -309,10 +320,16 @@ impl Tag {
             Tag::X => b"\" x=\"",
             Tag::Frame => b"<svg xmlns=\"http://www.w3.org/2000/svg",
             Tag::Inner => b"<svg x=\"",
+            Tag::ClipStart => b"<clipPath id=\"window\">",
+            Tag::ClipEnd => b"\"/></clipPath><g clip-path=\"url(#window)\">",
+            Tag::Corner => b"\" rx=\"",
+            Tag::Edge => b"\" fill=\"none\" stroke-width=\"2\" stroke-opacity=\".4\" stroke=\"#",
+            Tag::EdgeEnd => b"\"/></g>",
             Tag::Button => b"<circle cx=\"",
             Tag::MiddleY => b"\" cy=\"",
             Tag::Radius => b"\" r=\"",
-            Tag::TitleSize => b"\" font-family=\"sans-serif\" text-anchor=\"middle\" font-size=\"",
+            Tag::TitleSize =>
+                b"\" font-family=\"system-ui,sans-serif\" text-anchor=\"middle\" font-size=\"",
             Tag::PlayerHead => PLAYER_HEAD,
             Tag::PlayerStyle => PLAYER_STYLE,
             Tag::PlayerLength => b"</bdi></h1>\n<main id=\"player\" data-length=\"",

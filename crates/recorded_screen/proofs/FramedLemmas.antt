@@ -5,6 +5,7 @@ use Rattle.std.specs.Prelude.{if◌then◌else◌}
 use Rattle.picture_page.specs.Tags.{tag_bytes}
 use Rattle.picture_page.specs.declared.tag.Tag.TheVariants.{SvgFoot}
 use Rattle.row_pictures.specs.Frames.{FrameView, around, frame_head, framed, inner_head, is_bare, window_bar}
+use Rattle.row_pictures.specs.Frames.{window_edge}
 use Rattle.row_pictures.specs.declared.look.Look.{Look}
 use Rattle.row_pictures.specs.declared.theme.Theme.{Theme}
 use Rattle.recordings.specs.declared.recording.Event.{Event}
@@ -24,7 +25,7 @@ within_first a b = omega (arith, length-append a b)
 around_longer : (f : FrameView) (theme : Theme) (width height : ℕ) (picture : List ℕ)
     → length picture ≤ length (around f theme width height picture)
 around_longer f theme width height picture =
-    let ends : List ℕ = tag_bytes SvgFoot ++ tag_bytes SvgFoot in
+    let ends : List ℕ = tag_bytes SvgFoot ++ (window_edge f theme width height ++ tag_bytes SvgFoot) in
     let inner : List ℕ = inner_head f width height ++ (picture ++ ends) in
     within_last (length picture) (frame_head f theme width height) (window_bar f theme width ++ inner)
     (within_last (length picture) (window_bar f theme width) inner

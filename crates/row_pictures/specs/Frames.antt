@@ -1,6 +1,6 @@
 -- The frame of a picture in SVG: how large the picture is shown, and what is around it.
 use Rattle.std.specs.Prelude.{ℕ, ◌+◌, ◌*◌, ◌/◌, ◌==◌, ◌&&◌, Bool, List, [], ◌∷◌, ◌++◌, Option, codes, is_none}
-use Rattle.std.specs.Prelude.{if◌then◌else◌, slice_index_or, string_bytes}
+use Rattle.std.specs.Prelude.{if◌then◌else◌, string_bytes}
 use Rattle.std.specs.Option.{option_map, option_map_or}
 use Rattle.picture_page.specs.Bytes.{numbers_bytes}
 use Rattle.picture_page.specs.Page.{escaped}
@@ -46,24 +46,51 @@ framed_height f height = bar_height f + (enlarged f height + 2 * f.padding)
 
 -- ---- what is around a picture
 
--- what comes first: the size of the whole, and a rectangle of that size, in the background of the theme
-abbrev pub head_bytes : Theme → ℕ → ℕ → List ℕ
-head_bytes theme width height =
+-- the beginning of a rectangle with round corners, whose radius is two thirds of the size of the letters
+abbrev pub outline : ℕ → ℕ → ℕ → List ℕ
+outline size width height =
+    numbers_bytes ((tag.Rect, 0) ∷ (tag.Width, width) ∷ (tag.Height, height) ∷ (tag.Corner, 2 * size / 3) ∷ [])
+
+-- what cuts off the corners of a window
+abbrev pub clip_bytes : ℕ → ℕ → ℕ → List ℕ
+clip_bytes size width height = tag_bytes tag.ClipStart ++ (outline size width height ++ tag_bytes tag.ClipEnd)
+
+abbrev pub window_clip : FrameView → ℕ → ℕ → List ℕ
+window_clip f width height = option_map_or (λ title. clip_bytes f.font_size width height) f.title []
+
+-- the edge of a window along its outline, and the end of what is cut
+abbrev pub edge_bytes : ℕ → ℕ → ℕ → Rgb → List ℕ
+edge_bytes size width height color =
+    outline size width height ++ (filled tag.Edge color ++ tag_bytes tag.EdgeEnd)
+
+-- what comes first: the size of the whole, what cuts off the corners of a window, if it is one, and a rectangle of that
+-- size, in the background of the theme
+abbrev pub head_bytes : FrameView → Theme → ℕ → ℕ → List ℕ
+head_bytes f theme width height =
     tag_bytes tag.Frame
     ++ (numbers_bytes ((tag.Width, width) ∷ (tag.Height, height) ∷ (tag.ViewBox, width) ∷ (tag.Space, height) ∷ [])
-    ++ (tag_bytes tag.SvgRows ++ (rectangle 0 width height theme.bgcolor ++ tag_bytes tag.Newline)))
+    ++ (tag_bytes tag.SvgRows
+    ++ (window_clip f width height ++ (rectangle 0 width height theme.bgcolor ++ tag_bytes tag.Newline))))
 
 abbrev pub frame_head : FrameView → Theme → ℕ → ℕ → List ℕ
-frame_head f theme width height = head_bytes theme (framed_width f width) (framed_height f height)
+frame_head f theme width height = head_bytes f theme (framed_width f width) (framed_height f height)
 
--- one of the first sixteen colours
-abbrev pub theme_color : Theme → ℕ → Rgb
-theme_color theme index = slice_index_or theme.colors index (rgb_of 0)
+-- the edge of a window, if it is one, in the colour of texts
+abbrev pub window_edge : FrameView → Theme → ℕ → ℕ → List ℕ
+window_edge f theme width height =
+    option_map_or (λ title. edge_bytes f.font_size (framed_width f width) (framed_height f height) theme.fgcolor)
+    f.title []
+
+-- a rectangle at the top left, through which what is below it is seen
+abbrev pub shade : ℕ → ℕ → Rgb → List ℕ
+shade width height color =
+    numbers_bytes ((tag.Rect, 0) ∷ (tag.Width, width) ∷ (tag.Height, height) ∷ (tag.Opacity, 15) ∷ [])
+    ++ (filled tag.Fill color ++ tag_bytes tag.Close)
 
 -- a round button with its middle this far to the right
 abbrev pub button : ℕ → ℕ → Rgb → List ℕ
 button size x color =
-    numbers_bytes ((tag.Button, x) ∷ (tag.MiddleY, size) ∷ (tag.Radius, size / 3) ∷ [])
+    numbers_bytes ((tag.Button, x) ∷ (tag.MiddleY, size) ∷ (tag.Radius, 2 * size / 5) ∷ [])
     ++ (filled tag.Fill color ++ tag_bytes tag.Close)
 
 -- the title, with its middle this far to the right
@@ -72,15 +99,15 @@ title_text size x color title =
     numbers_bytes ((tag.Text, x) ∷ (tag.Y, size + size / 3) ∷ (tag.TitleSize, size) ∷ [])
     ++ (filled tag.Fill color ++ (tag_bytes tag.TextStart ++ (escaped title ++ tag_bytes tag.TextEnd)))
 
--- The bar of a window of this width: black, with a red, a yellow and a green button at the left, and the title in white
--- in its middle, in the theme's colours.
+-- The bar of a window of this width: the background with a shade of the colour of texts, a red, a yellow and a green
+-- button at the left, and the title in its middle, in the colour of texts.
 abbrev pub bar_bytes : ℕ → Theme → ℕ → List ℕ → List ℕ
 bar_bytes size theme width title =
-    rectangle 0 width (2 * size) (theme_color theme 0)
-    ++ (button size size (theme_color theme 1)
-    ++ (button size (2 * size) (theme_color theme 3)
-    ++ (button size (3 * size) (theme_color theme 2)
-    ++ (title_text size (width / 2) (theme_color theme 7) title ++ tag_bytes tag.Newline))))
+    shade width (2 * size) theme.fgcolor
+    ++ (button size (4 * size / 3) (rgb_of 0xff5f57)
+    ++ (button size (8 * size / 3) (rgb_of 0xfebc2e)
+    ++ (button size (4 * size) (rgb_of 0x28c840)
+    ++ (title_text size (width / 2) theme.fgcolor title ++ tag_bytes tag.Newline))))
 
 abbrev pub window_bar : FrameView → Theme → ℕ → List ℕ
 window_bar f theme width =
@@ -94,12 +121,13 @@ inner_head f width height =
     ++ tag_bytes tag.SvgRows
 
 -- what is around a picture of this size: its parts are the head, the bar of a window, if there is one, the unchanged
--- picture, and the ends
+-- picture, and the ends, with the edge of a window between them, if it is one
 abbrev pub around : FrameView → Theme → ℕ → ℕ → List ℕ → List ℕ
 around f theme width height picture =
     frame_head f theme width height
     ++ (window_bar f theme width
-    ++ (inner_head f width height ++ (picture ++ (tag_bytes tag.SvgFoot ++ tag_bytes tag.SvgFoot))))
+    ++ (inner_head f width height
+    ++ (picture ++ (tag_bytes tag.SvgFoot ++ (window_edge f theme width height ++ tag_bytes tag.SvgFoot)))))
 
 -- a picture of this many rows and columns in its frame; a frame that adds nothing leaves it as it is
 abbrev pub framed : FrameView → Theme → ℕ → ℕ → List ℕ → List ℕ

@@ -6,12 +6,32 @@ ghost use Rattle.picture_page.specs.Seen.{Draws, seen};
 ghost use Rattle.row_pictures.specs.Frames.{around, around_seen, bar_bytes, bar_height as bar_height_of, bar_seen};
 ghost use Rattle.row_pictures.specs.Frames.{button, enlarged as enlarged_of, frame_head, frame_said, framed as framed_of};
 ghost use Rattle.row_pictures.specs.Frames.{framed_height, framed_seen, framed_width, inner_head, is_bare as is_bare_of};
-ghost use Rattle.row_pictures.specs.Frames.{title_text, window_bar};
+ghost use Rattle.row_pictures.specs.Frames.{title_text, window_bar, window_clip, window_edge};
 
 use crate::svg::{COL_WIDTH, ROW_HEIGHT, push_rect};
 use crate::theme::Theme;
+use crate::window::{push_clip, push_edge, push_shade};
 use picture_page::{Page, Rgb, Tag};
 use std::alloc::{AllocError, Global};
+
+// The buttons of a window, in the colours that are known from other windows.
+const RED: Rgb = Rgb {
+    red: 0xff,
+    green: 0x5f,
+    blue: 0x57,
+};
+
+const YELLOW: Rgb = Rgb {
+    red: 0xfe,
+    green: 0xbc,
+    blue: 0x2e,
+};
+
+const GREEN: Rgb = Rgb {
+    red: 0x28,
+    green: 0xc8,
+    blue: 0x40,
+};
 
 /// What is around a picture in SVG, and how large the picture is shown.
 #[derive(Drop)]
@@ -74,9 +94,11 @@ impl Frame {
 /// A picture in SVG of this many rows and columns in its frame. If the frame adds nothing, it is the picture alone.
 ///
 /// The picture lies unchanged in another one, which has the background of the theme. There are as many pixels around it
-/// as the padding says. It is scaled by `font_size / 15`. A size in pixels that isn't whole is rounded up. Above it is
-/// the bar of the window, if there is one, which is twice as high as the letters. The bar is in the theme's black, with
-/// a red, a yellow and a green button, and the title in white. A title that is wider than the bar is cut.
+/// as the padding says. It is scaled by `font_size / 15`. A size in pixels that isn't whole is rounded up.
+///
+/// A window has round corners, an edge in the colour of texts, of which two fifths are seen, and a bar, which is twice
+/// as high as the letters. The bar is the background with fifteen hundredths of the colour of texts. It has a red, a
+/// yellow and a green button, and the title in the colour of texts. A title that is wider than the bar is cut.
 pub fn framed(
     alloc: Global,
     picture: Vec<u8>,
@@ -122,6 +144,7 @@ fn push_around(
     push_inner_head(page, rows, cols, frame)?;
     page.append(picture)?;
     page.markup(Tag::SvgFoot)?;
+    push_window_edge(page, rows, cols, theme, frame)?;
     page.markup(Tag::SvgFoot)
 }
 
@@ -149,8 +172,49 @@ fn push_frame_head(
     ];
     page.numbers(&numbers)?;
     page.markup(Tag::SvgRows)?;
+    push_window_clip(page, width, height, frame)?;
     push_rect(page, 0, width, height, theme.bgcolor)?;
     page.markup(Tag::Newline)
+}
+
+// Appends what cuts off the corners of a window of this size, if it is one.
+fn push_window_clip(
+    page: &mut Page,
+    width: u32,
+    height: u32,
+    frame: &Frame,
+) -> Result<(), AllocError>
+    ensures adds { OnOk result (Adds page.old page.new []) }
+    ensures seen { OnOk result (Draws page.old page.new true true []) }
+    ensures bytes { OnOk result (page.new ≡ page.old ++ window_clip (frame_said frame.now) width height) }
+{
+    match &frame.title {
+        Some(_) => push_clip(page, frame.font_size, width, height),
+        None => Ok(()),
+    }
+}
+
+// Appends the edge of a window, if it is one.
+fn push_window_edge(
+    page: &mut Page,
+    rows: u16,
+    cols: u16,
+    theme: Theme,
+    frame: &Frame,
+) -> Result<(), AllocError>
+    ensures adds { OnOk result (Adds page.old page.new []) }
+    ensures seen { OnOk result (Draws page.old page.new true true []) }
+    ensures bytes { OnOk result (page.new
+        ≡ page.old ++ window_edge (frame_said frame.now) theme (cols * 9) (rows * 18)) }
+{
+    match &frame.title {
+        Some(_) => {
+            let width = frame.width(cols);
+            let height = frame.height(rows);
+            push_edge(page, frame.font_size, width, height, theme.fgcolor)
+        }
+        None => Ok(()),
+    }
 }
 
 // Appends the bar of a window, if there is one.
@@ -186,16 +250,17 @@ fn push_bar(
     ensures bytes { OnOk result (page.new ≡ page.old ++ bar_bytes size theme width title.now) }
 {
     let size = u32::from(size);
-    push_rect(page, 0, width, 2 * size, theme.colors[0])?;
-    push_button(page, size, size, theme.colors[1])?;
-    push_button(page, size, 2 * size, theme.colors[3])?;
-    push_button(page, size, 3 * size, theme.colors[2])?;
-    push_title(page, size, width / 2, theme.colors[7], title)?;
+    push_shade(page, width, 2 * size, theme.fgcolor)?;
+    push_button(page, size, 4 * size / 3, RED)?;
+    push_button(page, size, 8 * size / 3, YELLOW)?;
+    push_button(page, size, 4 * size, GREEN)?;
+    push_title(page, size, width / 2, theme.fgcolor, title)?;
     page.markup(Tag::Newline)
 }
 
 // Appends a round button with its middle this far to the right.
 fn push_button(page: &mut Page, size: u32, x: u32, color: Rgb) -> Result<(), AllocError>
+    requires { size ≤ 255 }
     ensures adds { OnOk result (Adds page.old page.new []) }
     ensures seen { OnOk result (Draws page.old page.new true true []) }
     ensures bytes { OnOk result (page.new ≡ page.old ++ button size x color) }
@@ -203,7 +268,7 @@ fn push_button(page: &mut Page, size: u32, x: u32, color: Rgb) -> Result<(), All
     let numbers = [
         (Tag::Button, x),
         (Tag::MiddleY, size),
-        (Tag::Radius, size / 3),
+        (Tag::Radius, 2 * size / 5),
     ];
     page.numbers(&numbers)?;
     page.color(Tag::Fill, color)?;

@@ -12,6 +12,7 @@ mod row;
 mod style;
 mod svg;
 mod theme;
+mod window;
 
 pub use frame::{Frame, framed};
 pub use html::{push_html_colors, push_html_row};

@@ -9,6 +9,7 @@ from ._colors import BACKGROUND, FOREGROUND, NAMES, hex_of_name
 from ._picture import Cell, Picture, Style
 
 _WIDTH, _HEIGHT, _BASE, _FONT = 9, 18, 14, 15  # in pixels: a cell, the baseline of letters, the font
+_FONTS = "ui-monospace,Menlo,Consolas,'DejaVu Sans Mono',monospace"
 
 
 def svg(picture: Picture) -> str:
@@ -18,7 +19,7 @@ def svg(picture: Picture) -> str:
     told = [
         f'<svg xmlns="http://www.w3.org/2000/svg" viewBox="0 0 {width} {height}" width="{width}" height="{height}">',
         f'<rect width="100%" height="100%" fill="{BACKGROUND}"/>',
-        f'<g transform="translate(5 5)" font-family="monospace" font-size="{_FONT}" fill="{FOREGROUND}"',
+        f'<g transform="translate(5 5)" font-family="{_FONTS}" font-size="{_FONT}" fill="{FOREGROUND}"',
         ' shape-rendering="crispEdges">',
     ]
     for row, cells in enumerate(picture.cells):
