@@ -8,11 +8,17 @@ use Rattle.vt100_core.specs.declared.scrollback.Scrollback.TheVariants.{Disabled
 use Rattle.vt100_core.specs.Grid.{KeptPart, IsKept, IsShownWide, GridView, IsGrid, IsAllocated, SameLimits, keeps_of}
 use Rattle.vt100_core.specs.Grid.{capacity_of, scrollback_of, new_grid, with_row, with_rows}
 use Rattle.vt100_core.specs.Lines.{lines_opened, lines_closed}
-use Rattle.vt100_rows.proofs.SheetLemmas.{length-rows_by_position, IsSheet-with_row}
+use Rattle.vt100_rows.proofs.SheetLemmas.{length-rows_by_position, length-read, IsSheet-with_row}
 use Rattle.vt100_rows.proofs.MoveLemmas.{IsSheet-moved_up, IsSheet-opened_line}
 
 pub IsGrid-at : {g h : GridView} → IsGrid h → g ≡ h → IsGrid g
 IsGrid-at i e = rw e i
+
+-- rows that a call has changed in place are still there
+pub allocated-again : {g s : GridView} {rows : List RowView} (f : ℕ → RowView) → g ≡ s → IsAllocated s
+    → rows ≡ rows_by_position (length g.rows) f → 0 < length rows
+allocated-again {g} {s} {rows} f e some er =
+    omega (arith, some, length-read (length g.rows) f rows er, ap (λ (x : GridView). length x.rows) e)
 
 -- ---- limits
 

@@ -4,7 +4,6 @@ pub mod NewlineLemmas
 pub mod ContentsLemmas
 pub mod EraseLemmas
 pub mod CursorRow
-pub mod PutBack
 pub mod BlankLemmas
 pub mod KeepLemmas
 pub mod ScrollLemmas

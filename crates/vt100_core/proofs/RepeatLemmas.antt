@@ -639,13 +639,11 @@ module _ {own s : GridView} (e : own ≡ s) (i : IsGrid own) (some : IsAllocated
   pub uncounted : own.kept.keeps ≡ false → own ≡ (fed_alike s).grid
   uncounted keeps = with-kept own.kept (leaves-unkept own i own-top own-last keeps).0
 
-  pub gives-first : {S : Type 0} (takes : S → RowView → S → Type 0) (u t : S) {given : List RowView}
-      → given ≡ own.rows → s.kept.capacity ≡ 0 → TakesAll takes u (take 1 given) t
-      → TakesAll takes u (fed_alike s).sunk t
-  gives-first takes u t {given} eg none taken =
+  pub gives-first : {S : Type 0} (takes : S → RowView → S → Type 0) (u t : S)
+      → s.kept.capacity ≡ 0 → TakesAll takes u (take 1 own.rows) t → TakesAll takes u (fed_alike s).sunk t
+  gives-first takes u t none taken =
       let none' : own.kept.capacity ≡ 0 = ap (λ (x : GridView). x.kept.capacity) e ∙ none in
-      let same : take 1 given ≡ take 1 own.rows = ap (λ (xs : List RowView). take 1 xs) eg in
-      TakesAll-list takes u t _ _ (same ∙ elim (cases_Bool own.kept.keeps) [
+      TakesAll-list takes u t _ _ (elim (cases_Bool own.kept.keeps) [
         | inl keeps ↦ sym (none-pushed own i own-some none') ∙ leaves-sunk own i own-top own-last keeps
         | inr keeps ↦ (leaves-unkept own i own-top own-last keeps).1
       ] ∙ ap (λ (x : GridView). (fed_alike x).sunk) e) taken
@@ -730,11 +728,6 @@ pub spare-first : {own s : GridView} {spare : List RowView} → own ≡ s → sp
     → take 1 spare ≡ take 1 own.rows
 spare-first {own} {s} e es some =
     ap (λ (xs : List RowView). take 1 xs) es ∙ first-same s some ∙ sym (ap (λ (x : GridView). take 1 x.rows) e)
-
-pub first-wide : {n w : ℕ} (xs : List RowView) (d : RowView) → IsSheet n w xs → 0 < length xs
-    → length (get_or xs 0 d).cells ≡ w
-first-wide [] d s h = absurd (omega arith)
-first-wide (v ∷ vs) d s h = (s.each 0 h).wide
 
 pub IsGrid-rekept : (g : GridView) (k : KeptPart) → IsGrid g → IsAllocated g → IsKept k
     → IsShownWide k g.height g.width → IsGrid (record g { kept = k })

@@ -99,21 +99,18 @@ pub sunk-below : (g : GridView) (count : ℕ) → 0 < g.top → [] ≡ (scrolled
 unfolding scrolled_up
 sunk-below g count h = rw (ne_eqb g.top 0 (λ e. absurd (omega (arith, h, e))))
 
-pub taken-kept : {S : Type 0} (takes : S → RowView → S → Type 0) (s t : S) (g : GridView) {lent : List RowView}
-    (count end n : ℕ) → g.top ≡ 0 → g.kept.keeps ≡ true → end ≡ g.bottom + 1 → n ≡ min count end → lent ≡ g.rows
-    → TakesAll takes s (pushed_out g.kept (take n lent)) t → TakesAll takes s (scrolled_up g count).sunk t
-taken-kept takes s t g count end n top keeps ee en same taken =
-    TakesAll-list takes s t _ _ (ap (λ (xs : List RowView). pushed_out g.kept (take n xs)) same
-    ∙ sunk-kept g count end n top keeps ee en) taken
+pub taken-kept : {S : Type 0} (takes : S → RowView → S → Type 0) (s t : S) (g : GridView)
+    (count end n : ℕ) → g.top ≡ 0 → g.kept.keeps ≡ true → end ≡ g.bottom + 1 → n ≡ min count end
+    → TakesAll takes s (pushed_out g.kept (take n g.rows)) t → TakesAll takes s (scrolled_up g count).sunk t
+taken-kept takes s t g count end n top keeps ee en taken =
+    TakesAll-list takes s t _ _ (sunk-kept g count end n top keeps ee en) taken
 
 -- rows and kept rows as a call leaves them
-pub IsGrid-off : (g : GridView) {rows all lent : List RowView} {width : ℕ} (k : KeptPart) → IsGrid g → IsAllocated g
-    → all ≡ rows → length rows ≡ length lent → lent ≡ g.rows → width ≡ g.width → IsSheet (length lent) width rows
-    → IsKept k → IsShownWide k g.height g.width → IsGrid (record g { rows = all; kept = k })
-IsGrid-off g {rows} {all} {lent} k i a back count same ew sheet kept shown =
-    let same_count = ap (λ (xs : List RowView). length xs) same in
-    rw back (IsGrid-scrolled g rows k i a (count ∙ same_count) (IsSheet-as _ g.height _ g.width rows
-    (same_count ∙ i.sheet.count a) ew sheet) kept shown)
+pub IsGrid-off : (g : GridView) {rows : List RowView} {width : ℕ} (k : KeptPart) → IsGrid g → IsAllocated g
+    → length rows ≡ length g.rows → width ≡ g.width → IsSheet (length g.rows) width rows → IsKept k
+    → IsShownWide k g.height g.width → IsGrid (record g { rows = rows; kept = k })
+IsGrid-off g {rows} k i a count ew sheet kept shown =
+    IsGrid-scrolled g rows k i a count (IsSheet-as _ g.height _ g.width rows (i.sheet.count a) ew sheet) kept shown
 
 -- what becomes of a grid that is the same
 pub ScrollsTo-at : {g h : GridView} (count : ℕ) → g ≡ h → {S : Type 0} {takes : S → RowView → S → Type 0} {s t : S}
@@ -147,32 +144,27 @@ scrolls-below {takes = takes} {s} g count e below some = scrolls-closed g count 
 
 -- since none is kept at all
 pub scrolls-given : {S : Type 0} {takes : S → RowView → S → Type 0} {s t : S} {T E : Type 0} {x : T} (g : GridView)
-    {h : GridView} {given : List RowView} (count end n : ℕ) → h ≡ lines_closed g g.top count → g.top ≡ 0
-    → g.kept.keeps ≡ false → end ≡ g.bottom + 1 → n ≡ min count end → given ≡ g.rows → IsAllocated h
-    → TakesAll takes s (take n given) t → ScrollsTo takes s t g h {T = T} {E = E} (Ok x) (scrolled_up g count)
-scrolls-given {takes = takes} {s} {t} g count end n e top keeps ee en eg some taken =
+    {h : GridView} (count end n : ℕ) → h ≡ lines_closed g g.top count → g.top ≡ 0
+    → g.kept.keeps ≡ false → end ≡ g.bottom + 1 → n ≡ min count end → IsAllocated h
+    → TakesAll takes s (take n g.rows) t → ScrollsTo takes s t g h {T = T} {E = E} (Ok x) (scrolled_up g count)
+scrolls-given {takes = takes} {s} {t} g count end n e top keeps ee en some taken =
     scrolls-closed g count e (unkept g keeps) some
-    (TakesAll-list takes s t _ _ (ap (λ (xs : List RowView). take n xs) eg ∙ sunk-unkept g count end n top keeps ee en)
-    taken)
+    (TakesAll-list takes s t _ _ (sunk-unkept g count end n top keeps ee en) taken)
 
--- `lent` are the rows of g, which a call makes into `rows`, and what is kept into k
+-- a call makes the rows of g into `rows`, and what is kept into k
 pub scrolls-kept : {S : Type 0} {takes : S → RowView → S → Type 0} {s t : S} {T E : Type 0} {x : T} (g : GridView)
-    {rows lent : List RowView} (count end n width height : ℕ) (k : KeptPart) → lent ≡ g.rows → IsAllocated g
+    {rows : List RowView} (count end n width height : ℕ) (k : KeptPart) → IsAllocated g
     → g.top ≡ 0 → g.kept.keeps ≡ true → end ≡ g.bottom + 1 → n ≡ min count end → width ≡ g.width
-    → height ≡ g.height → rows ≡ rows_by_position (length lent) (moved_up lent 0 end n width)
-    → k ≡ widened (kept_after g.kept (take n lent)) height width → SameKeeping g.kept k
-    → TakesAll takes s (pushed_out g.kept (take n lent)) t
+    → height ≡ g.height → rows ≡ rows_by_position (length g.rows) (moved_up g.rows 0 end n width)
+    → k ≡ widened (kept_after g.kept (take n g.rows)) height width → SameKeeping g.kept k
+    → TakesAll takes s (pushed_out g.kept (take n g.rows)) t
     → ScrollsTo takes s t g (record g { rows = rows; kept = k }) {T = T} {E = E} (Ok x) (scrolled_up g count)
-scrolls-kept {takes = takes} {s} {t} g {rows} count end n width height k same a top keeps ee en ew eh er ek limits z =
-    let rows-are : rows ≡ rows_by_position (length g.rows) (moved_up g.rows 0 end n width) =
-    er ∙ ap (λ (xs : List RowView). rows_by_position (length xs) (moved_up xs 0 end n width)) same in
-    let some = ap (λ (xs : List RowView). length xs) rows-are
+scrolls-kept {takes = takes} {s} {t} g {rows} count end n width height k a top keeps ee en ew eh er ek limits z =
+    let some = ap (λ (xs : List RowView). length xs) er
     ∙ length-rows_by_position (length g.rows) (moved_up g.rows 0 end n width) in
-    let kept : k ≡ widened (kept_after g.kept (take n g.rows)) height width =
-    ek ∙ ap (λ (xs : List RowView). widened (kept_after g.kept (take n xs)) height width) same in
     record {
-      grid = scrolls-off g count end n width height rows k top keeps ee en ew eh rows-are kept;
-      sink = taken-kept takes s t g count end n top keeps ee en same z;
+      grid = scrolls-off g count end n width height rows k top keeps ee en ew eh er ek;
+      sink = taken-kept takes s t g count end n top keeps ee en z;
       limits = record { height = refl; width = refl; kept = limits };
       keeps_none = λ none. refl;
       stays = λ none. refl;

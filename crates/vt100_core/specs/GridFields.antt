@@ -5,7 +5,7 @@ use Rattle.vt100_core.specs.Grid.{GridView, IsGrid}
 
 abbrev pub grid_of : Inside → GridView
 grid_of g = record {
-  rows = g.rows.items;
+  rows = g.rows;
   height = g.size.rows.value;
   width = g.size.cols.value;
   row = g.pos.row;

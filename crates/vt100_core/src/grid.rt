@@ -22,8 +22,7 @@ use std::collections::VecDeque;
 use std::marker::Model;
 use vt100_forms::{GridError, Pos};
 use vt100_rows::kept_rows::clone_kept;
-use vt100_rows::rows_edit::{blank_rows, clone_rows, reset_all};
-use vt100_rows::{Row, Size};
+use vt100_rows::{Sheet, Size};
 
 /// The rows of a screen, its cursor, and the rows that scrolled off at its top.
 #[derive(Debug, Drop)]
@@ -31,7 +30,7 @@ pub struct Grid {
     size: Size,
     pos: Pos,
     saved_pos: Pos,
-    rows: Vec<Row>,
+    rows: Sheet,
     scroll_top: u16,
     scroll_bottom: u16,
     origin_mode: bool,
@@ -68,7 +67,7 @@ impl Grid {
             size,
             pos: Pos { row: 0, col: 0 },
             saved_pos: Pos { row: 0, col: 0 },
-            rows: Vec::new(alloc),
+            rows: Sheet::new(alloc),
             scroll_top: 0,
             scroll_bottom: size.rows() - 1,
             origin_mode: false,
@@ -108,8 +107,7 @@ impl Grid {
         ensures enough { IsAllocated self.old → IsOk result }
     {
         if self.rows.is_empty() {
-            let alloc = *self.rows.allocator();
-            self.rows = blank_rows(alloc, self.size)?;
+            self.rows = Sheet::blank(self.rows.allocator(), self.size)?;
         }
         Ok(())
     }
@@ -120,7 +118,7 @@ impl Grid {
     {
         self.pos = Pos { row: 0, col: 0 };
         self.saved_pos = Pos { row: 0, col: 0 };
-        reset_all(&mut self.rows);
+        self.rows.reset_all();
         self.scroll_top = 0;
         self.scroll_bottom = self.size.rows() - 1;
         self.origin_mode = false;
@@ -131,9 +129,8 @@ impl Grid {
     pub fn clone(&self) -> Result<Self, GridError>
         ensures { IfOk result (λ g. g ≡ self.now) }
     {
-        let alloc = *self.rows.allocator();
-        let rows = clone_rows(alloc, &self.rows)?;
-        let kept = clone_kept(alloc, &self.scrollback.rows)?;
+        let rows = self.rows.clone()?;
+        let kept = clone_kept(self.rows.allocator(), &self.scrollback.rows)?;
         Ok(Grid {
             size: self.size,
             pos: self.pos,

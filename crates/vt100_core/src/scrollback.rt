@@ -6,10 +6,8 @@ ghost use Rattle.vt100_rows.specs.Sink.{TakesAll};
 
 use std::collections::VecDeque;
 use vt100_forms::GridError;
-use vt100_rows::Row;
 use vt100_rows::kept_rows::{drop_oldest, keep_rows, widen};
-use vt100_rows::row_sink::{RowSink, give_rows};
-use vt100_rows::rows_edit::move_up;
+use vt100_rows::{Row, RowSink, Sheet};
 
 /// Whether a grid keeps rows that scroll off at its top, and how many at most.
 #[derive(Clone, Copy, Debug)]
@@ -43,7 +41,7 @@ impl ScrollbackState {
     #[inline(always)]
     pub(crate) fn push_off<S: RowSink>(
         &mut self,
-        rows: &mut [Row],
+        rows: &mut Sheet,
         n: usize,
         width: u16,
         sink: &mut S,
@@ -61,6 +59,7 @@ impl ScrollbackState {
         ensures sink { TakesAll S.takes sink.old (pushed_out (kept_of self.old) (take n rows.old)) sink.new }
         ensures valid { IsKept (kept_of self.new) }
         ensures hidden { self.new.offset ≡ 0 }
+        ensures size { length rows.new ≡ length rows.old }
         ensures sheet { IsSheet (length rows.old) width rows.new }
         ensures same { SameKeeping (kept_of self.old) (kept_of self.new) }
         ensures none { self.old.capacity ≡ 0 → IsOk result }
@@ -70,7 +69,7 @@ impl ScrollbackState {
         let fits = n.min(self.capacity);
         let room = self.capacity - self.rows.len();
         drop_oldest(&mut self.rows, fits.saturating_sub(room), sink);
-        give_rows(&rows[..n - fits], sink);
+        rows.give_first(n - fits, sink);
         keep_rows(&mut self.rows, rows, n - fits, n, width)?;
         Ok(())
     }
@@ -105,7 +104,7 @@ impl ScrollbackState {
     #[inline(always)]
     pub(crate) fn scroll_off<S: RowSink>(
         &mut self,
-        rows: &mut [Row],
+        rows: &mut Sheet,
         end: usize,
         n: usize,
         height: u16,
@@ -126,13 +125,14 @@ impl ScrollbackState {
         ensures sink { TakesAll S.takes sink.old (pushed_out (kept_of self.old) (take n rows.old)) sink.new }
         ensures valid { IsKept (kept_of self.new) }
         ensures hidden { OnErr result (self.new.offset ≡ 0) }
+        ensures size { length rows.new ≡ length rows.old }
         ensures sheet { IsSheet (length rows.old) width rows.new }
         ensures same { SameKeeping (kept_of self.old) (kept_of self.new) }
         ensures none { self.old.capacity ≡ 0 → IsOk result }
     {
         let shown = self.offset;
         self.push_off(rows, n, width, sink)?;
-        move_up(rows, 0, end, n);
+        rows.move_up(0, end, n);
         let offset = if shown == 0 {
             0
         } else {

@@ -10,9 +10,7 @@ use crate::scrollback::ScrollbackState;
 use std::alloc::Global;
 use std::collections::VecDeque;
 use vt100_forms::GridError;
-use vt100_rows::rows_copy::{copy_rows, have_same_rows};
-use vt100_rows::rows_edit::clone_rows;
-use vt100_rows::{Cell, Row};
+use vt100_rows::{Cell, Row, Sheet};
 
 impl Grid {
     /// A grid with the same rows, cursor and scroll region, which keeps no rows.
@@ -20,8 +18,7 @@ impl Grid {
         requires { IsAllocated self.now }
         ensures { IfOk result (λ g. g ≡ without_kept self.now) }
     {
-        let alloc = *self.rows.allocator();
-        let rows = clone_rows(alloc, &self.rows)?;
+        let rows = self.rows.clone()?;
         Ok(self.with_rows(rows))
     }
 
@@ -37,14 +34,14 @@ impl Grid {
     }
 
     /// Copies of the rows that are shown, each as wide as the screen.
-    fn clone_shown_rows(&self) -> Result<Vec<Row>, GridError>
+    fn clone_shown_rows(&self) -> Result<Sheet, GridError>
         requires { IsAllocated self.now }
-        ensures rows { IfOk result (λ rows. rows.items ≡ (visible_as_drawn self.now).rows) }
-        ensures sheet { IfOk result (λ rows. IsSheet self.now.height self.now.width rows.items) }
-        ensures some { IfOk result (λ rows. 0 < length rows.items) }
+        ensures rows { IfOk result (λ rows. rows ≡ (visible_as_drawn self.now).rows) }
+        ensures sheet { IfOk result (λ rows. IsSheet self.now.height self.now.width rows) }
+        ensures some { IfOk result (λ rows. 0 < length rows) }
     {
         let height = self.size.rows();
-        let mut rows = Vec::with_capacity(*self.rows.allocator(), usize::from(height))?;
+        let mut rows = Sheet::with_capacity(self.rows.allocator(), usize::from(height))?;
         for r in 0..height {
             let followed = r + 1 < height;
             rows.push(clone_fitted(self.shown_row(r), self.size.cols(), followed)?)?;
@@ -53,12 +50,12 @@ impl Grid {
     }
 
     /// A grid with these rows and the same cursor and scroll region, which keeps no rows.
-    fn with_rows(&self, rows: Vec<Row>) -> Self
-        requires sheet { IsSheet self.now.height self.now.width rows.items }
-        requires some { 0 < length rows.items }
-        ensures { result ≡ record (without_kept self.now) { rows = rows.items } }
+    fn with_rows(&self, rows: Sheet) -> Self
+        requires sheet { IsSheet self.now.height self.now.width rows }
+        requires some { 0 < length rows }
+        ensures { result ≡ record (without_kept self.now) { rows = rows } }
     {
-        let alloc = *rows.allocator();
+        let alloc = rows.allocator();
         Grid {
             size: self.size,
             pos: self.pos,
@@ -81,8 +78,7 @@ impl Grid {
         requires width { self.old.width ≡ other.now.width }
         ensures { self.new ≡ without_kept other.now }
     {
-        let alloc = *self.rows.allocator();
-        copy_rows(&mut self.rows, &other.rows);
+        self.rows.copy_from(&other.rows);
         self.size = other.size;
         self.pos = other.pos;
         self.saved_pos = other.saved_pos;
@@ -90,7 +86,7 @@ impl Grid {
         self.scroll_bottom = other.scroll_bottom;
         self.origin_mode = other.origin_mode;
         self.saved_origin_mode = other.saved_origin_mode;
-        self.scrollback = nothing_kept(alloc);
+        self.scrollback = nothing_kept(self.rows.allocator());
     }
 
     /// Whether both grids have one size, the same rows that are drawn on and the same cursor. The comparison stops at
@@ -103,7 +99,7 @@ impl Grid {
         if self.size != other.size || self.pos != other.pos {
             return false;
         }
-        have_same_rows(&self.rows, &other.rows)
+        self.rows.is_same(&other.rows)
     }
 }
 

@@ -5,7 +5,6 @@ use crate::grid::Grid;
 use std::ops::Range;
 use vt100_cells::PackedAttrs;
 use vt100_forms::attrs::Attrs;
-use vt100_rows::rows_edit::{clear_all, erase_backward, erase_forward};
 
 impl Grid {
     ghost use Rattle.vt100_core.specs.Grid.{GridView, IsAllocated};
@@ -18,7 +17,7 @@ impl Grid {
         ensures grid { self.new ≡ all_erased self.old attrs }
         ensures allocated { IsAllocated self.new }
     {
-        clear_all(&mut self.rows, attrs);
+        self.rows.clear_all(attrs);
     }
 
     /// Empties the cursor's row from the cursor on, and every row below it (ED 0).
@@ -28,7 +27,8 @@ impl Grid {
         ensures allocated { IsAllocated self.new }
     {
         let row = usize::from(self.pos.row);
-        erase_forward(&mut self.rows, row, self.pos.col, self.size.cols(), attrs);
+        self.rows
+            .erase_forward(row, self.pos.col, self.size.cols(), attrs);
     }
 
     /// Empties every row above the cursor's, and its row up to the cursor (ED 1).
@@ -39,7 +39,7 @@ impl Grid {
     {
         let row = usize::from(self.pos.row);
         let end = self.pos.col.min(self.size.cols() - 1) + 1;
-        erase_backward(&mut self.rows, row, end, attrs);
+        self.rows.erase_backward(row, end, attrs);
     }
 
     /// Empties the cursor's row, with these attributes (EL 2).

@@ -4,7 +4,6 @@ ghost use Rattle.std.specs.Prelude.{◌≡◌, ℕ, ◌+◌, ◌-◌, ◌<◌, �
 use crate::grid::Grid;
 use std::num::NonZeroU16;
 use vt100_forms::GridError;
-use vt100_rows::rows_back::bring_back;
 
 impl Grid {
     ghost use Rattle.vt100_core.specs.Grid.{GridView, SameKeeping};
@@ -27,8 +26,7 @@ impl Grid {
         let added = usize::from(rows.get() - self.size.rows());
         let down = self.scrollback.unbounded_len.min(added);
         if !self.rows.is_empty() {
-            bring_back(
-                &mut self.rows,
+            self.rows.bring_back(
                 &mut self.scrollback.rows,
                 down,
                 added - down,

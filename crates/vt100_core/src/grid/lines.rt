@@ -2,7 +2,6 @@
 ghost use Rattle.std.specs.Prelude.{◌≡◌, ℕ, ◌+◌, ◌-◌, ◌<◌, ◌≤◌, ◌==◌, min, true, false, if◌then◌else◌};
 
 use crate::grid::Grid;
-use vt100_rows::rows_edit::{move_up, open_lines};
 
 impl Grid {
     ghost use Rattle.vt100_core.specs.Grid.{GridView, IsAllocated, is_in_region};
@@ -42,7 +41,7 @@ impl Grid {
         let first = usize::from(first);
         let end = usize::from(self.scroll_bottom) + 1;
         let n = usize::from(count).min(end - first);
-        move_up(&mut self.rows, first, end, n);
+        self.rows.move_up(first, end, n);
     }
 
     /// Moves the lines of the scroll region down; blank ones come in at its top (SD).
@@ -66,7 +65,7 @@ impl Grid {
         let first = usize::from(first);
         let end = usize::from(self.scroll_bottom) + 1;
         let n = usize::from(count).min(end - first);
-        open_lines(&mut self.rows, first, end, n);
+        self.rows.open_lines(first, end, n);
     }
 
     /// Moves the cursor up. At the scroll region's top, and at the screen's, the region scrolls down instead (RI).

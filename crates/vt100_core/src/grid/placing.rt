@@ -15,7 +15,6 @@ use vt100_forms::term::{
 };
 use vt100_forms::{GridError, Pos};
 use vt100_rows::Cell;
-use vt100_rows::rows_edit::at;
 
 impl Grid {
     /// Appends the forms that bring a terminal's cursor, which is at `prev_pos` or at an unknown place, to the
@@ -62,7 +61,7 @@ impl Grid {
         ensures value { result ≡ end_col (grid_size self.now) (lines_of self.now.rows) row }
         ensures inside { result < self.now.width }
     {
-        let cells = at(&self.rows, usize::from(row)).cells();
+        let cells = self.rows[usize::from(row)].cells();
         let col = self.size.cols() - 1;
         if line::at(cells, usize::from(col)).is_wide_continuation() {
             col.saturating_sub(1)
@@ -77,7 +76,7 @@ impl Grid {
         ensures { result.now ≡ end_cell (grid_size self.now) (lines_of self.now.rows) row }
     {
         line::at(
-            at(&self.rows, usize::from(row)).cells(),
+            self.rows[usize::from(row)].cells(),
             usize::from(self.last_col(row)),
         )
     }
@@ -151,7 +150,7 @@ impl Grid {
         requires { self.now.row < length self.now.rows }
         ensures { result ≡ (lines_of self.now.rows self.now.row (self.now.width - 1)).attrs }
     {
-        let cells = at(&self.rows, usize::from(self.pos.row)).cells();
+        let cells = self.rows[usize::from(self.pos.row)].cells();
         line::at(cells, usize::from(self.size.cols() - 1)).attrs()
     }
 }

@@ -5,7 +5,6 @@ ghost use Rattle.vt100_rows.specs.Sink.{TakesAll};
 use crate::grid::Grid;
 use std::num::NonZeroU16;
 use vt100_forms::GridError;
-use vt100_rows::rows_resize::{keep_first, resize_rows};
 use vt100_rows::{RowSink, Size};
 
 impl Grid {
@@ -72,7 +71,7 @@ impl Grid {
         requires hidden { self.old.kept.offset ≡ 0 }
         ensures { self.new ≡ shortened self.old up rows.value }
     {
-        keep_first(&mut self.rows, rows.get());
+        self.rows.keep_first(rows.get());
         let last_row = rows.get() - 1;
         self.pos.row = self.pos.row.saturating_sub(up);
         self.saved_pos.row = self.saved_pos.row.saturating_sub(up).min(last_row);
@@ -90,7 +89,7 @@ impl Grid {
         ensures kept { self.new.kept ≡ self.old.kept }
         ensures narrower { cols.value ≤ self.old.width → IsOk result }
     {
-        resize_rows(&mut self.rows, self.size.cols(), cols.get())?;
+        self.rows.resize(self.size.cols(), cols.get())?;
         let last_col = cols.get() - 1;
         self.pos.col = self.pos.col.min(last_col);
         self.saved_pos.col = self.saved_pos.col.min(last_col);

@@ -5,8 +5,8 @@ ghost use Rattle.vt100_rows.specs.Sink.{TakesAll};
 
 use crate::grid::Grid;
 use vt100_forms::GridError;
+use vt100_rows::RowSink;
 use vt100_rows::kept_rows::drop_oldest;
-use vt100_rows::row_sink::{RowSink, give_rows};
 
 impl Grid {
     ghost use Rattle.vt100_core.specs.Grid.{GridView, IsAllocated, IsShownWide, SameLimits, is_in_region, with_row};
@@ -45,7 +45,7 @@ impl Grid {
                 sink,
             )?;
         } else {
-            give_rows(&self.rows[..n], sink);
+            self.rows.give_first(n, sink);
             self.close_lines_at(first, count);
         }
         Ok(())

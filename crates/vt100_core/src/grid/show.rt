@@ -7,7 +7,6 @@ use crate::grid::Grid;
 use crate::visible_rows::VisibleRows;
 use vt100_forms::Pos;
 use vt100_rows::kept_rows::kept_at;
-use vt100_rows::rows_edit::at;
 use vt100_rows::{Cell, Row};
 
 impl Grid {
@@ -54,7 +53,7 @@ impl Grid {
             let first = self.scrollback.rows.len() - offset;
             kept_at(&self.scrollback.rows, first + row)
         } else {
-            at(&self.rows, row - offset)
+            &self.rows[row - offset]
         }
     }
 
@@ -64,7 +63,7 @@ impl Grid {
     {
         let row = usize::from(row);
         if row < self.rows.len() {
-            Some(at(&self.rows, row))
+            Some(&self.rows[row])
         } else {
             None
         }

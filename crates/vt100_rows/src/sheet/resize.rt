@@ -36,6 +36,7 @@ impl Sheet {
     /// again; that can be only where the rows become wider.
     pub fn resize(&mut self, from: u16, to: u16) -> Result<(), GridError>
         requires sheet { IsSheet (length self.old) from self.old }
+        ensures size { length self.new ≡ length self.old }
         ensures rows { OnOk result (self.new ≡ rows_by_position (length self.old)
             (λ r. resized_row (row_at self.old r) to default_cell)) }
         ensures sheet { OnErr result (IsSheet (length self.old) from self.new) }
@@ -54,6 +55,7 @@ impl Sheet {
     fn widen(&mut self, from: u16, to: u16) -> Result<(), GridError>
         requires sheet { IsSheet (length self.old) from self.old }
         requires wider { from ≤ to }
+        ensures size { length self.new ≡ length self.old }
         ensures rows { OnOk result (self.new ≡ rows_by_position (length self.old)
             (λ r. grown (row_at self.old r) to default_cell)) }
         ensures sheet { OnErr result (IsSheet (length self.old) from self.new) }

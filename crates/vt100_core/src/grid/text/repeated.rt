@@ -8,8 +8,7 @@ ghost use Rattle.vt100_rows.specs.Sink.{TakesAll};
 use crate::grid::Grid;
 use vt100_cells::PackedAttrs;
 use vt100_forms::GridError;
-use vt100_rows::row_sink::give_rows;
-use vt100_rows::{Row, RowSink, columns};
+use vt100_rows::{Row, RowSink, Sheet, columns};
 
 impl Grid {
     ghost use Rattle.vt100_core.specs.Grid.{IsGrid, IsAllocated, SameLimits};
@@ -187,20 +186,20 @@ impl Grid {
     }
 
     /// A copy of the first row, and a blank one below it.
-    fn first_row_alone(&self) -> Result<Vec<Row>, GridError>
+    fn first_row_alone(&self) -> Result<Sheet, GridError>
         requires { IsAllocated self.now }
-        ensures { IfOk result (λ rows. rows.items
-            ≡ row_at self.now.rows 0 ∷ blank_row self.now.width ∷ []) }
+        ensures { IfOk result (λ rows. rows ≡ row_at self.now.rows 0 ∷ blank_row self.now.width ∷ []) }
     {
-        let mut rows = Vec::with_capacity(*self.rows.allocator(), 2)?;
+        let alloc = self.rows.allocator();
+        let mut rows = Sheet::with_capacity(alloc, 2)?;
         rows.push(self.rows[0].clone()?)?;
-        rows.push(Row::new(*self.rows.allocator(), self.size.cols())?)?;
+        rows.push(Row::new(alloc, self.size.cols())?)?;
         Ok(rows)
     }
 
     /// Does to the kept rows what a line feed does through which the first row leaves. `spare` has a copy of that
     /// row, before and after.
-    fn keep_first<S: RowSink>(&mut self, spare: &mut [Row], sink: &mut S) -> Result<(), GridError>
+    fn keep_first<S: RowSink>(&mut self, spare: &mut Sheet, sink: &mut S) -> Result<(), GridError>
         requires allocated { IsAllocated self.old }
         requires first { self.old.top ≡ 0 }
         requires last { self.old.row ≡ self.old.bottom }
@@ -229,7 +228,7 @@ impl Grid {
         ensures limits { SameLimits self.old self.new }
         ensures allocated { IsAllocated self.new }
     {
-        give_rows(&self.rows[..1], sink);
+        self.rows.give_first(1, sink);
         if self.scrollback.enabled {
             self.scrollback.unbounded_len = self.scrollback.unbounded_len.saturating_add(1);
         }

@@ -4,5 +4,5 @@ use Rattle.vt100_core.proofs.grid.Grid.allocate_rows.Goals as goal
 
 pub invariant_of-self : goal.invariant_of-self
 invariant_of-self c =
-    IsGrid-filled (grid_of c.self.inside) c.in_ok-self-inside.field-0.items c.self.invariant
+    IsGrid-filled (grid_of c.self.inside) c.in_ok-self-inside.field-0 c.self.invariant
     c.in_ok-self-inside.ensures

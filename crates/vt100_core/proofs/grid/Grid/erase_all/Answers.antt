@@ -1,8 +1,7 @@
 use Rattle.std.proofs.Common.{arith}
 use Rattle.std.proofs.lemmas.Grind.{common_steps}
-use Rattle.vt100_core.proofs.GridLemmas.{IsGrid-at}
+use Rattle.vt100_core.proofs.GridLemmas.{allocated-again, IsGrid-at}
 use Rattle.vt100_core.proofs.EraseLemmas.{IsGrid-all_erased}
-use Rattle.vt100_core.proofs.PutBack.{allocated-again}
 use Rattle.vt100_core.proofs.grid.Grid.erase_all.Goals as goal
 
 pub invariant_of-self : goal.invariant_of-self
@@ -12,5 +11,4 @@ invariant_of-self c =
     (grind (arith, common_steps))
 
 pub returns-clause-allocated : goal.returns-clause-allocated
-returns-clause-allocated c = allocated-again _ c.self.view_is c.requires c.self.inside.rows.ok.0 c.clear_all.auto.rows
-    c.deref_mut.ensures.value
+returns-clause-allocated c = allocated-again _ c.self.view_is c.requires c.clear_all.ensures

@@ -10,7 +10,7 @@ returns-then-self-clause-grid g c =
 pub returns-then-self-clause-sink : goal.returns-then-self-clause-sink
 returns-then-self-clause-sink g c =
     gives-first c.self.view_is c.self.invariant c.requires.allocated c.requires.first c.requires.last _ _ _
-    c.deref.ensures.value c.requires.none c.give_rows.ensures
+    c.requires.none c.give_first.ensures
 
 pub returns-else-self-clause-grid : goal.returns-else-self-clause-grid
 returns-else-self-clause-grid g c =
@@ -19,4 +19,4 @@ returns-else-self-clause-grid g c =
 pub returns-else-self-clause-sink : goal.returns-else-self-clause-sink
 returns-else-self-clause-sink g c =
     gives-first c.self.view_is c.self.invariant c.requires.allocated c.requires.first c.requires.last _ _ _
-    c.deref.ensures.value c.requires.none c.give_rows.ensures
+    c.requires.none c.give_first.ensures

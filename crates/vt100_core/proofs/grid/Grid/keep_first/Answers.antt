@@ -6,7 +6,7 @@ use Rattle.vt100_core.specs.GridFields.{grid_of}
 use Rattle.vt100_core.specs.KeptFields.{kept_of}
 use Rattle.vt100_core.proofs.ScrollLemmas.{IsShownWide-is}
 use Rattle.vt100_core.proofs.RepeatLemmas.{keeps-first, refuses-first, keeps-some, spare-sheet, spare-first}
-use Rattle.vt100_core.proofs.RepeatLemmas.{first-wide, IsGrid-rekept}
+use Rattle.vt100_core.proofs.RepeatLemmas.{IsGrid-rekept}
 use Rattle.vt100_core.proofs.grid.Grid.keep_first.Goals as goal
 
 pub returns-then-self-eq0-clause-scrolls : goal.returns-then-self-eq0-clause-scrolls
@@ -37,9 +37,9 @@ copy_from-requires g c =
     let count : length c.args.spare.now ≡ 2 = ap (λ (xs : List RowView). length xs) c.requires.spare in
     let own = grid_of c.self.inside in
     let some : IsAllocated own = subst IsAllocated (sym c.self.view_is) c.requires.allocated in
-    first-wide c.scroll_off.new.rows _ c.scroll_off.ensures.sheet (omega (arith, count, c.scroll_off.auto.rows))
-    ∙ c.cols.ensures
-    ∙ sym (ap (λ (v : RowView). length v.cells) c.index.ensures ∙ first-wide own.rows _ c.self.invariant.sheet some)
+    ap (λ (v : RowView). length v.cells) c.index_mut.ensures.value
+    ∙ (c.scroll_off.ensures.sheet.each 0 (omega (arith, count, c.scroll_off.ensures.size))).wide ∙ c.cols.ensures
+    ∙ sym (ap (λ (v : RowView). length v.cells) c.index.ensures ∙ (c.self.invariant.sheet.each 0 some).wide)
 
 pub invariant_of-self-2 : goal.invariant_of-self-2
 invariant_of-self-2 g c =

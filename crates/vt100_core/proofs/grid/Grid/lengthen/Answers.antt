@@ -17,6 +17,6 @@ invariant_of-self-2 c =
 
 pub invariant_of-self : goal.invariant_of-self
 invariant_of-self c =
-    IsGrid-kept_changed (grid_of c.self.inside) c.bring_back.new.rows.items c.bring_back.new.kept.items
+    IsGrid-kept_changed (grid_of c.self.inside) c.bring_back.new.self c.bring_back.new.kept.items
     c.self.invariant c.in_err-bring_back.ensures.same c.in_err-bring_back.ensures.each
     c.in_err-bring_back.ensures.count (ap (λ (x : GridView). x.kept.offset) c.self.view_is ∙ c.requires.hidden)

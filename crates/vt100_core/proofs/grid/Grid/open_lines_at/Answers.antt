@@ -1,17 +1,12 @@
-use Rattle.std.proofs.Common.{List, arith, subst, sym}
+use Rattle.std.proofs.Common.{arith}
 use Rattle.std.proofs.lemmas.Grind.{common_steps}
-use Rattle.vt100_rows.specs.Row.{RowView}
-use Rattle.vt100_rows.specs.Sheet.{AreRowsOf}
-use Rattle.vt100_core.proofs.GridLemmas.{IsGrid-at, IsGrid-lines_opened}
-use Rattle.vt100_core.proofs.PutBack.{allocated-again}
+use Rattle.vt100_core.proofs.GridLemmas.{allocated-again, IsGrid-at, IsGrid-lines_opened}
 use Rattle.vt100_core.proofs.grid.Grid.open_lines_at.Goals as goal
 
 pub invariant_of-self : goal.invariant_of-self
 invariant_of-self c =
     let width = c.self.inside.size.cols.value in
-    let moved = c.open_lines.ensures width
-    (subst (λ (rows : List RowView). AreRowsOf width rows) (sym c.deref_mut.ensures.value)
-    c.self.invariant.sheet.each) in
+    let moved = c.open_lines.ensures width c.self.invariant.sheet.each in
     IsGrid-at
     (IsGrid-lines_opened c.args.self.now c.args.first c.args.count (rw (← c.self.view_is) c.self.invariant)
     c.requires.allocated)
@@ -20,11 +15,9 @@ invariant_of-self c =
 pub returns-clause-grid : goal.returns-clause-grid
 returns-clause-grid c =
     let width = c.self.inside.size.cols.value in
-    let moved = c.open_lines.ensures width
-    (subst (λ (rows : List RowView). AreRowsOf width rows) (sym c.deref_mut.ensures.value)
-    c.self.invariant.sheet.each) in
+    let moved = c.open_lines.ensures width c.self.invariant.sheet.each in
     grind (arith, common_steps, moved)
 
 pub returns-clause-allocated : goal.returns-clause-allocated
-returns-clause-allocated c = allocated-again _ c.self.view_is c.requires.allocated c.self.inside.rows.ok.0
-    c.open_lines.auto.rows c.deref_mut.ensures.value
+returns-clause-allocated c = allocated-again _ c.self.view_is c.requires.allocated
+    (c.open_lines.ensures c.self.inside.size.cols.value c.self.invariant.sheet.each)

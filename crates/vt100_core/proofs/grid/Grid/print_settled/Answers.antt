@@ -1,7 +1,6 @@
 use Rattle.std.proofs.Common.{◌≡◌, ◌∙◌, ◌+◌, ◌*◌, ◌/◌, ◌%◌, ◌==◌, ◌&&◌, false, arith, rules, ap, refl}
 use Rattle.std.specs.Prelude.{Err}
 use Rattle.std.proofs.lemmas.Nat.{div-add-mod'}
-use Rattle.vt100_core.proofs.PutBack.{put-back}
 use Rattle.vt100_core.proofs.RepeatLemmas.{prints-then, prints-refused, quiet-prints, settled-prints, settled-refuses}
 use Rattle.vt100_core.proofs.RepeatLemmas.{alike-next, row-within}
 use Rattle.vt100_core.proofs.grid.Grid.print_settled.Goals as goal
@@ -27,8 +26,7 @@ loop-i-preserved g c =
           (settled-prints {U = Unit {0}} {y = tt} c.args.c c.args.columns m c.args.attrs.now
           c.first_row_leaves.ensures.valid c.requires.allocated c.requires.settled c.loop-i.invariant.alike e.scrolls);
       alike = alike-next c.args.self.now c.loop-i.self c.keep_first.new.self c.loop-i.invariant.alike e.scrolls.grid;
-      spare = put-back c.loop-i.spare.ok.0 c.keep_first.auto.spare c.deref_mut.ensures.value ∙ e.spare
-          ∙ c.deref_mut.ensures.value ∙ c.loop-i.invariant.spare;
+      spare = e.spare ∙ c.loop-i.invariant.spare;
     }
 
 pub returns-in_err-keep_first-in-Ok : goal.returns-in_err-keep_first-in-Ok

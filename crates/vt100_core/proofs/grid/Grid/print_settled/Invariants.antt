@@ -11,5 +11,5 @@ invariant-loop-i g l = record {
   printed : PrintsAll g.S.RowSink.takes l.fn.sink l.sink l.fn.self l.self {T = Unit {0}} {E = GridError} (Ok tt)
       (replicate (l._i * l.per_row) l.c) l.attrs;
   alike : l.self ≡ record (l.fn.self) { kept = l.self.kept };
-  spare : l.spare.items ≡ first_alone l.fn.self;
+  spare : l.spare ≡ first_alone l.fn.self;
 }

@@ -11,7 +11,7 @@ pub invariant_of-self-2 : goal.invariant_of-self-2
 invariant_of-self-2 c =
     let some : IsAllocated (grid_of c.self.inside) =
     subst (λ (g : GridView). IsAllocated g) (sym c.self.view_is) c.requires in
-    IsGrid-scrolled (grid_of c.self.inside) c.self.inside.rows.items (kept_of c.show.new.self) c.self.invariant some
+    IsGrid-scrolled (grid_of c.self.inside) c.self.inside.rows (kept_of c.show.new.self) c.self.invariant some
     refl c.self.invariant.sheet c.show.ensures.valid
     (IsShownWide-is _ _ _ _ _ _ c.in_ok-show.ensures.kept c.rows.ensures c.cols.ensures)
 

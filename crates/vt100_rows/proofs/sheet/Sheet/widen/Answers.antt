@@ -3,7 +3,7 @@ use Rattle.std.proofs.lemmas.Bool.{false≢true}
 use Rattle.vt100_cells.specs.Cell.{CellView, default_cell}
 use Rattle.vt100_rows.specs.Row.{RowView, grown}
 use Rattle.vt100_rows.specs.Sheet.{row_at}
-use Rattle.vt100_rows.proofs.SheetLemmas.{changes-more}
+use Rattle.vt100_rows.proofs.SheetLemmas.{changes-more, length-read}
 use Rattle.vt100_rows.proofs.KeptLemmas.{not_yet, wide_along}
 use Rattle.vt100_rows.proofs.WidthLemmas.{changes-all, IsSheet-back, same_read}
 use Rattle.vt100_rows.proofs.sheet.Sheet.widen.Goals as goal
@@ -21,6 +21,12 @@ loop-r-preserved c =
       changed = changes-more f c.args.self.now rows 0 c.loop-r.r c.grow.new.self (omega arith) within
           c.loop-r.invariant.changed wider;
     }
+
+pub returns-in-Err-clause-size : goal.returns-in-Err-clause-size
+returns-in-Err-clause-size c =
+    let rows = c.loop-r.self in
+    length-read _ _ c.narrow.new.self c.narrow.ensures ∙ length-set rows c.loop-r.r c.grow.new.self
+    ∙ c.loop-r.invariant.count
 
 pub returns-in-Err-clause-sheet : goal.returns-in-Err-clause-sheet
 returns-in-Err-clause-sheet c =
