@@ -1,9 +1,10 @@
 -- How many rows have scrolled off.
 use Rattle.std.proofs.Common.{◌≡◌, ℕ, ◌+◌, ◌-◌, ◌^◌, ◌<◌, ◌≤◌, ◌==◌, Bool, true, false, cond, not, ◌&&◌, List, [], ◌∷◌}
-use Rattle.std.proofs.Common.{◌++◌, length, drop, map, min, refl, sym, ap, ◌∙◌, arith, nat_le, nat_lt, length-drop}
+use Rattle.std.proofs.Common.{◌++◌, length, take, drop, map, min, refl, sym, ap, ◌∙◌, arith, nat_le, nat_lt, length-drop}
 use Rattle.std.proofs.Common.{length-append, length-take-le}
 use Rattle.std.proofs.lemmas.Bool.{cond_both, cond-true, and_from, eq-eqb, false≢true}
-use Rattle.std.proofs.lemmas.List.{length-map}
+use Rattle.std.proofs.lemmas.List.{length-map, take_all}
+use Rattle.std.proofs.Math.Seq.{take-nil}
 use Rattle.vt100_forms.specs.declared.attrs.Attrs.{Attrs}
 use Rattle.vt100_cells.specs.Cell.{default_cell, columns_of}
 use Rattle.vt100_rows.specs.Row.{RowView, grown, trimmed, with_wrap, wiped_row, is_widening}
@@ -11,7 +12,7 @@ use Rattle.vt100_rows.specs.Sheet.{row_at, changed_between}
 use Rattle.vt100_rows.proofs.SheetLemmas.{length-rows_by_position}
 use Rattle.terminal_model.specs.Apply.{is_dropped}
 use Rattle.vt100_core.specs.declared.printed.Printed.TheVariants.{Nothing}
-use Rattle.vt100_core.specs.Grid.{KeptPart, GridView, IsGrid, IsAllocated, with_row, with_cursor_row, row_of_cursor}
+use Rattle.vt100_core.specs.Grid.{KeptPart, IsKept, GridView, IsGrid, IsAllocated, with_row, with_cursor_row, row_of_cursor}
 use Rattle.vt100_core.specs.Grid.{is_in_region}
 use Rattle.vt100_core.specs.Cursor.{moved_rows_down}
 use Rattle.vt100_core.specs.Scroll.{Scrolled, ScrollsNoneOff, widened, overflow, kept_after, pushed_out, up_count}
@@ -98,6 +99,28 @@ length-kept k left height width h =
     let old = length-drop (overflow k (length left)) k.rows in
     let new = length-map come trimmed ∙ length-drop (length left - min (length left) k.capacity) left in
     omega (arith, all, parts, old, new, h)
+
+-- where none is kept, those that leave are counted, and all of them leave for good
+pub none-kept : (k : KeptPart) (left : List RowView) (off height width : ℕ) → IsKept k → k.capacity ≡ 0
+    → off ≡ min (k.scrolled_off + length left) (2 ^ 64 - 1)
+    → record k { scrolled_off = off } ≡ widened (kept_after k left) height width
+none-kept k left off height width i none count =
+    let w = widened (kept_after k left) height width in
+    let old = no-rows k.rows (omega (arith, i.fits, none)) in
+    let new = no-rows w.rows (omega (arith, length-kept k left height width i.fits, none)) in
+    let at : k.offset ≡ 0 = omega (arith, i.offset, i.fits, none) in
+    let rows : k.rows ≡ w.rows = old ∙ sym new in
+    let offset : k.offset ≡ w.offset = at ∙ sym (cond-true (k.offset == 0) 0 _ (eq-eqb k.offset 0 at)) in
+    λ j. record k { rows = rows j; offset = offset j; scrolled_off = count j }
+
+pub none-pushed : (k : KeptPart) (left : List RowView) → IsKept k → k.capacity ≡ 0 → pushed_out k left ≡ left
+none-pushed k left i none =
+    let n = overflow k (length left) in
+    let m = length left - min (length left) k.capacity in
+    let old = no-rows k.rows (omega (arith, i.fits, none)) in
+    let all : length left ≤ m = omega (arith, none) in
+    ap (λ (xs : List RowView). take n xs ++ take m left) old
+    ∙ ap (λ (xs : List RowView). xs ++ take m left) (take-nil n) ∙ take_all m left all
 
 none-left : (k : KeptPart) (left : List RowView) → k.scrolled_off < 2 ^ 64 - 1
     → min (k.scrolled_off + length left) (2 ^ 64 - 1) ≡ k.scrolled_off → left ≡ []

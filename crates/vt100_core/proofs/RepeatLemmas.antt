@@ -28,7 +28,7 @@ use Rattle.vt100_core.specs.Scroll.{scrolled_up, rows_past_bottom, fed, left_row
 use Rattle.vt100_core.specs.Text.{Prints, PrintsAll, printed, printed_all}
 use Rattle.vt100_core.specs.Repeat.{fed_alike, IsSettled}
 use Rattle.vt100_core.proofs.GridLemmas.{no-rows, SameLimits-trans, IsGrid-scrolled}
-use Rattle.vt100_core.proofs.CountLemmas.{counts-all, length-kept}
+use Rattle.vt100_core.proofs.CountLemmas.{counts-all, none-kept, none-pushed}
 use Rattle.vt100_core.proofs.StayLemmas.{feeds, feeds-none, feeds-sunk_none}
 use Rattle.vt100_core.proofs.ScrollLemmas.{scrolls-off, unkept, unkept-below, closes, sunk-kept, sunk-unkept, sunk-below}
 use Rattle.vt100_core.proofs.ScrollLemmas.{too-wide}
@@ -582,34 +582,6 @@ module _ {S : Type 0} {takes : S → RowView → S → Type 0} where
 length-one : (g : GridView) → IsAllocated g → length (take 1 g.rows) ≡ 1
 length-one g some = length-take-le 1 g.rows (omega (arith, some))
 
-none-kept : (g : GridView) → IsGrid g → IsAllocated g → g.kept.capacity ≡ 0
-    → record (g.kept) { scrolled_off = min (g.kept.scrolled_off + 1) (2 ^ 64 - 1) }
-    ≡ widened (kept_after g.kept (take 1 g.rows)) g.height g.width
-none-kept g i some none =
-    let k = g.kept in
-    let left = take 1 g.rows in
-    let w = widened (kept_after k left) g.height g.width in
-    let one = length-one g some in
-    let old = no-rows k.rows (omega (arith, i.kept.fits, none)) in
-    let new = no-rows w.rows (omega (arith, length-kept k left g.height g.width i.kept.fits, none)) in
-    let at : k.offset ≡ 0 = omega (arith, i.kept.offset, i.kept.fits, none) in
-    let rows : k.rows ≡ w.rows = old ∙ sym new in
-    let offset : k.offset ≡ w.offset = at ∙ sym (cond-true (k.offset == 0) 0 _ (eq-eqb k.offset 0 at)) in
-    let count : min (k.scrolled_off + 1) (2 ^ 64 - 1) ≡ w.scrolled_off =
-    ap (λ n. min (k.scrolled_off + n) (2 ^ 64 - 1)) (sym one) in
-    λ j. record k { rows = rows j; offset = offset j; scrolled_off = count j }
-
-none-pushed : (g : GridView) → IsGrid g → IsAllocated g → g.kept.capacity ≡ 0
-    → pushed_out g.kept (take 1 g.rows) ≡ take 1 g.rows
-none-pushed g i some none =
-    let left = take 1 g.rows in
-    let n = overflow g.kept (length left) in
-    let old = no-rows g.kept.rows (omega (arith, i.kept.fits, none)) in
-    let all : length left ≤ length left - min (length left) g.kept.capacity = omega (arith, none) in
-    ap (λ (xs : List RowView). take n xs ++ take (length left - min (length left) g.kept.capacity) left) old
-    ∙ ap (λ (xs : List RowView). xs ++ take (length left - min (length left) g.kept.capacity) left) (take-nil n)
-    ∙ take_all (length left - min (length left) g.kept.capacity) left all
-
 -- what is true of one grid as of another one that it is
 module _ {own s : GridView} (e : own ≡ s) (i : IsGrid own) (some : IsAllocated s) (top : s.top ≡ 0)
     (last : s.row ≡ s.bottom) where
@@ -631,9 +603,10 @@ module _ {own s : GridView} (e : own ≡ s) (i : IsGrid own) (some : IsAllocated
       → record own { kept = record (own.kept) { scrolled_off = off } } ≡ (fed_alike s).grid
   counted off none keeps eo =
       let none' : own.kept.capacity ≡ 0 = ap (λ (x : GridView). x.kept.capacity) e ∙ none in
+      let count = eo ∙ ap (λ n. min (own.kept.scrolled_off + n) (2 ^ 64 - 1)) (sym (length-one own own-some)) in
       with-kept (record (own.kept) { scrolled_off = off })
-      (ap (λ n. let k : KeptPart = record (own.kept) { scrolled_off = n } in k) eo
-      ∙ none-kept own i own-some none' ∙ leaves-kept own i own-top own-last keeps)
+      (none-kept own.kept (take 1 own.rows) off own.height own.width i.kept none' count
+      ∙ leaves-kept own i own-top own-last keeps)
 
   -- or not
   pub uncounted : own.kept.keeps ≡ false → own ≡ (fed_alike s).grid
@@ -644,7 +617,7 @@ module _ {own s : GridView} (e : own ≡ s) (i : IsGrid own) (some : IsAllocated
   gives-first takes u t none taken =
       let none' : own.kept.capacity ≡ 0 = ap (λ (x : GridView). x.kept.capacity) e ∙ none in
       TakesAll-list takes u t _ _ (elim (cases_Bool own.kept.keeps) [
-        | inl keeps ↦ sym (none-pushed own i own-some none') ∙ leaves-sunk own i own-top own-last keeps
+        | inl keeps ↦ sym (none-pushed own.kept (take 1 own.rows) i.kept none') ∙ leaves-sunk own i own-top own-last keeps
         | inr keeps ↦ (leaves-unkept own i own-top own-last keeps).1
       ] ∙ ap (λ (x : GridView). (fed_alike x).sunk) e) taken
 

@@ -130,6 +130,12 @@ impl ScrollbackState {
         ensures same { SameKeeping (kept_of self.old) (kept_of self.new) }
         ensures none { self.old.capacity ≡ 0 → IsOk result }
     {
+        if self.capacity == 0 {
+            self.unbounded_len = self.unbounded_len.saturating_add(n);
+            rows.give_first(n, sink);
+            rows.move_up(0, end, n);
+            return Ok(());
+        }
         let shown = self.offset;
         self.push_off(rows, n, width, sink)?;
         rows.move_up(0, end, n);
