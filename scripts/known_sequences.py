@@ -6,11 +6,12 @@ which the code has it, or `-`, the sequence, what it does, and a mark for each o
 of this tree: `screen` (a screen of vt100), `view` (termview) and `vte`. For them the marks are compared with the tables
 in the specs of the crates. For `filter`, a screen behind charset_filter, it is compared where it is said to know more.
 
-Three files named known.cases play the rows: each on a screen and on a view, and on the filter those whose mark isn't
-the screen's. A row is played if each sequence of its column `sequence` is in the bytes that a step gives. A small letter
-in it is any number or no number, `..` are any numbers, and of a range the first and the last one are looked for. A mode
-has to be both set and reset. Modes and attributes count only if they are alone in their sequence. What a case has to
-answer is in its file: the check doesn't compare answers with marks.
+Three files named known.cases play the rows: each row on a screen and on a view, and on the filter a row whose mark isn't
+the screen's. A case there has a title that begins with `known` or with `unknown`. If the mark is `no`, each sequence of
+the row has to be in the bytes that a step of an `unknown` case gives, and else in those of a `known` case. In a sequence
+a small letter is any number or no number, and `..` are any numbers. Of a range the first and the last number are looked
+for, and for a mode that it is set and that it is reset. Modes and attributes count only if they are alone in a sequence.
+What a case has to answer is in its file, and isn't compared with the row.
 
     scripts/known_sequences.py --write
 
@@ -243,9 +244,10 @@ def unquoted(word):
     return re.sub(r"\\(?:x([0-9A-F]{2})|u\{([0-9A-F]+)\}|(.))", character, word)
 
 
-def bytes_given(path, steps):
-    """What these steps of a file of cases give, a line for each word."""
-    lines = re.findall(rf'^(?:{steps}) (".*)$', text_of(path), re.M)
+def bytes_given(path, steps, title):
+    """What these steps give in the cases of a file whose title begins so, a line for each word."""
+    cases = [case for case in re.split("^case ", text_of(path), flags=re.M) if case.startswith(title)]
+    lines = [line for case in cases for line in re.findall(rf'^(?:{steps}) (".*)$', case, re.M)]
     words = [word for line in lines for word in re.findall(r'"((?:[^"\\]|\\.)*)"', line)]
     return "\0".join(unquoted(word) for word in words)
 
@@ -296,16 +298,20 @@ def patterns_of(row):
     return kinds.get(row["kind"], numbered_patterns)(row)
 
 
+def is_played(row, mark, given):
+    """Whether what the cases give has each sequence of a row with this mark."""
+    title = "unknown" if mark == "no" else "known"
+    return all(re.search(pattern, given[title]) for pattern in patterns_of(row))
+
+
 def played_faults(known):
-    """Rows that no case plays."""
+    """Rows that no case plays, or only one that takes a known sequence for unknown, or the other way round."""
     faults = []
     for reader, (path, steps) in PLAYED.items():
-        given = bytes_given(path, steps)
-        for row in known:
-            if reader == "filter" and row["filter"] == row["screen"]:
-                continue
-            if not all(re.search(pattern, given) for pattern in patterns_of(row)):
-                faults.append(f"{TABLE}:{row['line']}: {path} doesn't play it: {row['sequence']}")
+        given = {title: bytes_given(path, steps, title) for title in ("known", "unknown")}
+        rows_there = [row for row in known if reader != "filter" or row["filter"] != row["screen"]]
+        unplayed = [row for row in rows_there if not is_played(row, row[reader], given)]
+        faults += [f"{TABLE}:{row['line']}: not played by {path}: {row['sequence']}" for row in unplayed]
     return faults
 
 
