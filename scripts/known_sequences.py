@@ -6,12 +6,12 @@ which the code has it, or `-`, the sequence, what it does, and a mark for each o
 of this tree: `screen` (a screen of vt100), `view` (termview) and `vte`. For them the marks are compared with the tables
 in the specs of the crates. For `filter`, a screen behind charset_filter, it is compared where it is said to know more.
 
-Three files named known.cases play the rows: each row on a screen and on a view, and on the filter a row whose mark isn't
-the screen's. A case there has a title that begins with `known` or with `unknown`. If the mark is `no`, each sequence of
-the row has to be in the bytes that a step of an `unknown` case gives, and else in those of a `known` case. In a sequence
-a small letter is any number or no number, and `..` are any numbers. Of a range the first and the last number are looked
-for, and for a mode that it is set and that it is reset. Modes and attributes count only if they are alone in a sequence.
-What a case has to answer is in its file, and isn't compared with the row.
+Three files named known.cases play the rows: each row on a screen and on a view, and with the filter a row whose mark
+isn't the screen's. The titles of their cases begin with `known` or with `unknown`. If the mark is `no`, a step of an
+`unknown` case has to give each sequence of the row, and else a step of a `known` case. In a sequence a small letter
+is any number or no number, and `..` are any numbers. Of a range the first and the last number are looked for. A mode
+has to be set and to be reset. Modes and attributes count only if they are alone in their sequence. What a case has to
+answer is in its file, and isn't compared with the row.
 
     scripts/known_sequences.py --write
 
