@@ -245,7 +245,7 @@ def unquoted(word):
 
 
 def bytes_given(path, steps, title):
-    """What these steps give in the cases of a file whose title begins so, a line for each word."""
+    """What these steps give in the cases of a file whose titles begin so, with a NUL between two words."""
     cases = [case for case in re.split("^case ", text_of(path), flags=re.M) if case.startswith(title)]
     lines = [line for case in cases for line in re.findall(rf'^(?:{steps}) (".*)$', case, re.M)]
     words = [word for line in lines for word in re.findall(r'"((?:[^"\\]|\\.)*)"', line)]
