@@ -6,6 +6,13 @@ which the code has it, or `-`, the sequence, what it does, and a mark for each o
 of this tree: `screen` (a screen of vt100), `view` (termview) and `vte`. For them the marks are compared with the tables
 in the specs of the crates. For `filter`, a screen behind charset_filter, it is compared where it is said to know more.
 
+Three files named known.cases play the rows: each row on a screen and on a view, and with the filter a row whose mark
+isn't the screen's. The titles of their cases begin with `known` or with `unknown`. If the mark is `no`, a step of an
+`unknown` case has to give each sequence of the row, and else a step of a `known` case. In a sequence a small letter
+is any number or no number, and `..` are any numbers. Of a range the first and the last number are looked for. A mode
+has to be set and to be reset. Modes and attributes count only if they are alone in their sequence. What a case has to
+answer is in its file, and isn't compared with the row.
+
     scripts/known_sequences.py --write
 
 writes the tables of the page anew.
@@ -23,6 +30,15 @@ FIRST = {
     "private": "Private mode", "osc": "OSC", "string": "String", "sgr": "SGR",
 }
 MARKS = {"yes", "part", "call", "other", "no", ""}
+# The files of cases that play the rows, and the steps there that give bytes to the reader.
+PLAYED = {
+    "screen": ("crates/cases/data/screens/known.cases", "feed"),
+    "filter": ("crates/cases/data/commands/known.cases", "input|more 1"),
+    "view": ("crates/cases/data/relays/known.cases", "advance"),
+}
+STARTS = {"ESC": "\x1b", "CSI": "\x1b[", "DCS": "\x1bP", "APC": "\x1b_"}
+CONTROLS = {"CAN": "\x18", "SUB": "\x1a"}
+ESCAPES = {"e": "\x1b", "n": "\n", "r": "\r", "t": "\t"}
 NUMBER = r"(0x[0-9A-F]+|\d+)"
 
 
@@ -216,6 +232,89 @@ def filter_faults(known):
     return faults
 
 
+# ---- the cases
+
+def unquoted(word):
+    """The characters of a quoted word of a case. A byte becomes the character of its number."""
+
+    def character(match):
+        byte, scalar, letter = match.groups()
+        return ESCAPES.get(letter, letter) if letter else chr(int(byte or scalar, 16))
+
+    return re.sub(r"\\(?:x([0-9A-F]{2})|u\{([0-9A-F]+)\}|(.))", character, word)
+
+
+def bytes_given(path, steps, title):
+    """What these steps give in the cases of a file whose titles begin so, with a NUL between two words."""
+    cases = [case for case in re.split("^case ", text_of(path), flags=re.M) if case.startswith(title)]
+    lines = [line for case in cases for line in re.findall(rf'^(?:{steps}) (".*)$', case, re.M)]
+    words = [word for line in lines for word in re.findall(r'"((?:[^"\\]|\\.)*)"', line)]
+    return "\0".join(unquoted(word) for word in words)
+
+
+def part_pattern(part):
+    """What a part between the first and the last one of a sequence looks like."""
+    if part == "..":
+        return "[0-9;:]*"
+    return "[0-9]*" if re.fullmatch("[a-z]", part) else re.escape({"SP": " "}.get(part, part))
+
+
+def sequence_patterns(row):
+    """What the sequences in backticks look like, or the one of the key if there are none."""
+    spans = re.findall(r"`([^`]+)`", row["sequence"].replace("\\|", "|")) or [f"CSI n {row['key']}"]
+    parts = [span.split() for span in spans]
+    return [
+        re.escape(STARTS[first]) + "".join(map(part_pattern, middle)) + re.escape(last)
+        for first, *middle, last in (them for them in parts if them[0] in STARTS)
+    ]
+
+
+def control_patterns(row):
+    """The control of the key, or those that the column names."""
+    if row["key"] != "-":
+        return [re.escape(chr(int(row["key"])))]
+    scalars = re.findall(r"U\+([0-9A-F]{4})", row["sequence"])
+    return [chr(int(scalar, 16)) for scalar in scalars] + [
+        control for name, control in CONTROLS.items() if name in row["sequence"]
+    ]
+
+
+def numbered_patterns(row):
+    """What a sequence with each number of the column looks like, for modes, OSC and SGR."""
+    items = [item for item in re.split(", | to ", row["sequence"]) if item[0].isdigit()]
+    numbers = [re.sub("[a-z]", "[0-9]*", item) for item in items]
+    forms = {
+        "mode": (r"\x1b\[%sh", r"\x1b\[%sl"),
+        "private": (r"\x1b\[\?%sh", r"\x1b\[\?%sl"),
+        "osc": (r"\x1b\]%s[;\x07\x1b]",),
+        "sgr": (r"\x1b\[%sm",),
+    }
+    return [form % number for number in numbers for form in forms[row["kind"]]]
+
+
+def patterns_of(row):
+    """What the sequences of a row look like in a case."""
+    kinds = {"control": control_patterns, **dict.fromkeys(("escape", "csi", "string"), sequence_patterns)}
+    return kinds.get(row["kind"], numbered_patterns)(row)
+
+
+def is_played(row, mark, given):
+    """Whether what the cases give has each sequence of a row with this mark."""
+    title = "unknown" if mark == "no" else "known"
+    return all(re.search(pattern, given[title]) for pattern in patterns_of(row))
+
+
+def played_faults(known):
+    """Rows that no case plays, or only one that takes a known sequence for unknown, or the other way round."""
+    faults = []
+    for reader, (path, steps) in PLAYED.items():
+        given = {title: bytes_given(path, steps, title) for title in ("known", "unknown")}
+        rows_there = [row for row in known if reader != "filter" or row["filter"] != row["screen"]]
+        unplayed = [row for row in rows_there if not is_played(row, row[reader], given)]
+        faults += [f"{TABLE}:{row['line']}: not played by {path}: {row['sequence']}" for row in unplayed]
+    return faults
+
+
 def mark_faults(known):
     return [
         f"{TABLE}:{row['line']}: no such mark: {row[reader]}"
@@ -228,7 +327,7 @@ def mark_faults(known):
 def faults():
     """All faults of the table and of the page."""
     known = rows()
-    checks = (mark_faults, page_faults, code_faults, filter_faults, peer_faults)
+    checks = (mark_faults, page_faults, code_faults, filter_faults, peer_faults, played_faults)
     return [fault for check in checks for fault in check(known)]
 
 
