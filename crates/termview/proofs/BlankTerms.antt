@@ -1,24 +1,54 @@
 -- Blank rows, and rows that were erased up to the screen's end, as the lines of a terminal.
 use Rattle.std.proofs.Common.{◌≡◌, ℕ, ◌<◌, ◌≤◌, ◌==◌, false, cond, ◌&&◌, nat_lt, List, length}
-use Rattle.std.proofs.Common.{set, replicate, sym, ap, ◌∙◌, arith, ⊎_elim}
+use Rattle.std.proofs.Common.{set, replicate, sym, ap, ◌∙◌, arith, inl, inr, ⊎_elim}
 use Rattle.std.proofs.lemmas.Bool.{cond_both, cond-true, cond-false, lt-ltb, le-ltb, eqb-true, cases_lt}
-use Rattle.std.proofs.lemmas.List.{length-replicate}
+use Rattle.std.proofs.lemmas.List.{length-replicate, get_or-replicate}
+use Rattle.std.proofs.lemmas.Option.{none-some, slice_get_cases}
+use Rattle.std.specs.Prelude.{None, slice_get}
 use mathlib.Core.Path.{fun_ext}
 use Rattle.vt100_cells.specs.Cell.{default_cell, empty_cell}
 use Rattle.vt100_cells.specs.Cells.{cell_at}
 use Rattle.vt100_cells.proofs.ListLemmas.{cell_at_past, cell_at-replicate}
-use Rattle.vt100_rows.specs.Row.{RowView, cleared_row, wiped_row}
+use Rattle.vt100_rows.specs.Row.{RowView, blank_row, cleared_row, wiped_row}
 use Rattle.terminal_model.specs.Term.{Size, Term}
 use Rattle.terminal_model.specs.Apply.{with_line, erase}
 use Rattle.vt100_rows.specs.Sheet.{row_at, rows_by_position, erased_forward_at}
 use Rattle.vt100_rows.specs.Picture.{lines_of, wraps_of}
 use Rattle.vt100_rows.proofs.SheetLemmas.{row_at-set, row_at-by_position, length-rows_by_position}
-use Rattle.vt100_rows.proofs.PictureLemmas.{lines-past, wraps-past}
+use Rattle.vt100_rows.proofs.PictureLemmas.{lines-past, wraps-past, line-blank}
 use Rattle.termview.specs.Picture.{PictureView, term_of_picture, IsPicture}
 use Rattle.termview.specs.Step.{erase_below}
 use Rattle.termview.proofs.RowTerms.{cursor_row, here, erased-is}
 
 -- ---- blank rows
+
+blank_at : (n width r : ℕ) → (row_at (replicate n (blank_row width)) r).wrapped ≡ false
+blank_at n width r = ⊎_elim
+    (λ (h : r < n). ap (λ (v : RowView). v.wrapped) (get_or-replicate n r (blank_row width) (blank_row 0) h))
+    (λ (h : n ≤ r). wraps-past (replicate n (blank_row width)) r (omega (arith, length-replicate n (blank_row width))))
+    (cases_lt r n)
+
+blank_cells : (n width r : ℕ) → lines_of (replicate n (blank_row width)) r ≡ (λ k. default_cell)
+blank_cells n width r = ⊎_elim
+    (λ (h : r < n). ap (λ (v : RowView). cell_at v.cells) (get_or-replicate n r (blank_row width) (blank_row 0) h)
+    ∙ line-blank width)
+    (λ (h : n ≤ r). lines-past (replicate n (blank_row width)) r (omega (arith, length-replicate n (blank_row width))))
+    (cases_lt r n)
+
+pub blank-lines : (n width : ℕ) (rows : List RowView) → rows ≡ replicate n (blank_row width)
+    → lines_of rows ≡ (λ r k. default_cell)
+blank-lines n width rows e = ap lines_of e ∙ fun_ext (λ r. blank_cells n width r)
+
+pub blank-wraps : (n width : ℕ) (rows : List RowView) → rows ≡ replicate n (blank_row width)
+    → wraps_of rows ≡ (λ r. false)
+blank-wraps n width rows e = ap wraps_of e ∙ fun_ext (λ r. blank_at n width r)
+
+-- a row that isn't there is past the last one
+pub none-past : (rows : List RowView) (r : ℕ) → slice_get rows r ≡ None → length rows ≤ r
+none-past rows r e = elim (slice_get_cases rows r).1 [
+  | inl is ↦ absurd (none-some is.0 (sym e ∙ is.2))
+  | inr past ↦ past.0
+]
 
 -- ---- erased rows
 
