@@ -80,6 +80,12 @@ returns-clause-head c =
     begins c.args.look.now c.args.size c.args.events.now c.args.play.now c.into_bytes.result.items
     (returns-clause-plays c)
 
+pub returns-in_err-push_head-clause-fault : goal.returns-in_err-push_head-clause-fault
+returns-in_err-push_head-clause-fault c =
+    let is : c.from_residual-in_err-push_head.result ≡ Err Memory =
+    search (rules, c.from_residual-in_err-push_head.ensures) in
+    rw is (inl refl)
+
 pub returns-in_err-push_size-clause-fault : goal.returns-in_err-push_size-clause-fault
 returns-in_err-push_size-clause-fault c =
     let is : c.from_residual-in_err-push_size.result ≡ Err Memory = search (rules, c.from_residual-in_err-push_size.ensures) in
